@@ -1,0 +1,16 @@
+pub mod Finite
+pub mod State
+pub mod Plan
+pub mod Visits
+pub mod Tables
+pub mod Next
+pub mod Posting
+pub mod Looking
+pub mod Loading
+pub mod Writing
+pub mod Step
+pub mod Dropping
+pub mod Telling
+pub mod Run
+pub mod Missing
+pub mod Places

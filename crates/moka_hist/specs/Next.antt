@@ -1,0 +1,36 @@
+-- How a call goes on after an item: the call that is left, and what the step replies.
+use Rattle.std.specs.Prelude.{List, [], ◌∷◌, Option, Some, None}
+use Rattle.moka_hist.specs.State.{Call}
+use Rattle.moka_hist.specs.Plan.{Item}
+use Rattle.moka_hist.specs.Plan as plan
+use Rattle.moka_hist.specs.declared.records.Mode.TheVariants as mode
+use Rattle.moka_hist.specs.declared.replies.Ask as reply
+use Rattle.moka_hist.specs.declared.replies.Answer.{Answer}
+use Rattle.moka_hist.specs.declared.accesses.Turn as turns
+use Rattle.moka_hist.specs.declared.accesses.Turn.TheVariants as turn
+
+pub record Next (K V : Type 0) : Type 0 where
+  pub left : Option (Call K V)
+  pub turn : turns.Turn V
+
+module _ {K V : Type 0} where
+  -- the call answers, and is no longer live
+  abbrev pub answers : Answer V → Next K V
+  answers answer = record { left = None; turn = turn.Answer answer }
+
+  -- the call goes on with the rest of its plan; where that is an answer alone, it answers with this step
+  abbrev pub goes : Call K V → List (Item K V) → Next K V
+  goes c (plan.Reply answer ∷ []) = answers answer
+  goes c rest = record { left = Some (record c { mode = mode.Mid; plan = rest }); turn = turn.Going }
+
+  -- the item isn't done yet
+  abbrev pub stays : Call K V → Next K V
+  stays c = record { left = Some (record c { mode = mode.Mid }); turn = turn.Going }
+
+  -- something is missing: nothing changes but that the call is parked
+  abbrev pub waits : Call K V → Next K V
+  waits c = record { left = Some (record c { mode = mode.Parked }); turn = turn.Wait }
+
+  -- the call asks its caller, and is parked
+  abbrev pub asks : Call K V → reply.Ask → List (Item K V) → Next K V
+  asks c ask rest = record { left = Some (record c { mode = mode.Parked; plan = rest }); turn = turn.Ask ask }

@@ -1,0 +1,128 @@
+-- Runs of the reference cache on events.
+use Rattle.std.specs.Prelude.{◌≡◌, ◌≢◌, ℕ, zero, suc, ◌+◌, ◌^◌, ◌-◌, ◌==◌, nat_lt, Bool, MatchBool, List, [], ◌∷◌, Some, MatchOption}
+use Rattle.moka_hist.specs.Finite.{put_at}
+use Rattle.moka_hist.specs.State.{Call, DeskPart, State, fresh}
+use Rattle.moka_hist.specs.Plan.{plan_of}
+use Rattle.moka_hist.specs.Step.{Step}
+use Rattle.moka_hist.specs.Dropping.{dropped}
+use Rattle.moka_hist.specs.Telling.{is_asked, told}
+use Rattle.moka_hist.specs.declared.records.Mode.{Mode}
+use Rattle.moka_hist.specs.declared.records.Mode.TheVariants as mode
+use Rattle.moka_hist.specs.declared.events.Start.{Start}
+use Rattle.moka_hist.specs.declared.events.Event.{Event}
+use Rattle.moka_hist.specs.declared.events.Event.TheVariants as event
+use Rattle.moka_hist.specs.declared.replies.Refusal.{Refusal}
+use Rattle.moka_hist.specs.declared.replies.Refusal.TheVariants as refusal
+use Rattle.moka_hist.specs.declared.replies.Reply.{Reply}
+use Rattle.moka_hist.specs.declared.replies.Reply.TheVariants as reply
+use Rattle.moka_hist.specs.declared.accesses.Turn.{Turn}
+use Rattle.moka_hist.specs.declared.accesses.Turn.TheVariants as turn
+
+-- the greatest call number
+abbrev pub last_call : ℕ
+last_call = 2 ^ 64 - 1
+
+module _ {V : Type 0} where
+  -- a step's reply
+  abbrev pub reply_of : Turn V → Reply V
+  reply_of turn.Going = reply.Going
+  reply_of turn.Wait = reply.Wait
+  reply_of (turn.Ask ask) = reply.Ask ask
+  reply_of (turn.Answer answer) = reply.Answer answer
+
+module _ {K V : Type 0} where
+  abbrev pub fresh_call : Start K V → Call K V
+  fresh_call start = record { mode = mode.Fresh; plan = plan_of start; aborts = 0 }
+
+  -- the state with this desk
+  abbrev pub with_desk : State K V → DeskPart K V → State K V
+  with_desk s desk = record s { world = record s.world { desk = desk } }
+
+  -- the clock has moved on
+  abbrev pub at_moment : State K V → ℕ → State K V
+  at_moment s moment = with_desk s (record s.world.desk { clock = moment })
+
+  -- a call was given the next number
+  abbrev pub started : State K V → Start K V → State K V
+  started s start =
+      let n : ℕ = s.world.desk.last + 1 in
+      record {
+        world = record s.world { desk = record s.world.desk { last = n } };
+        calls = put_at s.calls n (Some (fresh_call start));
+      }
+
+  -- refused for this reason, and nothing has changed
+  pub record Refuses (s : State K V) (why : Refusal) (r : Reply V) (new : State K V) : Type 0 where
+    pub reply : r ≡ reply.Refused why
+    pub same : new ≡ s
+
+  -- carried out with this reply, and this is the state then
+  pub record Becomes (next : State K V) (answer : Reply V) (r : Reply V) (new : State K V) : Type 0 where
+    pub reply : r ≡ answer
+    pub after : new ≡ next
+
+  -- k steps of the call, each of which leaves it going, through states that meet P
+  unfoldable pub Goings : (K → K → Bool) → (State K V → Type 0) → ℕ → State K V → ℕ → State K V → Type 0
+  Goings eq P zero s n new = new ≡ s
+  Goings eq P (suc k) s n new =
+      (mid : State K V) × Goings eq P k s n mid × Step eq mid n turn.Going new × P new
+
+  -- one step of the live call, with its reply
+  pub record Steps (eq : K → K → Bool) (s : State K V) (n : ℕ) (r : Reply V) (new : State K V) : Type 0 where
+    pub turn : Turn V
+    pub step : Step eq s n turn new
+    pub reply : r ≡ reply_of turn
+
+  -- steps of the live call, all Going but the last, whose reply is the event's
+  pub record Polls (eq : K → K → Bool) (P : State K V → Type 0) (s : State K V) (n : ℕ) (r : Reply V) (new : State K V) : Type 0 where
+    pub going : ℕ
+    pub mid : State K V
+    pub goes : Goings eq P going s n mid
+    pub last : Steps eq mid n r new
+    pub ends : r ≢ reply.Going
+
+  -- a call is dropped but between two steps
+  abbrev pub Drops : State K V → ℕ → Call K V → Mode → Reply V → State K V → Type 0
+  Drops s n c mode.Mid r new = Refuses s refusal.NotParked r new
+  Drops s n c mode.Fresh r new = Becomes (dropped s n c) reply.Dropped r new
+  Drops s n c mode.Parked r new = Becomes (dropped s n c) reply.Dropped r new
+
+  -- what an event may reply, and the state then
+  abbrev pub Happens : (K → K → Bool) → (State K V → Type 0) → State K V → Event K V → Reply V → State K V → Type 0
+  Happens eq P s (event.At moment) r new =
+      MatchBool (nat_lt moment s.world.desk.clock)
+      (Refuses s refusal.ClockBack r new)
+      (Becomes (at_moment s moment) reply.At r new)
+  Happens eq P s (event.Start start) r new =
+      MatchBool (s.world.desk.last == last_call)
+      (Refuses s refusal.CallsSpent r new)
+      (Becomes (started s start) (reply.Call (s.world.desk.last + 1)) r new)
+  Happens eq P s (event.Step n) r new =
+      MatchOption (s.calls n) (Refuses s refusal.UnknownCall r new) (λ _. Steps eq s n r new)
+  Happens eq P s (event.Poll n) r new =
+      MatchOption (s.calls n) (Refuses s refusal.UnknownCall r new) (λ _. Polls eq P s n r new)
+  Happens eq P s (event.Tell n answer) r new =
+      MatchBool (is_asked s.world.desk n answer)
+      (Becomes (with_desk s (told s.world.desk n answer)) reply.Told r new)
+      (Refuses s refusal.NotAsked r new)
+  Happens eq P s (event.Drop n) r new =
+      MatchOption (s.calls n) (Refuses s refusal.UnknownCall r new) (λ c. Drops s n c c.mode r new)
+
+  -- the events one after the other, each with its reply, through states that meet P
+  abbrev pub Run : (K → K → Bool) → (State K V → Type 0) → State K V → List (Event K V) → List (Reply V) → State K V → Type 0
+  Run eq P s [] [] new = new ≡ s
+  Run eq P s (e ∷ es) (r ∷ rs) new =
+      (mid : State K V) × Happens eq P s e r mid × P mid × Run eq P mid es rs new
+  Run eq P s [] (r ∷ rs) new = ⊥
+  Run eq P s (e ∷ es) [] new = ⊥
+
+  -- whatever holds of a state
+  abbrev pub Any : State K V → Type 0
+  Any s = Unit {0}
+
+  -- the state comes after some events on a fresh cache with a log of some size
+  pub record IsReached (eq : K → K → Bool) (s : State K V) : Type 0 where
+    pub size : ℕ
+    pub events : List (Event K V)
+    pub replies : List (Reply V)
+    pub run : Run eq Any (fresh K V size) events replies s

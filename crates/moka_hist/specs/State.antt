@@ -1,0 +1,99 @@
+-- The state of the reference cache, by layer.
+use Rattle.std.specs.Prelude.{ℕ, List, [], Option, None}
+use Rattle.moka_hist.specs.declared.loads.Load.{Load}
+use Rattle.moka_hist.specs.declared.records.Mode.{Mode}
+use Rattle.moka_hist.specs.declared.records.Stored.{Stored}
+use Rattle.moka_hist.specs.declared.events.Told.{Told}
+use Rattle.moka_hist.specs.declared.visits.Settled.{Settled}
+use Rattle.moka_hist.specs.declared.visits.Takes.{Takes}
+use Rattle.moka_hist.specs.declared.writes.Write.{Write}
+use Rattle.moka_hist.specs.Plan.{Item}
+
+-- What is stored.
+pub record TablePart (K V : Type 0) : Type 0 where
+  -- the stored pair of a key
+  pub stored : K → Option (K × Stored V)
+  -- how many keys are stored, and the most that ever were
+  pub keys : ℕ
+  pub peak : ℕ
+  -- the numbers of the calls whose write changed the map, oldest first
+  pub committed : List ℕ
+
+-- What the desk keeps.
+pub record DeskPart (K V : Type 0) : Type 0 where
+  pub clock : ℕ
+  -- the moment at which a stamp's record was last seen; where there is none, that of its write
+  pub accessed : ℕ → Option ℕ
+  -- the moment that a call has taken for a write that it hasn't committed yet
+  pub pending : ℕ → Option ℕ
+  -- each call that holds a write or has a place for one, as often as it has
+  pub holders : List ℕ
+  -- the writes that dropped calls left, the log, and what was applied, oldest first
+  pub owed : List Write
+  pub log : List Write
+  pub applied : List Write
+  -- the call that has the maintenance turn
+  pub turn : Option ℕ
+  -- how many applied upserts stood unreplaced as the last turn ended
+  pub published : ℕ
+  -- how many writes the log has room for
+  pub size : ℕ
+  -- the greatest call number given out
+  pub last : ℕ
+  -- the owner of a load, and the load that a call owns
+  pub owners : Load K → Option ℕ
+  pub owning : ℕ → Option (Load K)
+  -- the owner that a call waits for, and how many wait for an owner
+  pub joined : ℕ → Option ℕ
+  pub readers : ℕ → ℕ
+  -- how an owner ended, as long as somebody has still to read it
+  pub settled : ℕ → Option (Settled V)
+  -- what an open ask takes, and what was told to one that is closed and not taken yet
+  pub asks : ℕ → Option Takes
+  pub told : ℕ → Option (Told V)
+
+-- What a live call is to the reference: how far it is, what it has still to do, and how often it
+-- has read that an owner was dropped.
+pub record Call (K V : Type 0) : Type 0 where
+  pub mode : Mode
+  pub plan : List (Item K V)
+  pub aborts : ℕ
+
+pub record World (K V : Type 0) : Type 0 where
+  pub table : TablePart K V
+  pub desk : DeskPart K V
+
+pub record State (K V : Type 0) : Type 0 where
+  pub world : World K V
+  pub calls : ℕ → Option (Call K V)
+
+abbrev pub empty_table : (K V : Type 0) → TablePart K V
+empty_table K V = record { stored = λ _. None; keys = 0; peak = 0; committed = [] }
+
+-- a desk with a log of this size, where nothing has happened
+abbrev pub fresh_desk : (K V : Type 0) → ℕ → DeskPart K V
+fresh_desk K V size =
+    record {
+      clock = 0;
+      accessed = λ _. None;
+      pending = λ _. None;
+      holders = [];
+      owed = [];
+      log = [];
+      applied = [];
+      turn = None;
+      published = 0;
+      size = size;
+      last = 0;
+      owners = λ _. None;
+      owning = λ _. None;
+      joined = λ _. None;
+      readers = λ _. 0;
+      settled = λ _. None;
+      asks = λ _. None;
+      told = λ _. None;
+    }
+
+-- nothing is stored, no call was started, and the clock is 0
+abbrev pub fresh : (K V : Type 0) → ℕ → State K V
+fresh K V size = record { world = record { table = empty_table K V; desk = fresh_desk K V size }; calls = λ _. None }

@@ -1,0 +1,128 @@
+-- One step of a call: one access, and what follows from its answer.
+use Rattle.std.specs.Prelude.{◌≡◌, ℕ, Bool, true, false, List, [], ◌∷◌, Some}
+use Rattle.moka_hist.specs.Finite.{put_at}
+use Rattle.moka_hist.specs.State.{Call, World, State}
+use Rattle.moka_hist.specs.Plan.{Item}
+use Rattle.moka_hist.specs.Plan as plan
+use Rattle.moka_hist.specs.Visits.{finds, makes}
+use Rattle.moka_hist.specs.Tables.{table_answer, table_after}
+use Rattle.moka_hist.specs.Next.{Next, goes, waits}
+use Rattle.moka_hist.specs.Posting.{after_drain, after_post, after_turn, after_apply, after_end}
+use Rattle.moka_hist.specs.Looking.{after_get, after_judge}
+use Rattle.moka_hist.specs.Loading.{after_own, after_read, after_ask, after_told, after_settle}
+use Rattle.moka_hist.specs.Writing.{after_moment, after_write}
+use Rattle.moka_hist.specs.declared.loads.Kind.{Kind}
+use Rattle.moka_hist.specs.declared.loads.Kind.TheVariants as kind
+use Rattle.moka_hist.specs.declared.visits.Takes.{Takes}
+use Rattle.moka_hist.specs.declared.visits.Takes.TheVariants as takes
+use Rattle.moka_hist.specs.declared.visits.Visit.{Visit}
+use Rattle.moka_hist.specs.declared.visits.Visit.TheVariants as visit
+use Rattle.moka_hist.specs.declared.visits.Found.{Found}
+use Rattle.moka_hist.specs.declared.tables.TableOp.{TableOp}
+use Rattle.moka_hist.specs.declared.tables.TableOp.TheVariants as op
+use Rattle.moka_hist.specs.declared.tables.TableTurn.{TableTurn}
+use Rattle.moka_hist.specs.declared.tables.TableTurn.TheVariants as table
+use Rattle.moka_hist.specs.declared.accesses.Want.{Want}
+use Rattle.moka_hist.specs.declared.accesses.Want.TheVariants as want
+use Rattle.moka_hist.specs.declared.accesses.Got.{Got}
+use Rattle.moka_hist.specs.declared.accesses.Got.TheVariants as got
+use Rattle.moka_hist.specs.declared.accesses.Turn.{Turn}
+
+-- what a call does to the world in one step: a step of a table operation, or a visit of the desk
+pub data Access (K V : Type 0) : Type 0 where
+  On_table : (operation : TableOp K V) → Access K V
+  On_desk : (made : Visit K V) → Access K V
+
+-- which answers the ask of a load takes
+abbrev pub takes_of : Kind → Takes
+takes_of kind.GetWith = takes.Value
+
+module _ {K V : Type 0} where
+  -- the access that an item needs
+  abbrev pub access_for : ℕ → Item K V → Access K V
+  access_for n plan.Drain = On_desk (visit.TakeOwed n)
+  access_for n (plan.Post write) = On_desk (visit.PostWrite n write)
+  access_for n plan.Turn = On_desk (visit.TakeTurn n)
+  access_for n plan.Apply = On_desk (visit.ApplyOne n)
+  access_for n plan.End = On_desk (visit.EndTurn n)
+  access_for n (plan.Get aim key) = On_table (op.Get key)
+  access_for n (plan.Judge aim key stored) = On_desk (visit.Judge key stored)
+  access_for n (plan.Own load) = On_desk (visit.WaitOrOwn n load.key load.kind)
+  access_for n (plan.Read load) = On_desk (visit.ReadSettled n)
+  access_for n (plan.Settle with) = On_desk (visit.Settle n with)
+  access_for n (plan.Ask load) = On_desk (visit.OpenAsk n (takes_of load.kind))
+  access_for n (plan.Told load) = On_desk (visit.TakeTold n)
+  access_for n (plan.Moment key value) = On_desk (visit.StampMoment n)
+  access_for n (plan.Write key value moment) =
+      On_table (op.InsertOrModify key (record { value = value; stamp = n; modified = moment }))
+  access_for n (plan.Reply answer) = On_desk (visit.Clock n)
+
+  -- the access of a call's next step: that of its first item. Where nothing is left but an answer, it reads the clock
+  abbrev pub access_of : ℕ → Call K V → Access K V
+  access_of n c = by_plan c.plan
+    where
+      by_plan : List (Item K V) → Access K V
+      by_plan [] = On_desk (visit.Clock n)
+      by_plan (item ∷ rest) = access_for n item
+
+  -- an access as it is wanted: an operation that was begun is gone on with
+  abbrev pub want_for : Bool → Access K V → Want K V
+  want_for false (On_table operation) = want.Begin operation
+  want_for true (On_table operation) = want.Table
+  want_for begun (On_desk made) = want.Desk made
+
+  -- how a call goes on after a step of its table operation
+  abbrev pub after_table : ℕ → Call K V → Item K V → List (Item K V) → TableTurn K V → Next K V
+  after_table n c (plan.Get aim key) rest turn = after_get c aim turn
+  after_table n c (plan.Write key value moment) rest turn = after_write n c rest turn
+  after_table n c _ rest turn = waits c
+
+  -- how a call goes on after its visit
+  abbrev pub after_visit : Call K V → Item K V → List (Item K V) → Found V → Next K V
+  after_visit c plan.Drain rest f = after_drain c rest f
+  after_visit c (plan.Post write) rest f = after_post c write rest f
+  after_visit c plan.Turn rest f = after_turn c rest f
+  after_visit c plan.Apply rest f = after_apply c rest f
+  after_visit c plan.End rest f = after_end c rest f
+  after_visit c (plan.Judge aim key stored) rest f = after_judge c aim stored f
+  after_visit c (plan.Own load) rest f = after_own c load f
+  after_visit c (plan.Read load) rest f = after_read c load f
+  after_visit c (plan.Settle with) rest f = after_settle c rest f
+  after_visit c (plan.Ask load) rest f = after_ask c load f
+  after_visit c (plan.Told load) rest f = after_told c load f
+  after_visit c (plan.Moment key value) rest f = after_moment c key value rest f
+  after_visit c (plan.Reply answer) rest f = goes c (plan.Reply answer ∷ [])
+  after_visit c (plan.Get aim key) rest f = waits c
+  after_visit c (plan.Write key value moment) rest f = waits c
+
+  -- how a call goes on after its access gave this
+  abbrev pub next_of : ℕ → Call K V → Got K V → Next K V
+  next_of n c g = by_plan c.plan g
+    where
+      by_plan : List (Item K V) → Got K V → Next K V
+      by_plan [] g = waits c
+      by_plan (item ∷ rest) (got.Table turn) = after_table n c item rest turn
+      by_plan (item ∷ rest) (got.Desk f) = after_visit c item rest f
+
+  -- what the world may give for an access, and become by it. A table operation may stay undecided, which changes nothing
+  abbrev pub Gets : (K → K → Bool) → World K V → Access K V → Got K V → World K V → Type 0
+  Gets eq w (On_table operation) (got.Table table.Going) new = new ≡ w
+  Gets eq w (On_table operation) (got.Table (table.Decided answer)) new =
+      (answer ≡ table_answer w.table operation) × (new ≡ record w { table = table_after eq w.table operation })
+  Gets eq w (On_desk made) (got.Desk f) new = (f ≡ finds w.desk made) × (new ≡ record w { desk = makes eq w.desk made })
+  Gets eq w (On_table operation) (got.Desk f) new = ⊥
+  Gets eq w (On_desk made) (got.Table turn) new = ⊥
+
+  -- the call's place after the step, in a world that the access made
+  abbrev pub state_after : State K V → ℕ → World K V → Next K V → State K V
+  state_after s n w next = record { world = w; calls = put_at s.calls n next.left }
+
+  -- one step of the live call of this number
+  pub record Step (eq : K → K → Bool) (s : State K V) (n : ℕ) (turn : Turn V) (new : State K V) : Type 0 where
+    pub call : Call K V
+    pub live : s.calls n ≡ Some call
+    pub given : Got K V
+    pub world : World K V
+    pub gets : Gets eq s.world (access_of n call) given world
+    pub turns : turn ≡ (next_of n call given).turn
+    pub after : new ≡ state_after s n world (next_of n call given)

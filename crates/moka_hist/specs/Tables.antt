@@ -1,0 +1,39 @@
+-- The operations on the table's map.
+use Rattle.std.specs.Prelude.{ℕ, ◌+◌, max, Bool, cond, [], ◌∷◌, ◌++◌, Option, Some, None, is_some}
+use Rattle.moka_hist.specs.Finite.{put_key}
+use Rattle.moka_hist.specs.State.{TablePart}
+use Rattle.moka_hist.specs.declared.records.Stored.{Stored}
+use Rattle.moka_hist.specs.declared.tables.TableOp.{TableOp}
+use Rattle.moka_hist.specs.declared.tables.TableOp.TheVariants as op
+use Rattle.moka_hist.specs.declared.tables.TableAnswer.{TableAnswer}
+use Rattle.moka_hist.specs.declared.tables.TableAnswer.TheVariants as answer
+
+module _ {K V : Type 0} where
+  abbrev pub answer_of : Option (K × Stored V) → TableAnswer K V
+  answer_of None = answer.None
+  answer_of (Some pair) = answer.Some pair.0 pair.1
+
+  abbrev pub key_of : TableOp K V → K
+  key_of (op.Get key) = key
+  key_of (op.InsertOrModify key stored) = key
+
+  -- either operation answers the pair that the map has at the key before it
+  abbrev pub table_answer : TablePart K V → TableOp K V → TableAnswer K V
+  table_answer t operation = answer_of (t.stored (key_of operation))
+
+  -- the map with the pair at its key
+  abbrev pub stored_with : (K → K → Bool) → (K → Option (K × Stored V)) → TableOp K V → K → Option (K × Stored V)
+  stored_with eq f (op.Get key) = f
+  stored_with eq f (op.InsertOrModify key stored) = put_key eq f key (Some (key, stored))
+
+  -- a look changes nothing; a write puts the pair in the place of the one that was there
+  abbrev pub table_after : (K → K → Bool) → TablePart K V → TableOp K V → TablePart K V
+  table_after eq t (op.Get key) = t
+  table_after eq t (op.InsertOrModify key stored) =
+      let keys : ℕ = cond (is_some (t.stored key)) t.keys (t.keys + 1) in
+      record {
+        stored = put_key eq t.stored key (Some (key, stored));
+        keys = keys;
+        peak = max t.peak keys;
+        committed = t.committed ++ stored.stamp ∷ [];
+      }

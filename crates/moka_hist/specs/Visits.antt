@@ -1,0 +1,180 @@
+-- The visits of the desk: what each finds, and what it changes.
+use Rattle.std.specs.Prelude.{ℕ, ◌+◌, ◌-◌, ◌==◌, nat_lt, max, Bool, true, false, not, cond, ◌&&◌, List, [], ◌∷◌, ◌++◌, length, take, drop, Option, Some, None, is_some, unwrap_or}
+use Rattle.std.specs.Option.{option_map_or, option_and_then}
+use Rattle.std.specs.List.{list_any, count_by}
+use Rattle.moka_hist.specs.Finite.{put_at, put_key, load_eq, without_one}
+use Rattle.moka_hist.specs.State.{DeskPart}
+use Rattle.moka_hist.specs.declared.loads.Load.{Load}
+use Rattle.moka_hist.specs.declared.writes.Write.{Write}
+use Rattle.moka_hist.specs.declared.writes.Write.TheVariants.{Upsert}
+use Rattle.moka_hist.specs.declared.visits.Claim.{Claim}
+use Rattle.moka_hist.specs.declared.visits.Claim.TheVariants as claim
+use Rattle.moka_hist.specs.declared.visits.Settled.{Settled}
+use Rattle.moka_hist.specs.declared.visits.Settled.TheVariants as settled
+use Rattle.moka_hist.specs.declared.visits.Takes.{Takes}
+use Rattle.moka_hist.specs.declared.visits.Visit.{Visit}
+use Rattle.moka_hist.specs.declared.visits.Visit.TheVariants as visit
+use Rattle.moka_hist.specs.declared.visits.Found.{Found}
+use Rattle.moka_hist.specs.declared.visits.Found.TheVariants as found
+
+-- the number of the call that made the write, and the stamp of the record that it replaced
+abbrev pub number_of : Write → ℕ
+number_of (Upsert number old) = number
+
+abbrev pub old_of : Write → Option ℕ
+old_of (Upsert number old) = old
+
+-- some of the writes replaced the record of this stamp
+abbrev pub is_replaced : List Write → ℕ → Bool
+is_replaced writes stamp = list_any (λ w. option_map_or (λ old. old == stamp) (old_of w) false) writes
+
+-- how many of the writes made records that none of them replaced
+abbrev pub standing : List Write → ℕ
+standing writes = count_by (λ w. not (is_replaced writes (number_of w))) writes
+
+-- how a load with this owner stands for a call that comes
+abbrev pub claim_of : Option ℕ → Claim
+claim_of None = claim.Owner
+claim_of (Some owner) = claim.Waits owner
+
+module _ {K V : Type 0} where
+  -- when the record of this stamp, written at the moment, was last seen
+  abbrev pub access_of : DeskPart K V → ℕ → ℕ → ℕ
+  access_of w stamp modified = unwrap_or (w.accessed stamp) modified
+
+  -- nobody has the turn, or this call has it
+  abbrev pub is_free_for : DeskPart K V → ℕ → Bool
+  is_free_for w call = option_map_or (λ holder. holder == call) w.turn true
+
+  -- the log takes another write
+  abbrev pub has_room : DeskPart K V → Bool
+  has_room w = nat_lt (length w.log) w.size
+
+  -- how the owner ended that the call waits for
+  abbrev pub settlement_for : DeskPart K V → ℕ → Option (Settled V)
+  settlement_for w call = option_and_then w.settled (w.joined call)
+
+  -- the call waits for this owner
+  abbrev pub is_reader_of : DeskPart K V → ℕ → ℕ → Bool
+  is_reader_of w call owner = option_map_or (λ o. o == owner) (w.joined call) false
+
+  -- how many wait for each owner once the call has left
+  abbrev pub readers_without : DeskPart K V → ℕ → ℕ → ℕ
+  readers_without w call owner = cond (is_reader_of w call owner) (w.readers owner - 1) (w.readers owner)
+
+  -- what is kept of each owner once the call has left: nothing where it was the last to read it
+  abbrev pub settled_without : DeskPart K V → ℕ → ℕ → Option (Settled V)
+  settled_without w call owner = cond (is_reader_of w call owner && w.readers owner == 1) None (w.settled owner)
+
+  -- the owners but for this call
+  abbrev pub owners_without : DeskPart K V → ℕ → Load K → Option ℕ
+  owners_without w call load = cond (option_map_or (λ o. o == call) (w.owners load) false) None (w.owners load)
+
+  -- what is kept once the call has ended so: nothing where it owns nothing, or nobody waits for it
+  abbrev pub settled_with : DeskPart K V → ℕ → Settled V → (ℕ → Option (Settled V)) → ℕ → Option (Settled V)
+  settled_with w call with kept owner = cond (is_some (w.owning call) && nat_lt 0 (w.readers call) && call == owner) (Some with) (kept owner)
+
+  -- ---- what each visit changes
+
+  abbrev pub took_owed : DeskPart K V → ℕ → DeskPart K V
+  took_owed w call = record w {
+    holders = cond (nat_lt 0 (length w.owed)) (call ∷ w.holders) w.holders;
+    owed = drop 1 w.owed;
+  }
+
+  abbrev pub stamped : DeskPart K V → ℕ → DeskPart K V
+  stamped w call = record w { pending = put_at w.pending call (Some w.clock); holders = call ∷ w.holders }
+
+  abbrev pub decided : DeskPart K V → ℕ → DeskPart K V
+  decided w call = record w { pending = put_at w.pending call None }
+
+  abbrev pub judged : DeskPart K V → ℕ → ℕ → DeskPart K V
+  judged w stamp modified = record w { accessed = put_at w.accessed stamp (Some (max (access_of w stamp modified) w.clock)) }
+
+  abbrev pub posted : DeskPart K V → ℕ → Write → DeskPart K V
+  posted w call write = record w {
+    holders = cond (has_room w) (without_one call w.holders) w.holders;
+    log = cond (has_room w) (w.log ++ write ∷ []) w.log;
+  }
+
+  abbrev pub took_turn : DeskPart K V → ℕ → DeskPart K V
+  took_turn w call = record w { turn = cond (is_free_for w call) (Some call) w.turn }
+
+  abbrev pub applied_one : DeskPart K V → DeskPart K V
+  applied_one w = record w { log = drop 1 w.log; applied = w.applied ++ take 1 w.log }
+
+  abbrev pub ended_turn : DeskPart K V → DeskPart K V
+  ended_turn w = record w { turn = None; published = standing w.applied }
+
+  -- the call owns the load where nobody does, and else waits for its owner
+  abbrev pub claimed : (K → K → Bool) → DeskPart K V → ℕ → Load K → Option ℕ → DeskPart K V
+  claimed eq w call load None = record w {
+    owners = put_key (load_eq eq) w.owners load (Some call);
+    owning = put_at w.owning call (Some load);
+  }
+  claimed eq w call load (Some owner) = record w {
+    joined = put_at w.joined call (Some owner);
+    readers = put_at w.readers owner (w.readers owner + 1);
+  }
+
+  -- the settlement was read, if there is one
+  abbrev pub read : DeskPart K V → ℕ → DeskPart K V
+  read w call = cond (is_some (settlement_for w call))
+      (record w {
+        joined = put_at w.joined call None;
+        readers = readers_without w call;
+        settled = settled_without w call;
+      })
+      w
+
+  abbrev pub settled_as : DeskPart K V → ℕ → Settled V → DeskPart K V
+  settled_as w call with = record w {
+    owners = owners_without w call;
+    owning = put_at w.owning call None;
+    settled = settled_with w call with w.settled;
+  }
+
+  abbrev pub opened : DeskPart K V → ℕ → Takes → DeskPart K V
+  opened w call takes = record w { asks = put_at w.asks call (Some takes); told = put_at w.told call None }
+
+  abbrev pub took_told : DeskPart K V → ℕ → DeskPart K V
+  took_told w call = record w { told = put_at w.told call None }
+
+  -- ---- a visit of a call, as it makes it
+
+  -- what it finds
+  abbrev pub finds : DeskPart K V → Visit K V → Found V
+  finds w (visit.Clock call) = found.Clock w.clock
+  finds w (visit.TakeOwed call) = found.TakeOwed (first w.owed)
+    where
+      first : List Write → Option Write
+      first [] = None
+      first (x ∷ xs) = Some x
+  finds w (visit.StampMoment call) = found.StampMoment w.clock
+  finds w (visit.Judge key stored) = found.Judge true
+  finds w (visit.WaitOrOwn call key kind) = found.WaitOrOwn (claim_of (w.owners (record { key = key; kind = kind })))
+  finds w (visit.ReadSettled call) = found.ReadSettled (unwrap_or (settlement_for w call) settled.NotYet)
+  finds w (visit.Settle call with) = found.Settle
+  finds w (visit.OpenAsk call takes) = found.OpenAsk
+  finds w (visit.TakeTold call) = found.TakeTold (w.told call)
+  finds w (visit.PostWrite call write) = found.PostWrite (has_room w)
+  finds w (visit.TakeTurn call) = found.TakeTurn (is_free_for w call)
+  finds w (visit.ApplyOne call) = found.ApplyOne (nat_lt 0 (length w.log))
+  finds w (visit.EndTurn call) = found.EndTurn
+
+  -- what it changes. The visit that posts is the first after the write, so it ends the pending moment too
+  abbrev pub makes : (K → K → Bool) → DeskPart K V → Visit K V → DeskPart K V
+  makes eq w (visit.Clock call) = w
+  makes eq w (visit.TakeOwed call) = took_owed w call
+  makes eq w (visit.StampMoment call) = stamped w call
+  makes eq w (visit.Judge key stored) = judged w stored.stamp stored.modified
+  makes eq w (visit.WaitOrOwn call key kind) =
+      let load : Load K = record { key = key; kind = kind } in claimed eq w call load (w.owners load)
+  makes eq w (visit.ReadSettled call) = read w call
+  makes eq w (visit.Settle call with) = settled_as w call with
+  makes eq w (visit.OpenAsk call takes) = opened w call takes
+  makes eq w (visit.TakeTold call) = took_told w call
+  makes eq w (visit.PostWrite call write) = decided (posted w call write) call
+  makes eq w (visit.TakeTurn call) = took_turn w call
+  makes eq w (visit.ApplyOne call) = applied_one w
+  makes eq w (visit.EndTurn call) = ended_turn w

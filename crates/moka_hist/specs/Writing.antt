@@ -1,0 +1,28 @@
+-- Writing a value.
+use Rattle.std.specs.Prelude.{ℕ, List, ◌∷◌, Option, Some, None}
+use Rattle.moka_hist.specs.State.{Call}
+use Rattle.moka_hist.specs.Plan.{Item}
+use Rattle.moka_hist.specs.Plan as plan
+use Rattle.moka_hist.specs.Next.{Next, goes, stays, waits}
+use Rattle.moka_hist.specs.declared.writes.Write.TheVariants.{Upsert}
+use Rattle.moka_hist.specs.declared.tables.TableAnswer.{TableAnswer}
+use Rattle.moka_hist.specs.declared.tables.TableAnswer.TheVariants as table
+use Rattle.moka_hist.specs.declared.tables.TableTurn.{TableTurn}
+use Rattle.moka_hist.specs.declared.tables.TableTurn.TheVariants as turn
+use Rattle.moka_hist.specs.declared.visits.Found.{Found}
+use Rattle.moka_hist.specs.declared.visits.Found.TheVariants as found
+
+module _ {K V : Type 0} where
+  abbrev pub after_moment : Call K V → K → V → List (Item K V) → Found V → Next K V
+  after_moment c key value rest (found.StampMoment moment) = goes c (plan.Write key value moment ∷ rest)
+  after_moment c key value rest _ = waits c
+
+  -- the stamp of the record that was replaced
+  abbrev pub old_stamp : TableAnswer K V → Option ℕ
+  old_stamp table.None = None
+  old_stamp (table.Some key stored) = Some stored.stamp
+
+  -- the write is committed, and to be posted
+  abbrev pub after_write : ℕ → Call K V → List (Item K V) → TableTurn K V → Next K V
+  after_write n c rest turn.Going = stays c
+  after_write n c rest (turn.Decided answer) = goes c (plan.Post (Upsert n (old_stamp answer)) ∷ rest)

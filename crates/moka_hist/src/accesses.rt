@@ -1,0 +1,28 @@
+//! What a call wants next, what it gets, and what its step replies.
+
+use crate::{Answer, Ask, Found, TableOp, TableTurn, Visit};
+
+/// The one access of a step: a table operation's first step, a further step of it, or a visit.
+#[derive(Drop)]
+pub enum Want<K, V> {
+    Begin(TableOp<K, V>),
+    Table,
+    Desk(Visit<K, V>),
+}
+
+/// What an access gave.
+#[derive(Drop)]
+pub enum Got<K, V> {
+    Table(TableTurn<K, V>),
+    Desk(Found<V>),
+}
+
+/// How a step leaves its call: it goes on, it waits for something missing, it asks, or it has
+/// answered.
+#[derive(Drop)]
+pub enum Turn<V> {
+    Going,
+    Wait,
+    Ask(Ask),
+    Answer(Answer<V>),
+}

@@ -1,0 +1,24 @@
+//! The plain types of the cache, and the reference cache that all contracts speak of.
+//!
+//! The definitions stand in `specs/`: the state by layer (`State`), what a call has still to do
+//! (`Plan`), the visits of the desk (`Visits`), one step (`Step`), runs on events (`Run`), and what
+//! a user is promised of every state of a run (`Places`).
+#![tactic(auto)]
+
+mod accesses;
+mod events;
+mod loads;
+mod records;
+mod replies;
+mod tables;
+mod visits;
+mod writes;
+
+pub use accesses::{Got, Turn, Want};
+pub use events::{Event, Start, Told};
+pub use loads::{Kind, Load};
+pub use records::{Mode, Stored};
+pub use replies::{Answer, Ask, Refusal, Reply};
+pub use tables::{TableAnswer, TableOp, TableTurn};
+pub use visits::{Claim, Found, Settled, Takes, Visit};
+pub use writes::{Place, Write};

@@ -1,0 +1,48 @@
+//! The replies to events.
+
+/// What a call asks of its caller.
+#[derive(Clone, Copy, PartialEq, Eq, Debug)]
+pub enum Ask {
+    /// The initializer of a load is to be run, and its value told.
+    Init,
+}
+
+/// What a call answers in the end.
+#[derive(Clone, PartialEq, Debug, Drop)]
+pub enum Answer<V> {
+    Done,
+    Found(Option<V>),
+    /// The value of a load; `fresh` where this call's own initializer gave it.
+    Loaded { value: V, fresh: bool },
+    /// The owner that the call waited for was dropped, for the 200th time.
+    RetriesExhausted,
+}
+
+/// Why an event was refused. A refused event changes nothing.
+#[derive(Clone, Copy, PartialEq, Eq, Debug)]
+pub enum Refusal {
+    /// The number was never given out, or its call has answered or was dropped.
+    UnknownCall,
+    /// The call is between two steps: it can't be dropped there.
+    NotParked,
+    /// No ask of that number is open, or it doesn't take such an answer.
+    NotAsked,
+    /// The moment is less than the clock.
+    ClockBack,
+    /// The greatest call number was given out.
+    CallsSpent,
+}
+
+/// The reply to one event.
+#[derive(Clone, PartialEq, Debug, Drop)]
+pub enum Reply<V> {
+    At,
+    Call(u64),
+    Going,
+    Wait,
+    Ask(Ask),
+    Answer(Answer<V>),
+    Told,
+    Dropped,
+    Refused(Refusal),
+}

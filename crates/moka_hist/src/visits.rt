@@ -1,0 +1,74 @@
+//! The visits of the desk that calls make, and what they find.
+
+use crate::{Kind, Stored, Told, Write};
+
+/// How a load stands for a call that asks: it is the owner now, or an earlier call is.
+#[derive(Clone, Copy, PartialEq, Eq, Debug)]
+pub enum Claim {
+    Owner,
+    Waits { owner: u64 },
+}
+
+/// How an owner ended, for those that wait for it.
+#[derive(Drop)]
+pub enum Settled<V> {
+    NotYet,
+    Ready(V),
+    Aborted,
+}
+
+/// Which answers an open ask takes.
+#[derive(Clone, Copy, PartialEq, Eq, Debug)]
+pub enum Takes {
+    /// A value, and nothing else.
+    Value,
+}
+
+/// A visit of the desk, with the number of the call that makes it.
+#[derive(Drop)]
+pub enum Visit<K, V> {
+    /// Reads the clock, and does nothing else.
+    Clock { call: u64 },
+    /// Takes the front of the owed list up, if there is one.
+    TakeOwed { call: u64 },
+    /// Takes the moment of a write that follows.
+    StampMoment { call: u64 },
+    /// Judges whether a record may be seen, and if so raises its access moment.
+    Judge { key: K, stored: Stored<V> },
+    /// Becomes the owner of a load, or joins its waiters.
+    WaitOrOwn { call: u64, key: K, kind: Kind },
+    /// Reads how the owner ended that the call waits for.
+    ReadSettled { call: u64 },
+    /// Ends the call's ownership.
+    Settle { call: u64, with: Settled<V> },
+    /// Opens the call's ask.
+    OpenAsk { call: u64, takes: Takes },
+    /// Takes the answer to the call's ask.
+    TakeTold { call: u64 },
+    /// Appends a held write to the log, where the log has room.
+    PostWrite { call: u64, write: Write },
+    /// Takes the maintenance turn, where no other call has it.
+    TakeTurn { call: u64 },
+    /// Applies the log's front.
+    ApplyOne { call: u64 },
+    /// Publishes the count of applied upserts, and gives the turn up.
+    EndTurn { call: u64 },
+}
+
+/// What the visit of the same name finds.
+#[derive(Drop)]
+pub enum Found<V> {
+    Clock(u64),
+    TakeOwed(Option<Write>),
+    StampMoment(u64),
+    Judge(bool),
+    WaitOrOwn(Claim),
+    ReadSettled(Settled<V>),
+    Settle,
+    OpenAsk,
+    TakeTold(Option<Told<V>>),
+    PostWrite(bool),
+    TakeTurn(bool),
+    ApplyOne(bool),
+    EndTurn,
+}
