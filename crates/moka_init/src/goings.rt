@@ -22,7 +22,7 @@ pub fn step<K: Eq + Clone + Drop, V: Clone + Drop, G: Ground<K, V>>(
     requires values { IsExact V.is_clone }
     requires on { IsOn (G.begun ground.old) flow.old }
     requires may { (w : World K V) × G.stands ground.old w × May w (access_at flow.old) }
-    ensures moves { IfOk result (λ turn. (w : World K V) → G.stands ground.old w
+    ensures moves { IfOk result (λ turn. (w : World K V) → G.stands ground.old w → May w (access_at flow.old)
         → (new : World K V) × Moves K.eq flow.old.call (call_of flow.old) w (next_in turn flow.new) new × G.stands ground.new new) }
     ensures tells { IfOk result (λ turn. (before : List (Access K V × Got K V)) → G.made ground.old ≡ Some before
         → (given : Got K V) × (next_in turn flow.new ≡ next_of flow.old.call (call_of flow.old) given)
@@ -55,9 +55,9 @@ pub fn poll<K: Eq + Clone + Drop, V: Clone + Drop, G: Alone<K, V>>(
     requires values { IsExact V.is_clone }
     requires on { IsOn (G.begun ground.old) flow.old }
     requires safe { (w : World K V) × G.stands ground.old w × IsSafe K.eq flow.old.call (call_of flow.old) w }
-    ensures polls { IfOk result (λ turn. (w : World K V) → G.stands ground.old w
+    ensures polls { IfOk result (λ turn. (w : World K V) → G.stands ground.old w → IsSafe K.eq flow.old.call (call_of flow.old) w
         → (new : World K V) × Polled K.eq flow.old.call (call_of flow.old) w (next_in turn flow.new) new × G.stands ground.new new) }
-    ensures unfinished { IfErr result (λ u. (w : World K V) → G.stands ground.old w
+    ensures unfinished { IfErr result (λ u. (w : World K V) → G.stands ground.old w → IsSafe K.eq flow.old.call (call_of flow.old) w
         → (new : World K V) × MovesOn K.eq u.steps flow.old.call (call_of flow.old) w (call_of flow.new) new × G.stands ground.new new) }
     ensures on { OnErr result (IsOn (G.begun ground.new) flow.new) }
     ensures number { flow.new.call ≡ flow.old.call }

@@ -2,7 +2,7 @@
 ghost use Rattle.std.specs.Prelude.{◌≡◌, List, [], ◌∷◌, ◌++◌, Option, Some, IfOk, OnErr};
 ghost use Rattle.moka_hist.specs.Finite.{IsExact};
 ghost use Rattle.moka_hist.specs.State.{World};
-ghost use Rattle.moka_hist.specs.Step.{Access, Gets};
+ghost use Rattle.moka_hist.specs.Step.{Access, Gets, May};
 ghost use Rattle.moka_hist.specs.declared.tables.TableOp.{TableOp};
 ghost use Rattle.moka_hist.specs.declared.accesses.Got.{Got};
 ghost use Rattle.moka_init.specs.Grounds.{wanted, still_begun, MayWant};
@@ -28,7 +28,7 @@ pub trait Ground<K: Eq + Clone, V: Clone> {
         requires values { IsExact V.is_clone }
         requires may { (w : World K V) × stands self.old w × MayWant w (begun self.old) want }
         ensures gives { IfOk result (λ given. (access : Access K V) → wanted (begun self.old) want ≡ Some access
-            → (w : World K V) → stands self.old w → (new : World K V) × Gets K.eq w access given new × stands self.new new) }
+            → (w : World K V) → stands self.old w → May w access → (new : World K V) × Gets K.eq w access given new × stands self.new new) }
         ensures begins { IfOk result (λ given. (access : Access K V) → wanted (begun self.old) want ≡ Some access
             → begun self.new ≡ still_begun access given) }
         ensures tells { IfOk result (λ given. (access : Access K V) → wanted (begun self.old) want ≡ Some access

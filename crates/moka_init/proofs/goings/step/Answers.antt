@@ -8,9 +8,9 @@ use Rattle.moka_init.proofs.Begun.{still_on}
 use Rattle.moka_init.proofs.goings.step.Goals as goal
 
 pub returns-clause-moves : goal.returns-clause-moves
-returns-clause-moves g c = λ w h.
+returns-clause-moves g c = λ w h may.
     let on : wanted (g.G.Ground.begun c.args.ground.now) c.in_ok-want.want ≡ Some (access_at c.args.flow.now) = rw c.in_ok-want.ensures.want c.requires.on in
-    let r = c.in_ok-given.ensures.gives (access_at c.args.flow.now) on w h in
+    let r = c.in_ok-given.ensures.gives (access_at c.args.flow.now) on w h may in
     let next : next_in c.take.result c.take.new.self ≡ next_of c.args.flow.now.call (call_of c.args.flow.now) c.in_ok-given.given = subst (λ (f : Flow g.row.K.Denot g.row.V.Denot). next_in c.take.result c.take.new.self ≡ next_of f.call (call_of f) c.in_ok-given.given) c.in_ok-want.ensures.same c.take.ensures.next in
     (r.0, record { given = c.in_ok-given.given; gets = r.1; goes = next }, r.2)
 

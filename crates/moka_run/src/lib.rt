@@ -1,0 +1,4 @@
+//! The schedule machine: the cache on one thread, its calls driven event by event.
+#![tactic(auto)]
+
+mod calls;
