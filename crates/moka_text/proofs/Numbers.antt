@@ -78,9 +78,9 @@ none_of_nothing bytes empty = number_none (2 ^ 64) bytes (λ n small e. let h = 
 pub none_of_zeros : (bytes : List ℕ) → get_or bytes 0 0 ≡ 48 → 1 < length bytes → number_of (2 ^ 64) bytes ≡ None
 none_of_zeros bytes lead more =
     number_none (2 ^ 64) bytes (λ n small e.
-        let h = one_zero n small (ap (λ b. get_or b 0 0) (sym e) ∙ lead) in
-        let l = ap length e in
-        absurd (omega arith))
+    let h = one_zero n small (ap (λ b. get_or b 0 0) (sym e) ∙ lead) in
+    let l = ap length e in
+    absurd (omega arith))
 
 -- what the digits' value is where it is read
 pub number_of_value : (bytes : List ℕ) (r : Option ℕ) → 0 < length bytes → (get_or bytes 0 0 ≡ 48 → length bytes ≡ 1) → (IsSome r → AllDigits 10 bytes) → IfSome r (λ n. n ≡ digits_value 10 bytes) → IfSome r (λ n. n < 2 ^ 64) → IfNone r (AllDigits 10 bytes → 2 ^ 64 ≤ digits_value 10 bytes) → r ≡ number_of (2 ^ 64) bytes
@@ -88,9 +88,9 @@ number_of_value bytes (Some n) some lead digits value small none =
     sym (number_some (2 ^ 64) n bytes small (omega arith) (sym (ap decimal value ∙ decimal-digits_value own bytes (digits (search rules)) some lead (subst (λ m. m < 2 ^ 64) value small))))
 number_of_value bytes None some lead digits value small none =
     sym (number_none (2 ^ 64) bytes (λ n below e.
-        let v : digits_value 10 bytes ≡ n = ap (digits_value 10) e ∙ digits_value-decimal own n below in
-        let past = none (subst (AllDigits 10) (sym e) (digits_decimal own n below)) in
-        absurd (omega arith)))
+    let v : digits_value 10 bytes ≡ n = ap (digits_value 10) e ∙ digits_value-decimal own n below in
+    let past = none (subst (AllDigits 10) (sym e) (digits_decimal own n below)) in
+    absurd (omega arith)))
 
 -- a number of 32 bits is one of 64 bits that is small enough
 pub key_from_call : (bytes : List ℕ) (n : ℕ) → number_of (2 ^ 64) bytes ≡ Some n → n < 2 ^ 32 → number_of (2 ^ 32) bytes ≡ Some n

@@ -95,11 +95,15 @@ schedule_of (first ∷ rest) = log_then (log_of first) (events_from 2 rest)
 unfoldable pub schedule : List ℕ → Result (ℕ × List (Event ℕ ℕ)) ℕ
 schedule text = schedule_of (lines text)
 
+-- this error was returned for this bad line, or for want of memory, whatever is read
+abbrev pub Fails : {Y : Type 0} → ScheduleError → Result Y ℕ → Type 0
+Fails (errors.BadLine line) read = read ≡ Err line
+Fails errors.Memory read = Unit {0}
+
 -- what was returned, seen by view, is what is read, unless memory ran out
 abbrev pub Gives : {X Y : Type 0} → (X → Y) → Result X ScheduleError → Result Y ℕ → Type 0
 Gives view (Ok x) read = read ≡ Ok (view x)
-Gives view (Err (errors.BadLine line)) read = read ≡ Err line
-Gives view (Err errors.Memory) read = Unit {0}
+Gives view (Err e) read = Fails e read
 
 -- a schedule without where it lies in memory
 abbrev pub parts : Schedule → ℕ × List (Event ℕ ℕ)

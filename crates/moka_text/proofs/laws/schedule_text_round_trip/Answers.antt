@@ -1,0 +1,9 @@
+use Rattle.moka_text.proofs.Spelled.{event_read}
+use Rattle.moka_text.proofs.Texts.{says_read}
+use Rattle.moka_text.proofs.laws.schedule_text_round_trip.Goals as goal
+
+pub returns-clause-line : goal.returns-clause-line
+returns-clause-line c = event_read
+
+pub returns-clause-text : goal.returns-clause-text
+returns-clause-text c = says_read

@@ -1,0 +1,13 @@
+//! Laws of the text of schedules.
+
+ghost use Rattle.std.specs.Prelude.{◌≡◌, ℕ, List, Some, Ok};
+ghost use Rattle.moka_hist.specs.declared.events.Event.{Event};
+ghost use Rattle.moka_text.specs.ScheduleText.{EventFits, event_line, Says};
+ghost use Rattle.moka_text.specs.ScheduleReading.{event_of, schedule};
+
+/// Each event's own line is read as that event, and a text that says a schedule is read as that schedule.
+pub fn schedule_text_round_trip()
+    ensures line { (e : Event ℕ ℕ) → EventFits e → event_of (event_line e) ≡ Some e }
+    ensures text { (text : List ℕ) (log : ℕ) (events : List (Event ℕ ℕ)) → Says text log events →
+        schedule text ≡ Ok (log, events) }
+{}
