@@ -6,6 +6,12 @@ ghost use Rattle.moka_text.specs.ScheduleReading.{pair_of, start_of, told_of, te
 use crate::words::{after, call_after, call_of, cut, key_after, key_of};
 use moka_hist::{Event, Start, Told};
 
+/// How many writes the write log has room for where the first line doesn't say.
+const DEFAULT_LOG: usize = 384;
+
+/// The most writes that the first line may give the write log room for.
+const GREATEST_LOG: u64 = 65536;
+
 /// A key and a value, with one space between them.
 #[tactic(auto, unfolding(crate::specs::ScheduleReading::pair_of))]
 fn pair_of(bytes: &[u8]) -> Option<(u32, u32)>
@@ -79,16 +85,16 @@ pub(crate) fn event_of(line: &[u8]) -> Option<Event<u32, u32>>
     tell_of(after(line, b"tell ")?)
 }
 
-/// The size of the write log that a schedule's first line says: 384 where it says none.
+/// How many writes the write log has room for, as a schedule's first line says.
 #[tactic(auto, unfolding(crate::specs::ScheduleReading::log_of))]
 pub(crate) fn log_of(line: &[u8]) -> Option<usize>
     ensures { result ≡ log_of line.now }
 {
     if line == b"cache".as_slice() {
-        return Some(384);
+        return Some(DEFAULT_LOG);
     }
     let log = call_after(line, b"cache log=")?;
-    if log < 1 || log > 65536 {
+    if log < 1 || log > GREATEST_LOG {
         return None;
     }
     Some(log as usize)
