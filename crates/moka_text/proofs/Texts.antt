@@ -165,3 +165,31 @@ found_said text (Err e) h = tt
 -- and the bad line that was returned is the first
 pub returned_bad : (text : List ℕ) (r : Result Schedule ScheduleError) → Gives parts r (schedule text) → (bad : ℕ) → r ≡ Err (errors.BadLine bad) → IsFirstBad text bad
 returned_bad text r h bad e = schedule_bad text bad (subst (λ q. Gives parts q (schedule text)) e h)
+
+-- where no value has what each value there has, there is none
+no_value : {X : Type 0} (P : X → Type 0) (o : Option X) → IfSome o P → ((x : X) → P x → ⊥) → o ≡ None
+no_value P (Some x) h none = absurd (none x h)
+no_value P None h none = refl
+
+-- events, and then a line that spells none
+read_stops : (number : ℕ) (events : List (Event ℕ ℕ)) (line : List ℕ) (rest : List (List ℕ)) → AllByRecursion EventFits events → SpellsNone line → events_from number (map event_line events ++ line ∷ rest) ≡ Err (length events + number)
+read_stops number [] line rest fit none =
+    ap (λ o. event_then number o (events_from (suc number) rest)) (no_value _ (event_of line) (event_is line) (λ e h. none e h.1 h.0)) ∙ ap Err (omega arith)
+read_stops number (e ∷ events) line rest fit none =
+    ap (λ o. event_then number o (events_from (suc number) (map event_line events ++ line ∷ rest))) (event_read e fit.0)
+    ∙ ap (with_front (e ∷ [])) (read_stops (suc number) events line rest fit.1 none) ∙ ap Err (omega arith)
+
+bad_first : (text : List ℕ) (ls : List (List ℕ)) → lines text ≡ ls → BeginsBadly text → schedule_of ls ≡ Err 1
+bad_first text [] split bad = refl
+bad_first text (first ∷ rest) split bad =
+    ap (λ o. log_then o (events_from 2 rest)) (no_value (IsCacheLine first) (log_of first) (log_is first) (λ log cache. bad first rest log split cache))
+
+-- the first bad line is read
+pub bad_read : (text : List ℕ) (number : ℕ) → IsFirstBad text number → schedule text ≡ Err number
+unfolding schedule
+bad_read text number (inl h) = bad_first text (lines text) refl h.1 ∙ ap Err (sym h.0)
+bad_read text number (inr h) =
+    let g = h.1 in
+    ap schedule_of g.split
+    ∙ ap (λ o. log_then o (events_from 2 (map event_line h.0 ++ g.line ∷ g.rest))) (log_read g.first g.log g.cache)
+    ∙ ap (with_log g.log) (read_stops 2 h.0 g.line g.rest g.fit g.none) ∙ ap Err (sym h.2)

@@ -47,7 +47,7 @@ fn read_events(alloc: Global, text: &[u8]) -> Result<Vec<Event<u32, u32>>, Sched
     ensures { Gives (λ events. events.items) result (events_from 2 (lines text.now)) }
 {
     let mut events = Vec::new(alloc);
-    let mut number = 2;
+    let mut number: u64 = 2;
     let mut rest = text;
     while !rest.is_empty() {
         let (line, later) = cut(rest, b'\n');
