@@ -1,12 +1,12 @@
 -- Whole texts: what is read is said, and what is said is read.
-use Rattle.std.proofs.Common.{◌≡◌, ℕ, suc, ◌+◌, ◌<◌, ◌⊎◌, List, [], ◌∷◌, ◌++◌, length, map, Option, Some, None, IfSome, IfOk, Result, Ok, Err, refl, sym, ap, ◌∙◌, subst, inl, inr, arith}
+use Rattle.std.proofs.Common.{◌≡◌, ℕ, suc, ◌+◌, ◌⊎◌, List, [], ◌∷◌, ◌++◌, length, map, Option, Some, None, IfSome, IfOk, Result, Ok, Err, refl, sym, ap, ◌∙◌, subst, inl, inr, arith}
 use Rattle.std.specs.List.{AllByRecursion}
 use Rattle.std.proofs.lemmas.Option.{same_Some, none-some}
 use Rattle.moka_hist.specs.declared.events.Event.{Event}
 use Rattle.moka_text.specs.declared.schedules.Schedule.{Schedule}
 use Rattle.moka_text.specs.declared.schedules.ScheduleError.{ScheduleError}
 use Rattle.moka_text.specs.declared.schedules.ScheduleError.TheVariants as errors
-use Rattle.moka_text.specs.ScheduleText.{event_line, EventFits, IsCacheLine, SpellsNone, lines, Says, BeginsBadly, GoesBad, IsFirstBad}
+use Rattle.moka_text.specs.ScheduleText.{event_line, EventFits, IsCacheLine, SpellsNone, lines, Says, BeginsBadly, IsFirstBad}
 use Rattle.moka_text.specs.ScheduleReading.{event_of, event_then, events_from, with_front, with_log, log_of, log_then, schedule_of, schedule, Gives, parts}
 use Rattle.moka_text.proofs.Spelled.{event_is, event_read, event_none, log_is, log_read}
 

@@ -1,5 +1,5 @@
 -- The text of a report.
-use Rattle.std.specs.Prelude.{ℕ, Bool, true, false, List, [], ◌∷◌, ◌++◌, Option, Some, None, flat_map, codes, decimal}
+use Rattle.std.specs.Prelude.{ℕ, true, false, List, [], ◌∷◌, ◌++◌, Some, None, flat_map, codes, decimal}
 use Rattle.moka_hist.specs.declared.replies.Ask.{Ask}
 use Rattle.moka_hist.specs.declared.replies.Ask.TheVariants as ask
 use Rattle.moka_hist.specs.declared.replies.Answer.{Answer}

@@ -1,6 +1,5 @@
 -- The parts of a line: numbers, what follows a word, and the two sides of a space.
 use Rattle.std.specs.Prelude.{ℕ, ◌^◌, ◌==◌, ◌&&◌, List, Option, Some, None, length, take, drop, nat_lt, decimal, bytes_eq, if◌then◌else◌}
-use Rattle.std.specs.Option.{option_and_then}
 use Rattle.std.specs.List.{before_first, after_first}
 use Rattle.std.specs.Str.Parse.{digits_value}
 

@@ -1,4 +1,4 @@
-use Rattle.std.proofs.Common.{◌≡◌, ap, sym, ◌∙◌}
+use Rattle.std.proofs.Common.{ap, sym, ◌∙◌}
 use Rattle.std.proofs.lemmas.Result.{err_from_is_err_and}
 use Rattle.moka_text.specs.ScheduleText.{lines}
 use Rattle.moka_text.specs.ScheduleReading.{log_of, events_from, with_log, schedule}

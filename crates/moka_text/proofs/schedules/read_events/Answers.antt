@@ -1,4 +1,4 @@
-use Rattle.std.proofs.Common.{◌≡◌, ◌<◌, ◌+◌, ◌++◌, ◌∷◌, [], length, ap, sym, ◌∙◌, arith}
+use Rattle.std.proofs.Common.{◌<◌, ◌+◌, ◌++◌, ◌∷◌, [], length, ap, sym, ◌∙◌, arith}
 use Rattle.moka_text.specs.ScheduleText.{lines}
 use Rattle.moka_text.specs.ScheduleReading.{event_of, events_from, with_front}
 use Rattle.moka_text.proofs.Splitting.{read_one, read_none}

@@ -1,4 +1,4 @@
-use Rattle.std.proofs.Common.{◌^◌, ◌≡◌, sym, length, get_or, arith, rules}
+use Rattle.std.proofs.Common.{sym, arith, rules}
 use Rattle.moka_text.proofs.Numbers.{none_of_nothing, none_of_zeros, number_of_value}
 use Rattle.moka_text.proofs.words.call_of.Goals as goal
 

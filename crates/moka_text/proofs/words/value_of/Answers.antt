@@ -1,4 +1,4 @@
-use Rattle.std.proofs.Common.{◌^◌, length, get_or, take, ◌<◌, ap, ◌∙◌, arith, rules}
+use Rattle.std.proofs.Common.{◌^◌, arith}
 use Rattle.std.proofs.lemmas.Str.Parse.{digit_at, digit_from_value}
 use Rattle.std.proofs.lemmas.Int.Digits.{digits_more}
 use Rattle.moka_text.proofs.Numbers.{value_more, value_past}
