@@ -11,7 +11,7 @@ use Rattle.moka_text.specs.declared.schedules.Schedule.{Schedule}
 use Rattle.moka_text.specs.declared.schedules.ScheduleError.{ScheduleError}
 use Rattle.moka_text.specs.declared.schedules.ScheduleError.TheVariants as errors
 use Rattle.moka_text.specs.Words.{call_of, key_of, after, before_byte, after_byte}
-use Rattle.moka_text.specs.ScheduleText.{lines}
+use Rattle.moka_text.specs.ScheduleText.{event_line, EventFits, lines, Says, IsFirstBad}
 
 infixl 10 ◌>>=◌
 abbrev pub ◌>>=◌ : {A B : Type 0} → Option A → (A → Option B) → Option B
@@ -108,3 +108,15 @@ Gives view (Err e) read = Fails e read
 -- a schedule without where it lies in memory
 abbrev pub parts : Schedule → ℕ × List (Event ℕ ℕ)
 parts s = (s.log, s.events.items)
+
+-- each event's own line is read as that event
+abbrev pub LinesAreRead : Type 0
+LinesAreRead = (e : Event ℕ ℕ) → EventFits e → event_of (event_line e) ≡ Some e
+
+-- each text that says a schedule is read as that schedule
+abbrev pub TextsAreRead : Type 0
+TextsAreRead = (text : List ℕ) (log : ℕ) (events : List (Event ℕ ℕ)) → Says text log events → schedule text ≡ Ok (log, events)
+
+-- each text with a bad line is read as the number of the first
+abbrev pub BadLinesAreRead : Type 0
+BadLinesAreRead = (text : List ℕ) (number : ℕ) → IsFirstBad text number → schedule text ≡ Err number

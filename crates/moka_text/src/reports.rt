@@ -1,6 +1,6 @@
 //! Writing the text of a report.
 
-ghost use Rattle.std.specs.Prelude.{◌≡◌, ◌++◌, flat_map, map, IfOk, OnOk};
+ghost use Rattle.std.specs.Prelude.{◌≡◌, ◌++◌, flat_map, IfOk, OnOk};
 ghost use Rattle.std.specs.String.{string_bytes};
 ghost use Rattle.moka_text.specs.ReportText.{reply_line, entry_line, write_line, report_text};
 
@@ -60,7 +60,8 @@ fn push_refusal(text: &mut String, why: Refusal) -> Result<(), AllocError>
 
 /// Appends the line of a reply.
 fn push_reply(text: &mut String, reply: &Reply<u32>) -> Result<(), AllocError>
-    ensures { OnOk result (string_bytes text.new ≡ string_bytes text.old ++ reply_line reply.now) }
+    ensures { OnOk result (string_bytes text.new
+        ≡ string_bytes text.old ++ reply_line reply.now) }
 {
     match reply {
         Reply::At => text.push_str("at\n"),
@@ -77,7 +78,8 @@ fn push_reply(text: &mut String, reply: &Reply<u32>) -> Result<(), AllocError>
 
 /// Appends the line of a key and its record.
 fn push_entry(text: &mut String, entry: &(u32, Stored<u32>)) -> Result<(), AllocError>
-    ensures { OnOk result (string_bytes text.new ≡ string_bytes text.old ++ entry_line entry.now) }
+    ensures { OnOk result (string_bytes text.new
+        ≡ string_bytes text.old ++ entry_line entry.now) }
 {
     let key = entry.0;
     let value = entry.1.value;
@@ -88,7 +90,8 @@ fn push_entry(text: &mut String, entry: &(u32, Stored<u32>)) -> Result<(), Alloc
 
 /// Appends the line of a committed write.
 fn push_write(text: &mut String, number: u64, place: Place) -> Result<(), AllocError>
-    ensures { OnOk result (string_bytes text.new ≡ string_bytes text.old ++ write_line (number, place)) }
+    ensures { OnOk result (string_bytes text.new
+        ≡ string_bytes text.old ++ write_line (number, place)) }
 {
     match place {
         Place::Held => write!(text, "write {number} held\n"),
@@ -100,7 +103,8 @@ fn push_write(text: &mut String, number: u64, place: Place) -> Result<(), AllocE
 
 /// Appends the lines of the replies.
 fn push_replies(text: &mut String, replies: &[Reply<u32>]) -> Result<(), AllocError>
-    ensures { OnOk result (string_bytes text.new ≡ string_bytes text.old ++ flat_map reply_line replies.now) }
+    ensures { OnOk result (string_bytes text.new
+        ≡ string_bytes text.old ++ flat_map reply_line replies.now) }
 {
     for reply in replies {
         push_reply(text, reply)?;
@@ -110,7 +114,8 @@ fn push_replies(text: &mut String, replies: &[Reply<u32>]) -> Result<(), AllocEr
 
 /// Appends the lines of the stored records.
 fn push_entries(text: &mut String, entries: &[(u32, Stored<u32>)]) -> Result<(), AllocError>
-    ensures { OnOk result (string_bytes text.new ≡ string_bytes text.old ++ flat_map entry_line entries.now) }
+    ensures { OnOk result (string_bytes text.new
+        ≡ string_bytes text.old ++ flat_map entry_line entries.now) }
 {
     for entry in entries {
         push_entry(text, entry)?;
@@ -120,7 +125,8 @@ fn push_entries(text: &mut String, entries: &[(u32, Stored<u32>)]) -> Result<(),
 
 /// Appends the lines of the committed writes.
 fn push_writes(text: &mut String, places: &[(u64, Place)]) -> Result<(), AllocError>
-    ensures { OnOk result (string_bytes text.new ≡ string_bytes text.old ++ flat_map write_line places.now) }
+    ensures { OnOk result (string_bytes text.new
+        ≡ string_bytes text.old ++ flat_map write_line places.now) }
 {
     for (number, place) in places {
         push_write(text, *number, *place)?;
@@ -128,16 +134,16 @@ fn push_writes(text: &mut String, places: &[(u64, Place)]) -> Result<(), AllocEr
     Ok(())
 }
 
-/// Writes a report: a line for each reply, then for each stored record, then for each committed write.
-///
-/// The lists are written in the order in which they are given.
+/// Writes a report: a line for each reply, then for each stored record, which stands beside its
+/// key, then for each committed write, by its number. Each list keeps its order.
 pub fn write_report(
     alloc: Global,
     replies: &[Reply<u32>],
     entries: &[(u32, Stored<u32>)],
     places: &[(u64, Place)],
 ) -> Result<String, AllocError>
-    ensures { IfOk result (λ text. string_bytes text ≡ report_text replies.now entries.now places.now) }
+    ensures { IfOk result (λ text. string_bytes text
+        ≡ report_text replies.now entries.now places.now) }
 {
     let mut text = String::new(alloc);
     push_replies(&mut text, replies)?;

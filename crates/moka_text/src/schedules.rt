@@ -1,6 +1,6 @@
 //! Reading the text of a schedule.
 
-ghost use Rattle.std.specs.Prelude.{◌≡◌, ℕ, Err, IfOk};
+ghost use Rattle.std.specs.Prelude.{◌≡◌, ℕ, IfOk, IsErrOf};
 ghost use Rattle.moka_text.specs.ScheduleText.{lines, Says, IsFirstBad};
 ghost use Rattle.moka_text.specs.ScheduleReading.{events_from, schedule, Gives, parts};
 ghost use Rattle.moka_text.specs.declared.schedules.ScheduleError.TheVariants.{Memory};
@@ -9,6 +9,8 @@ use crate::lines::{event_of, log_of};
 use crate::words::cut;
 use moka_hist::Event;
 use std::alloc::{AllocError, AllocFailed, Global};
+use std::error::Error;
+use std::fmt;
 
 /// A schedule: how many writes the write log has room for, and the events in order.
 #[derive(Drop)]
@@ -25,6 +27,17 @@ pub enum ScheduleError {
     /// Memory ran out.
     Memory,
 }
+
+impl fmt::Display for ScheduleError {
+    fn fmt<W: fmt::Write>(&self, f: &mut fmt::Formatter<W>) -> fmt::Result {
+        match self {
+            ScheduleError::BadLine { line } => write!(f, "line {line} is bad"),
+            ScheduleError::Memory => write!(f, "out of memory"),
+        }
+    }
+}
+
+impl Error for ScheduleError {}
 
 impl From<AllocError> for ScheduleError {
     ghost from_gives = { λ _ e. e ≡ Memory };
@@ -73,13 +86,15 @@ fn read_all(alloc: Global, text: &[u8]) -> Result<Schedule, ScheduleError>
     Ok(Schedule { log, events })
 }
 
-/// Reads a schedule: the configuration that its first line says, and the events of the other lines.
+/// Reads a schedule: the log's size that its first line says, and the events of the other lines.
 ///
-/// Answers `BadLine` with the first line that is not in the grammar, and `Memory` where memory runs out.
+/// Answers `BadLine` with the first line that is not in the grammar, and `Memory` where memory
+/// runs out.
 pub fn read_schedule(alloc: Global, bytes: &[u8]) -> Result<Schedule, ScheduleError>
     ensures exact { Gives parts result (schedule bytes.now) }
     ensures found { IfOk result (λ s. Says bytes.now s.log s.events.items) }
-    ensures bad_line { (line : ℕ) → result ≡ Err (ScheduleError.BadLine line) → IsFirstBad bytes.now line }
+    ensures bad_line { (line : ℕ) → IsErrOf result (ScheduleError.BadLine line)
+        → IsFirstBad bytes.now line }
 {
     read_all(alloc, bytes)
 }

@@ -6,7 +6,7 @@ ghost use Rattle.std.specs.Option.{option_copied};
 ghost use Rattle.moka_text.specs.Words.{call_of, key_of, after, before_byte, after_byte};
 ghost use Rattle.moka_text.specs.ScheduleReading.{call_after, key_after};
 
-/// The value of decimal digits: none where a byte is no digit, or where the value needs more than 64 bits.
+/// The value of decimal digits: none where a byte is no digit, or where it needs more than 64 bits.
 fn value_of(digits: &[u8]) -> Option<u64>
     ensures digits { IsSome result → AllDigits 10 digits.now }
     ensures value { IfSome result (λ n. n ≡ digits_value 10 digits.now) }
@@ -67,7 +67,8 @@ pub(crate) fn key_after(line: &[u8], front: &[u8]) -> Option<u32>
     key_of(after(line, front)?)
 }
 
-/// What stands before the first such byte, and what stands after it: all, and nothing, where there is none.
+/// What stands before the first such byte, and what stands after it. Where there is none, all
+/// stands before it.
 pub(crate) fn cut(bytes: &[u8], mark: u8) -> (&[u8], &[u8])
     ensures front { result.0.now ≡ before_byte mark bytes.now }
     ensures rest { result.1.now ≡ after_byte mark bytes.now }
