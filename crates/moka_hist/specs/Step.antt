@@ -1,10 +1,10 @@
 -- One step of a call: one access, and what follows from its answer.
 use Rattle.std.specs.Prelude.{◌≢◌, ◌<◌, suc, zero, ◌≡◌, ℕ, Bool, true, false, List, [], ◌∷◌, Some}
-use Rattle.moka_hist.specs.Finite.{put_at, times}
+use Rattle.moka_hist.specs.Finite.{put_at}
 use Rattle.moka_hist.specs.State.{Call, World, State}
 use Rattle.moka_hist.specs.Plan.{Item}
 use Rattle.moka_hist.specs.Plan as plan
-use Rattle.moka_hist.specs.Visits.{finds, makes}
+use Rattle.moka_hist.specs.Visits.{finds, makes, MayVisit}
 use Rattle.moka_hist.specs.Tables.{table_answer, table_after}
 use Rattle.moka_hist.specs.Next.{Next, goes, waits}
 use Rattle.moka_hist.specs.Posting.{after_drain, after_post, after_turn, after_apply, after_end}
@@ -129,10 +129,10 @@ module _ {K V : Type 0} where
     pub after : new ≡ state_after s n world (next_of n call given)
 
 module _ {K V : Type 0} where
-  -- what the world must have for an access: the place of a write that is posted
+  -- what the world must have for an access: what the desk must have for a visit
   abbrev pub May : World K V → Access K V → Type 0
-  May w (On_desk (visit.PostWrite n write)) = 0 < times n w.desk.holders
-  May w _ = Unit {0}
+  May w (On_desk made) = MayVisit w.desk made
+  May w (On_table operation) = Unit {0}
 
   -- one step of a call by itself: how it goes on, and the world then
   pub record Moves (eq : K → K → Bool) (n : ℕ) (c : Call K V) (w : World K V) (next : Next K V) (new : World K V) : Type 0 where
