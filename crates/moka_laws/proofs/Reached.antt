@@ -1,8 +1,8 @@
 -- Which states a run can reach, and how a run goes on.
-use Rattle.std.proofs.Common.{◌≡◌, ◌≢◌, ℕ, zero, suc, ◌+◌, Bool, List, [], ◌∷◌, ◌++◌, Some, None, MatchOption, MatchBool, true, false, nat_lt, ◌==◌, refl, sym, subst}
-use Rattle.moka_hist.specs.State.{State, Call, fresh}
+use Rattle.std.proofs.Common.{ℕ, zero, suc, Bool, List, [], ◌∷◌, ◌++◌, refl, sym, subst}
+use Rattle.moka_hist.specs.State.{State, fresh}
 use Rattle.moka_hist.specs.Step.{Step}
-use Rattle.moka_hist.specs.Run.{Goings, Steps, Polls, Happens, Run, Any, IsReached, reply_of}
+use Rattle.moka_hist.specs.Run.{Goings, Steps, Happens, Run, Any, IsReached, reply_of}
 use Rattle.moka_hist.specs.declared.events.Event.{Event}
 use Rattle.moka_hist.specs.declared.events.Event.TheVariants as event
 use Rattle.moka_hist.specs.declared.replies.Reply.{Reply}
