@@ -5,3 +5,5 @@ pub mod Outcomes
 pub mod Counting
 pub mod Weights
 pub mod Held
+pub mod Answering
+pub mod Waits

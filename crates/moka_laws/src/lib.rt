@@ -6,9 +6,11 @@
 
 mod places;
 mod reaching;
+mod waiting;
 
 pub use places::holders_have_places;
 pub use reaching::{
     fresh_is_reached, reached_by_event, reached_by_run, reached_by_step, reached_by_steps,
     run_goes_on,
 };
+pub use waiting::{live_calls_go_on, waits_by_cause};
