@@ -1,0 +1,9 @@
+pub mod Reached
+pub mod StepCases
+pub mod Kept
+pub mod Outcomes
+pub mod Counting
+pub mod Weights
+pub mod Held
+pub mod Answering
+pub mod Waits

@@ -1,0 +1,16 @@
+//! Laws of the reference cache: what holds of every state that a run can reach, whatever the
+//! schedule.
+//!
+//! Each law is the contract of a function that does nothing. To call it is to cite the law.
+#![tactic(auto)]
+
+mod places;
+mod reaching;
+mod waiting;
+
+pub use places::holders_have_places;
+pub use reaching::{
+    fresh_is_reached, reached_by_event, reached_by_run, reached_by_step, reached_by_steps,
+    run_goes_on,
+};
+pub use waiting::{live_calls_go_on, waits_by_cause};
