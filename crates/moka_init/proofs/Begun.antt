@@ -1,8 +1,10 @@
 -- Where a flow has begun its table operation, it is the one that is begun on its ground.
-use Rattle.std.proofs.Common.{◌≡◌, ℕ, Bool, true, false, List, [], ◌∷◌, Option, Some, refl, sym, ap, subst, ◌∙◌}
+use Rattle.std.proofs.Common.{◌≡◌, ℕ, Bool, true, false, List, [], ◌∷◌, Option, Some, refl, sym, ap, subst, ◌∙◌, ◌⊎◌, inl, inr}
 use Rattle.moka_hist.specs.State.{Call}
 use Rattle.moka_hist.specs.Plan.{Item}
 use Rattle.moka_hist.specs.Plan as plan
+use Rattle.moka_hist.specs.Next.{stays, waits}
+use Rattle.moka_hist.specs.declared.visits.Visit.{Visit}
 use Rattle.moka_hist.specs.Step.{Access, access_of, want_for, next_of}
 use Rattle.moka_hist.specs.Step as step
 use Rattle.moka_hist.specs.declared.records.Mode.{Mode}
@@ -24,17 +26,23 @@ module _ {K V : Type 0} where
   not_begun begun (step.On_table operation) = refl
   not_begun begun (step.On_desk made) = refl
 
-  -- an undecided step that leaves its call going was one of a table operation, and the call stands where it stood
+  -- an undecided step of a table operation leaves the call where it stood
   pub record Stays (n : ℕ) (c : Call K V) : Type 0 where
     pub operation : TableOp K V
     pub access : access_of n c ≡ step.On_table operation
-    pub left : (next_of n c (got.Table table.Going)).left ≡ Some (record c { mode = mode.Mid })
+    pub next : next_of n c (got.Table table.Going) ≡ stays c
 
-  stays_at : (n : ℕ) (m : Mode) (items : List (Item K V)) (aborts : ℕ) → let c : Call K V = record { mode = m; plan = items; aborts = aborts } in (next_of n c (got.Table table.Going)).turn ≡ turn.Going → Stays n c
-  stays_at n m [] aborts = λ e. absurd (cc)
-  stays_at n m (plan.Get aim key ∷ rest) aborts = λ e. record { operation = op.Get key; access = refl; left = refl }
-  stays_at n m (plan.Write key value moment ∷ rest) aborts = λ e. record { operation = _; access = refl; left = refl }
-  stays_at n m (_ ∷ rest) aborts = λ e. absurd (cc)
+  -- what isn't an answer to a visit parks the call where it stood
+  pub record Parks (n : ℕ) (c : Call K V) : Type 0 where
+    pub made : Visit K V
+    pub access : access_of n c ≡ step.On_desk made
+    pub next : next_of n c (got.Table table.Going) ≡ waits c
+
+  stays_or_parks : (n : ℕ) (m : Mode) (items : List (Item K V)) (aborts : ℕ) → let c : Call K V = record { mode = m; plan = items; aborts = aborts } in Stays n c ⊎ Parks n c
+  stays_or_parks n m (plan.Get aim key ∷ rest) aborts = inl (record { operation = op.Get key; access = refl; next = refl })
+  stays_or_parks n m (plan.Write key value moment ∷ rest) aborts = inl (record { operation = _; access = refl; next = refl })
+  stays_or_parks n m [] aborts = inr (record { made = _; access = refl; next = refl })
+  stays_or_parks n m (_ ∷ rest) aborts = inr (record { made = _; access = refl; next = refl })
 
   some_same : (c d : Call K V) → Some c ≡ Some d → c ≡ d
   some_same c d e = cc
@@ -46,21 +54,44 @@ module _ {K V : Type 0} where
       (subst (λ (a : Access K V). wanted after (want_for true a) ≡ Some a) (sym here)
       (subst (λ (b : Option (TableOp K V)). wanted b (want_for true (step.On_table o)) ≡ Some (step.On_table o)) (sym there) refl))
 
-  -- a flow that goes on is on its ground as it was
-  pub still_on : (begun after : Option (TableOp K V)) (old new : Flow K V) (given : Got K V) (t : Turn V)
-      → new.call ≡ old.call → new.begun ≡ is_begun given → after ≡ still_begun (access_at old) given
-      → next_in t new ≡ next_of old.call (call_of old) given → t ≡ turn.Going → IsOn after new
-  still_on begun after old new (got.Desk found) t number began is_after next going =
-      subst (λ (b : Bool). wanted after (want_for b (access_at new)) ≡ Some (access_at new)) (sym began) (not_begun after (access_at new))
-  still_on begun after old new (got.Table (table.Decided answer)) t number began is_after next going =
-      subst (λ (b : Bool). wanted after (want_for b (access_at new)) ≡ Some (access_at new)) (sym began) (not_begun after (access_at new))
-  still_on begun after old new (got.Table table.Going) t number began is_after next going =
-      let stays = stays_at old.call old.mode (call_of old).plan old.aborts (sym (ap (λ n. n.turn) next) ∙ going) in
-      let c : Call K V = record (call_of old) { mode = mode.Mid } in
-      let left : left_in t new ≡ Some c = ap (λ n. n.left) next ∙ stays.left in
-      let is_call : call_of new ≡ c = some_same (call_of new) c (subst (λ (u : Turn V). left_in u new ≡ Some c) going left) in
-      let here : access_at new ≡ step.On_table stays.operation =
-      ap (λ n. access_of n (call_of new)) number ∙ ap (λ d. access_of old.call d) is_call ∙ stays.access in
-      let begun_there : after ≡ Some stays.operation =
-      is_after ∙ ap (λ a. still_begun a (got.Table table.Going)) stays.access in
-      on_table after new stays.operation here begun_there began
+  any_visit : (after : Option (TableOp K V)) (b : Bool) (v : Visit K V) → wanted after (want_for b (step.On_desk v)) ≡ Some (step.On_desk v)
+  any_visit after true v = refl
+  any_visit after false v = refl
+
+  -- a flow that stands at a visit
+  on_desk : (after : Option (TableOp K V)) (new : Flow K V) (v : Visit K V) → access_at new ≡ step.On_desk v → IsOn after new
+  on_desk after new v here =
+    subst (λ (a : Access K V). wanted after (want_for new.begun a) ≡ Some a) (sym here) (any_visit after new.begun v)
+
+  left_going : (t : Turn V) (new : Flow K V) (d : Call K V) → next_in t new ≡ record { left = Some d; turn = turn.Going } → call_of new ≡ d
+  left_going t new d e =
+    some_same (call_of new) d (subst (λ (u : Turn V). left_in u new ≡ Some d) (ap (λ n. n.turn) e) (ap (λ n. n.left) e))
+
+  left_waiting : (t : Turn V) (new : Flow K V) (d : Call K V) → next_in t new ≡ record { left = Some d; turn = turn.Wait } → call_of new ≡ d
+  left_waiting t new d e =
+    some_same (call_of new) d (subst (λ (u : Turn V). left_in u new ≡ Some d) (ap (λ n. n.turn) e) (ap (λ n. n.left) e))
+
+  -- where the flow stands after the step that left its operation undecided
+  after_going : (after : Option (TableOp K V)) (old new : Flow K V) (t : Turn V) → new.call ≡ old.call → new.begun ≡ true
+    → after ≡ still_begun (access_at old) (got.Table table.Going) → next_in t new ≡ next_of old.call (call_of old) (got.Table table.Going)
+    → Stays old.call (call_of old) ⊎ Parks old.call (call_of old) → IsOn after new
+  after_going after old new t number began is_after next (inl stays) =
+    let is_call : call_of new ≡ record (call_of old) { mode = mode.Mid } = left_going t new (record (call_of old) { mode = mode.Mid }) (next ∙ stays.next) in
+    on_table after new stays.operation
+      (ap (λ n. access_of n (call_of new)) number ∙ ap (λ d. access_of old.call d) is_call ∙ stays.access)
+      (is_after ∙ ap (λ a. still_begun a (got.Table table.Going)) stays.access) began
+  after_going after old new t number began is_after next (inr parks) =
+    let is_call : call_of new ≡ record (call_of old) { mode = mode.Parked } = left_waiting t new (record (call_of old) { mode = mode.Parked }) (next ∙ parks.next) in
+    on_desk after new parks.made
+      (ap (λ n. access_of n (call_of new)) number ∙ ap (λ d. access_of old.call d) is_call ∙ parks.access)
+
+  -- after a step a flow is on its ground, as before
+  pub still_on : (after : Option (TableOp K V)) (old new : Flow K V) (given : Got K V) (t : Turn V)
+    → new.call ≡ old.call → new.begun ≡ is_begun given → after ≡ still_begun (access_at old) given
+    → next_in t new ≡ next_of old.call (call_of old) given → IsOn after new
+  still_on after old new (got.Desk found) t number began is_after next =
+    subst (λ (b : Bool). wanted after (want_for b (access_at new)) ≡ Some (access_at new)) (sym began) (not_begun after (access_at new))
+  still_on after old new (got.Table (table.Decided answer)) t number began is_after next =
+    subst (λ (b : Bool). wanted after (want_for b (access_at new)) ≡ Some (access_at new)) (sym began) (not_begun after (access_at new))
+  still_on after old new (got.Table table.Going) t number began is_after next =
+    after_going after old new t number began is_after next (stays_or_parks old.call old.mode (call_of old).plan old.aborts)

@@ -1,5 +1,5 @@
 //! Single steps of a flow, and steps up to the first turn that isn't Going.
-ghost use Rattle.std.specs.Prelude.{◌≡◌, ◌≢◌, ℕ, ◌+◌, List, [], ◌∷◌, ◌++◌, Option, Some, IfOk, IfErr, OnErr};
+ghost use Rattle.std.specs.Prelude.{◌≡◌, ◌≢◌, ℕ, ◌+◌, List, [], ◌∷◌, ◌++◌, Option, Some, IfOk, IfErr, OnOk, OnErr};
 ghost use Rattle.moka_hist.specs.Finite.{IsExact};
 ghost use Rattle.moka_hist.specs.State.{Call, World};
 ghost use Rattle.moka_hist.specs.Step.{Access, Moves, MovesOn, Polled, IsSafe, May, next_of};
@@ -27,7 +27,7 @@ pub fn step<K: Eq + Clone + Drop, V: Clone + Drop, G: Ground<K, V>>(
     ensures tells { IfOk result (λ turn. (before : List (Access K V × Got K V)) → G.made ground.old ≡ Some before
         → (given : Got K V) × (next_in turn flow.new ≡ next_of flow.old.call (call_of flow.old) given)
         × (G.made ground.new ≡ Some (before ++ (access_at flow.old, given) ∷ []))) }
-    ensures on { IfOk result (λ turn. turn ≡ Turn.Going → IsOn (G.begun ground.new) flow.new) }
+    ensures on { OnOk result (IsOn (G.begun ground.new) flow.new) }
     ensures number { flow.new.call ≡ flow.old.call }
     ensures err { OnErr result (flow.new ≡ flow.old) }
     ensures err_ground { OnErr result ((w : World K V) → G.stands ground.old w → G.stands ground.new w) }
@@ -59,7 +59,7 @@ pub fn poll<K: Eq + Clone + Drop, V: Clone + Drop, G: Alone<K, V>>(
         → (new : World K V) × Polled K.eq flow.old.call (call_of flow.old) w (next_in turn flow.new) new × G.stands ground.new new) }
     ensures unfinished { IfErr result (λ u. (w : World K V) → G.stands ground.old w → IsSafe K.eq flow.old.call (call_of flow.old) w
         → (new : World K V) × MovesOn K.eq u.steps flow.old.call (call_of flow.old) w (call_of flow.new) new × G.stands ground.new new) }
-    ensures on { OnErr result (IsOn (G.begun ground.new) flow.new) }
+    ensures on { IsOn (G.begun ground.new) flow.new }
     ensures number { flow.new.call ≡ flow.old.call }
 {
     for steps in 0..u64::MAX {

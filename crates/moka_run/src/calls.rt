@@ -1,5 +1,7 @@
 //! The live calls, by number.
-ghost use Rattle.std.specs.Prelude.{◌≡◌, ℕ, Some, None, IsSome, OnOk, OnErr, OnSome};
+ghost use Rattle.std.specs.Prelude.{◌≡◌, ℕ, ◌<◌, Some, None, OnOk, OnSome};
+ghost use Rattle.std.specs.Option.{option_map, option_copied};
+ghost use Rattle.std.specs.HashMap.{spare};
 ghost use Rattle.moka_hist.specs.Finite.{put_at};
 ghost use Rattle.moka_run.specs.Calls.{running_at, HasPlace};
 
@@ -31,13 +33,33 @@ impl<K: Drop, V: Drop> Calls<K, V> {
         }
     }
 
-    /// A call starts to run.
-    pub(crate) fn add(&mut self, call: u64, running: Running<K, V>) -> Result<(), AllocError>
-        ensures ok { OnOk result ((n : ℕ) → running_at self.new n ≡ put_at (running_at self.old) call (Some running) n) }
-        ensures err { OnErr result ((n : ℕ) → running_at self.new n ≡ running_at self.old n) }
+    /// Makes room for one more call.
+    pub(crate) fn reserve(&mut self) -> Result<(), AllocError>
+        ensures room { OnOk result (0 < spare self.new.places) }
+        ensures same { (n : ℕ) → running_at self.new n ≡ running_at self.old n }
     {
-        self.places.insert(call, Some(running))?;
-        Ok(())
+        self.places.reserve(1)
+    }
+
+    /// A call starts to run. There is room, so it takes no memory.
+    pub(crate) fn add(&mut self, call: u64, running: Running<K, V>)
+        requires { 0 < spare self.old.places }
+        ensures { (n : ℕ) → running_at self.new n ≡ put_at (running_at self.old) call (Some running) n }
+    {
+        match self.places.insert(call, Some(running)) {
+            Ok(_) => {}
+            Err(_) => unreachable!(),
+        }
+    }
+
+    /// The flow of a running call.
+    pub(crate) fn flow(&self, call: u64) -> Option<&Flow<K, V>>
+        ensures { option_copied result ≡ option_map (λ r. r.flow) (running_at self.now call) }
+    {
+        match self.places.get(&call) {
+            Some(Some(running)) => Some(&running.flow),
+            _ => None,
+        }
     }
 
     /// Takes a running call out, and leaves its place.

@@ -25,7 +25,7 @@ pub loop-steps-preserved : goal.loop-steps-preserved
 loop-steps-preserved g c =
     let going = c.is_going.ensures.0 (cc) in
     record {
-      on = c.in-Ok.ensures.on going;
+      on = c.in-Ok.ensures.on;
       number = c.step.ensures.number ∙ c.loop-steps.invariant.number;
       moved = λ w h safe.
           let m = c.loop-steps.invariant.moved w h safe in
