@@ -2,3 +2,5 @@
 #![tactic(auto)]
 
 mod calls;
+mod layers;
+mod visits;
