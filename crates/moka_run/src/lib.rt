@@ -3,4 +3,11 @@
 
 mod calls;
 mod layers;
+mod machine;
+mod report;
+mod run;
 mod visits;
+
+pub use machine::Machine;
+pub use run::run;
+pub use report::{Memory, PlaceList, ReplyList, Report};
