@@ -1,2 +1,4 @@
 pub mod TableSteps
 pub mod Wanted
+pub mod Places
+pub mod Lifting

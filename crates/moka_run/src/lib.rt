@@ -5,9 +5,8 @@ mod calls;
 mod layers;
 mod machine;
 mod report;
-mod run;
+mod steps;
 mod visits;
 
 pub use machine::Machine;
-pub use run::run;
 pub use report::{Memory, PlaceList, ReplyList, Report};
