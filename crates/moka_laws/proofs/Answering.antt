@@ -170,7 +170,7 @@ module _ {K V : Type 0} (eq : K → K → Bool) where
 
   answering_step : (s t : State K V) (n : ℕ) (turn : Turn V) → IsAnswering s → Step eq s n turn t → IsAnswering t
   answering_step s t n turn i step =
-      step_cases eq Leaves (λ v _. IsAnswering v) s t n turn step (λ c live. on_plan eq s.world n c i.desk c.plan refl (i.calls n c live)) (λ w next. leaves s n w next i)
+      step_cases eq Leaves (λ v _. IsAnswering v) s t n turn step (on_plan eq s.world n step.call i.desk step.call.plan refl (i.calls n step.call step.live)) (λ w next. leaves s n w next i)
 
   answering_kept : IsKept eq (IsAnswering {K = K} {V = V})
   answering_kept = record {

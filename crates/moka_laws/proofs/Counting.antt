@@ -1,5 +1,5 @@
 -- Numbers in lists, and maps over numbers with one place changed.
-use Rattle.std.proofs.Common.{Some, None, ◌≡◌, ℕ, ◌+◌, ◌≤◌, ◌==◌, Bool, true, false, cond, List, [], ◌∷◌, ◌++◌, refl, sym, ap, ◌∙◌, arith}
+use Rattle.std.proofs.Common.{◌≢◌, Some, None, ◌≡◌, ℕ, ◌+◌, ◌≤◌, ◌==◌, Bool, true, false, cond, List, [], ◌∷◌, ◌++◌, refl, sym, ap, ◌∙◌, arith}
 use Rattle.std.proofs.lemmas.Bool.{eqb-true, eq-eqb, false≢true}
 use Rattle.moka_hist.specs.Finite.{times, without, without_one, put_at}
 
@@ -15,6 +15,16 @@ other_number n m h = by (m == n) refl
     by : (b : Bool) → (m == n) ≡ b → b ≡ false
     by true e = absurd (false≢true (sym h ∙ eq-eqb n m (sym (eqb-true m n e))))
     by false e = refl
+
+pub differ : (n m : ℕ) → n ≢ m → (n == m) ≡ false
+differ n m h = by (n == m) refl
+  where
+    by : (b : Bool) → (n == m) ≡ b → b ≡ false
+    by true e = absurd (h (eqb-true n m e))
+    by false e = refl
+
+pub differ_not : (n m : ℕ) → (n == m) ≡ false → n ≢ m
+differ_not n m h e = false≢true (sym h ∙ eq-eqb n m e)
 
 -- what a map has once something was put at a number: that there, and elsewhere what it had
 pub put_cases : {A : Type 0} (f : ℕ → A) (n : ℕ) (v : A) (m : ℕ) (a : A) (P : Type 0) → put_at f n v m ≡ a → (n ≡ m → v ≡ a → P) → ((n == m) ≡ false → f m ≡ a → P) → P

@@ -114,7 +114,7 @@ module _ {K V : Type 0} where
 module _ {K V : Type 0} (eq : K → K → Bool) where
   places_step : (s t : State K V) (n : ℕ) (turn : Turn V) → HavePlaces s → Step eq s n turn t → HavePlaces t
   places_step s t n turn all step =
-      step_cases eq (Suffices s.world n) (λ v _. HavePlaces v) s t n turn step (λ c live. on_plan eq s.world n c (all n c live) c.plan refl) (λ w next. suffices s n w next all)
+      step_cases eq (Suffices s.world n) (λ v _. HavePlaces v) s t n turn step (on_plan eq s.world n step.call (all n step.call step.live) step.call.plan refl) (λ w next. suffices s n w next all)
 
   places_kept : IsKept eq (HavePlaces {K = K} {V = V})
   places_kept = record {

@@ -7,3 +7,8 @@ pub mod Weights
 pub mod Held
 pub mod Answering
 pub mod Waits
+pub mod Sums
+pub mod Posts
+pub mod Balance
+pub mod OnePlace
+pub mod Lawfully

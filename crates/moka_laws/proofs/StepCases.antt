@@ -54,11 +54,11 @@ module _ {K V : Type 0} (eq : K → K → Bool) where
   more_step M N f w n c (item ∷ rest) m = more_access M N f w n c item rest (access_for n item) m
 
   -- what follows from all that a step may make holds of what it made
-  pub step_cases : (M : World K V → Next K V → Type 0) (P : State K V → Turn V → Type 0) (s t : State K V) (n : ℕ) (turn : Turn V) → Step eq s n turn t →
-      ((c : Call K V) → s.calls n ≡ Some c → OnStep M s.world n c c.plan) → ((w : World K V) (next : Next K V) → M w next → P (state_after s n w next) next.turn) → P t turn
+  pub step_cases : (M : World K V → Next K V → Type 0) (P : State K V → Turn V → Type 0) (s t : State K V) (n : ℕ) (turn : Turn V) (step : Step eq s n turn t) →
+      OnStep M s.world n step.call step.call.plan → ((w : World K V) (next : Next K V) → M w next → P (state_after s n w next) next.turn) → P t turn
   step_cases M P s t n turn step cases follows =
       let c : Call K V = step.call in
-      let on_plan : OnStep (λ w next. P (state_after s n w next) next.turn) s.world n c c.plan = more_step M (λ w next. P (state_after s n w next) next.turn) follows s.world n c c.plan (cases c step.live) in
+      let on_plan : OnStep (λ w next. P (state_after s n w next) next.turn) s.world n c c.plan = more_step M (λ w next. P (state_after s n w next) next.turn) follows s.world n c c.plan cases in
       let p : P (state_after s n step.world (next_of n c step.given)) (next_of n c step.given).turn =
       by_plan (λ w next. P (state_after s n w next) next.turn) s.world n c.mode c.plan c.aborts step.given step.world step.gets on_plan in
       subst (λ v. P v turn) (sym step.after) (subst (λ v. P (state_after s n step.world (next_of n c step.given)) v) (sym step.turns) p)

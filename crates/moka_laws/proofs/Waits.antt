@@ -118,7 +118,7 @@ module _ {K V : Type 0} (eq : K → K → Bool) where
       let on_plan : OnStep eq M s.world n c c.plan =
       subst (λ p. OnStep eq M s.world n c p) (sym e) (outcomes eq M s.world n c item rest (on_item eq s.world n c (answering eq s h).desk item rest)) in
       step_cases eq M (λ v r. WaitsFor s n c item r v) s t n reply step
-      (λ b lives. subst (λ v. OnStep eq M s.world n v v.plan) (one_call c b live lives) on_plan)
+      (subst (λ v. OnStep eq M s.world n v v.plan) (one_call c step.call live step.live) on_plan)
       (λ w next m. record {
         cause = m.cause;
         parks = λ waited. rw (m.world waited, m.left waited) refl;

@@ -1,3 +1,4 @@
 pub mod Reaching
 pub mod Holders
 pub mod Waiting
+pub mod Lawful

@@ -4,10 +4,12 @@
 //! Each law is the contract of a function that does nothing. To call it is to cite the law.
 #![tactic(auto)]
 
+mod lawful;
 mod places;
 mod reaching;
 mod waiting;
 
+pub use lawful::reached_is_lawful;
 pub use places::holders_have_places;
 pub use reaching::{
     fresh_is_reached, reached_by_event, reached_by_run, reached_by_step, reached_by_steps,
