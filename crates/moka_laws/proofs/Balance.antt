@@ -1,29 +1,27 @@
 -- Committed writes are counted: each stands as often as it was committed, which is at most once.
-use Rattle.std.proofs.Common.{◌≡◌, ◌≢◌, ℕ, zero, suc, ◌+◌, ◌<◌, ◌≤◌, ◌==◌, Bool, true, false, cond, List, [], ◌∷◌, ◌++◌, map, Option, Some, None, refl, sym, ap, ◌∙◌, subst, arith, add-one}
+use Rattle.std.proofs.Common.{◌≡◌, ◌≢◌, ℕ, ◌+◌, ◌<◌, ◌≤◌, ◌==◌, Bool, true, false, cond, List, [], ◌∷◌, ◌++◌, map, Some, None, refl, sym, ap, ◌∙◌, subst, arith}
 use Rattle.std.proofs.lemmas.List.{map-append}
 use Rattle.std.specs.Option.{option_to_list}
 use Rattle.std.proofs.lemmas.Bool.{eqb-true}
 use Rattle.moka_hist.specs.Finite.{times, put_at}
-use Rattle.moka_hist.specs.State.{State, World, Call, DeskPart, TablePart, fresh}
+use Rattle.moka_hist.specs.State.{State, World, Call, DeskPart}
 use Rattle.moka_hist.specs.Plan.{Item, Aim, held_by, plan_of}
 use Rattle.moka_hist.specs.Plan as plan
 use Rattle.moka_hist.specs.Visits.{number_of}
 use Rattle.moka_hist.specs.Next.{Next, goes}
-use Rattle.moka_hist.specs.Looking.{hits, misses}
-use Rattle.moka_hist.specs.Loading.{after_read, after_told}
 use Rattle.moka_hist.specs.Dropping.{dropped}
 use Rattle.moka_hist.specs.Step.{Step, state_after}
-use Rattle.moka_hist.specs.Run.{IsReached, at_moment, started, with_desk, fresh_call}
+use Rattle.moka_hist.specs.Run.{IsReached, started, fresh_call}
 use Rattle.moka_hist.specs.declared.records.Mode.{Mode}
 use Rattle.moka_hist.specs.declared.records.Mode.TheVariants as mode
 use Rattle.moka_hist.specs.declared.events.Start.{Start}
 use Rattle.moka_hist.specs.declared.writes.Write.{Write}
 use Rattle.moka_hist.specs.declared.accesses.Turn.{Turn}
 use Rattle.moka_hist.specs.declared.accesses.Turn.TheVariants as turn
-use Rattle.moka_laws.proofs.Counting.{none_some, put_cases, put_here, put_there, differ, times_append, times_other, same_number, other_number}
+use Rattle.moka_laws.proofs.Counting.{none_some, put_cases, put_here, put_there, differ, times_append, same_number, other_number}
 use Rattle.moka_laws.proofs.Sums.{sum_zero, sum_next, sum_to, sum_same, sum_change}
 use Rattle.moka_laws.proofs.Weights.{weigh, weigh_call, weigh_goes}
-use Rattle.moka_laws.proofs.Posts.{once, among, any_post, post_of, may_write, late, late_call, late_goes, late_none, posts_none, posts_held, IsClear, fresh_clear, misses_clear, hits_clear, read_clear, told_clear}
+use Rattle.moka_laws.proofs.Posts.{once, among, post_of, may_write, late, late_call, late_goes, late_none, posts_none, posts_held, IsClear, fresh_clear, misses_clear, hits_clear, read_clear, told_clear}
 use Rattle.moka_laws.proofs.Kept.{IsKept, in_reached}
 use Rattle.moka_laws.proofs.StepCases.{OnStep, step_cases}
 use Rattle.moka_laws.proofs.Outcomes.{Outcomes, outcomes}

@@ -6,6 +6,9 @@ use Rattle.moka_hist.specs.Finite.{times, without, without_one, put_at}
 pub none_some : {A : Type 0} {x : A} → None ≡ Some x → ⊥
 none_some e = cc
 
+pub some_same : {A : Type 0} {x y : A} → Some x ≡ Some y → x ≡ y
+some_same e = cc
+
 pub same_number : (n : ℕ) → (n == n) ≡ true
 same_number n = eq-eqb n n refl
 

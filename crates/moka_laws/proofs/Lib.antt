@@ -11,4 +11,5 @@ pub mod Sums
 pub mod Posts
 pub mod Balance
 pub mod OnePlace
+pub mod Owning
 pub mod Lawfully

@@ -1,5 +1,5 @@
 -- One step, taken apart by the first item of the call's plan.
-use Rattle.std.proofs.Common.{◌≡◌, ℕ, Bool, List, [], ◌∷◌, Some, sym, subst}
+use Rattle.std.proofs.Common.{ℕ, Bool, List, [], ◌∷◌, sym, subst}
 use Rattle.moka_hist.specs.State.{State, Call, World}
 use Rattle.moka_hist.specs.Plan.{Item}
 use Rattle.moka_hist.specs.Visits.{finds, makes}

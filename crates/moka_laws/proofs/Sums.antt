@@ -1,7 +1,7 @@
 -- Sums over the numbers up to a greatest.
-use Rattle.std.proofs.Common.{add-one, ◌≡◌, ◌≢◌, ℕ, zero, suc, ◌+◌, ◌<◌, ◌≤◌, ◌==◌, Bool, true, false, refl, sym, ap, ◌∙◌, subst, arith}
-use Rattle.std.proofs.lemmas.Bool.{eqb-true, eq-eqb, false≢true}
-use Rattle.moka_laws.proofs.Counting.{same_number, differ, differ_not}
+use Rattle.std.proofs.Common.{add-one, ◌≡◌, ℕ, zero, suc, ◌+◌, ◌<◌, ◌≤◌, ◌==◌, Bool, true, false, refl, sym, subst, arith}
+use Rattle.std.proofs.lemmas.Bool.{eqb-true}
+use Rattle.moka_laws.proofs.Counting.{differ, differ_not}
 
 -- f 0 + .. + f k
 pub sum_to : ℕ → (ℕ → ℕ) → ℕ
