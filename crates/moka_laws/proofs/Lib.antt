@@ -12,4 +12,5 @@ pub mod Posts
 pub mod Balance
 pub mod OnePlace
 pub mod Owning
+pub mod Between
 pub mod Lawfully

@@ -9,7 +9,9 @@ mod places;
 mod reaching;
 mod waiting;
 
-pub use lawful::reached_is_lawful;
+pub use lawful::{
+    event_is_lawful, lawful_run_goes_on, reached_is_lawful, run_is_lawful, steps_are_lawful,
+};
 pub use places::holders_have_places;
 pub use reaching::{
     fresh_is_reached, reached_by_event, reached_by_run, reached_by_step, reached_by_steps,
