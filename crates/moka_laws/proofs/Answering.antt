@@ -5,12 +5,12 @@ use Rattle.moka_hist.specs.Finite.{put_at}
 use Rattle.moka_hist.specs.State.{State, World, Call, DeskPart}
 use Rattle.moka_hist.specs.Plan.{Item, Aim, held_by, plan_of}
 use Rattle.moka_hist.specs.Plan as plan
-use Rattle.moka_hist.specs.Visits.{settled_with, settled_without}
+use Rattle.moka_hist.specs.Visits.{settlement_for, settled_with, settled_without}
 use Rattle.moka_hist.specs.Next.{Next, goes}
 use Rattle.moka_hist.specs.Looking.{hits, misses}
 use Rattle.moka_hist.specs.Loading.{after_read, after_told, after_abort, retries}
 use Rattle.moka_hist.specs.Telling.{is_asked, does_take}
-use Rattle.std.specs.Option.{option_map_or}
+use Rattle.std.specs.Option.{option_and_then, option_map_or}
 use Rattle.moka_hist.specs.Step.{Step, state_after}
 use Rattle.moka_hist.specs.Run.{IsReached, fresh_call}
 use Rattle.moka_hist.specs.declared.events.Start.{Start}
@@ -127,6 +127,14 @@ module _ {K V : Type 0} where
   settles_without : (d : DeskPart K V) (n : ℕ) (x : ℕ) → d.settled x ≢ Some settled.NotYet → settled_without d n x ≢ Some settled.NotYet
   settles_without d n x h = kept_or _ None (d.settled x) (λ v. v ≢ Some settled.NotYet) none_some h
 
+  -- an owner's settlement is an answer
+  pub settlement_ready : (d : DeskPart K V) (n : ℕ) (with : Settled V) → HasAnswers d → settlement_for d n ≡ Some with → Some with ≢ Some settled.NotYet
+  settlement_ready d n with has e = by (d.joined n) e
+    where
+      by : (o : Option ℕ) → option_and_then d.settled o ≡ Some with → Some with ≢ Some settled.NotYet
+      by None e = absurd (none_some e)
+      by (Some owner) e = λ h. has.settled owner (e ∙ h)
+
   -- what a step has to show
   abbrev Leaves : World K V → Next K V → Type 0
   Leaves new next = LeftWell next.left × HasAnswers new.desk
@@ -172,7 +180,7 @@ module _ {K V : Type 0} (eq : K → K → Bool) where
   answering_step s t n turn i step =
       step_cases eq Leaves (λ v _. IsAnswering v) s t n turn step (on_plan eq s.world n step.call i.desk step.call.plan refl (i.calls n step.call step.live)) (λ w next. leaves s n w next i)
 
-  answering_kept : IsKept eq (IsAnswering {K = K} {V = V})
+  pub answering_kept : IsKept eq (IsAnswering {K = K} {V = V})
   answering_kept = record {
     fresh = λ size. record { calls = λ n c live. absurd (none_some live); desk = record { settled = λ x. none_some; told = λ x. none_some } };
     at = λ s moment i. record { calls = i.calls; desk = i.desk };

@@ -276,7 +276,7 @@ module _ {K V : Type 0} (eq : K → K → Bool) where
         omega (arith, i.balance x, posts_held x c.plan (i.tidy n c live), among_append x s.world.desk.owed (option_to_list (held_by c.plan)));
   }
 
-  balanced_kept : IsKept eq (IsBalanced {K = K} {V = V})
+  pub balanced_kept : IsKept eq (IsBalanced {K = K} {V = V})
   balanced_kept = record {
     fresh = λ size. record {
       numbered = λ n c live. absurd (none_some live);

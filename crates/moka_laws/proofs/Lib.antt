@@ -12,5 +12,10 @@ pub mod Posts
 pub mod Balance
 pub mod OnePlace
 pub mod Owning
+pub mod Roles
+pub mod Readers
+pub mod Serving
+pub mod ServingSteps
+pub mod Served
 pub mod Between
 pub mod Lawfully

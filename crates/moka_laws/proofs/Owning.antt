@@ -81,7 +81,7 @@ module _ {K V : Type 0} where
   behind [] = 0
   behind (item ∷ rest) = weigh owning rest
 
-  abbrev plan_left : Option (Call K V) → List (Item K V)
+  abbrev pub plan_left : Option (Call K V) → List (Item K V)
   plan_left None = []
   plan_left (Some c) = c.plan
 

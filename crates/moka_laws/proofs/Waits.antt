@@ -1,11 +1,9 @@
 -- When a step waits.
 use Rattle.std.proofs.Common.{◌≡◌, ◌≢◌, ◌↔◌, ℕ, ◌+◌, ◌==◌, Bool, true, false, List, [], ◌∷◌, Option, Some, None, IsNone, is_some, refl, sym, ap, ◌∙◌, subst}
-use Rattle.std.specs.Option.{option_and_then}
 use Rattle.std.proofs.lemmas.Bool.{false≢true}
-use Rattle.moka_hist.specs.State.{World, Call, DeskPart}
+use Rattle.moka_hist.specs.State.{World, Call}
 use Rattle.moka_hist.specs.Plan.{Item, Aim}
 use Rattle.moka_hist.specs.Plan as plan
-use Rattle.moka_hist.specs.Visits.{settlement_for}
 use Rattle.moka_hist.specs.Next.{Next, goes, waits}
 use Rattle.moka_hist.specs.Looking.{hits, misses}
 use Rattle.moka_hist.specs.Loading.{after_read, after_told, after_abort, retries}
@@ -22,7 +20,7 @@ use Rattle.moka_laws.specs.Waiting.{WaitsByCause, WaitsFor}
 use Rattle.moka_laws.proofs.Counting.{none_some}
 use Rattle.moka_laws.proofs.StepCases.{OnStep, step_cases}
 use Rattle.moka_laws.proofs.Outcomes.{Outcomes, outcomes}
-use Rattle.moka_laws.proofs.Answering.{HasAnswers, answering}
+use Rattle.moka_laws.proofs.Answering.{HasAnswers, answering, settlement_ready}
 
 not_none : {A : Type 0} {a : A} (o : Option A) → o ≡ Some a → ¬ IsNone o
 not_none None e = λ h. none_some e
@@ -61,14 +59,6 @@ module _ {K V : Type 0} where
   told_on : (c : Call K V) (load : Load K) (given : Told V) → Some given ≢ Some answer.Done → GoesOn (after_told c load (found.TakeTold (Some given)))
   told_on c load (answer.Value value) h = λ e. cc
   told_on c load answer.Done h = absurd (h refl)
-
-  -- an owner's settlement is an answer
-  settlement_ready : (d : DeskPart K V) (n : ℕ) (with : Settled V) → HasAnswers d → settlement_for d n ≡ Some with → Some with ≢ Some settled.NotYet
-  settlement_ready d n with has e = by (d.joined n) e
-    where
-      by : (o : Option ℕ) → option_and_then d.settled o ≡ Some with → Some with ≢ Some settled.NotYet
-      by None e = absurd (none_some e)
-      by (Some owner) e = λ h. has.settled owner (e ∙ h)
 
   -- what a step has to show: it waits where Q holds, and then it changes nothing
   record Waits (w : World K V) (c : Call K V) (Q : Type 0) (new : World K V) (next : Next K V) : Type 0 where

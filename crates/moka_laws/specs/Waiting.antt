@@ -1,11 +1,13 @@
 -- When a step waits.
-use Rattle.std.specs.Prelude.{◌≡◌, ◌≢◌, ◌↔◌, ℕ, Bool, List, [], ◌∷◌, Some}
-use Rattle.moka_hist.specs.Finite.{put_at}
+use Rattle.std.specs.Prelude.{◌≡◌, ◌≢◌, ◌↔◌, ◌⊎◌, ℕ, Bool, true, List, [], ◌∷◌, Some, IsSome}
+use Rattle.moka_hist.specs.Finite.{load_eq, put_at}
 use Rattle.moka_hist.specs.State.{Call, State}
 use Rattle.moka_hist.specs.Plan.{Item}
+use Rattle.moka_hist.specs.Plan as plan
 use Rattle.moka_hist.specs.Step.{Step}
 use Rattle.moka_hist.specs.Run.{IsReached}
 use Rattle.moka_hist.specs.Missing.{IsMissing}
+use Rattle.moka_hist.specs.declared.loads.Load.{Load}
 use Rattle.moka_hist.specs.declared.records.Mode.TheVariants as mode
 use Rattle.moka_hist.specs.declared.accesses.Turn.{Turn}
 use Rattle.moka_hist.specs.declared.accesses.Turn.TheVariants as turn
@@ -30,3 +32,24 @@ abbrev pub WaitsByCause : (K V : Type 0) → (K → K → Bool) → Type 0
 WaitsByCause K V eq =
     (s t : State K V) (n : ℕ) (c : Call K V) (item : Item K V) (rest : List (Item K V)) (reply : Turn V) →
     IsReached eq s → s.calls n ≡ Some c → c.plan ≡ item ∷ rest → Step eq s n reply t → WaitsFor s n c item reply t
+
+module _ {K V : Type 0} where
+  -- the live call of this number owns a load that is equal to the one given
+  pub record OwnsAlike (eq : K → K → Bool) (s : State K V) (owner : ℕ) (load : Load K) : Type 0 where
+    pub call : Call K V
+    pub live : s.calls owner ≡ Some call
+    pub owned : Load K
+    pub owning : s.world.desk.owning owner ≡ Some owned
+    pub alike : load_eq eq owned load ≡ true
+
+  -- the call waits for an owner: that one is live and owns an equal load, or how it ended is there to be read
+  pub record HasOwner (eq : K → K → Bool) (s : State K V) (n : ℕ) (load : Load K) : Type 0 where
+    pub owner : ℕ
+    pub joined : s.world.desk.joined n ≡ Some owner
+    pub served : OwnsAlike eq s owner load ⊎ IsSome (s.world.desk.settled owner)
+
+-- in every reached state each call that waits for the owner of a load has one
+abbrev pub WaitersHaveOwners : (K V : Type 0) → (K → K → Bool) → Type 0
+WaitersHaveOwners K V eq =
+    (s : State K V) (n : ℕ) (c : Call K V) (load : Load K) (rest : List (Item K V)) →
+    IsReached eq s → s.calls n ≡ Some c → c.plan ≡ plan.Read load ∷ rest → HasOwner eq s n load

@@ -1,6 +1,6 @@
 //! When a step waits.
 
-ghost use Rattle.moka_laws.specs.Waiting.{LiveCallsGoOn, WaitsByCause};
+ghost use Rattle.moka_laws.specs.Waiting.{LiveCallsGoOn, WaitersHaveOwners, WaitsByCause};
 
 /// Cites the law that every live call of a reached state has still something to do.
 pub fn live_calls_go_on<K: Eq, V>()
@@ -11,4 +11,10 @@ pub fn live_calls_go_on<K: Eq, V>()
 /// item needs is missing, and that such a step changes nothing but that the call is parked.
 pub fn waits_by_cause<K: Eq, V>()
     ensures waits { WaitsByCause K V K.eq }
+{}
+
+/// Cites the law that in every reached state a call that waits for the owner of a load has one: a
+/// live call that owns an equal load, or one whose end is there to be read.
+pub fn waiters_have_owners<K: Eq, V>()
+    ensures served { WaitersHaveOwners K V K.eq }
 {}
