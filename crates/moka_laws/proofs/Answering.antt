@@ -196,7 +196,7 @@ module _ {K V : Type 0} (eq : K → K → Bool) where
       calls = i.calls;
       desk = record { settled = i.desk.settled; told = λ x. kept_or (n == x) (Some given) (s.world.desk.told x) (λ v. v ≢ Some answer.Done) (asked_for s.world.desk n given asked) (i.desk.told x) };
     };
-    drop = λ s n c live i. record {
+    drop = λ s n c live between i. record {
       calls = λ m b lives. put_cases s.calls n None m (Some b) (EndsWell b.plan) lives (λ here is. absurd (none_some is)) (λ there is. i.calls m b is);
       desk = record {
         settled = λ x. settles_with s.world.desk n settled.Aborted (settled_without s.world.desk n) x (λ e. cc) (settles_without s.world.desk n x (i.desk.settled x));

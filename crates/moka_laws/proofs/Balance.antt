@@ -1,5 +1,5 @@
 -- Committed writes are counted: each stands as often as it was committed, which is at most once.
-use Rattle.std.proofs.Common.{◌≡◌, ◌≢◌, ℕ, ◌+◌, ◌<◌, ◌≤◌, ◌==◌, Bool, true, false, cond, List, [], ◌∷◌, ◌++◌, map, Some, None, refl, sym, ap, ◌∙◌, subst, arith}
+use Rattle.std.proofs.Common.{Option, ◌≡◌, ◌≢◌, ℕ, ◌+◌, ◌<◌, ◌≤◌, ◌==◌, Bool, true, false, cond, List, [], ◌∷◌, ◌++◌, map, Some, None, refl, sym, ap, ◌∙◌, subst, arith}
 use Rattle.std.proofs.lemmas.List.{map-append}
 use Rattle.std.specs.Option.{option_to_list}
 use Rattle.std.proofs.lemmas.Bool.{eqb-true}
@@ -63,6 +63,14 @@ module _ {K V : Type 0} where
     -- each write was committed at most once, and stands as often as it was committed
     pub once : (x : ℕ) → times x s.world.table.committed ≤ 1
     pub balance : (x : ℕ) → with_calls x s + on_desk x s.world.desk ≡ times x s.world.table.committed
+
+  -- the next number is that of no call
+  pub next_free : (s : State K V) → IsBalanced s → s.calls (s.world.desk.last + 1) ≡ None
+  next_free s b = by (s.calls (s.world.desk.last + 1)) refl
+    where
+      by : (o : Option (Call K V)) → s.calls (s.world.desk.last + 1) ≡ o → o ≡ None
+      by None e = refl
+      by (Some c) e = absurd (omega (arith, b.numbered (s.world.desk.last + 1) c e))
 
   -- what a step of a call with this plan has to show
   record Balances (w : World K V) (n : ℕ) (plan : List (Item K V)) (new : World K V) (next : Next K V) : Type 0 where
@@ -290,7 +298,7 @@ module _ {K V : Type 0} (eq : K → K → Bool) where
     start = balanced_start;
     step = balanced_step;
     tell = λ s n given asked i. record { numbered = i.numbered; tidy = i.tidy; unspent = i.unspent; unborn = i.unborn; once = i.once; balance = i.balance };
-    drop = balanced_drop;
+    drop = λ s n c live between i. balanced_drop s n c live i;
   }
 
   pub in_balance : (s : State K V) → IsReached eq s → IsBalanced s

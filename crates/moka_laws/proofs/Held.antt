@@ -126,7 +126,7 @@ module _ {K V : Type 0} (eq : K → K → Bool) where
         (λ there is. all n c is);
     step = places_step;
     tell = λ s n answer asked all. all;
-    drop = λ s n c live all m b lives.
+    drop = λ s n c live between all m b lives.
         put_cases s.calls n None m (Some b) (weigh held b.plan ≤ times m (without n s.world.desk.holders)) lives
         (λ here is. absurd (none_some is))
         (λ there is. omega (arith, all m b is, times_without n m s.world.desk.holders there));

@@ -1,5 +1,5 @@
 -- What holds of a fresh cache and is kept by each event holds of every reached state.
-use Rattle.std.proofs.Common.{◌≡◌, ℕ, zero, suc, Bool, true, false, List, [], ◌∷◌, Option, Some, None, MatchOption, MatchBool, nat_lt, ◌==◌, refl, sym, subst}
+use Rattle.std.proofs.Common.{◌≢◌, ◌≡◌, ℕ, zero, suc, Bool, true, false, List, [], ◌∷◌, Option, Some, None, MatchOption, MatchBool, nat_lt, ◌==◌, refl, sym, subst}
 use Rattle.moka_hist.specs.State.{State, Call, fresh}
 use Rattle.moka_hist.specs.Dropping.{dropped}
 use Rattle.moka_hist.specs.Telling.{is_asked, told}
@@ -23,7 +23,7 @@ module _ {K V : Type 0} (eq : K → K → Bool) where
     pub start : (s : State K V) (start : Start K V) → I s → I (started s start)
     pub step : (s t : State K V) (n : ℕ) (turn : Turn V) → I s → Step eq s n turn t → I t
     pub tell : (s : State K V) (n : ℕ) (answer : Told V) → is_asked s.world.desk n answer ≡ true → I s → I (with_desk s (told s.world.desk n answer))
-    pub drop : (s : State K V) (n : ℕ) (c : Call K V) → s.calls n ≡ Some c → I s → I (dropped s n c)
+    pub drop : (s : State K V) (n : ℕ) (c : Call K V) → s.calls n ≡ Some c → c.mode ≢ mode.Mid → I s → I (dropped s n c)
 
   module _ (I : State K V → Type 0) (kept : IsKept I) where
     refused : (s t : State K V) (why : Refusal) (r : Reply V) → I s → Refuses s why r t → I t
@@ -37,10 +37,10 @@ module _ {K V : Type 0} (eq : K → K → Bool) where
     goings P zero s t n i going = subst (λ v. I v) (sym going) i
     goings P (suc k) s t n i going = kept.step going.0 t n _ (goings P k s going.0 n i going.1) going.2
 
-    drops : (s t : State K V) (n : ℕ) (c : Call K V) (m : Mode) (r : Reply V) → s.calls n ≡ Some c → I s → Drops s n c m r t → I t
-    drops s t n c mode.Mid r live i h = refused s t _ r i h
-    drops s t n c mode.Fresh r live i h = becomes (dropped s n c) t _ r (kept.drop s n c live i) h
-    drops s t n c mode.Parked r live i h = becomes (dropped s n c) t _ r (kept.drop s n c live i) h
+    drops : (s t : State K V) (n : ℕ) (c : Call K V) (m : Mode) (r : Reply V) → s.calls n ≡ Some c → c.mode ≡ m → I s → Drops s n c m r t → I t
+    drops s t n c mode.Mid r live e i h = refused s t _ r i h
+    drops s t n c mode.Fresh r live e i h = becomes (dropped s n c) t _ r (kept.drop s n c live (λ f. cc) i) h
+    drops s t n c mode.Parked r live e i h = becomes (dropped s n c) t _ r (kept.drop s n c live (λ f. cc) i) h
 
     -- of a test, or of a call's look-up, either answer keeps it
     either : (t : State K V) (b : Bool) (P Q : Type 0) → (b ≡ true → P → I t) → (b ≡ false → Q → I t) → MatchBool b P Q → I t
@@ -63,7 +63,7 @@ module _ {K V : Type 0} (eq : K → K → Bool) where
     happens P s t (event.Tell n answer) r i h =
         either t (is_asked s.world.desk n answer) _ _ (λ e b. becomes (with_desk s (told s.world.desk n answer)) t _ r (kept.tell s n answer e i) b) (λ _ b. refused s t _ r i b) h
     happens P s t (event.Drop n) r i h =
-        looked t (s.calls n) _ (λ c. Drops s n c c.mode r t) (refused s t _ r i) (λ c e d. drops s t n c c.mode r e i d) h
+        looked t (s.calls n) _ (λ c. Drops s n c c.mode r t) (refused s t _ r i) (λ c e d. drops s t n c c.mode r e refl i d) h
 
     runs : (s t : State K V) (es : List (Event K V)) (rs : List (Reply V)) → I s → Run eq Any s es rs t → I t
     runs s t [] [] i run = subst (λ v. I v) (sym run) i

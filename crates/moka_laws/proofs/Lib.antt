@@ -17,5 +17,8 @@ pub mod Readers
 pub mod Serving
 pub mod ServingSteps
 pub mod Served
+pub mod Turns
+pub mod Asking
+pub mod Coming
 pub mod Between
 pub mod Lawfully

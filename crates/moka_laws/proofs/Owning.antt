@@ -244,7 +244,7 @@ module _ {K V : Type 0} (eq : K → K → Bool) (laws : IsEquivalence eq) where
     };
     step = owned_step;
     tell = λ s n given asked i. record { one_owner = i.one_owner; calls = i.calls };
-    drop = λ s n c live i. record {
+    drop = λ s n c live between i. record {
       one_owner = without_one_owner eq s.world.desk n i.one_owner;
       calls = λ m b lives.
           put_cases s.calls n None m (Some b) (Owns (owners_without s.world.desk n) m b.plan) lives

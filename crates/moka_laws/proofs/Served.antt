@@ -15,7 +15,7 @@ use Rattle.moka_laws.proofs.Sums.{sum_to, sum_zero, sum_next, sum_change, sum_ho
 use Rattle.moka_laws.proofs.Kept.{IsKept, in_reached}
 use Rattle.moka_laws.proofs.StepCases.{step_cases}
 use Rattle.moka_laws.proofs.Answering.{IsAnswering, answering_kept}
-use Rattle.moka_laws.proofs.Balance.{IsBalanced, balanced_kept}
+use Rattle.moka_laws.proofs.Balance.{next_free, IsBalanced, balanced_kept}
 use Rattle.moka_laws.proofs.Owning.{plan_left}
 use Rattle.moka_laws.proofs.Roles.{Fits, awaited, fresh_fits}
 use Rattle.moka_laws.proofs.Readers.{joins, joins_self, Answered, OwnerOf}
@@ -104,14 +104,6 @@ module _ {K V : Type 0} (eq : K → K → Bool) where
       (λ w next b. serves s i n l w next.left b) in
       kept ((balanced_kept eq).step s t n turn i.balanced step) ((answering_kept eq).step s t n turn i.answering step)
 
-  -- the next number is that of no call
-  next_free : (s : State K V) → IsBalanced s → s.calls (s.world.desk.last + 1) ≡ None
-  next_free s b = by (s.calls (s.world.desk.last + 1)) refl
-    where
-      by : (o : Option (Call K V)) → s.calls (s.world.desk.last + 1) ≡ o → o ≡ None
-      by None e = refl
-      by (Some c) e = absurd (omega (arith, b.numbered (s.world.desk.last + 1) c e))
-
   served_start : (s : State K V) (start : Start K V) → IsServed s → IsServed (started s start)
   served_start s start i =
       let new : ℕ = s.world.desk.last + 1 in
@@ -152,9 +144,9 @@ module _ {K V : Type 0} (eq : K → K → Bool) where
     start = served_start;
     step = served_step;
     tell = λ s n given asked i. record { balanced = (balanced_kept eq).tell s n given asked i.balanced; answering = (answering_kept eq).tell s n given asked i.answering; fits = i.fits; owner = i.owner; counted = i.counted; waits = i.waits };
-    drop = λ s n c live i.
+    drop = λ s n c live between i.
         let l = i.balanced.numbered n c live in
-        serves s i n l _ None (drops eq s.world.desk n i.owner (enough s i n l) (enough_own s i n l)) ((balanced_kept eq).drop s n c live i.balanced) ((answering_kept eq).drop s n c live i.answering);
+        serves s i n l _ None (drops eq s.world.desk n i.owner (enough s i n l) (enough_own s i n l)) ((balanced_kept eq).drop s n c live between i.balanced) ((answering_kept eq).drop s n c live between i.answering);
   }
 
   -- an owner of a load is live

@@ -17,4 +17,6 @@ pub use reaching::{
     fresh_is_reached, reached_by_event, reached_by_run, reached_by_step, reached_by_steps,
     run_goes_on,
 };
-pub use waiting::{live_calls_go_on, waiters_have_owners, waits_by_cause};
+pub use waiting::{
+    live_calls_go_on, missing_can_come, turn_is_held, waiters_have_owners, waits_by_cause,
+};
