@@ -8,7 +8,7 @@ use Rattle.moka_hist.specs.Plan as plan
 use Rattle.moka_hist.specs.Visits.{is_free_for, settlement_for}
 use Rattle.moka_hist.specs.Run.{IsReached}
 use Rattle.moka_hist.specs.declared.loads.Load.{Load}
-use Rattle.moka_laws.specs.Waiting.{MissingCanCome, CanCome, HasOwner, OwnsAlike}
+use Rattle.moka_laws.specs.Missing.{MissingCanCome, CanCome, HasOwner, OwnsAlike}
 use Rattle.moka_laws.proofs.Turns.{turn_held}
 use Rattle.moka_laws.proofs.Served.{waiters_served}
 use Rattle.moka_laws.proofs.Asking.{ask_open}

@@ -9,7 +9,7 @@ use Rattle.moka_hist.specs.Run.{started, fresh_call}
 use Rattle.moka_hist.specs.declared.loads.Load.{Load}
 use Rattle.moka_hist.specs.declared.events.Start.{Start}
 use Rattle.moka_hist.specs.declared.accesses.Turn.{Turn}
-use Rattle.moka_laws.specs.Waiting.{WaitersHaveOwners, HasOwner, OwnsAlike}
+use Rattle.moka_laws.specs.Missing.{WaitersHaveOwners, HasOwner, OwnsAlike}
 use Rattle.moka_laws.proofs.Counting.{none_some, put_here, put_there, differ_not}
 use Rattle.moka_laws.proofs.Sums.{sum_to, sum_zero, sum_next, sum_change, sum_holds, sum_holds_two}
 use Rattle.moka_laws.proofs.Kept.{IsKept, in_reached}

@@ -22,7 +22,7 @@ use Rattle.moka_hist.specs.declared.visits.Settled.{Settled}
 use Rattle.moka_hist.specs.declared.visits.Settled.TheVariants as settled
 use Rattle.moka_hist.specs.declared.visits.Found.TheVariants as found
 use Rattle.moka_hist.specs.declared.accesses.Turn.{Turn}
-use Rattle.moka_laws.specs.Waiting.{TurnIsHeld, HoldsTurn, IsApplying}
+use Rattle.moka_laws.specs.Missing.{TurnIsHeld, AppliesLog, IsApplying}
 use Rattle.moka_laws.proofs.Counting.{none_some, some_same, put_here, put_there, differ_not, other_number}
 use Rattle.moka_laws.proofs.Weights.{weigh}
 use Rattle.moka_laws.proofs.Balance.{IsBalanced, balanced_kept, next_free}
@@ -271,7 +271,7 @@ module _ {K V : Type 0} (eq : K → K → Bool) where
   applies_in (_ ∷ rest) f h = absurd h
 
   -- a call that is in a turn has it
-  holds : (s : State K V) (n : ℕ) (o : Option (Call K V)) → s.calls n ≡ o → InTurn (plan_left o) → IsMid o → HoldsTurn s n
+  holds : (s : State K V) (n : ℕ) (o : Option (Call K V)) → s.calls n ≡ o → InTurn (plan_left o) → IsMid o → AppliesLog s n
   holds s n None e t m = absurd t
   holds s n (Some c) e t m = record { call = c; live = e; between = m; applying = in_applies c.plan t }
 

@@ -2,3 +2,4 @@ pub mod Reaching
 pub mod Holders
 pub mod Waiting
 pub mod Lawful
+pub mod Missing

@@ -5,6 +5,7 @@
 #![tactic(auto)]
 
 mod lawful;
+mod missing;
 mod places;
 mod reaching;
 mod waiting;
@@ -12,11 +13,10 @@ mod waiting;
 pub use lawful::{
     event_is_lawful, lawful_run_goes_on, reached_is_lawful, run_is_lawful, steps_are_lawful,
 };
+pub use missing::{missing_can_come, turn_is_held, waiters_have_owners};
 pub use places::holders_have_places;
 pub use reaching::{
     fresh_is_reached, reached_by_event, reached_by_run, reached_by_step, reached_by_steps,
     run_goes_on,
 };
-pub use waiting::{
-    live_calls_go_on, missing_can_come, turn_is_held, waiters_have_owners, waits_by_cause,
-};
+pub use waiting::{live_calls_go_on, waits_by_cause};
