@@ -43,7 +43,8 @@ module _ {K V : Type 0} where
   hits_takes c (plan.To_load load) value = refl
   hits_takes c (plan.To_own load) value = refl
 
-  either_takes : (b : Bool) (x y : Next K V) → weigh_call takes_told x.left ≡ 0 → weigh_call takes_told y.left ≡ 0 → weigh_call takes_told (cond b x y).left ≡ 0
+  either_takes : (b : Bool) (x y : Next K V) → weigh_call takes_told x.left ≡ 0 → weigh_call takes_told y.left ≡ 0 →
+      weigh_call takes_told (cond b x y).left ≡ 0
   either_takes true x y h k = h
   either_takes false x y h k = k
 
@@ -57,7 +58,8 @@ abbrev Asked : {V : Type 0} → (ℕ → Option Takes) → (ℕ → Option (Told
 Asked asks told n = IsSome (asks n) ⊎ IsSome (told n)
 
 -- an ask that is told is closed, and its answer is there; the others are as they were
-still_asked : {V : Type 0} (asks : ℕ → Option Takes) (told : ℕ → Option (Told V)) (n : ℕ) (given : Told V) (m : ℕ) → Asked asks told m → Asked (put_at asks n None) (put_at told n (Some given)) m
+still_asked : {V : Type 0} (asks : ℕ → Option Takes) (told : ℕ → Option (Told V)) (n : ℕ) (given : Told V) (m : ℕ) → Asked asks told m →
+    Asked (put_at asks n None) (put_at told n (Some given)) m
 still_asked asks told n given m h = by (n == m)
   where
     by : (b : Bool) → IsSome (cond b None (asks m)) ⊎ IsSome (cond b (Some given) (told m))
@@ -82,12 +84,14 @@ module _ {K V : Type 0} where
     told_none : {left : Option (Call K V)} → weigh_call takes_told left ≡ 0 → Asks d n d.asks (put_at d.told n None) left
     told_none h = record { own = λ l. absurd (omega arith); others = λ m e. (refl, put_there d.told n None m e) }
 
-  module _ (eq : K → K → Bool) (w : World K V) (n : ℕ) (c : Call K V) (ready : HasAnswers w.desk) (was : 0 < weigh takes_told c.plan → Asked w.desk.asks w.desk.told n) where
+  module _ (eq : K → K → Bool) (w : World K V) (n : ℕ) (c : Call K V) (ready : HasAnswers w.desk)
+      (was : 0 < weigh takes_told c.plan → Asked w.desk.asks w.desk.told n) where
     abbrev Leaves : World K V → Next K V → Type 0
     Leaves new next = Asks w.desk n new.desk.asks new.desk.told next.left
 
     -- the call goes on with the rest
-    goes_on : (rest : List (Item K V)) → (0 < weigh takes_told rest → Asked w.desk.asks w.desk.told n) → Asks w.desk n w.desk.asks w.desk.told (goes c rest).left
+    goes_on : (rest : List (Item K V)) → (0 < weigh takes_told rest → Asked w.desk.asks w.desk.told n) →
+        Asks w.desk n w.desk.asks w.desk.told (goes c rest).left
     goes_on rest h = takes_still w.desk n (λ l. h (omega (arith, weigh_goes takes_told c rest (λ a. refl))))
 
     reads : (load : Load K) (with : Settled V) → Asks w.desk n w.desk.asks w.desk.told (after_read c load (found.ReadSettled with)).left
@@ -95,11 +99,13 @@ module _ {K V : Type 0} where
     reads load settled.NotYet = takes_still w.desk n was
     reads load settled.Aborted = takes_none w.desk n (either_takes (c.aborts + 1 == retries) _ _ refl refl)
 
-    takes : (load : Load K) (given : Told V) → Some given ≢ Some answer.Done → Asks w.desk n w.desk.asks (put_at w.desk.told n None) (after_told c load (found.TakeTold (Some given))).left
+    takes : (load : Load K) (given : Told V) → Some given ≢ Some answer.Done →
+        Asks w.desk n w.desk.asks (put_at w.desk.told n None) (after_told c load (found.TakeTold (Some given))).left
     takes load (answer.Value value) not = told_none w.desk n refl
     takes load answer.Done not = absurd (not refl)
 
-    on_item : (item : Item K V) (rest : List (Item K V)) → (0 < weigh takes_told (item ∷ rest) → Asked w.desk.asks w.desk.told n) → Outcomes eq Leaves w n c item rest
+    on_item : (item : Item K V) (rest : List (Item K V)) → (0 < weigh takes_told (item ∷ rest) → Asked w.desk.asks w.desk.told n) →
+        Outcomes eq Leaves w n c item rest
     on_item plan.Drain rest q = (λ e. goes_on rest (λ l. q (omega arith)), λ x xs e. takes_still w.desk n (λ l. q (omega arith)))
     on_item (plan.Post write) rest q = (λ e. goes_on rest (λ l. q (omega arith)), λ e. takes_still w.desk n (λ l. q (omega arith)))
     on_item plan.Turn rest q = (λ e. goes_on rest (λ l. q (omega arith)), λ e. takes_still w.desk n was)
@@ -124,7 +130,8 @@ module _ {K V : Type 0} where
 
     on_plan : (plan : List (Item K V)) → c.plan ≡ plan → OnStep eq Leaves w n c plan
     on_plan [] e = takes_still w.desk n was
-    on_plan (item ∷ rest) e = outcomes eq Leaves w n c item rest (on_item item rest (subst (λ p. 0 < weigh takes_told p → Asked w.desk.asks w.desk.told n) e was))
+    on_plan (item ∷ rest) e = outcomes eq Leaves w n c item rest
+        (on_item item rest (subst (λ p. 0 < weigh takes_told p → Asked w.desk.asks w.desk.told n) e was))
 
   -- ---- of a state
 
@@ -133,7 +140,8 @@ module _ {K V : Type 0} where
     pub answering : IsAnswering s
     pub asked : (n : ℕ) → 0 < weigh_call takes_told (s.calls n) → Asked s.world.desk.asks s.world.desk.told n
 
-  asking : (s : State K V) (n : ℕ) (w : World K V) (left : Option (Call K V)) → IsAsking s → Asks s.world.desk n w.desk.asks w.desk.told left →
+  asking : (s : State K V) (n : ℕ) (w : World K V) (left : Option (Call K V)) → IsAsking s →
+      Asks s.world.desk n w.desk.asks w.desk.told left →
       let t : State K V = record { world = w; calls = put_at s.calls n left } in
       IsAnswering t → IsAsking t
   asking s n w left i b answering = record { answering = answering; asked = λ m. by m (n == m) refl }
@@ -155,7 +163,8 @@ module _ {K V : Type 0} (eq : K → K → Bool) where
   asking_step : (s t : State K V) (n : ℕ) (turn : Turn V) → IsAsking s → Step eq s n turn t → IsAsking t
   asking_step s t n turn i step =
       let c : Call K V = step.call in
-      let was : 0 < weigh takes_told c.plan → Asked s.world.desk.asks s.world.desk.told n = subst (λ v. 0 < weigh_call takes_told v → Asked s.world.desk.asks s.world.desk.told n) step.live (i.asked n) in
+      let was : 0 < weigh takes_told c.plan → Asked s.world.desk.asks s.world.desk.told n = subst
+      (λ v. 0 < weigh_call takes_told v → Asked s.world.desk.asks s.world.desk.told n) step.live (i.asked n) in
       let kept : IsAnswering t → IsAsking t =
       step_cases eq (λ new next. Asks s.world.desk n new.desk.asks new.desk.told next.left) (λ v _. IsAnswering v → IsAsking v) s t n turn step
       (on_plan eq s.world n c i.answering.desk was c.plan refl) (λ w next b. asking s n w next.left i b) in
@@ -165,9 +174,14 @@ module _ {K V : Type 0} (eq : K → K → Bool) where
   asking_kept = record {
     fresh = λ size. record { answering = (answering_kept eq).fresh size; asked = λ n l. absurd (omega arith) };
     at = λ s moment i. record { answering = (answering_kept eq).at s moment i.answering; asked = i.asked };
-    start = λ s start i. asking s (s.world.desk.last + 1) _ (Some (fresh_call start)) i (takes_none s.world.desk (s.world.desk.last + 1) (fresh_takes start)) ((answering_kept eq).start s start i.answering);
+    start = λ s start i. asking s (s.world.desk.last + 1) _ (Some (fresh_call start)) i
+        (takes_none s.world.desk (s.world.desk.last + 1) (fresh_takes start)) ((answering_kept eq).start s start i.answering);
     step = asking_step;
-    tell = λ s n given told i. record { answering = (answering_kept eq).tell s n given told i.answering; asked = λ m l. still_asked s.world.desk.asks s.world.desk.told n given m (i.asked m l) };
+    tell = λ s n given told i. record {
+      answering = (answering_kept eq).tell s n given told i.answering;
+      asked =
+          λ m l. still_asked s.world.desk.asks s.world.desk.told n given m (i.asked m l);
+    };
     drop = λ s n c live between i.
         asking s n _ None i
         (record { own = λ l. absurd (omega arith); others = λ m e. (put_there s.world.desk.asks n None m e, put_there s.world.desk.told n None m e) })
@@ -175,7 +189,8 @@ module _ {K V : Type 0} (eq : K → K → Bool) where
   }
 
   -- the call that is to take an answer which is not there has an open ask
-  pub ask_open : (s : State K V) (n : ℕ) (c : Call K V) (load : Load K) (rest : List (Item K V)) → IsReached eq s → s.calls n ≡ Some c → c.plan ≡ plan.Told load ∷ rest → is_some (s.world.desk.told n) ≡ false → IsSome (s.world.desk.asks n)
+  pub ask_open : (s : State K V) (n : ℕ) (c : Call K V) (load : Load K) (rest : List (Item K V)) → IsReached eq s → s.calls n ≡ Some c →
+      c.plan ≡ plan.Told load ∷ rest → is_some (s.world.desk.told n) ≡ false → IsSome (s.world.desk.asks n)
   ask_open s n c load rest h live e none =
       let i : IsAsking s = in_reached eq IsAsking asking_kept s h in
       let weighs = ap (weigh_call takes_told) live ∙ ap (weigh takes_told) e in

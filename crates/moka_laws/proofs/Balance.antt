@@ -78,11 +78,13 @@ module _ {K V : Type 0} where
     tidy : late_call next.left ≡ 0
     spent : times n new.table.committed + weigh_call may_write next.left ≤ 1
     others : (m : ℕ) → (n == m) ≡ false → times m new.table.committed ≡ times m w.table.committed
-    balance : (x : ℕ) → weigh_call (post_of x) next.left + on_desk x new.desk + times x w.table.committed ≡ weigh (post_of x) plan + on_desk x w.desk + times x new.table.committed
+    balance : (x : ℕ) → weigh_call (post_of x) next.left + on_desk x new.desk + times x w.table.committed ≡ weigh
+        (post_of x) plan + on_desk x w.desk + times x new.table.committed
 
   module _ (w : World K V) (n : ℕ) (plan : List (Item K V)) where
     -- the world and the call's plan are as they were
-    stays_put : (c : Call K V) → c.plan ≡ plan → late plan ≡ 0 → times n w.table.committed + weigh may_write plan ≤ 1 → (mode : Mode) (turn : Turn V) → Balances w n plan w (record { left = Some (record c { mode = mode }); turn = turn })
+    stays_put : (c : Call K V) → c.plan ≡ plan → late plan ≡ 0 → times n w.table.committed + weigh may_write plan ≤ 1 →
+        (mode : Mode) (turn : Turn V) → Balances w n plan w (record { left = Some (record c { mode = mode }); turn = turn })
     stays_put c e t spent mode turn = record {
       last = refl;
       tidy = ap late e ∙ t;
@@ -92,11 +94,19 @@ module _ {K V : Type 0} where
     }
 
     -- a call with nothing to post is clear
-    was_clear : (c : Call K V) → c.plan ≡ plan → late plan ≡ 0 → times n w.table.committed + weigh may_write plan ≤ 1 → ((x : ℕ) → weigh (post_of x) plan ≡ 0) → IsClear (Some c)
-    was_clear c e t spent posts = record { late = ap late e ∙ t; posts = λ x. ap (weigh (post_of x)) e ∙ posts x; may = omega (arith, ap (weigh may_write) e) }
+    was_clear : (c : Call K V) → c.plan ≡ plan → late plan ≡ 0 → times n w.table.committed + weigh may_write plan ≤ 1 →
+        ((x : ℕ) → weigh (post_of x) plan ≡ 0) → IsClear (Some c)
+    was_clear c e t spent posts = record {
+      late = ap late e ∙ t;
+      posts = λ x. ap (weigh (post_of x)) e ∙ posts x;
+      may = omega
+          (arith, ap (weigh may_write) e);
+    }
 
     -- the call goes on, or has ended, with no write of its own
-    clears : {new : World K V} {next : Next K V} → new.desk.last ≡ w.desk.last → new.table.committed ≡ w.table.committed → ((x : ℕ) → on_desk x new.desk ≡ on_desk x w.desk) → IsClear next.left → ((x : ℕ) → weigh (post_of x) plan ≡ 0) → times n w.table.committed + 1 ≤ 1 → Balances w n plan new next
+    clears : {new : World K V} {next : Next K V} → new.desk.last ≡ w.desk.last → new.table.committed ≡ w.table.committed →
+        ((x : ℕ) → on_desk x new.desk ≡ on_desk x w.desk) → IsClear next.left → ((x : ℕ) → weigh (post_of x) plan ≡ 0) →
+        times n w.table.committed + 1 ≤ 1 → Balances w n plan new next
     clears l t d clear posts spent = record {
       last = l;
       tidy = clear.late;
@@ -107,7 +117,9 @@ module _ {K V : Type 0} where
 
   module _ (w : World K V) (n : ℕ) (c : Call K V) (item : Item K V) (rest : List (Item K V)) where
     -- the call goes on with the rest of its plan, and the item had no part in its writes
-    goes_on : {new : World K V} → new.desk.last ≡ w.desk.last → new.table.committed ≡ w.table.committed → ((x : ℕ) → on_desk x new.desk ≡ on_desk x w.desk) → late rest ≡ 0 → ((x : ℕ) → post_of x item ≡ 0) → times n w.table.committed + weigh may_write rest ≤ 1 → Balances w n (item ∷ rest) new (goes c rest)
+    goes_on : {new : World K V} → new.desk.last ≡ w.desk.last → new.table.committed ≡ w.table.committed →
+        ((x : ℕ) → on_desk x new.desk ≡ on_desk x w.desk) → late rest ≡ 0 → ((x : ℕ) → post_of x item ≡ 0) →
+        times n w.table.committed + weigh may_write rest ≤ 1 → Balances w n (item ∷ rest) new (goes c rest)
     goes_on l t d late posts spent = record {
       last = l;
       tidy = late_goes c rest ∙ late;
@@ -117,7 +129,8 @@ module _ {K V : Type 0} where
     }
 
   module _ (eq : K → K → Bool) (w : World K V) (n : ℕ) (c : Call K V) where
-    on_item : (item : Item K V) (rest : List (Item K V)) → c.plan ≡ item ∷ rest → late (item ∷ rest) ≡ 0 → times n w.table.committed + weigh may_write (item ∷ rest) ≤ 1 → Outcomes eq (Balances w n (item ∷ rest)) w n c item rest
+    on_item : (item : Item K V) (rest : List (Item K V)) → c.plan ≡ item ∷ rest → late (item ∷ rest) ≡ 0 →
+        times n w.table.committed + weigh may_write (item ∷ rest) ≤ 1 → Outcomes eq (Balances w n (item ∷ rest)) w n c item rest
     on_item plan.Drain rest e t sp = (
       λ none. goes_on w n c plan.Drain rest refl refl (λ x. refl) (late_none rest t) (λ x. refl) (omega arith),
       λ y ys some. record {
@@ -162,24 +175,33 @@ module _ {K V : Type 0} where
     on_item (plan.Get aim key) rest e t sp = (
       stays_put w n (plan.Get aim key ∷ rest) c e t sp mode.Mid turn.Going,
       clears w n (plan.Get aim key ∷ rest) refl refl (λ x. refl) (misses_clear c aim) (λ x. omega (arith, posts_none x rest t)) (omega arith),
-      λ k stored. clears w n (plan.Get aim key ∷ rest) refl refl (λ x. refl) (record { late = refl; posts = λ x. refl; may = omega arith }) (λ x. omega (arith, posts_none x rest t)) (omega arith),
+      λ k stored. clears w n (plan.Get aim key ∷ rest) refl refl (λ x. refl) (record { late = refl; posts = λ x. refl; may = omega arith })
+          (λ x. omega (arith, posts_none x rest t)) (omega arith),
     )
     on_item (plan.Judge aim key stored) rest e t sp =
-        clears w n (plan.Judge aim key stored ∷ rest) refl refl (λ x. refl) (hits_clear c aim stored.value) (λ x. omega (arith, posts_none x rest t)) (omega arith)
+        clears w n (plan.Judge aim key stored ∷ rest) refl refl (λ x. refl) (hits_clear c aim stored.value)
+        (λ x. omega (arith, posts_none x rest t)) (omega arith)
     on_item (plan.Own load) rest e t sp = (
-      λ none. clears w n (plan.Own load ∷ rest) refl refl (λ x. refl) (record { late = refl; posts = λ x. refl; may = omega arith }) (λ x. omega (arith, posts_none x rest t)) (omega arith),
-      λ owner some. clears w n (plan.Own load ∷ rest) refl refl (λ x. refl) (record { late = refl; posts = λ x. refl; may = omega arith }) (λ x. omega (arith, posts_none x rest t)) (omega arith),
+      λ none. clears w n (plan.Own load ∷ rest) refl refl (λ x. refl) (record { late = refl; posts = λ x. refl; may = omega arith })
+          (λ x. omega (arith, posts_none x rest t)) (omega arith),
+      λ owner some. clears w n (plan.Own load ∷ rest) refl refl (λ x. refl) (record { late = refl; posts = λ x. refl; may = omega arith })
+          (λ x. omega (arith, posts_none x rest t)) (omega arith),
     )
     on_item (plan.Read load) rest e t sp = (
       λ none. stays_put w n (plan.Read load ∷ rest) c e t sp mode.Parked turn.Wait,
-      λ with some. clears w n (plan.Read load ∷ rest) refl refl (λ x. refl) (read_clear c load with (was_clear w n (plan.Read load ∷ rest) c e t sp (λ x. omega (arith, posts_none x rest t)))) (λ x. omega (arith, posts_none x rest t)) (omega arith),
+      λ with some. clears w n (plan.Read load ∷ rest) refl refl (λ x. refl)
+          (read_clear c load with (was_clear w n (plan.Read load ∷ rest) c e t sp (λ x. omega (arith, posts_none x rest t))))
+          (λ x. omega (arith, posts_none x rest t)) (omega arith),
     )
     on_item (plan.Settle with) rest e t sp = goes_on w n c (plan.Settle with) rest refl refl (λ x. refl) (late_none rest t) (λ x. refl) (omega arith)
     on_item (plan.Ask load) rest e t sp =
-        clears w n (plan.Ask load ∷ rest) refl refl (λ x. refl) (record { late = refl; posts = λ x. refl; may = omega arith }) (λ x. omega (arith, posts_none x rest t)) (omega arith)
+        clears w n (plan.Ask load ∷ rest) refl refl (λ x. refl) (record { late = refl; posts = λ x. refl; may = omega arith })
+        (λ x. omega (arith, posts_none x rest t)) (omega arith)
     on_item (plan.Told load) rest e t sp = (
       λ none. stays_put w n (plan.Told load ∷ rest) c e t sp mode.Parked turn.Wait,
-      λ given some. clears w n (plan.Told load ∷ rest) refl refl (λ x. refl) (told_clear c load given (was_clear w n (plan.Told load ∷ rest) c e t sp (λ x. omega (arith, posts_none x rest t)))) (λ x. omega (arith, posts_none x rest t)) (omega arith),
+      λ given some. clears w n (plan.Told load ∷ rest) refl refl (λ x. refl)
+          (told_clear c load given (was_clear w n (plan.Told load ∷ rest) c e t sp (λ x. omega (arith, posts_none x rest t))))
+          (λ x. omega (arith, posts_none x rest t)) (omega arith),
     )
     on_item (plan.Moment key value) rest e t sp = record {
       last = refl;
@@ -206,17 +228,21 @@ module _ {K V : Type 0} where
       balance = λ x. omega (arith, posts_none x rest t);
     }
 
-    on_plan : (plan : List (Item K V)) → c.plan ≡ plan → late plan ≡ 0 → times n w.table.committed + weigh may_write plan ≤ 1 → OnStep eq (Balances w n plan) w n c plan
+    on_plan : (plan : List (Item K V)) → c.plan ≡ plan → late plan ≡ 0 → times n w.table.committed + weigh may_write plan ≤ 1 →
+        OnStep eq (Balances w n plan) w n c plan
     on_plan [] e t sp = stays_put w n [] c e t sp mode.Parked turn.Wait
     on_plan (item ∷ rest) e t sp = outcomes eq (Balances w n (item ∷ rest)) w n c item rest (on_item item rest e t sp)
 
   -- ---- of a state
 
   -- a step that balances keeps what is counted
-  balanced : (s : State K V) (n : ℕ) (c : Call K V) → s.calls n ≡ Some c → IsBalanced s → (w : World K V) (next : Next K V) → Balances s.world n c.plan w next → IsBalanced (state_after s n w next)
+  balanced : (s : State K V) (n : ℕ) (c : Call K V) → s.calls n ≡ Some c → IsBalanced s → (w : World K V) (next : Next K V) →
+      Balances s.world n c.plan w next → IsBalanced (state_after s n w next)
   balanced s n c live i w next b = record {
-    numbered = λ m d lives. put_cases s.calls n next.left m (Some d) (m ≤ w.desk.last) lives (λ here is. omega (arith, i.numbered n c live, b.last)) (λ there is. omega (arith, i.numbered m d is, b.last));
-    tidy = λ m d lives. put_cases s.calls n next.left m (Some d) (late d.plan ≡ 0) lives (λ here is. sym (ap late_call is) ∙ b.tidy) (λ there is. i.tidy m d is);
+    numbered = λ m d lives. put_cases s.calls n next.left m (Some d) (m ≤ w.desk.last) lives
+        (λ here is. omega (arith, i.numbered n c live, b.last)) (λ there is. omega (arith, i.numbered m d is, b.last));
+    tidy = λ m d lives. put_cases s.calls n next.left m (Some d) (late d.plan ≡ 0) lives (λ here is. sym (ap late_call is) ∙ b.tidy)
+        (λ there is. i.tidy m d is);
     unspent = λ m d lives.
         put_cases s.calls n next.left m (Some d) (times m w.table.committed + weigh may_write d.plan ≤ 1) lives
         (λ here is. subst (λ v. times v w.table.committed + weigh may_write d.plan ≤ 1) here (omega (arith, ap (weigh_call may_write) is, b.spent)))
@@ -224,7 +250,9 @@ module _ {K V : Type 0} where
     unborn = λ m beyond. omega (arith, i.unborn m (omega (arith, b.last)), b.others m (differ n m (apart m beyond)));
     once = λ x. by_number x (n == x) refl;
     balance = λ x.
-        let change = sum_change s.world.desk.last (λ m. weigh_call (post_of x) (s.calls m)) (λ m. weigh_call (post_of x) (put_at s.calls n next.left m)) n (i.numbered n c live) (λ m h. ap (weigh_call (post_of x)) (put_there s.calls n next.left m h)) in
+        let change = sum_change s.world.desk.last (λ m. weigh_call (post_of x) (s.calls m))
+        (λ m. weigh_call (post_of x) (put_at s.calls n next.left m)) n (i.numbered n c live)
+        (λ m h. ap (weigh_call (post_of x)) (put_there s.calls n next.left m h)) in
         let before = ap (weigh_call (post_of x)) live in
         let after = ap (weigh_call (post_of x)) (put_here s.calls n next.left) in
         let sums = ap (λ v. sum_to v (λ m. weigh_call (post_of x) (put_at s.calls n next.left m))) b.last in
@@ -242,7 +270,9 @@ module _ {K V : Type 0} (eq : K → K → Bool) where
   balanced_step : (s t : State K V) (n : ℕ) (turn : Turn V) → IsBalanced s → Step eq s n turn t → IsBalanced t
   balanced_step s t n turn i step =
       let c : Call K V = step.call in
-      step_cases eq (Balances s.world n c.plan) (λ v _. IsBalanced v) s t n turn step (on_plan eq s.world n c c.plan refl (i.tidy n c step.live) (i.unspent n c step.live)) (λ w next. balanced s n c step.live i w next)
+      step_cases eq (Balances s.world n c.plan) (λ v _. IsBalanced v) s t n turn step
+      (on_plan eq s.world n c c.plan refl (i.tidy n c step.live) (i.unspent n c step.live))
+      (λ w next. balanced s n c step.live i w next)
 
   -- a new call has nothing to post, and the next number
   balanced_start : (s : State K V) (start : Start K V) → IsBalanced s → IsBalanced (started s start)
@@ -250,8 +280,10 @@ module _ {K V : Type 0} (eq : K → K → Bool) where
       let new : ℕ = s.world.desk.last + 1 in
       let clear = fresh_clear start in
       record {
-        numbered = λ m d lives. put_cases s.calls new (Some (fresh_call start)) m (Some d) (m ≤ new) lives (λ here is. omega arith) (λ there is. omega (arith, i.numbered m d is));
-        tidy = λ m d lives. put_cases s.calls new (Some (fresh_call start)) m (Some d) (late d.plan ≡ 0) lives (λ here is. sym (ap late_call is) ∙ clear.late) (λ there is. i.tidy m d is);
+        numbered = λ m d lives. put_cases s.calls new (Some (fresh_call start)) m (Some d) (m ≤ new) lives (λ here is. omega arith)
+            (λ there is. omega (arith, i.numbered m d is));
+        tidy = λ m d lives. put_cases s.calls new (Some (fresh_call start)) m (Some d) (late d.plan ≡ 0) lives
+            (λ here is. sym (ap late_call is) ∙ clear.late) (λ there is. i.tidy m d is);
         unspent = λ m d lives.
             put_cases s.calls new (Some (fresh_call start)) m (Some d) (times m s.world.table.committed + weigh may_write d.plan ≤ 1) lives
             (λ here is. omega (arith, i.unborn m (omega arith), ap (weigh_call may_write) is, clear.may))
@@ -261,7 +293,9 @@ module _ {K V : Type 0} (eq : K → K → Bool) where
         balance = λ x.
             let f : ℕ → ℕ = λ m. weigh_call (post_of x) (s.calls m) in
             let g : ℕ → ℕ = λ m. weigh_call (post_of x) (put_at s.calls new (Some (fresh_call start)) m) in
-            let old = sum_same s.world.desk.last f g (λ m small. ap (weigh_call (post_of x)) (put_there s.calls new (Some (fresh_call start)) m (differ new m (λ e. omega arith)))) in
+            let old = sum_same s.world.desk.last f g
+            (λ m small. ap (weigh_call (post_of x))
+            (put_there s.calls new (Some (fresh_call start)) m (differ new m (λ e. omega arith)))) in
             let last = sum_next s.world.desk.last g in
             let here = ap (weigh_call (post_of x)) (put_here s.calls new (Some (fresh_call start))) in
             omega (arith, i.balance x, clear.posts x);
@@ -270,9 +304,11 @@ module _ {K V : Type 0} (eq : K → K → Bool) where
   -- a dropped call leaves the write that it holds
   balanced_drop : (s : State K V) (n : ℕ) (c : Call K V) → s.calls n ≡ Some c → IsBalanced s → IsBalanced (dropped s n c)
   balanced_drop s n c live i = record {
-    numbered = λ m d lives. put_cases s.calls n None m (Some d) (m ≤ s.world.desk.last) lives (λ here is. absurd (none_some is)) (λ there is. i.numbered m d is);
+    numbered = λ m d lives. put_cases s.calls n None m (Some d) (m ≤ s.world.desk.last) lives (λ here is. absurd (none_some is))
+        (λ there is. i.numbered m d is);
     tidy = λ m d lives. put_cases s.calls n None m (Some d) (late d.plan ≡ 0) lives (λ here is. absurd (none_some is)) (λ there is. i.tidy m d is);
-    unspent = λ m d lives. put_cases s.calls n None m (Some d) (times m s.world.table.committed + weigh may_write d.plan ≤ 1) lives (λ here is. absurd (none_some is)) (λ there is. i.unspent m d is);
+    unspent = λ m d lives. put_cases s.calls n None m (Some d) (times m s.world.table.committed + weigh may_write d.plan ≤ 1) lives
+        (λ here is. absurd (none_some is)) (λ there is. i.unspent m d is);
     unborn = i.unborn;
     once = i.once;
     balance = λ x.
@@ -297,7 +333,14 @@ module _ {K V : Type 0} (eq : K → K → Bool) where
     at = λ s moment i. record { numbered = i.numbered; tidy = i.tidy; unspent = i.unspent; unborn = i.unborn; once = i.once; balance = i.balance };
     start = balanced_start;
     step = balanced_step;
-    tell = λ s n given asked i. record { numbered = i.numbered; tidy = i.tidy; unspent = i.unspent; unborn = i.unborn; once = i.once; balance = i.balance };
+    tell = λ s n given asked i. record {
+      numbered = i.numbered;
+      tidy = i.tidy;
+      unspent = i.unspent;
+      unborn = i.unborn;
+      once = i.once;
+      balance = i.balance;
+    };
     drop = λ s n c live between i. balanced_drop s n c live i;
   }
 

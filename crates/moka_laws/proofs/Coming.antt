@@ -21,7 +21,8 @@ module _ {K V : Type 0} (eq : K → K → Bool) where
       by None e m = absurd (false≢true (sym m))
       by (Some holder) e m = (holder, e, (turn_held eq s holder h).0 e)
 
-  owner_comes : (s : State K V) (n : ℕ) (load : Load K) → is_some (settlement_for s.world.desk n) ≡ false → HasOwner eq s n load → CanCome eq s n (plan.Read load)
+  owner_comes : (s : State K V) (n : ℕ) (load : Load K) → is_some (settlement_for s.world.desk n) ≡ false → HasOwner eq s n load →
+      CanCome eq s n (plan.Read load)
   owner_comes s n load missing own = by own.served
     where
       by : OwnsAlike eq s own.owner load ⊎ IsSome (s.world.desk.settled own.owner) → CanCome eq s n (plan.Read load)

@@ -30,7 +30,8 @@ pub differ_not : (n m : ℕ) → (n == m) ≡ false → n ≢ m
 differ_not n m h e = false≢true (sym h ∙ eq-eqb n m e)
 
 -- what a map has once something was put at a number: that there, and elsewhere what it had
-pub put_cases : {A : Type 0} (f : ℕ → A) (n : ℕ) (v : A) (m : ℕ) (a : A) (P : Type 0) → put_at f n v m ≡ a → (n ≡ m → v ≡ a → P) → ((n == m) ≡ false → f m ≡ a → P) → P
+pub put_cases : {A : Type 0} (f : ℕ → A) (n : ℕ) (v : A) (m : ℕ) (a : A) (P : Type 0) → put_at f n v m ≡ a → (n ≡ m → v ≡ a → P) →
+    ((n == m) ≡ false → f m ≡ a → P) → P
 put_cases f n v m a P e here there = by (n == m) refl e
   where
     by : (b : Bool) → (n == m) ≡ b → cond b v (f m) ≡ a → P
@@ -55,7 +56,8 @@ pub times_without : (n m : ℕ) (xs : List ℕ) → (n == m) ≡ false → times
 times_without n m [] h = refl
 times_without n m (x ∷ xs) h = by (n == x) refl (times_without n m xs h)
   where
-    by : (b : Bool) → (n == x) ≡ b → times m (without n xs) ≡ times m xs → times m (cond b (without n xs) (x ∷ without n xs)) ≡ times m (x ∷ xs)
+    by : (b : Bool) → (n == x) ≡ b → times m (without n xs) ≡ times m xs →
+        times m (cond b (without n xs) (x ∷ without n xs)) ≡ times m (x ∷ xs)
     by true e less = less ∙ sym (ap (λ v. times m (v ∷ xs)) (sym (eqb-true n x e)) ∙ times_other n m xs h)
     by false e less = ap (λ v. cond (m == x) (v + 1) v) less
 
@@ -72,10 +74,12 @@ pub times_one_less : (n : ℕ) (xs : List ℕ) → times n xs ≤ times n (witho
 times_one_less n [] = omega arith
 times_one_less n (x ∷ xs) = by (n == x) refl (times_one_less n xs)
   where
-    by : (b : Bool) → (n == x) ≡ b → times n xs ≤ times n (without_one n xs) + 1 → cond b (times n xs + 1) (times n xs) ≤ times n (cond b xs (x ∷ without_one n xs)) + 1
+    by : (b : Bool) → (n == x) ≡ b → times n xs ≤ times n (without_one n xs) + 1 →
+        cond b (times n xs + 1) (times n xs) ≤ times n (cond b xs (x ∷ without_one n xs)) + 1
     by true e less = omega arith
     by false e less =
-        let same : times n (x ∷ without_one n xs) ≡ times n (without_one n xs) = ap (λ b. cond b (times n (without_one n xs) + 1) (times n (without_one n xs))) e in
+        let same : times n (x ∷ without_one n xs) ≡ times n (without_one n xs) = ap
+        (λ b. cond b (times n (without_one n xs) + 1) (times n (without_one n xs))) e in
         omega arith
 
 -- two lists one after the other
@@ -83,6 +87,7 @@ pub times_append : (n : ℕ) (xs ys : List ℕ) → times n (xs ++ ys) ≡ times
 times_append n [] ys = omega arith
 times_append n (x ∷ xs) ys = by (n == x) (times_append n xs ys)
   where
-    by : (b : Bool) → times n (xs ++ ys) ≡ times n xs + times n ys → cond b (times n (xs ++ ys) + 1) (times n (xs ++ ys)) ≡ cond b (times n xs + 1) (times n xs) + times n ys
+    by : (b : Bool) → times n (xs ++ ys) ≡ times n xs + times n ys →
+        cond b (times n (xs ++ ys) + 1) (times n (xs ++ ys)) ≡ cond b (times n xs + 1) (times n xs) + times n ys
     by true e = omega arith
     by false e = e

@@ -22,7 +22,8 @@ module _ {K V : Type 0} (eq : K → K → Bool) where
     pub at : (s : State K V) (moment : ℕ) → I s → I (at_moment s moment)
     pub start : (s : State K V) (start : Start K V) → I s → I (started s start)
     pub step : (s t : State K V) (n : ℕ) (turn : Turn V) → I s → Step eq s n turn t → I t
-    pub tell : (s : State K V) (n : ℕ) (answer : Told V) → is_asked s.world.desk n answer ≡ true → I s → I (with_desk s (told s.world.desk n answer))
+    pub tell : (s : State K V) (n : ℕ) (answer : Told V) → is_asked s.world.desk n answer ≡ true → I s →
+        I (with_desk s (told s.world.desk n answer))
     pub drop : (s : State K V) (n : ℕ) (c : Call K V) → s.calls n ≡ Some c → c.mode ≢ mode.Mid → I s → I (dropped s n c)
 
   module _ (I : State K V → Type 0) (kept : IsKept I) where
@@ -37,7 +38,8 @@ module _ {K V : Type 0} (eq : K → K → Bool) where
     goings P zero s t n i going = subst (λ v. I v) (sym going) i
     goings P (suc k) s t n i going = kept.step going.0 t n _ (goings P k s going.0 n i going.1) going.2
 
-    drops : (s t : State K V) (n : ℕ) (c : Call K V) (m : Mode) (r : Reply V) → s.calls n ≡ Some c → c.mode ≡ m → I s → Drops s n c m r t → I t
+    drops : (s t : State K V) (n : ℕ) (c : Call K V) (m : Mode) (r : Reply V) → s.calls n ≡ Some c → c.mode ≡ m → I s →
+        Drops s n c m r t → I t
     drops s t n c mode.Mid r live e i h = refused s t _ r i h
     drops s t n c mode.Fresh r live e i h = becomes (dropped s n c) t _ r (kept.drop s n c live (λ f. cc) i) h
     drops s t n c mode.Parked r live e i h = becomes (dropped s n c) t _ r (kept.drop s n c live (λ f. cc) i) h
@@ -47,21 +49,25 @@ module _ {K V : Type 0} (eq : K → K → Bool) where
     either t true P Q on_true on_false h = on_true refl h
     either t false P Q on_true on_false h = on_false refl h
 
-    looked : (t : State K V) (o : Option (Call K V)) (P : Type 0) (Q : Call K V → Type 0) → (P → I t) → ((c : Call K V) → o ≡ Some c → Q c → I t) → MatchOption o P Q → I t
+    looked : (t : State K V) (o : Option (Call K V)) (P : Type 0) (Q : Call K V → Type 0) → (P → I t) →
+        ((c : Call K V) → o ≡ Some c → Q c → I t) → MatchOption o P Q → I t
     looked t None P Q none some h = none h
     looked t (Some c) P Q none some h = some c refl h
 
     happens : (P : State K V → Type 0) (s t : State K V) (e : Event K V) (r : Reply V) → I s → Happens eq P s e r t → I t
     happens P s t (event.At moment) r i h =
-        either t (nat_lt moment s.world.desk.clock) _ _ (λ _ b. refused s t _ r i b) (λ _ b. becomes (at_moment s moment) t _ r (kept.at s moment i) b) h
+        either t (nat_lt moment s.world.desk.clock) _ _ (λ _ b. refused s t _ r i b)
+        (λ _ b. becomes (at_moment s moment) t _ r (kept.at s moment i) b) h
     happens P s t (event.Start start) r i h =
         either t (s.world.desk.last == last_call) _ _ (λ _ b. refused s t _ r i b) (λ _ b. becomes (started s start) t _ r (kept.start s start i) b) h
     happens P s t (event.Step n) r i h =
         looked t (s.calls n) _ (λ _. Steps eq s n r t) (refused s t _ r i) (λ c e steps. kept.step s t n steps.turn i steps.step) h
     happens P s t (event.Poll n) r i h =
-        looked t (s.calls n) _ (λ _. Polls eq P s n r t) (refused s t _ r i) (λ c e polls. kept.step polls.mid t n polls.last.turn (goings P polls.going s polls.mid n i polls.goes) polls.last.step) h
+        looked t (s.calls n) _ (λ _. Polls eq P s n r t) (refused s t _ r i)
+        (λ c e polls. kept.step polls.mid t n polls.last.turn (goings P polls.going s polls.mid n i polls.goes) polls.last.step) h
     happens P s t (event.Tell n answer) r i h =
-        either t (is_asked s.world.desk n answer) _ _ (λ e b. becomes (with_desk s (told s.world.desk n answer)) t _ r (kept.tell s n answer e i) b) (λ _ b. refused s t _ r i b) h
+        either t (is_asked s.world.desk n answer) _ _ (λ e b. becomes (with_desk s (told s.world.desk n answer)) t _ r
+        (kept.tell s n answer e i) b) (λ _ b. refused s t _ r i b) h
     happens P s t (event.Drop n) r i h =
         looked t (s.calls n) _ (λ c. Drops s n c c.mode r t) (refused s t _ r i) (λ c e d. drops s t n c c.mode r e refl i d) h
 

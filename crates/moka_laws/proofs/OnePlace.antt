@@ -48,7 +48,8 @@ module _ {K V : Type 0} (s : State K V) (i : IsBalanced s) where
   holder_counts : (n : ℕ) (x : ℕ) → Holds s n x → (n ≤ s.world.desk.last) × (0 < weigh_call (post_of x) (s.calls n))
   holder_counts n x h =
       let posts = posts_held x h.call.plan (i.tidy n h.call h.live) in
-      let held : among x (option_to_list (held_by h.call.plan)) ≡ times x (x ∷ []) = ap (λ w. among x (option_to_list w)) h.held ∙ ap (λ v. times x (v ∷ [])) h.named in
+      let held : among x (option_to_list (held_by h.call.plan)) ≡ times x (x ∷ []) = ap (λ w. among x (option_to_list w)) h.held ∙ ap
+      (λ v. times x (v ∷ [])) h.named in
       (i.numbered n h.call h.live, omega (arith, ap (weigh_call (post_of x)) h.live, times_same x []))
 
   stands_counts : (p : Place) (x : ℕ) → StandsAt s p x → 0 < count p x
@@ -81,17 +82,20 @@ module _ {K V : Type 0} (s : State K V) (i : IsBalanced s) where
   counts_stands place.Applied x h = h
 
   -- where the counts of the places make 1 there is one place
-  one_of : (x : ℕ) → (p q : Place) → count place.Held x + (count place.Owed x + count place.Logged x + count place.Applied x) ≡ 1 → 0 < count p x → 0 < count q x → q ≡ p
+  one_of : (x : ℕ) → (p q : Place) → count place.Held x + (count place.Owed x + count place.Logged x + count place.Applied x) ≡ 1 →
+      0 < count p x → 0 < count q x → q ≡ p
   one_of x place.Held place.Held e h k = refl
   one_of x place.Owed place.Owed e h k = refl
   one_of x place.Logged place.Logged e h k = refl
   one_of x place.Applied place.Applied e h k = refl
   one_of x p q e h k = absurd (omega arith)
 
-  some_place : (x : ℕ) → count place.Held x + (count place.Owed x + count place.Logged x + count place.Applied x) ≡ 1 → (p : Place) × (0 < count p x)
+  some_place : (x : ℕ) → count place.Held x + (count place.Owed x + count place.Logged x + count place.Applied x) ≡ 1 →
+      (p : Place) × (0 < count p x)
   some_place x e = by (count place.Held x) (count place.Owed x) (count place.Logged x) (count place.Applied x) refl refl refl refl e
     where
-      by : (a b c d : ℕ) → count place.Held x ≡ a → count place.Owed x ≡ b → count place.Logged x ≡ c → count place.Applied x ≡ d → a + (b + c + d) ≡ 1 → (p : Place) × (0 < count p x)
+      by : (a b c d : ℕ) → count place.Held x ≡ a → count place.Owed x ≡ b → count place.Logged x ≡ c → count place.Applied x ≡ d →
+          a + (b + c + d) ≡ 1 → (p : Place) × (0 < count p x)
       by (suc a) b c d f g h k e = (place.Held, omega arith)
       by zero (suc b) c d f g h k e = (place.Owed, omega arith)
       by zero zero (suc c) d f g h k e = (place.Logged, omega arith)
@@ -108,7 +112,8 @@ module _ {K V : Type 0} (s : State K V) (i : IsBalanced s) where
   pub stands_once : (x : ℕ) → Contains s.world.table.committed x → StandsOnce s x
   stands_once x h =
       let was = contains_times x s.world.table.committed h in
-      let whole : count place.Held x + (count place.Owed x + count place.Logged x + count place.Applied x) ≡ 1 = omega (arith, i.balance x, i.once x) in
+      let whole : count place.Held x + (count place.Owed x + count place.Logged x + count place.Applied x) ≡ 1 = omega
+      (arith, i.balance x, i.once x) in
       let at = some_place x whole in
       record {
         place = at.0;

@@ -105,12 +105,14 @@ module _ {K V : Type 0} where
     goes_owns c [] h = owns_none [] h
     goes_owns c (item ∷ rest) h = owns_none (item ∷ rest) h
 
-    misses_owns : (c : Call K V) (aim : Aim K) (key : K) (rest : List (Item K V)) → Owns owners n (plan.Get aim key ∷ rest) → Owns owners n (plan_left (misses c aim).left)
+    misses_owns : (c : Call K V) (aim : Aim K) (key : K) (rest : List (Item K V)) → Owns owners n (plan.Get aim key ∷ rest) →
+        Owns owners n (plan_left (misses c aim).left)
     misses_owns c plan.To_answer key rest o = owns_none [] refl
     misses_owns c (plan.To_load load) key rest o = owns_none (plan.Own load ∷ []) refl
     misses_owns c (plan.To_own load) key rest o = record { first = o.first; later = refl }
 
-    judge_owns : (aim : Aim K) (key k : K) (stored : Stored V) (rest : List (Item K V)) → Owns owners n (plan.Get aim key ∷ rest) → Owns owners n (plan.Judge aim k stored ∷ [])
+    judge_owns : (aim : Aim K) (key k : K) (stored : Stored V) (rest : List (Item K V)) → Owns owners n (plan.Get aim key ∷ rest) →
+        Owns owners n (plan.Judge aim k stored ∷ [])
     judge_owns plan.To_answer key k stored rest o = owns_none (plan.Judge plan.To_answer k stored ∷ []) refl
     judge_owns (plan.To_load load) key k stored rest o = owns_none (plan.Judge (plan.To_load load) k stored ∷ []) refl
     judge_owns (plan.To_own load) key k stored rest o = record { first = o.first; later = refl }
@@ -120,16 +122,19 @@ module _ {K V : Type 0} where
     hits_owns c (plan.To_load load) value = owns_none [] refl
     hits_owns c (plan.To_own load) value = owns_none (plan.Settle (settled.Ready value) ∷ plan.Reply _ ∷ []) refl
 
-    either_owns : (b : Bool) (x y : Next K V) → Owns owners n (plan_left x.left) → Owns owners n (plan_left y.left) → Owns owners n (plan_left (cond b x y).left)
+    either_owns : (b : Bool) (x y : Next K V) → Owns owners n (plan_left x.left) → Owns owners n (plan_left y.left) →
+        Owns owners n (plan_left (cond b x y).left)
     either_owns true x y h k = h
     either_owns false x y h k = k
 
-    read_owns : (c : Call K V) (load : Load K) (with : Settled V) → Owns owners n c.plan → Owns owners n (plan_left (after_read c load (found.ReadSettled with)).left)
+    read_owns : (c : Call K V) (load : Load K) (with : Settled V) → Owns owners n c.plan →
+        Owns owners n (plan_left (after_read c load (found.ReadSettled with)).left)
     read_owns c load (settled.Ready value) h = owns_none [] refl
     read_owns c load settled.NotYet h = h
     read_owns c load settled.Aborted h = either_owns (c.aborts + 1 == retries) _ _ (owns_none [] refl) (owns_none (plan.Own load ∷ []) refl)
 
-    told_owns : (c : Call K V) (load : Load K) (given : Told V) → Owns owners n c.plan → Owns owners n (plan_left (after_told c load (found.TakeTold (Some given))).left)
+    told_owns : (c : Call K V) (load : Load K) (given : Told V) → Owns owners n c.plan →
+        Owns owners n (plan_left (after_told c load (found.TakeTold (Some given))).left)
     told_owns c load (answer.Value value) h = owns_none _ refl
     told_owns c load answer.Done h = h
 
@@ -156,7 +161,8 @@ module _ {K V : Type 0} (eq : K → K → Bool) where
   without_one_owner d n one a b e = ap (λ o. cond (option_map_or (λ v. v == n) o false) None o) (one a b e)
 
   without_others : (d : DeskPart K V) (n : ℕ) → OthersOwn n d.owners (owners_without d n)
-  without_others d n m h load e = ap (λ o. cond (option_map_or (λ v. v == n) o false) None o) e ∙ ap (λ b. cond {A = Option ℕ} b None (Some m)) (other_number n m h)
+  without_others d n m h load e = ap (λ o. cond (option_map_or (λ v. v == n) o false) None o) e ∙ ap
+      (λ b. cond {A = Option ℕ} b None (Some m)) (other_number n m h)
 
   module _ (laws : IsEquivalence eq) (w : World K V) (n : ℕ) (c : Call K V) (one : OneOwner eq w.desk.owners) where
     -- ---- the owners with a call that owns a load which nobody owned
@@ -170,7 +176,8 @@ module _ {K V : Type 0} (eq : K → K → Bool) where
         by true false h = absurd (false≢true (sym h))
         by false true h = absurd (false≢true h)
 
-    claimed_others : (load : Load K) → w.desk.owners load ≡ None → OthersOwn n w.desk.owners (put_key (load_eq eq) w.desk.owners load (Some n))
+    claimed_others : (load : Load K) → w.desk.owners load ≡ None →
+        OthersOwn n w.desk.owners (put_key (load_eq eq) w.desk.owners load (Some n))
     claimed_others load none m h other e = by (load_eq eq load other) refl
       where
         by : (x : Bool) → load_eq eq load other ≡ x → cond x (Some n) (w.desk.owners other) ≡ Some m
@@ -181,27 +188,47 @@ module _ {K V : Type 0} (eq : K → K → Bool) where
     claimed_owns load = ap (λ b. cond b (Some n) (w.desk.owners load)) (loads_self eq laws load)
 
     -- the owners are as they were
-    keeps : {new : World K V} {next : Next K V} → new.desk.owners ≡ w.desk.owners → Owns new.desk.owners n (plan_left next.left) → Leaves w n new next
+    keeps : {new : World K V} {next : Next K V} → new.desk.owners ≡ w.desk.owners → Owns new.desk.owners n (plan_left next.left) →
+        Leaves w n new next
     keeps e o = record { one_owner = subst (OneOwner eq) (sym e) one; owns = o; others = λ m h load f. subst (λ v. v load ≡ Some m) (sym e) f }
 
-    on_item : (item : Item K V) (rest : List (Item K V)) → Owns w.desk.owners n c.plan → Owns w.desk.owners n (item ∷ rest) → Outcomes eq (Leaves w n) w n c item rest
-    on_item plan.Drain rest p o = (λ e. keeps refl (goes_owns _ n c rest o.later), λ x xs e. keeps refl (owns_none _ n (plan.Post x ∷ plan.Drain ∷ rest) (omega (arith, o.later))))
-    on_item (plan.Post write) rest p o = (λ e. keeps refl (goes_owns _ n c rest o.later), λ e. keeps refl (owns_none _ n (plan.Turn ∷ plan.Apply ∷ plan.End ∷ plan.Post write ∷ rest) (omega (arith, o.later))))
+    on_item : (item : Item K V) (rest : List (Item K V)) → Owns w.desk.owners n c.plan → Owns w.desk.owners n (item ∷ rest) →
+        Outcomes eq (Leaves w n) w n c item rest
+    on_item plan.Drain rest p o = (
+      λ e. keeps refl (goes_owns _ n c rest o.later),
+      λ x xs e. keeps refl
+          (owns_none _ n (plan.Post x ∷ plan.Drain ∷ rest) (omega (arith, o.later))),
+    )
+    on_item (plan.Post write) rest p o = (
+      λ e. keeps refl (goes_owns _ n c rest o.later),
+      λ e. keeps refl
+          (owns_none _ n (plan.Turn ∷ plan.Apply ∷ plan.End ∷ plan.Post write ∷ rest) (omega (arith, o.later))),
+    )
     on_item plan.Turn rest p o = (λ e. keeps refl (goes_owns _ n c rest o.later), λ e. keeps refl p)
-    on_item plan.Apply rest p o = (λ e. keeps refl (goes_owns _ n c rest o.later), λ x xs e. keeps refl (owns_none _ n (plan.Apply ∷ rest) (omega (arith, o.later))))
+    on_item plan.Apply rest p o = (
+      λ e. keeps refl (goes_owns _ n c rest o.later),
+      λ x xs e. keeps refl
+          (owns_none _ n (plan.Apply ∷ rest) (omega (arith, o.later))),
+    )
     on_item plan.End rest p o = keeps refl (goes_owns _ n c rest o.later)
-    on_item (plan.Get aim key) rest p o = (keeps refl p, keeps refl (misses_owns _ n c aim key rest o), λ k stored. keeps refl (judge_owns _ n aim key k stored rest o))
+    on_item (plan.Get aim key) rest p o =
+        (keeps refl p, keeps refl (misses_owns _ n c aim key rest o), λ k stored. keeps refl (judge_owns _ n aim key k stored rest o))
     on_item (plan.Judge aim key stored) rest p o = keeps refl (hits_owns _ n c aim stored.value)
     on_item (plan.Own load) rest p o = (
       λ none. record {
         one_owner = claimed_one_owner load;
-        owns = record { first = λ l e. subst (λ v. put_key (load_eq eq) w.desk.owners load (Some n) v ≡ Some n) (some_same e) (claimed_owns load); later = refl };
+        owns = record {
+          first = λ l e. subst (λ v. put_key (load_eq eq) w.desk.owners load (Some n) v ≡ Some n) (some_same e)
+              (claimed_owns load);
+          later = refl;
+        };
         others = claimed_others load none;
       },
       λ owner some. keeps refl (owns_none _ n (plan.Read load ∷ []) refl),
     )
     on_item (plan.Read load) rest p o = (λ none. keeps refl p, λ with some. keeps refl (read_owns _ n c load with p))
-    on_item (plan.Settle with) rest p o = record { one_owner = without_one_owner w.desk n one; owns = goes_owns _ n c rest o.later; others = without_others w.desk n }
+    on_item (plan.Settle with) rest p o =
+        record { one_owner = without_one_owner w.desk n one; owns = goes_owns _ n c rest o.later; others = without_others w.desk n }
     on_item (plan.Ask load) rest p o = keeps refl (record { first = o.first; later = refl })
     on_item (plan.Told load) rest p o = (λ none. keeps refl p, λ given some. keeps refl (told_owns _ n c load given p))
     on_item (plan.Moment key value) rest p o = keeps refl (owns_none _ n (plan.Write key value w.desk.clock ∷ rest) (omega (arith, o.later)))
@@ -214,10 +241,12 @@ module _ {K V : Type 0} (eq : K → K → Bool) where
 
 module _ {K V : Type 0} (eq : K → K → Bool) (laws : IsEquivalence eq) where
   -- what another call owns it owns still
-  owns_still : (n m : ℕ) (f g : Load K → Option ℕ) (plan : List (Item K V)) → (n == m) ≡ false → OthersOwn n f g → Owns f m plan → Owns g m plan
+  owns_still : (n m : ℕ) (f g : Load K → Option ℕ) (plan : List (Item K V)) → (n == m) ≡ false → OthersOwn n f g → Owns f m plan →
+      Owns g m plan
   owns_still n m f g plan h others o = record { first = λ load e. others m h load (o.first load e); later = o.later }
 
-  owned : (s : State K V) (n : ℕ) (w : World K V) (next : Next K V) → IsOwned eq s → Leaves eq s.world n w next → IsOwned eq (state_after s n w next)
+  owned : (s : State K V) (n : ℕ) (w : World K V) (next : Next K V) → IsOwned eq s → Leaves eq s.world n w next →
+      IsOwned eq (state_after s n w next)
   owned s n w next i l = record {
     one_owner = l.one_owner;
     calls = λ m c live.
@@ -229,7 +258,8 @@ module _ {K V : Type 0} (eq : K → K → Bool) (laws : IsEquivalence eq) where
   owned_step : (s t : State K V) (n : ℕ) (turn : Turn V) → IsOwned eq s → Step eq s n turn t → IsOwned eq t
   owned_step s t n turn i step =
       let c : Call K V = step.call in
-      step_cases eq (Leaves eq s.world n) (λ v _. IsOwned eq v) s t n turn step (on_plan eq laws s.world n c i.one_owner c.plan refl (i.calls n c step.live)) (λ w next. owned s n w next i)
+      step_cases eq (Leaves eq s.world n) (λ v _. IsOwned eq v) s t n turn step
+      (on_plan eq laws s.world n c i.one_owner c.plan refl (i.calls n c step.live)) (λ w next. owned s n w next i)
 
   owned_kept : IsKept eq (IsOwned {K = K} {V = V} eq)
   owned_kept = record {
@@ -249,7 +279,8 @@ module _ {K V : Type 0} (eq : K → K → Bool) (laws : IsEquivalence eq) where
       calls = λ m b lives.
           put_cases s.calls n None m (Some b) (Owns (owners_without s.world.desk n) m b.plan) lives
           (λ here is. absurd (none_some is))
-          (λ there is. owns_still n m s.world.desk.owners (owners_without s.world.desk n) b.plan there (without_others eq s.world.desk n) (i.calls m b is));
+          (λ there is. owns_still n m s.world.desk.owners (owners_without s.world.desk n) b.plan there (without_others eq s.world.desk n)
+          (i.calls m b is));
     };
   }
 
@@ -260,7 +291,8 @@ module _ {K V : Type 0} (eq : K → K → Bool) (laws : IsEquivalence eq) where
   initializer_owns : (s : State K V) → IsOwned eq s → (n : ℕ) (load : Load K) → Initializes s n load → s.world.desk.owners load ≡ Some n
   initializer_owns s i n load h = (i.calls n h.call h.live).first load (ap wanted h.asked)
 
-  pub one_initializes : (s : State K V) → IsReached eq s → (n m : ℕ) (a b : Load K) → Initializes s n a → Initializes s m b → load_eq eq a b ≡ true → n ≡ m
+  pub one_initializes : (s : State K V) → IsReached eq s → (n m : ℕ) (a b : Load K) → Initializes s n a → Initializes s m b →
+      load_eq eq a b ≡ true → n ≡ m
   one_initializes s h n m a b x y e =
       let i = in_owned s h in
       some_same (sym (initializer_owns s i n a x) ∙ i.one_owner a b e ∙ initializer_owns s i m b y)

@@ -118,12 +118,15 @@ module _ {K V : Type 0} where
   either_clear true x y h k = h
   either_clear false x y h k = k
 
-  pub read_clear : (c : Call K V) (load : Load K) (with : Settled V) → IsClear (Some c) → IsClear (after_read c load (found.ReadSettled with)).left
+  pub read_clear : (c : Call K V) (load : Load K) (with : Settled V) → IsClear (Some c) →
+      IsClear (after_read c load (found.ReadSettled with)).left
   read_clear c load (settled.Ready value) h = record { late = refl; posts = λ x. refl; may = omega arith }
   read_clear c load settled.NotYet h = record { late = h.late; posts = h.posts; may = h.may }
   read_clear c load settled.Aborted h =
-      either_clear (c.aborts + 1 == retries) _ _ (record { late = refl; posts = λ x. refl; may = omega arith }) (record { late = refl; posts = λ x. refl; may = omega arith })
+      either_clear (c.aborts + 1 == retries) _ _ (record { late = refl; posts = λ x. refl; may = omega arith })
+      (record { late = refl; posts = λ x. refl; may = omega arith })
 
-  pub told_clear : (c : Call K V) (load : Load K) (given : Told V) → IsClear (Some c) → IsClear (after_told c load (found.TakeTold (Some given))).left
+  pub told_clear : (c : Call K V) (load : Load K) (given : Told V) → IsClear (Some c) →
+      IsClear (after_told c load (found.TakeTold (Some given))).left
   told_clear c load (answer.Value value) h = record { late = refl; posts = λ x. refl; may = omega arith }
   told_clear c load answer.Done h = record { late = h.late; posts = h.posts; may = h.may }

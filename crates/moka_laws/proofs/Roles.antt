@@ -64,17 +64,20 @@ module _ {K V : Type 0} where
     misses_fits c (plan.To_load load) key f = record { last = refl; owning = f.owning; waiting = f.waiting }
     misses_fits c (plan.To_own load) key f = record { last = refl; owning = f.owning; waiting = f.waiting }
 
-    pub judge_fits : (aim : Aim K) (key k : K) (stored : Stored V) → Fits o j (plan.Get aim key ∷ []) → Fits o j (plan.Judge aim k stored ∷ [])
+    pub judge_fits : (aim : Aim K) (key k : K) (stored : Stored V) → Fits o j (plan.Get aim key ∷ []) →
+        Fits o j (plan.Judge aim k stored ∷ [])
     judge_fits plan.To_answer key k stored f = record { last = refl; owning = f.owning; waiting = f.waiting }
     judge_fits (plan.To_load load) key k stored f = record { last = refl; owning = f.owning; waiting = f.waiting }
     judge_fits (plan.To_own load) key k stored f = record { last = refl; owning = f.owning; waiting = f.waiting }
 
-    pub hits_fits : (c : Call K V) (aim : Aim K) (key : K) (stored : Stored V) (value : V) → Fits o j (plan.Judge aim key stored ∷ []) → Fits o j (plan_left (hits c aim value).left)
+    pub hits_fits : (c : Call K V) (aim : Aim K) (key : K) (stored : Stored V) (value : V) → Fits o j (plan.Judge aim key stored ∷ []) →
+        Fits o j (plan_left (hits c aim value).left)
     hits_fits c plan.To_answer key stored value f = record { last = tt; owning = omega (arith, f.owning); waiting = f.waiting }
     hits_fits c (plan.To_load load) key stored value f = record { last = tt; owning = omega (arith, f.owning); waiting = f.waiting }
     hits_fits c (plan.To_own load) key stored value f = record { last = refl; owning = omega (arith, f.owning); waiting = f.waiting }
 
-    pub told_fits : (c : Call K V) (load : Load K) (given : Told V) → Fits o j c.plan → Fits o j (plan.Told load ∷ []) → Fits o j (plan_left (after_told c load (found.TakeTold (Some given))).left)
+    pub told_fits : (c : Call K V) (load : Load K) (given : Told V) → Fits o j c.plan → Fits o j (plan.Told load ∷ []) →
+        Fits o j (plan_left (after_told c load (found.TakeTold (Some given))).left)
     told_fits c load (answer.Value value) p f = record { last = refl; owning = omega (arith, f.owning); waiting = f.waiting }
     told_fits c load answer.Done p f = p
 
@@ -95,16 +98,20 @@ module _ {K V : Type 0} where
   goes_awaits c [] = refl
   goes_awaits c (item ∷ rest) = refl
 
-  either_fits : (o : Option (Load K)) (b : Bool) (x y : Next K V) → Fits o None (plan_left x.left) → Fits o None (plan_left y.left) → Fits o None (plan_left (cond b x y).left)
+  either_fits : (o : Option (Load K)) (b : Bool) (x y : Next K V) → Fits o None (plan_left x.left) → Fits o None (plan_left y.left) →
+      Fits o None (plan_left (cond b x y).left)
   either_fits o true x y h k = h
   either_fits o false x y h k = k
 
   -- a call that has read how its owner ended waits for nobody
-  pub read_fits : (o : Option (Load K)) (j : Option ℕ) (c : Call K V) (load : Load K) (with : Settled V) → Some with ≢ Some settled.NotYet → Fits o j (plan.Read load ∷ []) → Fits o None (plan_left (after_read c load (found.ReadSettled with)).left)
+  pub read_fits : (o : Option (Load K)) (j : Option ℕ) (c : Call K V) (load : Load K) (with : Settled V) →
+      Some with ≢ Some settled.NotYet → Fits o j (plan.Read load ∷ []) →
+      Fits o None (plan_left (after_read c load (found.ReadSettled with)).left)
   read_fits o j c load (settled.Ready value) n f = record { last = tt; owning = omega (arith, f.owning); waiting = refl }
   read_fits o j c load settled.NotYet n f = absurd (n refl)
   read_fits o j c load settled.Aborted n f =
-      either_fits o (c.aborts + 1 == retries) _ _ (record { last = tt; owning = omega (arith, f.owning); waiting = refl }) (record { last = refl; owning = f.owning; waiting = refl })
+      either_fits o (c.aborts + 1 == retries) _ _ (record { last = tt; owning = omega (arith, f.owning); waiting = refl })
+      (record { last = refl; owning = f.owning; waiting = refl })
 
   pub fresh_fits : (start : Start K V) → Fits None None (plan_of start)
   fresh_fits (start.Get key) = record { last = refl; owning = refl; waiting = refl }

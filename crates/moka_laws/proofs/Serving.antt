@@ -58,7 +58,8 @@ module _ {K V : Type 0} (eq : K → K → Bool) where
     pub joined : (m : ℕ) → (n == m) ≡ false → q.joined m ≡ d.joined m
     pub owning : (m : ℕ) → (n == m) ≡ false → q.owning m ≡ d.owning m
     pub counted : (o : ℕ) → q.readers o + joins o (d.joined n) ≡ d.readers o + joins o (q.joined n)
-    pub others : (m o : ℕ) (load : Load K) → (n == m) ≡ false → d.joined m ≡ Some o → Answered eq d.owning d.settled o load → Answered eq q.owning q.settled o load
+    pub others : (m o : ℕ) (load : Load K) → (n == m) ≡ false → d.joined m ≡ Some o → Answered eq d.owning d.settled o load →
+        Answered eq q.owning q.settled o load
     pub own : (o : ℕ) (load : Load K) → q.joined n ≡ Some o → awaited (plan_left left) ≡ Some load → Answered eq q.owning q.settled o load
 
   module _ (d : DeskPart K V) (n : ℕ)
@@ -66,7 +67,9 @@ module _ {K V : Type 0} (eq : K → K → Bool) where
       (enough : (m o : ℕ) → (n == m) ≡ false → d.joined m ≡ Some o → joins o (d.joined n) + 1 ≤ d.readers o)
       (enough_own : (o : ℕ) → joins o (d.joined n) ≤ d.readers o) where
     -- nothing of this has changed but the call's plan
-    pub keeps : {left : Option (Call K V)} → Fits (d.owning n) (d.joined n) (plan_left left) → ((o : ℕ) (load : Load K) → d.joined n ≡ Some o → awaited (plan_left left) ≡ Some load → Answered eq d.owning d.settled o load) → Serves d n (part d) left
+    pub keeps : {left : Option (Call K V)} → Fits (d.owning n) (d.joined n) (plan_left left) →
+        ((o : ℕ) (load : Load K) → d.joined n ≡ Some o → awaited (plan_left left) ≡ Some load → Answered eq d.owning d.settled o load) →
+        Serves d n (part d) left
     keeps f own = record {
       last = refl;
       fits = f;
@@ -79,7 +82,8 @@ module _ {K V : Type 0} (eq : K → K → Bool) where
     }
 
     -- nothing of this has changed, and the call awaits no load
-    pub keeps_none : {left : Option (Call K V)} → Fits (d.owning n) (d.joined n) (plan_left left) → awaited (plan_left left) ≡ None → Serves d n (part d) left
+    pub keeps_none : {left : Option (Call K V)} → Fits (d.owning n) (d.joined n) (plan_left left) → awaited (plan_left left) ≡ None →
+        Serves d n (part d) left
     keeps_none f none = keeps f (λ o load j a. absurd (none_some (sym none ∙ a)))
 
     -- the owners that are left once the call's ownership has ended
@@ -103,7 +107,8 @@ module _ {K V : Type 0} (eq : K → K → Bool) where
       still_answered o l (inl old) = inl (still_owner o l old)
       still_answered o l (inr some) = inr some
 
-      claims_owner : (l : Load K) (o : ℕ) → put_key (load_eq eq) d.owners load (Some n) l ≡ Some o → OwnerOf eq (put_at d.owning n (Some load)) o l
+      claims_owner : (l : Load K) (o : ℕ) → put_key (load_eq eq) d.owners load (Some n) l ≡ Some o →
+          OwnerOf eq (put_at d.owning n (Some load)) o l
       claims_owner l o e = by (load_eq eq load l) refl e
         where
           by : (b : Bool) → load_eq eq load l ≡ b → cond b (Some n) (d.owners l) ≡ Some o → OwnerOf eq (put_at d.owning n (Some load)) o l
@@ -111,10 +116,13 @@ module _ {K V : Type 0} (eq : K → K → Bool) where
           by false h e = still_owner o l (owner l o e)
 
       -- the call owns the load
-      pub claims : (key : K) {left : Option (Call K V)} → plan_left left ≡ plan.Get (plan.To_own load) key ∷ [] → is_some (d.joined n) ≡ false → Serves d n (part (record d { owners = put_key (load_eq eq) d.owners load (Some n); owning = put_at d.owning n (Some load) })) left
+      pub claims : (key : K) {left : Option (Call K V)} → plan_left left ≡ plan.Get (plan.To_own load) key ∷ [] →
+          is_some (d.joined n) ≡ false →
+          Serves d n (part (record d { owners = put_key (load_eq eq) d.owners load (Some n); owning = put_at d.owning n (Some load) })) left
       claims key p free = record {
         last = refl;
-        fits = subst (Fits (put_at d.owning n (Some load) n) (d.joined n)) (sym p) (record { last = refl; owning = ap (λ v. cond (is_some v) 1 0) (sym (put_here d.owning n (Some load))); waiting = free });
+        fits = subst (Fits (put_at d.owning n (Some load) n) (d.joined n)) (sym p)
+            (record { last = refl; owning = ap (λ v. cond (is_some v) 1 0) (sym (put_here d.owning n (Some load))); waiting = free });
         owner = claims_owner;
         joined = λ m h. refl;
         owning = λ m h. put_there d.owning n (Some load) m h;
@@ -124,11 +132,18 @@ module _ {K V : Type 0} (eq : K → K → Bool) where
       }
 
     -- the call waits for the owner of the load
-    pub joins_owner : (load : Load K) (who : ℕ) {left : Option (Call K V)} → d.owners load ≡ Some who → plan_left left ≡ plan.Read load ∷ [] → d.owning n ≡ None → d.joined n ≡ None →
+    pub joins_owner : (load : Load K) (who : ℕ) {left : Option (Call K V)} → d.owners load ≡ Some who →
+        plan_left left ≡ plan.Read load ∷ [] → d.owning n ≡ None → d.joined n ≡ None →
         Serves d n (part (record d { joined = put_at d.joined n (Some who); readers = put_at d.readers who (d.readers who + 1) })) left
     joins_owner load who owns p none free = record {
       last = refl;
-      fits = subst (Fits (d.owning n) (put_at d.joined n (Some who) n)) (sym p) (record { last = refl; owning = ap (λ v. cond (is_some v) 1 0) (sym none); waiting = ap is_some (put_here d.joined n (Some who)) });
+      fits = subst (Fits (d.owning n) (put_at d.joined n (Some who) n)) (sym p)
+          (record {
+            last = refl;
+            owning = ap (λ v. cond (is_some v) 1 0) (sym none);
+            waiting = ap is_some
+                (put_here d.joined n (Some who));
+          });
       owner = owner;
       joined = λ m h. put_there d.joined n (Some who) m h;
       owning = λ m h. refl;
@@ -140,14 +155,16 @@ module _ {K V : Type 0} (eq : K → K → Bool) where
           inl (subst (λ v. OwnerOf eq d.owning v l) is (subst (λ v. OwnerOf eq d.owning who v) same (owner load who owns)));
     }
       where
-        by : (o : ℕ) (b : Bool) → (who == o) ≡ b → cond b (d.readers who + 1) (d.readers o) + joins o (d.joined n) ≡ d.readers o + joins o (put_at d.joined n (Some who) n)
+        by : (o : ℕ) (b : Bool) → (who == o) ≡ b →
+            cond b (d.readers who + 1) (d.readers o) + joins o (d.joined n) ≡ d.readers o + joins o (put_at d.joined n (Some who) n)
         by o true e =
             let is = ap d.readers (eqb-true who o e) in
             omega (arith, ap (joins o) free, ap (joins o) (put_here d.joined n (Some who)), ap (λ b. cond {A = ℕ} b 1 0) e)
         by o false e = omega (arith, ap (joins o) free, ap (joins o) (put_here d.joined n (Some who)), ap (λ b. cond {A = ℕ} b 1 0) e)
 
     -- the call has read how its owner ended
-    pub leaves_owner : {left : Option (Call K V)} → Fits (d.owning n) None (plan_left left) → Serves d n (part (record d { joined = put_at d.joined n None; readers = readers_without d n; settled = settled_without d n })) left
+    pub leaves_owner : {left : Option (Call K V)} → Fits (d.owning n) None (plan_left left) →
+        Serves d n (part (record d { joined = put_at d.joined n None; readers = readers_without d n; settled = settled_without d n })) left
     leaves_owner {left = gone} f = record {
       last = refl;
       fits = subst (λ v. Fits (d.owning n) v (plan_left gone)) (sym (put_here d.joined n None)) f;
@@ -160,7 +177,8 @@ module _ {K V : Type 0} (eq : K → K → Bool) where
     }
 
     -- the call has ended its ownership
-    pub ends_own : (with : Settled V) {left : Option (Call K V)} → Fits None (d.joined n) (plan_left left) → ((o : ℕ) (load : Load K) → d.joined n ≡ Some o → awaited (plan_left left) ≡ Some load → Answered eq d.owning d.settled o load) →
+    pub ends_own : (with : Settled V) {left : Option (Call K V)} → Fits None (d.joined n) (plan_left left) →
+        ((o : ℕ) (load : Load K) → d.joined n ≡ Some o → awaited (plan_left left) ≡ Some load → Answered eq d.owning d.settled o load) →
         Serves d n (part (record d { owners = owners_without d n; owning = put_at d.owning n None; settled = settled_with d n with d.settled })) left
     ends_own with {left = gone} f own = record {
       last = refl;
@@ -177,11 +195,17 @@ module _ {K V : Type 0} (eq : K → K → Bool) where
     pub drops : Serves d n (part (left d n None)) None
     drops = record {
       last = refl;
-      fits = record { last = tt; owning = ap (λ v. cond (is_some v) 1 0) (sym (put_here d.owning n None)); waiting = ap is_some (put_here d.joined n None) };
+      fits = record {
+        last = tt;
+        owning = ap (λ v. cond (is_some v) 1 0) (sym (put_here d.owning n None));
+        waiting = ap is_some
+            (put_here d.joined n None);
+      };
       owner = left_owners;
       joined = λ m h. put_there d.joined n None m h;
       owning = λ m h. put_there d.owning n None m h;
       counted = λ o. omega (arith, fewer_readers d n o (enough_own o), ap (joins o) (put_here d.joined n None));
-      others = λ m o l h j a. let some = enough m o h j in answered_with eq d n settled.Aborted (settled_without d n) o l (omega arith) (answered_without eq d n o l some a);
+      others = λ m o l h j a. let some = enough m o h j in answered_with eq d n settled.Aborted (settled_without d n) o l (omega arith)
+          (answered_without eq d n o l some a);
       own = λ o l j a. absurd (none_some a);
     }

@@ -35,7 +35,8 @@ module _ {K V : Type 0} (eq : K → K → Bool) (w : World K V) (n : ℕ) (c : C
   goes_with left p = keeps eq w.desk n owner enough enough_own p.fits p.own
 
   -- the call goes on with a plan that awaits no load
-  goes_free : {left : Option (Call K V)} → Fits (w.desk.owning n) (w.desk.joined n) (plan_left left) → awaited (plan_left left) ≡ None → Serves eq w.desk n (part w.desk) left
+  goes_free : {left : Option (Call K V)} → Fits (w.desk.owning n) (w.desk.joined n) (plan_left left) → awaited (plan_left left) ≡ None →
+      Serves eq w.desk n (part w.desk) left
   goes_free f none = keeps_none eq w.desk n owner enough enough_own f none
 
   rest_plans : (rest : List (Item K V)) → Plans rest → Plans (plan_left (goes c rest).left)
@@ -45,31 +46,60 @@ module _ {K V : Type 0} (eq : K → K → Bool) (w : World K V) (n : ℕ) (c : C
   goes_rest rest p = goes_with (goes c rest).left (rest_plans rest p)
 
   -- the plan's one item, where that is the last
-  alone : (item : Item K V) (rest : List (Item K V)) → rest ≡ [] → Plans (item ∷ rest) → Fits (w.desk.owning n) (w.desk.joined n) (item ∷ [])
+  alone : (item : Item K V) (rest : List (Item K V)) → rest ≡ [] → Plans (item ∷ rest) →
+      Fits (w.desk.owning n) (w.desk.joined n) (item ∷ [])
   alone item rest e p = subst (λ v. Fits (w.desk.owning n) (w.desk.joined n) (item ∷ v)) e p.fits
 
-  takes_told : (load : Load K) (given : Told V) → Plans c.plan → Fits {V = V} (w.desk.owning n) (w.desk.joined n) (plan.Told load ∷ []) → Serves eq w.desk n (part w.desk) (after_told c load (found.TakeTold (Some given))).left
+  takes_told : (load : Load K) (given : Told V) → Plans c.plan → Fits {V = V} (w.desk.owning n) (w.desk.joined n) (plan.Told load ∷ []) →
+      Serves eq w.desk n (part w.desk) (after_told c load (found.TakeTold (Some given))).left
   takes_told load (answer.Value value) p f = goes_free (told_fits _ _ c load (answer.Value value) p.fits f) refl
   takes_told load answer.Done p f = goes_with _ (record { fits = p.fits; own = p.own })
 
   on_item : (item : Item K V) (rest : List (Item K V)) → Plans c.plan → Plans (item ∷ rest) → Outcomes eq Leaves w n c item rest
   on_item plan.Drain rest p q =
-      let r : Plans rest = record { fits = record { last = q.fits.last; owning = omega (arith, q.fits.owning); waiting = q.fits.waiting }; own = q.own } in
-      (λ e. goes_rest rest r, λ x xs e. goes_with _ (record { fits = record { last = q.fits.last; owning = omega (arith, q.fits.owning); waiting = q.fits.waiting }; own = q.own }))
+      let r : Plans rest = record {
+        fits = record { last = q.fits.last; owning = omega (arith, q.fits.owning); waiting = q.fits.waiting };
+        own = q.own;
+      } in (
+        λ e. goes_rest rest r,
+        λ x xs e. goes_with _ (record {
+          fits =
+              record { last = q.fits.last; owning = omega (arith, q.fits.owning); waiting = q.fits.waiting };
+          own = q.own;
+        }),
+      )
   on_item (plan.Post write) rest p q =
-      let r : Plans rest = record { fits = record { last = q.fits.last; owning = omega (arith, q.fits.owning); waiting = q.fits.waiting }; own = q.own } in
-      (λ e. goes_rest rest r, λ e. goes_with _ (record { fits = record { last = q.fits.last; owning = omega (arith, q.fits.owning); waiting = q.fits.waiting }; own = q.own }))
+      let r : Plans rest = record {
+        fits = record { last = q.fits.last; owning = omega (arith, q.fits.owning); waiting = q.fits.waiting };
+        own = q.own;
+      } in (
+        λ e. goes_rest rest r,
+        λ e. goes_with _ (record {
+          fits =
+              record { last = q.fits.last; owning = omega (arith, q.fits.owning); waiting = q.fits.waiting };
+          own = q.own;
+        }),
+      )
   on_item plan.Turn rest p q =
-      let r : Plans rest = record { fits = record { last = q.fits.last; owning = omega (arith, q.fits.owning); waiting = q.fits.waiting }; own = q.own } in
+      let r : Plans rest = record {
+        fits = record { last = q.fits.last; owning = omega (arith, q.fits.owning); waiting = q.fits.waiting };
+        own = q.own;
+      } in
       (λ e. goes_rest rest r, λ e. goes_with _ (record { fits = p.fits; own = p.own }))
   on_item plan.Apply rest p q =
-      let r : Plans rest = record { fits = record { last = q.fits.last; owning = omega (arith, q.fits.owning); waiting = q.fits.waiting }; own = q.own } in
+      let r : Plans rest = record {
+        fits = record { last = q.fits.last; owning = omega (arith, q.fits.owning); waiting = q.fits.waiting };
+        own = q.own;
+      } in
       (λ e. goes_rest rest r, λ x xs e. goes_with _ (record { fits = q.fits; own = q.own }))
   on_item plan.End rest p q =
       goes_rest rest (record { fits = record { last = q.fits.last; owning = omega (arith, q.fits.owning); waiting = q.fits.waiting }; own = q.own })
   on_item (plan.Get aim key) rest p q =
-      let f = alone (plan.Get aim key) rest q.fits.last q in
-      (goes_with _ (record { fits = p.fits; own = p.own }), goes_free (misses_fits _ _ c aim key f) (misses_awaits c aim), λ k stored. goes_free (judge_fits _ _ aim key k stored f) refl)
+      let f = alone (plan.Get aim key) rest q.fits.last q in (
+        goes_with _ (record { fits = p.fits; own = p.own }),
+        goes_free (misses_fits _ _ c aim key f) (misses_awaits c aim),
+        λ k stored. goes_free (judge_fits _ _ aim key k stored f) refl,
+      )
   on_item (plan.Judge aim key stored) rest p q =
       goes_free (hits_fits _ _ c aim key stored stored.value (alone (plan.Judge aim key stored) rest q.fits.last q)) (hits_awaits c aim stored.value)
   on_item (plan.Own load) rest p q =
@@ -80,10 +110,17 @@ module _ {K V : Type 0} (eq : K → K → Bool) (w : World K V) (n : ℕ) (c : C
       )
   on_item (plan.Read load) rest p q = (
     λ e. goes_with _ (record { fits = p.fits; own = p.own }),
-    λ with e. leaves_owner eq w.desk n owner enough enough_own (read_fits _ _ c load with (settlement_ready w.desk n with ready e) (alone (plan.Read load) rest q.fits.last q)),
+    λ with e. leaves_owner eq w.desk n owner enough enough_own
+        (read_fits _ _ c load with (settlement_ready w.desk n with ready e) (alone (plan.Read load) rest q.fits.last q)),
   )
   on_item (plan.Settle with) rest p q =
-      let f : Fits None (w.desk.joined n) rest = record { last = q.fits.last; owning = omega (arith, q.fits.owning, at_most_one (is_some (w.desk.owning n))); waiting = q.fits.waiting } in
+      let f : Fits None (w.desk.joined n) rest =
+      record {
+        last = q.fits.last;
+        owning = omega (arith, q.fits.owning, at_most_one (is_some (w.desk.owning n)));
+        waiting =
+            q.fits.waiting;
+      } in
       ends_own eq w.desk n owner enough enough_own with (goes_fits _ _ c rest f) (λ o load j a. q.own o load j (sym (goes_awaits c rest) ∙ a))
   on_item (plan.Ask load) rest p q =
       let f = alone (plan.Ask load) rest q.fits.last q in
@@ -92,7 +129,8 @@ module _ {K V : Type 0} (eq : K → K → Bool) (w : World K V) (n : ℕ) (c : C
     λ e. goes_with _ (record { fits = p.fits; own = p.own }),
     λ given e. takes_told load given p (alone (plan.Told load) rest q.fits.last q),
   )
-  on_item (plan.Moment key value) rest p q = goes_with _ (record { fits = record { last = q.fits.last; owning = q.fits.owning; waiting = q.fits.waiting }; own = q.own })
+  on_item (plan.Moment key value) rest p q =
+      goes_with _ (record { fits = record { last = q.fits.last; owning = q.fits.owning; waiting = q.fits.waiting }; own = q.own })
   on_item (plan.Write key value moment) rest p q = (
     goes_with _ (record { fits = p.fits; own = p.own }),
     goes_with _ (record { fits = record { last = q.fits.last; owning = q.fits.owning; waiting = q.fits.waiting }; own = q.own }),
@@ -101,7 +139,9 @@ module _ {K V : Type 0} (eq : K → K → Bool) (w : World K V) (n : ℕ) (c : C
       let f = alone (plan.Reply answer) rest q.fits.last q in
       goes_free (record { last = tt; owning = omega (arith, f.owning); waiting = f.waiting }) refl
 
-  pub on_plan : (plan : List (Item K V)) → c.plan ≡ plan → Fits (w.desk.owning n) (w.desk.joined n) c.plan → ((o : ℕ) (load : Load K) → w.desk.joined n ≡ Some o → awaited c.plan ≡ Some load → Answered eq w.desk.owning w.desk.settled o load) → OnStep eq Leaves w n c plan
+  pub on_plan : (plan : List (Item K V)) → c.plan ≡ plan → Fits (w.desk.owning n) (w.desk.joined n) c.plan →
+      ((o : ℕ) (load : Load K) → w.desk.joined n ≡ Some o → awaited c.plan ≡ Some load → Answered eq w.desk.owning w.desk.settled o load) →
+      OnStep eq Leaves w n c plan
   on_plan [] e f own = goes_with _ (record { fits = f; own = own })
   on_plan (item ∷ rest) e f own =
       let p : Plans c.plan = record { fits = f; own = own } in

@@ -31,7 +31,8 @@ unfolding sum_to
 sum_change zero f g n l h = let e : n ≡ 0 = omega arith in subst (λ v. g 0 + f v ≡ f 0 + g v) (sym e) (omega arith)
 sum_change (suc k) f g n l h = by (n == suc k) refl (λ below. sum_change k f g n below h)
   where
-    by : (b : Bool) → (n == suc k) ≡ b → (n ≤ k → sum_to k g + f n ≡ sum_to k f + g n) → sum_to k g + g (suc k) + f n ≡ sum_to k f + f (suc k) + g n
+    by : (b : Bool) → (n == suc k) ≡ b → (n ≤ k → sum_to k g + f n ≡ sum_to k f + g n) →
+        sum_to k g + g (suc k) + f n ≡ sum_to k f + f (suc k) + g n
     by true e below =
         let is = eqb-true n (suc k) e in
         let same = sum_same k f g (λ m small. h m (differ n m (omega arith))) in
@@ -55,7 +56,8 @@ sum_holds (suc k) f n l = by (n == suc k) refl (λ below. sum_holds k f n below)
 pub sum_holds_two : (k : ℕ) (f : ℕ → ℕ) (n m : ℕ) → n ≤ k → m ≤ k → n < m → f n + f m ≤ sum_to k f
 unfolding sum_to
 sum_holds_two zero f n m ln lm less = absurd (omega arith)
-sum_holds_two (suc k) f n m ln lm less = by (m == suc k) refl (sum_holds k f n (omega arith)) (λ below. sum_holds_two k f n m (omega arith) below less)
+sum_holds_two (suc k) f n m ln lm less = by (m == suc k) refl (sum_holds k f n (omega arith))
+    (λ below. sum_holds_two k f n m (omega arith) below less)
   where
     by : (b : Bool) → (m == suc k) ≡ b → f n ≤ sum_to k f → (m ≤ k → f n + f m ≤ sum_to k f) → f n + f m ≤ sum_to k f + f (suc k)
     by true e one below = subst (λ v. f n + f v ≤ sum_to k f + f (suc k)) (sym (eqb-true m (suc k) e)) (omega arith)

@@ -95,7 +95,8 @@ module _ {K V : Type 0} where
   goes_calm c [] h = h
   goes_calm c (item ∷ rest) h = h
 
-  goes_fits : (turn : Option ℕ) (n : ℕ) (c : Call K V) (rest : List (Item K V)) → TurnFits turn n rest → TurnFits turn n (plan_left (goes c rest).left)
+  goes_fits : (turn : Option ℕ) (n : ℕ) (c : Call K V) (rest : List (Item K V)) → TurnFits turn n rest →
+      TurnFits turn n (plan_left (goes c rest).left)
   goes_fits turn n c (plan.Reply a ∷ []) f = record { first = tt; has = f.has; applies = f.applies }
   goes_fits turn n c (plan.Reply a ∷ x ∷ rest) f = f
   goes_fits turn n c [] f = f
@@ -117,16 +118,19 @@ module _ {K V : Type 0} where
   hits_calm c (plan.To_load load) value = refl
   hits_calm c (plan.To_own load) value = refl
 
-  either_calm : (b : Bool) (x y : Next K V) → weigh of_turn (plan_left x.left) ≡ 0 → weigh of_turn (plan_left y.left) ≡ 0 → weigh of_turn (plan_left (cond b x y).left) ≡ 0
+  either_calm : (b : Bool) (x y : Next K V) → weigh of_turn (plan_left x.left) ≡ 0 → weigh of_turn (plan_left y.left) ≡ 0 →
+      weigh of_turn (plan_left (cond b x y).left) ≡ 0
   either_calm true x y h k = h
   either_calm false x y h k = k
 
-  read_calm : (c : Call K V) (load : Load K) (with : Settled V) → weigh of_turn c.plan ≡ 0 → weigh of_turn (plan_left (after_read c load (found.ReadSettled with)).left) ≡ 0
+  read_calm : (c : Call K V) (load : Load K) (with : Settled V) → weigh of_turn c.plan ≡ 0 →
+      weigh of_turn (plan_left (after_read c load (found.ReadSettled with)).left) ≡ 0
   read_calm c load (settled.Ready value) h = refl
   read_calm c load settled.NotYet h = h
   read_calm c load settled.Aborted h = either_calm (c.aborts + 1 == retries) _ _ refl refl
 
-  told_calm : (c : Call K V) (load : Load K) (given : Told V) → weigh of_turn c.plan ≡ 0 → weigh of_turn (plan_left (after_told c load (found.TakeTold (Some given))).left) ≡ 0
+  told_calm : (c : Call K V) (load : Load K) (given : Told V) → weigh of_turn c.plan ≡ 0 →
+      weigh of_turn (plan_left (after_told c load (found.TakeTold (Some given))).left) ≡ 0
   told_calm c load (answer.Value value) h = refl
   told_calm c load answer.Done h = h
 
@@ -149,17 +153,28 @@ module _ {K V : Type 0} where
 
   module _ (turn : Option ℕ) (n : ℕ) where
     calm : {left : Option (Call K V)} → weigh of_turn (plan_left left) ≡ 0 → turn ≢ Some n → Turns turn n turn left
-    calm {left = l} h not = record { fits = calm_fits turn n (plan_left l) h not; mid = λ t. absurd (calm_not (plan_left l) h t); others = λ m d. (λ e. e, λ e. e) }
+    calm {left = l} h not = record {
+      fits = calm_fits turn n (plan_left l) h not;
+      mid = λ t. absurd (calm_not (plan_left l) h t);
+      others =
+          λ m d. (λ e. e, λ e. e);
+    }
 
   module _ (eq : K → K → Bool) (w : World K V) (n : ℕ) (c : Call K V) where
     abbrev Leaves : World K V → Next K V → Type 0
     Leaves new next = Turns w.desk.turn n new.desk.turn next.left
 
-    on_item : (item : Item K V) (rest : List (Item K V)) → c.plan ≡ item ∷ rest → TurnFits w.desk.turn n (item ∷ rest) → Outcomes eq Leaves w n c item rest
+    on_item : (item : Item K V) (rest : List (Item K V)) → c.plan ≡ item ∷ rest → TurnFits w.desk.turn n (item ∷ rest) →
+        Outcomes eq Leaves w n c item rest
     on_item plan.Drain rest e q = (λ none. calm _ n (goes_calm c rest q.first) q.has, λ x xs some. calm _ n (omega (arith, q.first)) q.has)
     on_item (plan.Post write) rest e q = (
       λ room. calm _ n (goes_calm c rest q.first) q.has,
-      λ full. record { fits = record { first = omega (arith, q.first); has = λ h. absurd (q.has h); applies = λ t. absurd t }; mid = λ t. absurd t; others = λ m d. (λ e. e, λ e. e) },
+      λ full. record {
+        fits = record { first = omega (arith, q.first); has = λ h. absurd (q.has h); applies = λ t. absurd t };
+        mid =
+            λ t. absurd t;
+        others = λ m d. (λ e. e, λ e. e);
+      },
     )
     on_item plan.Turn rest e q = (
       λ free. record {
@@ -170,7 +185,11 @@ module _ {K V : Type 0} where
       λ taken. record { fits = subst (TurnFits w.desk.turn n) (sym e) q; mid = λ t. absurd (subst InTurn e t); others = λ m d. (λ e. e, λ e. e) },
     )
     on_item plan.Apply rest e q = (
-      λ none. record { fits = goes_fits w.desk.turn n c rest (record { first = in_first rest q.first; has = q.has; applies = q.applies }); mid = goes_mid c rest; others = λ m d. (λ e. e, λ e. e) },
+      λ none. record {
+        fits = goes_fits w.desk.turn n c rest (record { first = in_first rest q.first; has = q.has; applies = q.applies });
+        mid = goes_mid c rest;
+        others = λ m d. (λ e. e, λ e. e);
+      },
       λ x xs some. record { fits = record { first = q.first; has = q.has; applies = q.applies }; mid = λ t. refl; others = λ m d. (λ e. e, λ e. e) },
     )
     on_item plan.End rest e q = record {
@@ -250,7 +269,9 @@ module _ {K V : Type 0} (eq : K → K → Bool) where
     start = λ s start i.
         let new : ℕ = s.world.desk.last + 1 in
         let free : plan_left (s.calls new) ≡ [] = ap plan_left (next_free s i.balanced) in
-        turns s new _ (Some (fresh_call start)) i (calm s.world.desk.turn new (fresh_calm start) (λ e. subst InTurn free ((i.fits new).has e))) ((balanced_kept eq).start s start i.balanced);
+        turns s new _ (Some (fresh_call start)) i
+        (calm s.world.desk.turn new (fresh_calm start) (λ e. subst InTurn free ((i.fits new).has e)))
+        ((balanced_kept eq).start s start i.balanced);
     step = turning_step;
     tell = λ s n given asked i. record { balanced = (balanced_kept eq).tell s n given asked i.balanced; fits = i.fits; mid = i.mid };
     drop = λ s n c live between i.

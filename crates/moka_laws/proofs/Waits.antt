@@ -47,7 +47,8 @@ module _ {K V : Type 0} where
   hits_on c (plan.To_load load) value = λ e. cc
   hits_on c (plan.To_own load) value = λ e. cc
 
-  read_on : (c : Call K V) (load : Load K) (with : Settled V) → Some with ≢ Some settled.NotYet → GoesOn (after_read c load (found.ReadSettled with))
+  read_on : (c : Call K V) (load : Load K) (with : Settled V) → Some with ≢ Some settled.NotYet →
+      GoesOn (after_read c load (found.ReadSettled with))
   read_on c load (settled.Ready value) h = λ e. cc
   read_on c load settled.NotYet h = absurd (h refl)
   read_on c load settled.Aborted h = by (c.aborts + 1 == retries) refl
@@ -56,7 +57,8 @@ module _ {K V : Type 0} where
       by true e = rw e (λ e. cc)
       by false e = rw e (λ e. cc)
 
-  told_on : (c : Call K V) (load : Load K) (given : Told V) → Some given ≢ Some answer.Done → GoesOn (after_told c load (found.TakeTold (Some given)))
+  told_on : (c : Call K V) (load : Load K) (given : Told V) → Some given ≢ Some answer.Done →
+      GoesOn (after_told c load (found.TakeTold (Some given)))
   told_on c load (answer.Value value) h = λ e. cc
   told_on c load answer.Done h = absurd (h refl)
 
@@ -106,7 +108,8 @@ module _ {K V : Type 0} (eq : K → K → Bool) where
   by_cause s t n c item rest reply h live e step =
       let M : World K V → Next K V → Type 0 = Waits s.world c (IsMissing s.world.desk n item) in
       let on_plan : OnStep eq M s.world n c c.plan =
-      subst (λ p. OnStep eq M s.world n c p) (sym e) (outcomes eq M s.world n c item rest (on_item eq s.world n c (answering eq s h).desk item rest)) in
+      subst (λ p. OnStep eq M s.world n c p) (sym e)
+      (outcomes eq M s.world n c item rest (on_item eq s.world n c (answering eq s h).desk item rest)) in
       step_cases eq M (λ v r. WaitsFor s n c item r v) s t n reply step
       (subst (λ v. OnStep eq M s.world n v v.plan) (one_call c step.call live step.live) on_plan)
       (λ w next m. record {
