@@ -179,8 +179,7 @@ module _ {K V : Type 0} (eq : K → K → Bool) where
     step = asking_step;
     tell = λ s n given told i. record {
       answering = (answering_kept eq).tell s n given told i.answering;
-      asked =
-          λ m l. still_asked s.world.desk.asks s.world.desk.told n given m (i.asked m l);
+      asked = λ m l. still_asked s.world.desk.asks s.world.desk.told n given m (i.asked m l);
     };
     drop = λ s n c live between i.
         asking s n _ None i

@@ -158,8 +158,7 @@ module _ {K V : Type 0} (eq : K → K → Bool) where
     };
     at = λ s moment i. record {
       balanced = (balanced_kept eq).at s moment i.balanced;
-      answering =
-          (answering_kept eq).at s moment i.answering;
+      answering = (answering_kept eq).at s moment i.answering;
       fits = i.fits;
       owner = i.owner;
       counted = i.counted;
@@ -169,8 +168,7 @@ module _ {K V : Type 0} (eq : K → K → Bool) where
     step = served_step;
     tell = λ s n given asked i. record {
       balanced = (balanced_kept eq).tell s n given asked i.balanced;
-      answering =
-          (answering_kept eq).tell s n given asked i.answering;
+      answering = (answering_kept eq).tell s n given asked i.answering;
       fits = i.fits;
       owner = i.owner;
       counted = i.counted;

@@ -1,5 +1,5 @@
 -- Each item of a plan keeps what those that wait for owners count on.
-use Rattle.std.proofs.Common.{◌≡◌, ℕ, ◌+◌, ◌≤◌, ◌==◌, Bool, false, List, [], ◌∷◌, Option, Some, None, is_some, refl, sym, ◌∙◌, subst, arith}
+use Rattle.std.proofs.Common.{ap, ◌≡◌, ℕ, ◌+◌, ◌≤◌, ◌==◌, Bool, false, List, [], ◌∷◌, Option, Some, None, is_some, refl, sym, ◌∙◌, subst, arith}
 use Rattle.moka_hist.specs.State.{World, Call}
 use Rattle.moka_hist.specs.Plan.{Item, Aim}
 use Rattle.moka_hist.specs.Plan as plan
@@ -9,11 +9,12 @@ use Rattle.moka_hist.specs.declared.loads.Load.{Load}
 use Rattle.moka_hist.specs.declared.events.Told.{Told}
 use Rattle.moka_hist.specs.declared.events.Told.TheVariants as answer
 use Rattle.moka_hist.specs.declared.visits.Found.TheVariants as found
+use Rattle.moka_laws.proofs.Weights.{weigh}
 use Rattle.moka_laws.proofs.StepCases.{OnStep}
 use Rattle.moka_laws.proofs.Outcomes.{Outcomes, outcomes}
 use Rattle.moka_laws.proofs.Answering.{HasAnswers, settlement_ready}
 use Rattle.moka_laws.proofs.Owning.{plan_left}
-use Rattle.moka_laws.proofs.Roles.{Fits, awaited, goes_fits, misses_fits, judge_fits, hits_fits, told_fits, read_fits, goes_awaits, misses_awaits, hits_awaits}
+use Rattle.moka_laws.proofs.Roles.{IsLast, owners, Fits, awaited, goes_fits, misses_fits, judge_fits, hits_fits, told_fits, read_fits, goes_awaits, misses_awaits, hits_awaits}
 use Rattle.moka_laws.proofs.Readers.{joins, Answered, OwnerOf}
 use Rattle.moka_laws.proofs.Serving.{Serves, part, no_load, no_owner, at_most_one, keeps, keeps_none, claims, joins_owner, leaves_owner, ends_own}
 
@@ -53,50 +54,30 @@ module _ {K V : Type 0} (eq : K → K → Bool) (w : World K V) (n : ℕ) (c : C
   takes_told : (load : Load K) (given : Told V) → Plans c.plan → Fits {V = V} (w.desk.owning n) (w.desk.joined n) (plan.Told load ∷ []) →
       Serves eq w.desk n (part w.desk) (after_told c load (found.TakeTold (Some given))).left
   takes_told load (answer.Value value) p f = goes_free (told_fits _ _ c load (answer.Value value) p.fits f) refl
-  takes_told load answer.Done p f = goes_with _ (record { fits = p.fits; own = p.own })
+  takes_told load answer.Done p f = goes_with _ p
+
+  -- a call fits a plan that tells as much as one that it fits
+  like : (plan old : List (Item K V)) → Plans old → IsLast plan → weigh owners plan ≡ weigh owners old → awaited plan ≡ awaited old → Plans plan
+  like plan old p last weight alike = record {
+    fits = record { last = last; owning = weight ∙ p.fits.owning; waiting = p.fits.waiting ∙ ap is_some (sym alike) };
+    own = λ o load j a. p.own o load j (sym alike ∙ a);
+  }
 
   on_item : (item : Item K V) (rest : List (Item K V)) → Plans c.plan → Plans (item ∷ rest) → Outcomes eq Leaves w n c item rest
-  on_item plan.Drain rest p q =
-      let r : Plans rest = record {
-        fits = record { last = q.fits.last; owning = omega (arith, q.fits.owning); waiting = q.fits.waiting };
-        own = q.own;
-      } in (
-        λ e. goes_rest rest r,
-        λ x xs e. goes_with _ (record {
-          fits =
-              record { last = q.fits.last; owning = omega (arith, q.fits.owning); waiting = q.fits.waiting };
-          own = q.own;
-        }),
-      )
-  on_item (plan.Post write) rest p q =
-      let r : Plans rest = record {
-        fits = record { last = q.fits.last; owning = omega (arith, q.fits.owning); waiting = q.fits.waiting };
-        own = q.own;
-      } in (
-        λ e. goes_rest rest r,
-        λ e. goes_with _ (record {
-          fits =
-              record { last = q.fits.last; owning = omega (arith, q.fits.owning); waiting = q.fits.waiting };
-          own = q.own;
-        }),
-      )
-  on_item plan.Turn rest p q =
-      let r : Plans rest = record {
-        fits = record { last = q.fits.last; owning = omega (arith, q.fits.owning); waiting = q.fits.waiting };
-        own = q.own;
-      } in
-      (λ e. goes_rest rest r, λ e. goes_with _ (record { fits = p.fits; own = p.own }))
-  on_item plan.Apply rest p q =
-      let r : Plans rest = record {
-        fits = record { last = q.fits.last; owning = omega (arith, q.fits.owning); waiting = q.fits.waiting };
-        own = q.own;
-      } in
-      (λ e. goes_rest rest r, λ x xs e. goes_with _ (record { fits = q.fits; own = q.own }))
-  on_item plan.End rest p q =
-      goes_rest rest (record { fits = record { last = q.fits.last; owning = omega (arith, q.fits.owning); waiting = q.fits.waiting }; own = q.own })
+  on_item plan.Drain rest p q = (
+    λ e. goes_rest rest (like rest _ q q.fits.last (omega arith) refl),
+    λ x xs e. goes_with _ (like (plan.Post x ∷ plan.Drain ∷ rest) _ q q.fits.last (omega arith) refl),
+  )
+  on_item (plan.Post write) rest p q = (
+    λ e. goes_rest rest (like rest _ q q.fits.last (omega arith) refl),
+    λ e. goes_with _ (like (plan.Turn ∷ plan.Apply ∷ plan.End ∷ plan.Post write ∷ rest) _ q q.fits.last (omega arith) refl),
+  )
+  on_item plan.Turn rest p q = (λ e. goes_rest rest (like rest _ q q.fits.last (omega arith) refl), λ e. goes_with _ p)
+  on_item plan.Apply rest p q = (λ e. goes_rest rest (like rest _ q q.fits.last (omega arith) refl), λ x xs e. goes_with _ q)
+  on_item plan.End rest p q = goes_rest rest (like rest _ q q.fits.last (omega arith) refl)
   on_item (plan.Get aim key) rest p q =
       let f = alone (plan.Get aim key) rest q.fits.last q in (
-        goes_with _ (record { fits = p.fits; own = p.own }),
+        goes_with _ p,
         goes_free (misses_fits _ _ c aim key f) (misses_awaits c aim),
         λ k stored. goes_free (judge_fits _ _ aim key k stored f) refl,
       )
@@ -109,31 +90,29 @@ module _ {K V : Type 0} (eq : K → K → Bool) (w : World K V) (n : ℕ) (c : C
         λ who e. joins_owner eq w.desk n owner enough enough_own load who e refl none (no_owner (w.desk.joined n) f.waiting),
       )
   on_item (plan.Read load) rest p q = (
-    λ e. goes_with _ (record { fits = p.fits; own = p.own }),
+    λ e. goes_with _ p,
     λ with e. leaves_owner eq w.desk n owner enough enough_own
         (read_fits _ _ c load with (settlement_ready w.desk n with ready e) (alone (plan.Read load) rest q.fits.last q)),
   )
   on_item (plan.Settle with) rest p q =
-      let f : Fits None (w.desk.joined n) rest =
-      record {
+      let f : Fits None (w.desk.joined n) rest = record {
         last = q.fits.last;
         owning = omega (arith, q.fits.owning, at_most_one (is_some (w.desk.owning n)));
-        waiting =
-            q.fits.waiting;
+        waiting = q.fits.waiting;
       } in
       ends_own eq w.desk n owner enough enough_own with (goes_fits _ _ c rest f) (λ o load j a. q.own o load j (sym (goes_awaits c rest) ∙ a))
   on_item (plan.Ask load) rest p q =
       let f = alone (plan.Ask load) rest q.fits.last q in
       goes_free (record { last = refl; owning = f.owning; waiting = f.waiting }) refl
   on_item (plan.Told load) rest p q = (
-    λ e. goes_with _ (record { fits = p.fits; own = p.own }),
+    λ e. goes_with _ p,
     λ given e. takes_told load given p (alone (plan.Told load) rest q.fits.last q),
   )
   on_item (plan.Moment key value) rest p q =
-      goes_with _ (record { fits = record { last = q.fits.last; owning = q.fits.owning; waiting = q.fits.waiting }; own = q.own })
+      goes_with _ (like (plan.Write key value w.desk.clock ∷ rest) _ q q.fits.last refl refl)
   on_item (plan.Write key value moment) rest p q = (
-    goes_with _ (record { fits = p.fits; own = p.own }),
-    goes_with _ (record { fits = record { last = q.fits.last; owning = q.fits.owning; waiting = q.fits.waiting }; own = q.own }),
+    goes_with _ p,
+    goes_with _ (like (plan.Post _ ∷ rest) _ q q.fits.last refl refl),
   )
   on_item (plan.Reply answer) rest p q =
       let f = alone (plan.Reply answer) rest q.fits.last q in

@@ -156,8 +156,7 @@ module _ {K V : Type 0} where
     calm {left = l} h not = record {
       fits = calm_fits turn n (plan_left l) h not;
       mid = λ t. absurd (calm_not (plan_left l) h t);
-      others =
-          λ m d. (λ e. e, λ e. e);
+      others = λ m d. (λ e. e, λ e. e);
     }
 
   module _ (eq : K → K → Bool) (w : World K V) (n : ℕ) (c : Call K V) where
@@ -171,8 +170,7 @@ module _ {K V : Type 0} where
       λ room. calm _ n (goes_calm c rest q.first) q.has,
       λ full. record {
         fits = record { first = omega (arith, q.first); has = λ h. absurd (q.has h); applies = λ t. absurd t };
-        mid =
-            λ t. absurd t;
+        mid = λ t. absurd t;
         others = λ m d. (λ e. e, λ e. e);
       },
     )
