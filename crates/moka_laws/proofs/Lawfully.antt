@@ -5,7 +5,7 @@ use Rattle.moka_hist.specs.Places.{IsLawful}
 use Rattle.moka_hist.specs.Run.{Any}
 use Rattle.moka_laws.specs.Lawful.{ReachedIsLawful, StepsAreLawful, EventIsLawful, RunIsLawful}
 use Rattle.moka_laws.proofs.Between.{steps_more, event_more, run_more}
-use Rattle.moka_laws.proofs.Balance.{in_balance}
+use Rattle.moka_laws.proofs.Balanced.{in_balance}
 use Rattle.moka_laws.proofs.OnePlace.{stands_once, stands_committed}
 use Rattle.moka_laws.proofs.Owning.{one_initializes}
 

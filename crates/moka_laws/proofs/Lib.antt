@@ -10,6 +10,7 @@ pub mod Waits
 pub mod Sums
 pub mod Posts
 pub mod Balance
+pub mod Balanced
 pub mod OnePlace
 pub mod Owning
 pub mod Roles

@@ -15,7 +15,8 @@ use Rattle.moka_laws.proofs.Sums.{sum_to, sum_zero, sum_next, sum_change, sum_ho
 use Rattle.moka_laws.proofs.Kept.{IsKept, in_reached}
 use Rattle.moka_laws.proofs.StepCases.{step_cases}
 use Rattle.moka_laws.proofs.Answering.{IsAnswering, answering_kept}
-use Rattle.moka_laws.proofs.Balance.{next_free, IsBalanced, balanced_kept}
+use Rattle.moka_laws.proofs.Balance.{IsBalanced}
+use Rattle.moka_laws.proofs.Balanced.{balanced_kept, next_free}
 use Rattle.moka_laws.proofs.Owning.{plan_left}
 use Rattle.moka_laws.proofs.Roles.{Fits, awaited, fresh_fits}
 use Rattle.moka_laws.proofs.Readers.{joins, joins_self, Answered, OwnerOf}
