@@ -41,3 +41,7 @@ without n (x ∷ xs) = cond (n == x) (without n xs) (x ∷ without n xs)
 pub record Lists {K A : Type 0} (eq : K → K → Bool) (pairs : List (K × A)) (f : K → Option A) : Type 0 where
   pub distinct : IsDistinct eq (keys_of pairs)
   pub same : (q : K) → lookup (eq q) pairs ≡ f q
+
+-- a clone equals its original
+abbrev pub IsExact : {A : Type 0} → (A → A → Type 0) → Type 0
+IsExact {A} is_clone = (x y : A) → is_clone x y → y ≡ x

@@ -14,3 +14,5 @@ pub mod Telling
 pub mod Run
 pub mod Missing
 pub mod Places
+pub mod Visible
+pub mod Causes

@@ -1,0 +1,55 @@
+//! The rules of a cache, the times of a record, and why a record leaves.
+
+ghost use Rattle.std.specs.Prelude.{◌≡◌};
+ghost use Rattle.moka_hist.specs.Visible.{later};
+
+use std::time::Duration;
+
+/// Why a record left the cache.
+#[derive(Clone, Copy, PartialEq, Eq, Debug)]
+pub enum Cause {
+    /// Its time to live or its time to idle was past.
+    Expired,
+    /// A call removed it, or an invalidation hid it.
+    Explicit,
+    /// A later write took its place.
+    Replaced,
+    /// The cache held more than its capacity.
+    Size,
+}
+
+/// What a cache was built with. Where a rule is `None`, there is none.
+#[derive(Clone, Copy, PartialEq, Eq, Debug)]
+pub struct Rules {
+    /// How many records the cache keeps.
+    pub max_capacity: Option<u64>,
+    /// How long a record is kept after its last write.
+    pub time_to_live: Option<Duration>,
+    /// How long a record is kept after its last access.
+    pub time_to_idle: Option<Duration>,
+    /// Whether a listener hears of records that leave.
+    pub listener: bool,
+    /// Whether records may be invalidated by a test.
+    pub closures: bool,
+}
+
+/// The moments that a record is judged by, in nanoseconds: the cache's clock, the moment since which
+/// records are valid, where all earlier ones were invalidated, and the record's last write and access.
+#[derive(Clone, Copy, PartialEq, Eq, Debug)]
+pub struct Times {
+    pub clock: u64,
+    pub valid_after: Option<u64>,
+    pub modified: u64,
+    pub accessed: u64,
+}
+
+/// Answers the moment that comes the duration after `moment`, in nanoseconds; the greatest moment
+/// where there is none.
+pub fn later(moment: u64, duration: Duration) -> u64
+    ensures { result ≡ later moment duration }
+{
+    match u64::try_from(duration.as_nanos()) {
+        Ok(nanos) => moment.saturating_add(nanos),
+        Err(_) => u64::MAX,
+    }
+}

@@ -1,0 +1,39 @@
+-- What a table means: a finite map from keys to stored pairs.
+use Rattle.std.specs.Prelude.{◌≡◌, ℕ, ◌+◌, Bool, cond, List, Option, is_some}
+use Rattle.std.specs.Map.{values_of}
+use Rattle.moka_hist.specs.Finite.{Lists}
+use Rattle.moka_hist.specs.Tables.{answer_of, key_of, stored_with}
+use Rattle.moka_hist.specs.declared.records.Stored.{Stored}
+use Rattle.moka_hist.specs.declared.tables.TableOp.{TableOp}
+use Rattle.moka_hist.specs.declared.tables.TableOp.TheVariants as op
+use Rattle.moka_hist.specs.declared.tables.TableTurn.{TableTurn}
+use Rattle.moka_hist.specs.declared.tables.TableTurn.TheVariants as turn
+
+-- the stored pair of each key, as a table has it
+abbrev pub Pairs : (K V : Type 0) → Type 0
+Pairs K V = K → Option (K × Stored V)
+
+module _ {K V : Type 0} where
+  -- two maps are one
+  abbrev pub SameMap : Pairs K V → Pairs K V → Type 0
+  SameMap old new = (q : K) → new q ≡ old q
+
+  -- how many keys there are after the operation
+  abbrev pub keys_after : Pairs K V → ℕ → TableOp K V → ℕ
+  keys_after map keys (op.Get key) = keys
+  keys_after map keys (op.InsertOrModify key stored) = cond (is_some (map key)) keys (keys + 1)
+
+  -- What one step of an operation gives, and what the map and its count are after it: it stays
+  -- undecided, which changes nothing, or it answers by the map and makes its change.
+  abbrev pub Moves : (K → K → Bool) → TableOp K V → Pairs K V → ℕ → TableTurn K V → Pairs K V → ℕ → Type 0
+  Moves eq operation old keys turn.Going new count = SameMap old new × (count ≡ keys)
+  Moves eq operation old keys (turn.Decided answer) new count =
+      (answer ≡ answer_of (old (key_of operation)))
+      × ((q : K) → new q ≡ stored_with eq old operation q)
+      × (count ≡ keys_after old keys operation)
+
+  -- the pairs are those of the map, each once, in some order of its keys
+  pub record ListsPairs (eq : K → K → Bool) (pairs : List (K × Stored V)) (map : Pairs K V) : Type 0 where
+    pub entries : List (K × (K × Stored V))
+    pub lists : Lists eq entries map
+    pub are : pairs ≡ values_of entries

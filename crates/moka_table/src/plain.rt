@@ -1,0 +1,194 @@
+//! The plain table: one hash map, whose operations decide at their first step.
+ghost use Rattle.std.specs.Prelude.{◌≡◌, ◌≢◌, ℕ, ◌<◌, ◌≤◌, OnErr, OnOk, IfOk, IfErr, Some, None, is_some};
+ghost use Rattle.std.specs.HashMap.{get, hash_map_len, spare, values, IsEmpty, IsReordered, IsUnchanged};
+ghost use Rattle.moka_hist.specs.Finite.{IsExact, put_key};
+ghost use Rattle.moka_hist.specs.Tables.{answer_of};
+ghost use Rattle.moka_hist.specs.declared.tables.TableOp.{TableOp};
+ghost use Rattle.moka_table.specs.declared.plain.PlainCall.{PlainCall};
+ghost use Rattle.moka_table.specs.Map.{Pairs, SameMap, Moves, ListsPairs, keys_after};
+ghost use Rattle.moka_table.specs.Plain.{map_of};
+
+use crate::{EntryList, Table};
+use moka_hist::{Stored, TableAnswer, TableOp, TableTurn};
+use std::alloc::{AllocError, Global};
+use std::collections::HashMap;
+use std::hash::Hash;
+
+/// A table over one hash map. Each operation decides at its one step.
+#[derive(Drop)]
+pub struct PlainTable<K: Eq + Hash, V> {
+    pairs: HashMap<K, (K, Stored<V>)>,
+}
+
+/// An operation on a plain table: what it is, until it has decided.
+#[derive(Drop)]
+pub struct PlainCall<K, V> {
+    operation: Option<TableOp<K, V>>,
+}
+
+impl<K: Eq + Hash + Clone + Drop, V: Clone + Drop> PlainTable<K, V> {
+    /// A table without keys. It takes no memory.
+    pub fn new(alloc: Global) -> Self
+        ensures empty { (q : K) → map_of K.eq result q ≡ None }
+        ensures count { hash_map_len result.pairs ≡ 0 }
+    {
+        PlainTable {
+            pairs: HashMap::new(alloc),
+        }
+    }
+
+    // What the map has at the key, as clones.
+    fn look(&self, key: &K) -> Result<TableAnswer<K, V>, AllocError>
+        requires keys { IsExact K.is_clone }
+        requires values { IsExact V.is_clone }
+        ensures { IfOk result (λ a. a ≡ answer_of (map_of K.eq self.now key.now)) }
+    {
+        match self.pairs.get(key) {
+            None => Ok(TableAnswer::None),
+            Some(pair) => cloned_pair(pair),
+        }
+    }
+
+    // Room for one more key.
+    fn make_room(&mut self) -> Result<(), AllocError>
+        ensures ok { OnOk result (0 < spare self.new.pairs) }
+        ensures same { SameMap (map_of K.eq self.old) (map_of K.eq self.new) }
+        ensures count { hash_map_len self.new.pairs ≡ hash_map_len self.old.pairs }
+    {
+        self.pairs.reserve(1)
+    }
+
+    // Puts the pair under its key, and gives the one that was there. There is room, so it can't fail.
+    fn put(&mut self, place: K, key: K, stored: Stored<V>) -> TableAnswer<K, V>
+        requires room { 0 < spare self.old.pairs }
+        requires place { place ≡ key }
+        ensures answer { result ≡ answer_of (map_of K.eq self.old key) }
+        ensures map { (q : K) → map_of K.eq self.new q ≡ put_key K.eq (map_of K.eq self.old) key (Some (key, stored)) q }
+        ensures count { hash_map_len self.new.pairs ≡ keys_after (map_of K.eq self.old) (hash_map_len self.old.pairs) (TableOp.InsertOrModify key stored) }
+    {
+        match self.pairs.insert(place, (key, stored)) {
+            Ok(None) => TableAnswer::None,
+            Ok(Some((key, stored))) => TableAnswer::Some { key, stored },
+            Err(_) => unreachable!(),
+        }
+    }
+}
+
+impl<K: Eq + Hash + Clone + Drop, V: Clone + Drop> PlainTable<K, V> {
+    // The one step of a look. Without memory the call is as before.
+    fn step_look(&self, call: &mut PlainCall<K, V>, key: K) -> Result<TableTurn<K, V>, AllocError>
+        requires keys { IsExact K.is_clone }
+        requires values { IsExact V.is_clone }
+        ensures ok { IfOk result (λ t. t ≡ TableTurn.Decided (answer_of (map_of K.eq self.now key))) }
+        ensures err { OnErr result (call.new.operation ≡ Some (TableOp.Get key)) }
+    {
+        match self.look(&key) {
+            Ok(answer) => Ok(TableTurn::Decided(answer)),
+            Err(e) => {
+                call.operation = Some(TableOp::Get { key });
+                Err(e)
+            }
+        }
+    }
+
+    // The one step of a write. Without memory table and call are as before.
+    fn step_put(
+        &mut self,
+        call: &mut PlainCall<K, V>,
+        key: K,
+        stored: Stored<V>,
+    ) -> Result<TableTurn<K, V>, AllocError>
+        requires keys { IsExact K.is_clone }
+        ensures moves { IfOk result (λ turn. Moves K.eq (TableOp.InsertOrModify key stored) (map_of K.eq self.old) (hash_map_len self.old.pairs) turn (map_of K.eq self.new) (hash_map_len self.new.pairs)) }
+        ensures decided { IfOk result (λ turn. turn ≢ TableTurn.Going) }
+        ensures err { OnErr result (call.new.operation ≡ Some (TableOp.InsertOrModify key stored)) }
+        ensures err_map { OnErr result (SameMap (map_of K.eq self.old) (map_of K.eq self.new)) }
+        ensures err_count { OnErr result (hash_map_len self.new.pairs ≡ hash_map_len self.old.pairs) }
+    {
+        match self.place_for(&key) {
+            Ok(place) => Ok(TableTurn::Decided(self.put(place, key, stored))),
+            Err(e) => {
+                call.operation = Some(TableOp::InsertOrModify { key, stored });
+                Err(e)
+            }
+        }
+    }
+
+    // A clone of the key, and room for it.
+    fn place_for(&mut self, key: &K) -> Result<K, AllocError>
+        requires keys { IsExact K.is_clone }
+        ensures place { IfOk result (λ place. place ≡ key.now) }
+        ensures room { OnOk result (0 < spare self.new.pairs) }
+        ensures map { SameMap (map_of K.eq self.old) (map_of K.eq self.new) }
+        ensures count { hash_map_len self.new.pairs ≡ hash_map_len self.old.pairs }
+    {
+        self.make_room()?;
+        key.clone()
+    }
+}
+
+impl<K: Eq + Hash + Clone + Drop, V: Clone + Drop> Table<K, V> for PlainTable<K, V> {
+    type Call = PlainCall<K, V>;
+
+    ghost map = { λ t. map_of K.eq t };
+
+    ghost count = { λ t. hash_map_len t.pairs };
+
+    ghost fits = { λ t c operation. c.operation ≡ Some operation };
+
+    ghost left = { λ t c. 1 };
+
+    fn segments(&self) -> usize {
+        1
+    }
+
+    fn begin(&self, operation: TableOp<K, V>) -> PlainCall<K, V>
+        ensures { result.operation ≡ Some operation }
+    {
+        PlainCall {
+            operation: Some(operation),
+        }
+    }
+
+    fn step(&mut self, call: &mut PlainCall<K, V>) -> Result<TableTurn<K, V>, AllocError>
+        requires keys { IsExact K.is_clone }
+        requires values { IsExact V.is_clone }
+        requires begun { (operation : TableOp K V) × (call.old.operation ≡ Some operation) }
+        ensures moves { IfOk result (λ turn. (operation : TableOp K V) → call.old.operation ≡ Some operation
+            → Moves K.eq operation (map_of K.eq self.old) (hash_map_len self.old.pairs) turn (map_of K.eq self.new) (hash_map_len self.new.pairs)) }
+        ensures going { IfOk result (λ turn. turn ≡ TableTurn.Going → (operation : TableOp K V) → call.old.operation ≡ Some operation
+            → (call.new.operation ≡ Some operation) × (1 < 1)) }
+        ensures err { OnErr result (SameMap (map_of K.eq self.old) (map_of K.eq self.new)) }
+        ensures err_count { OnErr result (hash_map_len self.new.pairs ≡ hash_map_len self.old.pairs) }
+        ensures err_call { OnErr result ((operation : TableOp K V) → call.old.operation ≡ Some operation → call.new.operation ≡ Some operation) }
+        ensures others { (other : PlainCall K V) (operation : TableOp K V) → other.operation ≡ Some operation → other.operation ≡ Some operation }
+    {
+        match call.operation.take() {
+            Some(TableOp::Get { key }) => self.step_look(call, key),
+            Some(TableOp::InsertOrModify { key, stored }) => self.step_put(call, key, stored),
+            None => unreachable!(),
+        }
+    }
+
+    fn pairs(&self, alloc: Global) -> Result<EntryList<K, V>, AllocError> {
+        let mut pairs = Vec::with_capacity(alloc, self.pairs.len())?;
+        for pair in self.pairs.values() {
+            pairs.push((pair.0.clone()?, pair.1.clone()?))?;
+        }
+        Ok(EntryList::from_vec(pairs))
+    }
+
+    fn len(&self) -> usize {
+        self.pairs.len()
+    }
+}
+
+fn cloned_pair<K: Clone, V: Clone>(pair: &(K, Stored<V>)) -> Result<TableAnswer<K, V>, AllocError>
+    requires keys { IsExact K.is_clone }
+    requires values { IsExact V.is_clone }
+    ensures { IfOk result (λ a. a ≡ answer_of (Some pair.now)) }
+{
+    let key = pair.0.clone()?;
+    let stored = pair.1.clone()?;
+    Ok(TableAnswer::Some { key, stored })
+}
