@@ -21,5 +21,6 @@ pub mod Served
 pub mod Turns
 pub mod Asking
 pub mod Coming
+pub mod Moved
 pub mod Between
 pub mod Lawfully

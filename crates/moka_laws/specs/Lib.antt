@@ -3,3 +3,4 @@ pub mod Holders
 pub mod Waiting
 pub mod Lawful
 pub mod Missing
+pub mod Moving
