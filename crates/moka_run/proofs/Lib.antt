@@ -1,4 +1,3 @@
 pub mod TableSteps
 pub mod Wanted
 pub mod Places
-pub mod Lifting

@@ -109,4 +109,24 @@ impl<K: Eq + Hash + Clone + Drop, V: Clone + Drop> Machine<K, V> {
             }
         }
     }
+
+    // Makes steps of the call that was taken out, up to the first that doesn't leave it going, and
+    // puts it back unless it has ended.
+    fn poll_out(&mut self, call: u64, mut flow: Flow<K, V>) -> Result<Reply<V>, Unfinished>
+        requires keys { IsExact K.is_clone }
+        requires values { IsExact V.is_clone }
+        requires place { HasPlace self.old.calls call }
+        requires on { IsOn (operation_of self.old.layers.begun) flow }
+        requires safe { (w : World K V) × WorldIs K.eq self.old.layers w × IsSafe K.eq flow.call (call_of flow) w }
+        ensures polls { IfOk result (λ r. PollOut K.eq self.old call flow r self.new) }
+        ensures unfinished { IfErr result (λ u. UnfinishedOut K.eq self.old call flow u.steps self.new) }
+    {
+        match poll(&mut flow, &mut self.layers) {
+            Ok(turn) => Ok(self.after_step(call, flow, turn)),
+            Err(stopped) => {
+                self.put_in(call, flow);
+                Err(stopped)
+            }
+        }
+    }
 }
