@@ -1,2 +1,4 @@
+pub mod LiveCalls
+pub mod Places
 pub mod TableSteps
 pub mod Wanted
