@@ -5,12 +5,12 @@ use Rattle.moka_hist.specs.Finite.{put_at}
 use Rattle.moka_hist.specs.State.{State, World, Call, DeskPart}
 use Rattle.moka_hist.specs.Plan.{Item, Aim, held_by, plan_of}
 use Rattle.moka_hist.specs.Plan as plan
-use Rattle.moka_hist.specs.Visits.{settled_with, settled_without}
+use Rattle.moka_hist.specs.Visits.{settlement_for, settled_with, settled_without}
 use Rattle.moka_hist.specs.Next.{Next, goes}
 use Rattle.moka_hist.specs.Looking.{hits, misses}
 use Rattle.moka_hist.specs.Loading.{after_read, after_told, after_abort, retries}
 use Rattle.moka_hist.specs.Telling.{is_asked, does_take}
-use Rattle.std.specs.Option.{option_map_or}
+use Rattle.std.specs.Option.{option_and_then, option_map_or}
 use Rattle.moka_hist.specs.Step.{Step, state_after}
 use Rattle.moka_hist.specs.Run.{IsReached, fresh_call}
 use Rattle.moka_hist.specs.declared.events.Start.{Start}
@@ -89,7 +89,8 @@ module _ {K V : Type 0} where
   hits_well c (plan.To_load load) value = tt
   hits_well c (plan.To_own load) value = tt
 
-  read_well : (c : Call K V) (load : Load K) (with : Settled V) → EndsWell c.plan → LeftWell (after_read c load (found.ReadSettled with)).left
+  read_well : (c : Call K V) (load : Load K) (with : Settled V) → EndsWell c.plan →
+      LeftWell (after_read c load (found.ReadSettled with)).left
   read_well c load (settled.Ready value) h = tt
   read_well c load settled.NotYet h = h
   read_well c load settled.Aborted h = by (c.aborts + 1 == retries) refl
@@ -98,7 +99,8 @@ module _ {K V : Type 0} where
       by true e = rw e tt
       by false e = rw e tt
 
-  told_well : (c : Call K V) (load : Load K) (given : Told V) → EndsWell c.plan → LeftWell (after_told c load (found.TakeTold (Some given))).left
+  told_well : (c : Call K V) (load : Load K) (given : Told V) → EndsWell c.plan →
+      LeftWell (after_told c load (found.TakeTold (Some given))).left
   told_well c load (answer.Value value) h = tt
   told_well c load answer.Done h = h
 
@@ -116,16 +118,27 @@ module _ {K V : Type 0} where
   asked_for d n (answer.Value value) asked = λ e. cc
   asked_for d n answer.Done asked = λ e. false≢true (sym (not_asked d n) ∙ asked)
 
-  some_ready : (with : Settled V) (rest : List (Item K V)) → EndsWell (plan.Settle with ∷ rest) → (Some with ≢ Some settled.NotYet) × EndsWell rest
+  some_ready : (with : Settled V) (rest : List (Item K V)) → EndsWell (plan.Settle with ∷ rest) →
+      (Some with ≢ Some settled.NotYet) × EndsWell rest
   some_ready settled.NotYet rest h = absurd h
   some_ready settled.Aborted rest h = (λ e. cc, h)
   some_ready (settled.Ready value) rest h = (λ e. cc, h)
 
-  settles_with : (d : DeskPart K V) (n : ℕ) (with : Settled V) (kept : ℕ → Option (Settled V)) (x : ℕ) → Some with ≢ Some settled.NotYet → kept x ≢ Some settled.NotYet → settled_with d n with kept x ≢ Some settled.NotYet
+  settles_with : (d : DeskPart K V) (n : ℕ) (with : Settled V) (kept : ℕ → Option (Settled V)) (x : ℕ) → Some with ≢ Some settled.NotYet →
+      kept x ≢ Some settled.NotYet → settled_with d n with kept x ≢ Some settled.NotYet
   settles_with d n with kept x h k = kept_or _ (Some with) (kept x) (λ v. v ≢ Some settled.NotYet) h k
 
   settles_without : (d : DeskPart K V) (n : ℕ) (x : ℕ) → d.settled x ≢ Some settled.NotYet → settled_without d n x ≢ Some settled.NotYet
   settles_without d n x h = kept_or _ None (d.settled x) (λ v. v ≢ Some settled.NotYet) none_some h
+
+  -- an owner's settlement is an answer
+  pub settlement_ready : (d : DeskPart K V) (n : ℕ) (with : Settled V) → HasAnswers d → settlement_for d n ≡ Some with →
+      Some with ≢ Some settled.NotYet
+  settlement_ready d n with has e = by (d.joined n) e
+    where
+      by : (o : Option ℕ) → option_and_then d.settled o ≡ Some with → Some with ≢ Some settled.NotYet
+      by None e = absurd (none_some e)
+      by (Some owner) e = λ h. has.settled owner (e ∙ h)
 
   -- what a step has to show
   abbrev Leaves : World K V → Next K V → Type 0
@@ -162,17 +175,20 @@ module _ {K V : Type 0} where
     on_plan (item ∷ rest) e p = outcomes eq Leaves w n c item rest (on_item item rest (rw e at p) p)
 
 module _ {K V : Type 0} (eq : K → K → Bool) where
-  leaves : (s : State K V) (n : ℕ) (w : World K V) (next : Next K V) → IsAnswering s → LeftWell next.left × HasAnswers w.desk → IsAnswering (state_after s n w next)
+  leaves : (s : State K V) (n : ℕ) (w : World K V) (next : Next K V) → IsAnswering s → LeftWell next.left × HasAnswers w.desk →
+      IsAnswering (state_after s n w next)
   leaves s n w next i h = record {
-    calls = λ m c live. put_cases s.calls n next.left m (Some c) (EndsWell c.plan) live (λ here is. subst LeftWell is h.0) (λ there is. i.calls m c is);
+    calls = λ m c live. put_cases s.calls n next.left m (Some c) (EndsWell c.plan) live (λ here is. subst LeftWell is h.0)
+        (λ there is. i.calls m c is);
     desk = h.1;
   }
 
   answering_step : (s t : State K V) (n : ℕ) (turn : Turn V) → IsAnswering s → Step eq s n turn t → IsAnswering t
   answering_step s t n turn i step =
-      step_cases eq Leaves (λ v _. IsAnswering v) s t n turn step (λ c live. on_plan eq s.world n c i.desk c.plan refl (i.calls n c live)) (λ w next. leaves s n w next i)
+      step_cases eq Leaves (λ v _. IsAnswering v) s t n turn step
+      (on_plan eq s.world n step.call i.desk step.call.plan refl (i.calls n step.call step.live)) (λ w next. leaves s n w next i)
 
-  answering_kept : IsKept eq (IsAnswering {K = K} {V = V})
+  pub answering_kept : IsKept eq (IsAnswering {K = K} {V = V})
   answering_kept = record {
     fresh = λ size. record { calls = λ n c live. absurd (none_some live); desk = record { settled = λ x. none_some; told = λ x. none_some } };
     at = λ s moment i. record { calls = i.calls; desk = i.desk };
@@ -186,12 +202,18 @@ module _ {K V : Type 0} (eq : K → K → Bool) where
     step = answering_step;
     tell = λ s n given asked i. record {
       calls = i.calls;
-      desk = record { settled = i.desk.settled; told = λ x. kept_or (n == x) (Some given) (s.world.desk.told x) (λ v. v ≢ Some answer.Done) (asked_for s.world.desk n given asked) (i.desk.told x) };
-    };
-    drop = λ s n c live i. record {
-      calls = λ m b lives. put_cases s.calls n None m (Some b) (EndsWell b.plan) lives (λ here is. absurd (none_some is)) (λ there is. i.calls m b is);
       desk = record {
-        settled = λ x. settles_with s.world.desk n settled.Aborted (settled_without s.world.desk n) x (λ e. cc) (settles_without s.world.desk n x (i.desk.settled x));
+        settled = i.desk.settled;
+        told = λ x. kept_or (n == x) (Some given) (s.world.desk.told x) (λ v. v ≢ Some answer.Done)
+            (asked_for s.world.desk n given asked) (i.desk.told x);
+      };
+    };
+    drop = λ s n c live between i. record {
+      calls = λ m b lives. put_cases s.calls n None m (Some b) (EndsWell b.plan) lives (λ here is. absurd (none_some is))
+          (λ there is. i.calls m b is);
+      desk = record {
+        settled = λ x. settles_with s.world.desk n settled.Aborted (settled_without s.world.desk n) x (λ e. cc)
+            (settles_without s.world.desk n x (i.desk.settled x));
         told = λ x. none_told x s.world.desk.told n (i.desk.told x);
       };
     };

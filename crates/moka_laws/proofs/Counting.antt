@@ -1,10 +1,13 @@
 -- Numbers in lists, and maps over numbers with one place changed.
-use Rattle.std.proofs.Common.{Some, None, ◌≡◌, ℕ, ◌+◌, ◌≤◌, ◌==◌, Bool, true, false, cond, List, [], ◌∷◌, ◌++◌, refl, sym, ap, ◌∙◌, arith}
+use Rattle.std.proofs.Common.{◌≢◌, Some, None, ◌≡◌, ℕ, ◌+◌, ◌≤◌, ◌==◌, Bool, true, false, cond, List, [], ◌∷◌, ◌++◌, refl, sym, ap, ◌∙◌, arith}
 use Rattle.std.proofs.lemmas.Bool.{eqb-true, eq-eqb, false≢true}
 use Rattle.moka_hist.specs.Finite.{times, without, without_one, put_at}
 
 pub none_some : {A : Type 0} {x : A} → None ≡ Some x → ⊥
 none_some e = cc
+
+pub some_same : {A : Type 0} {x y : A} → Some x ≡ Some y → x ≡ y
+some_same e = cc
 
 pub same_number : (n : ℕ) → (n == n) ≡ true
 same_number n = eq-eqb n n refl
@@ -16,8 +19,19 @@ other_number n m h = by (m == n) refl
     by true e = absurd (false≢true (sym h ∙ eq-eqb n m (sym (eqb-true m n e))))
     by false e = refl
 
+pub differ : (n m : ℕ) → n ≢ m → (n == m) ≡ false
+differ n m h = by (n == m) refl
+  where
+    by : (b : Bool) → (n == m) ≡ b → b ≡ false
+    by true e = absurd (h (eqb-true n m e))
+    by false e = refl
+
+pub differ_not : (n m : ℕ) → (n == m) ≡ false → n ≢ m
+differ_not n m h e = false≢true (sym h ∙ eq-eqb n m e)
+
 -- what a map has once something was put at a number: that there, and elsewhere what it had
-pub put_cases : {A : Type 0} (f : ℕ → A) (n : ℕ) (v : A) (m : ℕ) (a : A) (P : Type 0) → put_at f n v m ≡ a → (n ≡ m → v ≡ a → P) → ((n == m) ≡ false → f m ≡ a → P) → P
+pub put_cases : {A : Type 0} (f : ℕ → A) (n : ℕ) (v : A) (m : ℕ) (a : A) (P : Type 0) → put_at f n v m ≡ a → (n ≡ m → v ≡ a → P) →
+    ((n == m) ≡ false → f m ≡ a → P) → P
 put_cases f n v m a P e here there = by (n == m) refl e
   where
     by : (b : Bool) → (n == m) ≡ b → cond b v (f m) ≡ a → P
@@ -42,7 +56,8 @@ pub times_without : (n m : ℕ) (xs : List ℕ) → (n == m) ≡ false → times
 times_without n m [] h = refl
 times_without n m (x ∷ xs) h = by (n == x) refl (times_without n m xs h)
   where
-    by : (b : Bool) → (n == x) ≡ b → times m (without n xs) ≡ times m xs → times m (cond b (without n xs) (x ∷ without n xs)) ≡ times m (x ∷ xs)
+    by : (b : Bool) → (n == x) ≡ b → times m (without n xs) ≡ times m xs →
+        times m (cond b (without n xs) (x ∷ without n xs)) ≡ times m (x ∷ xs)
     by true e less = less ∙ sym (ap (λ v. times m (v ∷ xs)) (sym (eqb-true n x e)) ∙ times_other n m xs h)
     by false e less = ap (λ v. cond (m == x) (v + 1) v) less
 
@@ -59,10 +74,12 @@ pub times_one_less : (n : ℕ) (xs : List ℕ) → times n xs ≤ times n (witho
 times_one_less n [] = omega arith
 times_one_less n (x ∷ xs) = by (n == x) refl (times_one_less n xs)
   where
-    by : (b : Bool) → (n == x) ≡ b → times n xs ≤ times n (without_one n xs) + 1 → cond b (times n xs + 1) (times n xs) ≤ times n (cond b xs (x ∷ without_one n xs)) + 1
+    by : (b : Bool) → (n == x) ≡ b → times n xs ≤ times n (without_one n xs) + 1 →
+        cond b (times n xs + 1) (times n xs) ≤ times n (cond b xs (x ∷ without_one n xs)) + 1
     by true e less = omega arith
     by false e less =
-        let same : times n (x ∷ without_one n xs) ≡ times n (without_one n xs) = ap (λ b. cond b (times n (without_one n xs) + 1) (times n (without_one n xs))) e in
+        let same : times n (x ∷ without_one n xs) ≡ times n (without_one n xs) = ap
+        (λ b. cond b (times n (without_one n xs) + 1) (times n (without_one n xs))) e in
         omega arith
 
 -- two lists one after the other
@@ -70,6 +87,7 @@ pub times_append : (n : ℕ) (xs ys : List ℕ) → times n (xs ++ ys) ≡ times
 times_append n [] ys = omega arith
 times_append n (x ∷ xs) ys = by (n == x) (times_append n xs ys)
   where
-    by : (b : Bool) → times n (xs ++ ys) ≡ times n xs + times n ys → cond b (times n (xs ++ ys) + 1) (times n (xs ++ ys)) ≡ cond b (times n xs + 1) (times n xs) + times n ys
+    by : (b : Bool) → times n (xs ++ ys) ≡ times n xs + times n ys →
+        cond b (times n (xs ++ ys) + 1) (times n (xs ++ ys)) ≡ cond b (times n xs + 1) (times n xs) + times n ys
     by true e = omega arith
     by false e = e

@@ -55,7 +55,8 @@ module _ {K V : Type 0} where
   hits_weigh c (plan.To_load load) value = refl
   hits_weigh c (plan.To_own load) value = refl
 
-  read_weighs : (c : Call K V) (load : Load K) (with : Settled V) → weigh_call held (after_read c load (found.ReadSettled with)).left ≤ weigh held c.plan
+  read_weighs : (c : Call K V) (load : Load K) (with : Settled V) →
+      weigh_call held (after_read c load (found.ReadSettled with)).left ≤ weigh held c.plan
   read_weighs c load (settled.Ready value) = omega arith
   read_weighs c load settled.NotYet = omega arith
   read_weighs c load settled.Aborted = by (c.aborts + 1 == retries) refl
@@ -64,7 +65,8 @@ module _ {K V : Type 0} where
       by true e = rw e (omega arith)
       by false e = rw e (omega arith)
 
-  told_weighs : (c : Call K V) (load : Load K) (given : Told V) → weigh_call held (after_told c load (found.TakeTold (Some given))).left ≤ weigh held c.plan
+  told_weighs : (c : Call K V) (load : Load K) (given : Told V) →
+      weigh_call held (after_told c load (found.TakeTold (Some given))).left ≤ weigh held c.plan
   told_weighs c load (answer.Value value) = omega arith
   told_weighs c load answer.Done = omega arith
 
@@ -77,14 +79,16 @@ module _ {K V : Type 0} where
   Suffices w n new next =
       (weigh_call held next.left ≤ times n new.desk.holders) × ((m : ℕ) → (n == m) ≡ false → times m new.desk.holders ≡ times m w.desk.holders)
 
-  suffices : (s : State K V) (n : ℕ) (w : World K V) (next : Next K V) → HavePlaces s → Suffices s.world n w next → HavePlaces (state_after s n w next)
+  suffices : (s : State K V) (n : ℕ) (w : World K V) (next : Next K V) → HavePlaces s → Suffices s.world n w next →
+      HavePlaces (state_after s n w next)
   suffices s n w next all h m c live =
       put_cases s.calls n next.left m (Some c) (weigh held c.plan ≤ times m w.desk.holders) live
       (λ here is. let e = ap (λ v. weigh_call held v) is in subst (λ v. weigh held c.plan ≤ times v w.desk.holders) here (omega (arith, h.0)))
       (λ there is. let old = all m c is in omega (arith, h.1 m there))
 
   module _ (eq : K → K → Bool) (w : World K V) (n : ℕ) (c : Call K V) (has : weigh held c.plan ≤ times n w.desk.holders) where
-    on_item : (item : Item K V) (rest : List (Item K V)) → weigh held (item ∷ rest) ≤ times n w.desk.holders → Outcomes eq (Suffices w n) w n c item rest
+    on_item : (item : Item K V) (rest : List (Item K V)) → weigh held (item ∷ rest) ≤ times n w.desk.holders →
+        Outcomes eq (Suffices w n) w n c item rest
     on_item plan.Drain rest h = (
       λ e. (omega (arith, weigh_goes held c rest (λ a. refl)), λ m d. refl),
       λ x xs e. (omega (arith, times_same n w.desk.holders), λ m d. times_other n m w.desk.holders d),
@@ -114,7 +118,8 @@ module _ {K V : Type 0} where
 module _ {K V : Type 0} (eq : K → K → Bool) where
   places_step : (s t : State K V) (n : ℕ) (turn : Turn V) → HavePlaces s → Step eq s n turn t → HavePlaces t
   places_step s t n turn all step =
-      step_cases eq (Suffices s.world n) (λ v _. HavePlaces v) s t n turn step (λ c live. on_plan eq s.world n c (all n c live) c.plan refl) (λ w next. suffices s n w next all)
+      step_cases eq (Suffices s.world n) (λ v _. HavePlaces v) s t n turn step
+      (on_plan eq s.world n step.call (all n step.call step.live) step.call.plan refl) (λ w next. suffices s n w next all)
 
   places_kept : IsKept eq (HavePlaces {K = K} {V = V})
   places_kept = record {
@@ -126,7 +131,7 @@ module _ {K V : Type 0} (eq : K → K → Bool) where
         (λ there is. all n c is);
     step = places_step;
     tell = λ s n answer asked all. all;
-    drop = λ s n c live all m b lives.
+    drop = λ s n c live between all m b lives.
         put_cases s.calls n None m (Some b) (weigh held b.plan ≤ times m (without n s.world.desk.holders)) lives
         (λ here is. absurd (none_some is))
         (λ there is. omega (arith, all m b is, times_without n m s.world.desk.holders there));

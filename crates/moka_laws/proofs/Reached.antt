@@ -13,7 +13,8 @@ module _ {K V : Type 0} (eq : K → K → Bool) where
   fresh_reached size = record { size = size; events = []; replies = []; run = refl }
 
   -- a run goes on by one event at its end, through states that meet P
-  pub go_on : (P : State K V → Type 0) (s m t : State K V) (es : List (Event K V)) (rs : List (Reply V)) (e : Event K V) (r : Reply V) → Run eq P s es rs m → Happens eq P m e r t → P t → Run eq P s (es ++ e ∷ []) (rs ++ r ∷ []) t
+  pub go_on : (P : State K V → Type 0) (s m t : State K V) (es : List (Event K V)) (rs : List (Reply V)) (e : Event K V) (r : Reply V) →
+      Run eq P s es rs m → Happens eq P m e r t → P t → Run eq P s (es ++ e ∷ []) (rs ++ r ∷ []) t
   go_on P s m t [] [] e r run h p = (t, subst (λ v. Happens eq P v e r t) run h, p, refl)
   go_on P s m t (e0 ∷ es) (r0 ∷ rs) e r run h p = (run.0, run.1, run.2, go_on P run.0 m t es rs e r run.3 h p)
   go_on P s m t [] (r0 ∷ rs) e r run h p = absurd run

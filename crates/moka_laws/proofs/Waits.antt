@@ -1,11 +1,9 @@
 -- When a step waits.
 use Rattle.std.proofs.Common.{◌≡◌, ◌≢◌, ◌↔◌, ℕ, ◌+◌, ◌==◌, Bool, true, false, List, [], ◌∷◌, Option, Some, None, IsNone, is_some, refl, sym, ap, ◌∙◌, subst}
-use Rattle.std.specs.Option.{option_and_then}
 use Rattle.std.proofs.lemmas.Bool.{false≢true}
-use Rattle.moka_hist.specs.State.{World, Call, DeskPart}
+use Rattle.moka_hist.specs.State.{World, Call}
 use Rattle.moka_hist.specs.Plan.{Item, Aim}
 use Rattle.moka_hist.specs.Plan as plan
-use Rattle.moka_hist.specs.Visits.{settlement_for}
 use Rattle.moka_hist.specs.Next.{Next, goes, waits}
 use Rattle.moka_hist.specs.Looking.{hits, misses}
 use Rattle.moka_hist.specs.Loading.{after_read, after_told, after_abort, retries}
@@ -22,7 +20,7 @@ use Rattle.moka_laws.specs.Waiting.{WaitsByCause, WaitsFor}
 use Rattle.moka_laws.proofs.Counting.{none_some}
 use Rattle.moka_laws.proofs.StepCases.{OnStep, step_cases}
 use Rattle.moka_laws.proofs.Outcomes.{Outcomes, outcomes}
-use Rattle.moka_laws.proofs.Answering.{HasAnswers, answering}
+use Rattle.moka_laws.proofs.Answering.{HasAnswers, answering, settlement_ready}
 
 not_none : {A : Type 0} {a : A} (o : Option A) → o ≡ Some a → ¬ IsNone o
 not_none None e = λ h. none_some e
@@ -49,7 +47,8 @@ module _ {K V : Type 0} where
   hits_on c (plan.To_load load) value = λ e. cc
   hits_on c (plan.To_own load) value = λ e. cc
 
-  read_on : (c : Call K V) (load : Load K) (with : Settled V) → Some with ≢ Some settled.NotYet → GoesOn (after_read c load (found.ReadSettled with))
+  read_on : (c : Call K V) (load : Load K) (with : Settled V) → Some with ≢ Some settled.NotYet →
+      GoesOn (after_read c load (found.ReadSettled with))
   read_on c load (settled.Ready value) h = λ e. cc
   read_on c load settled.NotYet h = absurd (h refl)
   read_on c load settled.Aborted h = by (c.aborts + 1 == retries) refl
@@ -58,17 +57,10 @@ module _ {K V : Type 0} where
       by true e = rw e (λ e. cc)
       by false e = rw e (λ e. cc)
 
-  told_on : (c : Call K V) (load : Load K) (given : Told V) → Some given ≢ Some answer.Done → GoesOn (after_told c load (found.TakeTold (Some given)))
+  told_on : (c : Call K V) (load : Load K) (given : Told V) → Some given ≢ Some answer.Done →
+      GoesOn (after_told c load (found.TakeTold (Some given)))
   told_on c load (answer.Value value) h = λ e. cc
   told_on c load answer.Done h = absurd (h refl)
-
-  -- an owner's settlement is an answer
-  settlement_ready : (d : DeskPart K V) (n : ℕ) (with : Settled V) → HasAnswers d → settlement_for d n ≡ Some with → Some with ≢ Some settled.NotYet
-  settlement_ready d n with has e = by (d.joined n) e
-    where
-      by : (o : Option ℕ) → option_and_then d.settled o ≡ Some with → Some with ≢ Some settled.NotYet
-      by None e = absurd (none_some e)
-      by (Some owner) e = λ h. has.settled owner (e ∙ h)
 
   -- what a step has to show: it waits where Q holds, and then it changes nothing
   record Waits (w : World K V) (c : Call K V) (Q : Type 0) (new : World K V) (next : Next K V) : Type 0 where
@@ -116,9 +108,10 @@ module _ {K V : Type 0} (eq : K → K → Bool) where
   by_cause s t n c item rest reply h live e step =
       let M : World K V → Next K V → Type 0 = Waits s.world c (IsMissing s.world.desk n item) in
       let on_plan : OnStep eq M s.world n c c.plan =
-      subst (λ p. OnStep eq M s.world n c p) (sym e) (outcomes eq M s.world n c item rest (on_item eq s.world n c (answering eq s h).desk item rest)) in
+      subst (λ p. OnStep eq M s.world n c p) (sym e)
+      (outcomes eq M s.world n c item rest (on_item eq s.world n c (answering eq s h).desk item rest)) in
       step_cases eq M (λ v r. WaitsFor s n c item r v) s t n reply step
-      (λ b lives. subst (λ v. OnStep eq M s.world n v v.plan) (one_call c b live lives) on_plan)
+      (subst (λ v. OnStep eq M s.world n v v.plan) (one_call c step.call live step.live) on_plan)
       (λ w next m. record {
         cause = m.cause;
         parks = λ waited. rw (m.world waited, m.left waited) refl;

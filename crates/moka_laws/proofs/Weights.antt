@@ -18,7 +18,8 @@ module _ {K V : Type 0} where
   weigh_call f (Some c) = weigh f c.plan
 
   -- a call that goes on with the rest weighs what the rest does, if answers weigh nothing
-  pub weigh_goes : (f : Item K V → ℕ) (c : Call K V) (rest : List (Item K V)) → ((a : Answer V) → f (plan.Reply a) ≡ 0) → weigh_call f (goes c rest).left ≡ weigh f rest
+  pub weigh_goes : (f : Item K V → ℕ) (c : Call K V) (rest : List (Item K V)) → ((a : Answer V) → f (plan.Reply a) ≡ 0) →
+      weigh_call f (goes c rest).left ≡ weigh f rest
   weigh_goes f c (plan.Reply a ∷ []) h = let e = h a in omega arith
   weigh_goes f c [] h = refl
   weigh_goes f c (plan.Reply a ∷ x ∷ rest) h = refl

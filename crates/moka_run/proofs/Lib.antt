@@ -1,4 +1,6 @@
 pub mod LiveCalls
 pub mod Places
+pub mod ReportPlaces
 pub mod TableSteps
 pub mod Wanted
+pub mod Lifting

@@ -3,14 +3,17 @@ use Rattle.std.specs.Prelude.{◌≡◌, ◌≢◌, ℕ, Bool, Option, Some, Non
 use Rattle.std.specs.Option.{option_map}
 use Rattle.std.specs.declared.cmp.PartialEq as PartialEq
 use Rattle.std.specs.declared.hash.Hash as Hash
-use Rattle.moka_hist.specs.State.{Call, State}
-use Rattle.moka_hist.specs.Run.{Any, Goings, Happens, IsReached}
+use Rattle.moka_hist.specs.State.{Call, State, World}
+use Rattle.moka_hist.specs.Finite.{put_at}
+use Rattle.moka_hist.specs.Next.{Next}
+use Rattle.moka_hist.specs.Step.{May, Moves, MovesOn, Polled, IsSafe}
+use Rattle.moka_hist.specs.Run.{Any, Goings, Happens, IsReached, reply_of}
 use Rattle.moka_hist.specs.declared.events.Event.{Event}
 use Rattle.moka_hist.specs.declared.events.Event.TheVariants as event
 use Rattle.moka_hist.specs.declared.replies.Reply.{Reply}
 use Rattle.moka_init.specs.declared.flow.Flow.{Flow}
 use Rattle.moka_init.specs.FlowPlan.{call_of}
-use Rattle.moka_init.specs.Grounds.{IsOn}
+use Rattle.moka_init.specs.Grounds.{IsOn, access_at}
 use Rattle.moka_run.specs.Calls.{running_at, HasPlace}
 use Rattle.moka_run.specs.Layers.{WorldIs, operation_of}
 use Rattle.moka_run.specs.declared.calls.Running.{Running}
@@ -37,15 +40,14 @@ pub record StandsFor {K V : Type 0} {same : PartialEq.Ghosts K} {hash : Hash.Gho
   pub calls : (n : ℕ) → option_map call_in (running_at m.calls n) ≡ s.calls n
   pub each : (n : ℕ) (r : Running K V) → running_at m.calls n ≡ Some r → IsOf n r
 
--- The machine stands for the state, but for a live call that was taken out, and is this flow.
-pub record StandsBut {K V : Type 0} {same : PartialEq.Ghosts K} {hash : Hash.Ghosts K} (eq : K → K → Bool) (m : Machine K V same hash) (n : ℕ) (flow : Flow K V) (s : State K V) : Type 0 where
-  pub world : WorldIs eq m.layers s.world
-  pub calls : (k : ℕ) → n ≢ k → option_map call_in (running_at m.calls k) ≡ s.calls k
+-- One call was taken out of the machine, and is this flow. The layers stand for the world, and the
+-- other calls are these.
+pub record Without {K V : Type 0} {same : PartialEq.Ghosts K} {hash : Hash.Ghosts K} (eq : K → K → Bool) (m : Machine K V same hash) (n : ℕ) (flow : Flow K V) (others : ℕ → Option (Call K V)) (w : World K V) : Type 0 where
+  pub world : WorldIs eq m.layers w
+  pub calls : (k : ℕ) → n ≢ k → option_map call_in (running_at m.calls k) ≡ others k
   pub each : (k : ℕ) (r : Running K V) → running_at m.calls k ≡ Some r → IsOf k r
-  pub live : s.calls n ≡ Some (call_of flow)
   pub number : flow.call ≡ n
   pub on : IsOn (operation_of m.layers.begun) flow
-  pub place : HasPlace m.calls n
 
 module _ {K V : Type 0} {same : PartialEq.Ghosts K} {hash : Hash.Ghosts K} where
   -- the machine stands for a state that a run can reach
@@ -53,6 +55,11 @@ module _ {K V : Type 0} {same : PartialEq.Ghosts K} {hash : Hash.Ghosts K} where
     pub state : State K V
     pub stands : StandsFor eq m state
     pub reached : IsReached eq state
+
+  -- the live call of this number is taken out of the state that the machine stood for
+  pub record TakenOut (eq : K → K → Bool) (m : Machine K V same hash) (n : ℕ) (flow : Flow K V) (s : State K V) : Type 0 where
+    pub live : s.calls n ≡ Some (call_of flow)
+    pub rest : Without eq m n flow s.calls s.world
 
   -- the event was carried out or refused with this reply, from whatever state the machine stood for
   abbrev pub Serves : (K → K → Bool) → Machine K V same hash → Event K V → Reply V → Machine K V same hash → Type 0
@@ -67,3 +74,30 @@ module _ {K V : Type 0} {same : PartialEq.Ghosts K} {hash : Hash.Ghosts K} where
   abbrev pub Stops : (K → K → Bool) → Machine K V same hash → Event K V → ℕ → Machine K V same hash → Type 0
   Stops eq old e steps new =
     (s : State K V) → StandsFor eq old s → IsReached eq s → (t : State K V) × Begins eq s e steps t × StandsFor eq new t
+
+  -- a step of a call that was taken out: the call made it, and was put back or has ended
+  abbrev pub StepOut : (K → K → Bool) → Machine K V same hash → ℕ → Flow K V → Reply V → Machine K V same hash → Type 0
+  StepOut eq old n flow r new =
+    (others : ℕ → Option (Call K V)) (w : World K V) → Without eq old n flow others w → May w (access_at flow)
+      → (next : Next K V) × (after : World K V) × Moves eq n (call_of flow) w next after × (r ≡ reply_of next.turn)
+      × StandsFor eq new (record { world = after; calls = put_at others n next.left })
+
+  -- the call that was taken out was put back as it was
+  abbrev pub KeepsOut : (K → K → Bool) → Machine K V same hash → ℕ → Flow K V → Machine K V same hash → Type 0
+  KeepsOut eq old n flow new =
+    (others : ℕ → Option (Call K V)) (w : World K V) → Without eq old n flow others w
+      → StandsFor eq new (record { world = w; calls = put_at others n (Some (call_of flow)) })
+
+  -- a poll of a call that was taken out
+  abbrev pub PollOut : (K → K → Bool) → Machine K V same hash → ℕ → Flow K V → Reply V → Machine K V same hash → Type 0
+  PollOut eq old n flow r new =
+    (others : ℕ → Option (Call K V)) (w : World K V) → Without eq old n flow others w → IsSafe eq n (call_of flow) w
+      → (next : Next K V) × (after : World K V) × Polled eq n (call_of flow) w next after × (r ≡ reply_of next.turn)
+      × StandsFor eq new (record { world = after; calls = put_at others n next.left })
+
+  -- so many steps of a call that was taken out, each of which left it going
+  abbrev pub UnfinishedOut : (K → K → Bool) → Machine K V same hash → ℕ → Flow K V → ℕ → Machine K V same hash → Type 0
+  UnfinishedOut eq old n flow steps new =
+    (others : ℕ → Option (Call K V)) (w : World K V) → Without eq old n flow others w → IsSafe eq n (call_of flow) w
+      → (d : Call K V) × (after : World K V) × MovesOn eq steps n (call_of flow) w d after
+      × StandsFor eq new (record { world = after; calls = put_at others n (Some d) })

@@ -6,9 +6,8 @@ mod layers;
 mod lists;
 mod machine;
 mod report;
-mod run;
+mod steps;
 mod visits;
 
 pub use machine::Machine;
-pub use run::run;
 pub use report::{Memory, PlaceList, ReplyList, Report};

@@ -1,6 +1,6 @@
 -- The calls that hold a write are those of the state, and the lists are the desk's.
 use Rattle.std.proofs.Common.{◌∙◌}
-use Rattle.moka_run.proofs.Places.{places_joined}
+use Rattle.moka_run.proofs.ReportPlaces.{places_joined}
 use Rattle.moka_run.proofs.machine.Machine.unsorted.Goals as goal
 
 pub returns : goal.returns
