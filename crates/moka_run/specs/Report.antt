@@ -22,10 +22,16 @@ module _ {K V : Type 0} where
   abbrev pub held_number : ℕ × Call K V → Option ℕ
   held_number c = option_map number_of (held_by c.1.plan)
 
+  -- the numbers are those of the writes that the live calls hold
+  pub record AreHeld (numbers : List ℕ) (live : ℕ → Option (Call K V)) : Type 0 where
+    pub calls : List (ℕ × Call K V)
+    pub lists : Lists nat_eq calls live
+    pub are : numbers ≡ filter_map held_number calls
+
   -- the writes of the state, with their places: held by one of these calls, owed, logged, applied
   abbrev pub all_places : List (ℕ × Call K V) → State K V → List (ℕ × Place)
   all_places calls s =
-    at_place place.Held (filter_map held_number calls)
+      at_place place.Held (filter_map held_number calls)
       ++ at_place place.Owed (map number_of s.world.desk.owed)
       ++ at_place place.Logged (map number_of s.world.desk.log)
       ++ at_place place.Applied (map number_of s.world.desk.applied)

@@ -1,10 +1,13 @@
 //! The live calls, by number.
-ghost use Rattle.std.specs.Prelude.{◌≡◌, ℕ, ◌<◌, Some, None, OnOk, OnSome};
+ghost use Rattle.std.specs.Prelude.{◌≡◌, ℕ, ◌<◌, Some, None, IfOk, OnOk, OnSome};
 ghost use Rattle.std.specs.Option.{option_map, option_copied};
 ghost use Rattle.std.specs.HashMap.{spare};
 ghost use Rattle.moka_hist.specs.Finite.{put_at};
-ghost use Rattle.moka_run.specs.Calls.{running_at, HasPlace};
+ghost use Rattle.moka_run.specs.Calls.{running_at, held_in, HasPlace};
+ghost use Rattle.moka_run.specs.Machine.{call_in};
+ghost use Rattle.moka_run.specs.Report.{AreHeld};
 
+use crate::lists::number_of;
 use moka_init::Flow;
 use moka_table::PlainCall;
 use std::alloc::{AllocError, Global};
@@ -90,5 +93,28 @@ impl<K: Drop, V: Drop> Calls<K, V> {
         ensures { (n : ℕ) → running_at self.new n ≡ put_at (running_at self.old) call None n }
     {
         self.places.remove(&call);
+    }
+
+    /// Lists the numbers of the writes that running calls hold.
+    pub(crate) fn held(&self, alloc: Global) -> Result<Vec<u64>, AllocError>
+        ensures { IfOk result (λ numbers. AreHeld numbers.items (λ n. option_map call_in (running_at self.now n))) }
+    {
+        let mut numbers = Vec::new(alloc);
+        for place in self.places.values() {
+            if let Some(number) = held_number(place) {
+                numbers.push(number)?;
+            }
+        }
+        Ok(numbers)
+    }
+}
+
+/// The number of the write that the call of this place holds, where one runs.
+fn held_number<K, V>(place: &Option<Running<K, V>>) -> Option<u64>
+    ensures { result ≡ held_in place.now }
+{
+    match place {
+        Some(running) => running.flow.held().map(number_of),
+        None => None,
     }
 }

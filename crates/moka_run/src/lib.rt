@@ -3,6 +3,7 @@
 
 mod calls;
 mod layers;
+mod lists;
 mod machine;
 mod report;
 mod steps;

@@ -22,6 +22,40 @@ impl<K: Eq + Hash + Clone + Drop, V: Clone + Drop> Machine<K, V> {
     ghost use Rattle.moka_run.specs.declared.calls.Running.{Running};
     ghost use Rattle.moka_run.specs.Machine.{StandsFor, Without, TakenOut, IsValid, Serves, Keeps, Stops, StepOut, KeepsOut, PollOut, UnfinishedOut};
 
+    /// Makes one step of a call. After want of memory nothing has changed.
+    pub(crate) fn step(&mut self, call: u64) -> Result<Reply<V>, AllocError>
+        requires keys { IsExact K.is_clone }
+        requires values { IsExact V.is_clone }
+        requires valid { IsValid K.eq self.old }
+        ensures serves { IfOk result (λ r. Serves K.eq self.old (Event.Step call) r self.new) }
+        ensures err { OnErr result (Keeps K.eq self.old self.new) }
+    {
+        moka_laws::calls_are_safe::<K, V>();
+        moka_laws::move_is_step::<K, V>();
+        match self.take_out(call) {
+            None => Ok(Reply::Refused(Refusal::UnknownCall)),
+            Some(flow) => self.step_out(call, flow),
+        }
+    }
+
+    /// Makes steps of a call up to the first whose reply is not Going. After want of memory the steps
+    /// made so far stand.
+    pub(crate) fn poll(&mut self, call: u64) -> Result<Reply<V>, Unfinished>
+        requires keys { IsExact K.is_clone }
+        requires values { IsExact V.is_clone }
+        requires valid { IsValid K.eq self.old }
+        ensures serves { IfOk result (λ r. Serves K.eq self.old (Event.Poll call) r self.new) }
+        ensures stops { IfErr result (λ u. Stops K.eq self.old (Event.Poll call) u.steps self.new) }
+    {
+        moka_laws::calls_are_safe::<K, V>();
+        moka_laws::moves_are_steps::<K, V>();
+        moka_laws::polled_is_poll::<K, V>();
+        match self.take_out(call) {
+            None => Ok(Reply::Refused(Refusal::UnknownCall)),
+            Some(flow) => self.poll_out(call, flow),
+        }
+    }
+
     // Takes a live call out, with the table operation that it has begun.
     fn take_out(&mut self, call: u64) -> Option<Flow<K, V>>
         ensures none { IfNone result ((s : State K V) → StandsFor K.eq self.old s → (s.calls call ≡ None)) }
