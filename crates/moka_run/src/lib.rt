@@ -6,8 +6,11 @@ mod layers;
 mod lists;
 mod machine;
 mod report;
+mod runs;
+mod serving;
 mod steps;
 mod visits;
 
 pub use machine::Machine;
+pub use runs::run;
 pub use report::{Memory, PlaceList, ReplyList, Report};

@@ -57,7 +57,7 @@ impl<K: Eq + Hash + Clone + Drop, V: Clone + Drop> Machine<K, V> {
     }
 
     // Takes a live call out, with the table operation that it has begun.
-    fn take_out(&mut self, call: u64) -> Option<Flow<K, V>>
+    pub(crate) fn take_out(&mut self, call: u64) -> Option<Flow<K, V>>
         ensures none { IfNone result ((s : State K V) → StandsFor K.eq self.old s → (s.calls call ≡ None)) }
         ensures same { IfNone result (Keeps K.eq self.old self.new) }
         ensures some { IfSome result (λ flow. (s : State K V) → StandsFor K.eq self.old s → TakenOut K.eq self.new call flow s) }
@@ -80,7 +80,7 @@ impl<K: Eq + Hash + Clone + Drop, V: Clone + Drop> Machine<K, V> {
     }
 
     // Puts the call back that was taken out.
-    fn put_in(&mut self, call: u64, flow: Flow<K, V>)
+    pub(crate) fn put_in(&mut self, call: u64, flow: Flow<K, V>)
         requires { HasPlace self.old.calls call }
         ensures { (others : ℕ → Option (Call K V)) (w : World K V) → Without K.eq self.old call flow others w
             → StandsFor K.eq self.new (record { world = w; calls = put_at others call (Some (call_of flow)) }) }
@@ -90,7 +90,7 @@ impl<K: Eq + Hash + Clone + Drop, V: Clone + Drop> Machine<K, V> {
     }
 
     // The call has ended, and gives its place up.
-    fn end(&mut self, call: u64)
+    pub(crate) fn end(&mut self, call: u64)
         ensures { (flow : Flow K V) (others : ℕ → Option (Call K V)) (w : World K V) → Without K.eq self.old call flow others w
             → StandsFor K.eq self.new (record { world = w; calls = put_at others call None }) }
     {
