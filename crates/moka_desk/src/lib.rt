@@ -1,0 +1,4 @@
+//! The desk of the cache: everything but the table, with one method for each visit of a call.
+#![tactic(auto)]
+
+mod applied;
