@@ -1,1 +1,3 @@
 pub mod Fallen
+pub mod Writes
+pub mod Loads

@@ -67,6 +67,15 @@ impl Applied {
         Ok(())
     }
 
+    /// Gives a place up.
+    pub(crate) fn give_up(&mut self)
+        requires { 0 < self.old.room }
+        ensures items { self.new.writes.items ≡ self.old.writes.items }
+        ensures room { self.new.room + 1 ≡ self.old.room }
+    {
+        self.room -= 1;
+    }
+
     /// Applies a write, in a place that was reserved.
     pub(crate) fn push(&mut self, write: Write)
         requires { 0 < self.old.room }

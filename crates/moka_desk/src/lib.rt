@@ -2,3 +2,5 @@
 #![tactic(auto)]
 
 mod applied;
+mod loads;
+mod writes;
