@@ -1,2 +1,4 @@
 pub mod Standing
 pub mod Holders
+pub mod SameLoads
+pub mod Owners

@@ -1,3 +1,4 @@
 pub mod Fallen
 pub mod Writes
+pub mod Exact
 pub mod Loads

@@ -1,15 +1,13 @@
 -- What the kept loads stand for.
 use Rattle.std.specs.Prelude.{◌≡◌, ℕ, ◌==◌, Bool, true, cond, ◌&&◌, Option, Some, None, is_some, unwrap_or, nat_eq, IsSomeAnd}
 use Rattle.std.specs.HashMap.{get}
+use Rattle.std.specs.declared.cmp.PartialEq as PartialEq
+use Rattle.std.specs.declared.hash.Hash as Hash
 use Rattle.moka_hist.specs.Finite.{load_eq}
 use Rattle.moka_hist.specs.State.{DeskPart}
 use Rattle.moka_hist.specs.declared.loads.Load.{Load}
 use Rattle.moka_hist.specs.declared.visits.Settled.{Settled}
 use Rattle.moka_desk.specs.declared.loads.Loads.{Loads}
-
--- clones equal what they were made of
-abbrev pub IsExact : {A : Type 0} → (A → A → Type 0) → Type 0
-IsExact {A} is_clone = (x y : A) → is_clone x y → y ≡ x
 
 -- What the desk's part says of loads.
 pub record LoadPart (K V : Type 0) : Type 0 where
@@ -25,7 +23,7 @@ module _ {K V : Type 0} where
   load_part w = record { owners = w.owners; owning = w.owning; joined = w.joined; readers = w.readers; settled = w.settled }
 
 -- The maps are those that are kept, and each call owns the load that it is the owner of, and no other.
-pub record LoadsAre {K V : Type 0} (eq : K → K → Bool) (loads : Loads K V) (p : LoadPart K V) : Type 0 where
+pub record LoadsAre {K V : Type 0} {same : PartialEq.Ghosts K} {hash : Hash.Ghosts K} (eq : K → K → Bool) (loads : Loads K V same hash) (p : LoadPart K V) : Type 0 where
   pub owners : (l : Load K) → get (load_eq eq) loads.owners l ≡ p.owners l
   pub owning : (n : ℕ) → get nat_eq loads.owning n ≡ p.owning n
   pub joined : (n : ℕ) → get nat_eq loads.joined n ≡ p.joined n

@@ -1,18 +1,20 @@
 //! The loads that calls own and wait for.
 
-ghost use Rattle.std.specs.Prelude.{◌≡◌, ℕ, ◌+◌, ◌-◌, ◌≤◌, ◌<◌, ◌==◌, ◌&&◌, Bool, nat_lt, cond, Option, is_some, unwrap_or, nat_eq, OnOk, OnErr, IfOk, IfSome};
-ghost use Rattle.std.specs.HashMap.{get, spare, hash_map_len};
+ghost use Rattle.std.specs.Prelude.{◌≡◌, ℕ, ◌+◌, ◌-◌, ◌≤◌, ◌<◌, ◌==◌, ◌&&◌, Bool, nat_lt, cond, Option, Some, None, is_some, unwrap_or, nat_eq, OnOk, OnErr, IfOk, IfSome, if◌then◌else◌};
+ghost use Rattle.moka_desk.specs.Exact.{IsExact};
+ghost use Rattle.std.specs.HashMap.{get, spare, hash_map_len, Updates};
 
 use moka_hist::{Claim, Load, Settled};
 use std::alloc::AllocError;
 use std::alloc::Global;
 use std::collections::HashMap;
+use std::hash::Hash;
 
 /// The owners of loads with what each owns, those that wait for an owner, how many wait for each,
 /// and how owners ended that somebody has still to read. Each owner has the place of its
 /// settlement.
 #[derive(Drop)]
-pub(crate) struct Loads<K, V> {
+pub(crate) struct Loads<K: Eq + Hash, V> {
     pub(crate) owners: HashMap<Load<K>, u64>,
     pub(crate) owning: HashMap<u64, Load<K>>,
     pub(crate) joined: HashMap<u64, u64>,
@@ -24,9 +26,10 @@ pub(crate) struct Loads<K, V> {
 impl<K: Eq + Hash + Clone + Drop, V: Drop> Loads<K, V> {
     ghost use Rattle.moka_hist.specs.Finite.{load_eq, put_at, put_key};
     ghost use Rattle.moka_hist.specs.State.{DeskPart};
+    ghost use Rattle.moka_hist.specs.declared.loads.Load.{Load as load_of};
     ghost use Rattle.moka_hist.specs.Visits.{claim_of, claimed, read, readers_without, settled_without, settled_as, owners_without, settlement_for};
     ghost use Rattle.moka_hist.specs.Dropping.{left};
-    ghost use Rattle.moka_desk.specs.Loads.{IsExact, LoadPart, load_part, LoadsAre};
+    ghost use Rattle.moka_desk.specs.Loads.{LoadPart, load_part, LoadsAre};
 
     /// Nothing is owned, and nobody waits.
     pub(crate) fn new(alloc: Global) -> Self
@@ -50,14 +53,19 @@ impl<K: Eq + Hash + Clone + Drop, V: Drop> Loads<K, V> {
         ensures err { OnErr result ((w : DeskPart K V) → LoadsAre K.eq self.old (load_part w) → LoadsAre K.eq self.new (load_part w)) }
     {
         match self.owners.get(&load).copied() {
-            Some(owner) => self.join(call, owner),
-            None => self.own(call, load),
+            Some(owner) => {
+                self.join(call, owner)?;
+                Ok(Claim::Waits { owner })
+            }
+            None => {
+                self.own(call, load)?;
+                Ok(Claim::Owner)
+            }
         }
     }
 
     // Lets the call wait for the owner.
-    fn join(&mut self, call: u64, owner: u64) -> Result<Claim, AllocError>
-        ensures finds { IfOk result (λ claim. claim ≡ Claim.Waits owner) }
+    fn join(&mut self, call: u64, owner: u64) -> Result<(), AllocError>
         ensures ok { OnOk result ((p : LoadPart K V) → LoadsAre K.eq self.old p → LoadsAre K.eq self.new (record p { joined = put_at p.joined call (Some owner); readers = put_at p.readers owner (p.readers owner + 1) })) }
         ensures err { OnErr result ((p : LoadPart K V) → LoadsAre K.eq self.old p → LoadsAre K.eq self.new p) }
     {
@@ -65,34 +73,38 @@ impl<K: Eq + Hash + Clone + Drop, V: Drop> Loads<K, V> {
         self.joined.reserve(1)?;
         self.readers.insert(owner, waiting)?;
         match self.joined.insert(call, owner) {
-            Ok(_) => Ok(Claim::Waits { owner }),
+            Ok(_) => Ok(()),
             Err(_) => unreachable!(),
         }
     }
 
     // Makes the call the owner of the load, which has no owner.
-    fn own(&mut self, call: u64, load: Load<K>) -> Result<Claim, AllocError>
+    fn own(&mut self, call: u64, load: Load<K>) -> Result<(), AllocError>
         requires exact { IsExact K.is_clone }
         requires free { get (load_eq K.eq) self.old.owners load ≡ None }
-        ensures finds { IfOk result (λ claim. claim ≡ Claim.Owner) }
         ensures ok { OnOk result ((p : LoadPart K V) → LoadsAre K.eq self.old p → LoadsAre K.eq self.new (record p { owners = put_key (load_eq K.eq) p.owners load (Some call); owning = put_at p.owning call (Some load) })) }
         ensures err { OnErr result ((p : LoadPart K V) → LoadsAre K.eq self.old p → LoadsAre K.eq self.new p) }
     {
         if self.owning.contains_key(&call) {
             return Err(AllocError);
         }
-        let own = load.clone()?;
+        let own = copy_of(&load)?;
+        self.make_room()?;
+        put(&mut self.owners, own, call);
+        put(&mut self.owning, call, load);
+        Ok(())
+    }
+
+    // Makes room for one more owner, with the place of its settlement.
+    fn make_room(&mut self) -> Result<(), AllocError>
+        ensures same { (p : LoadPart K V) → LoadsAre K.eq self.old p → LoadsAre K.eq self.new p }
+        ensures room { OnOk result ((0 < spare self.new.owners) × (0 < spare self.new.owning) × (hash_map_len self.new.owning < spare self.new.settled)) }
+        ensures owners { (l : load_of K) → get (load_eq K.eq) self.new.owners l ≡ get (load_eq K.eq) self.old.owners l }
+        ensures owning { (n : ℕ) → get nat_eq self.new.owning n ≡ get nat_eq self.old.owning n }
+    {
         self.settled.reserve(self.owning.len() + 1)?;
         self.owners.reserve(1)?;
-        self.owning.reserve(1)?;
-        match self.owners.insert(own, call) {
-            Ok(_) => {}
-            Err(_) => unreachable!(),
-        }
-        match self.owning.insert(call, load) {
-            Ok(_) => Ok(Claim::Owner),
-            Err(_) => unreachable!(),
-        }
+        self.owning.reserve(1)
     }
 
     // How many wait for the owner.
@@ -100,5 +112,29 @@ impl<K: Eq + Hash + Clone + Drop, V: Drop> Loads<K, V> {
         ensures { result ≡ unwrap_or (get nat_eq self.now.readers owner) 0 }
     {
         self.readers.get(&owner).copied().unwrap_or(0)
+    }
+}
+
+// An equal load.
+fn copy_of<K: Eq + Hash + Clone + Drop>(load: &Load<K>) -> Result<Load<K>, AllocError>
+    requires { IsExact K.is_clone }
+    ensures { IfOk result (λ copy. copy ≡ load.now) }
+{
+    let key = load.key.clone()?;
+    Ok(Load {
+        key,
+        kind: load.kind,
+    })
+}
+
+// Puts the value at the key, for which there is room.
+fn put<Q: Eq + Hash + Drop, T: Drop>(map: &mut HashMap<Q, T>, key: Q, value: T)
+    requires { 0 < spare map.old }
+    ensures updates { Updates Q.eq map.old map.new key (Some value) }
+    ensures len { hash_map_len map.new ≡ hash_map_len map.old + (if is_some (get Q.eq map.old key) then 0 else 1) }
+{
+    match map.insert(key, value) {
+        Ok(_) => {}
+        Err(_) => unreachable!(),
     }
 }
