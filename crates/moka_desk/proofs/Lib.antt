@@ -2,3 +2,4 @@ pub mod Standing
 pub mod Holders
 pub mod SameLoads
 pub mod Owners
+pub mod Waiting

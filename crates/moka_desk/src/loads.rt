@@ -1,7 +1,9 @@
 //! The loads that calls own and wait for.
 
-ghost use Rattle.std.specs.Prelude.{◌≡◌, ℕ, ◌+◌, ◌-◌, ◌≤◌, ◌<◌, ◌==◌, ◌&&◌, Bool, nat_lt, cond, Option, Some, None, is_some, unwrap_or, nat_eq, OnOk, OnErr, IfOk, IfSome, if◌then◌else◌};
+ghost use Rattle.std.specs.Prelude.{◌≡◌, ℕ, ◌+◌, ◌-◌, ◌≤◌, ◌<◌, ◌==◌, ◌&&◌, Bool, nat_lt, cond, Option, Some, None, is_some, IsSome, unwrap_or, nat_eq, OnOk, OnErr, IfOk, IfSome, if◌then◌else◌};
 ghost use Rattle.moka_desk.specs.Exact.{IsExact};
+ghost use Rattle.std.specs.Bool.{OnTrue};
+ghost use Rattle.std.specs.Option.{option_and_then};
 ghost use Rattle.std.specs.HashMap.{get, spare, hash_map_len, Updates};
 
 use moka_hist::{Claim, Load, Settled};
@@ -27,6 +29,8 @@ impl<K: Eq + Hash + Clone + Drop, V: Drop> Loads<K, V> {
     ghost use Rattle.moka_hist.specs.Finite.{load_eq, put_at, put_key};
     ghost use Rattle.moka_hist.specs.State.{DeskPart};
     ghost use Rattle.moka_hist.specs.declared.loads.Load.{Load as load_of};
+    ghost use Rattle.moka_hist.specs.declared.visits.Settled.TheVariants as settled;
+    ghost use Rattle.moka_hist.specs.declared.writes.Write.{Write};
     ghost use Rattle.moka_hist.specs.Visits.{claim_of, claimed, read, readers_without, settled_without, settled_as, owners_without, settlement_for};
     ghost use Rattle.moka_hist.specs.Dropping.{left};
     ghost use Rattle.moka_desk.specs.Loads.{LoadPart, load_part, LoadsAre};
@@ -107,11 +111,143 @@ impl<K: Eq + Hash + Clone + Drop, V: Drop> Loads<K, V> {
         self.owning.reserve(1)
     }
 
+    /// Reads how the owner ended that the call waits for: NotYet where it has not, or the call waits
+    /// for nobody. A call that has read it waits no longer, and the last one takes it away. For want
+    /// of memory nothing was read.
+    pub(crate) fn read(&mut self, call: u64) -> Result<Settled<V>, AllocError>
+    where
+        V: Clone,
+        requires { IsExact V.is_clone }
+        ensures finds { IfOk result (λ found. (w : DeskPart K V) → LoadsAre K.eq self.old (load_part w) → found ≡ unwrap_or (settlement_for w call) settled.NotYet) }
+        ensures ok { OnOk result ((w : DeskPart K V) → LoadsAre K.eq self.old (load_part w) → LoadsAre K.eq self.new (load_part (read w call))) }
+        ensures err { OnErr result (self.new ≡ self.old) }
+    {
+        match self.settlement_for(call)? {
+            Some(settlement) => {
+                self.stop_waiting(call);
+                Ok(settlement)
+            }
+            None => Ok(Settled::NotYet),
+        }
+    }
+
+    /// Ends what the call owns, and keeps how it ended for those that wait for it.
+    pub(crate) fn settle(&mut self, call: u64, with: Settled<V>)
+        ensures { (w : DeskPart K V) → LoadsAre K.eq self.old (load_part w) → LoadsAre K.eq self.new (load_part (settled_as w call with)) }
+    {
+        let awaited = self.readers_of(call) > 0;
+        self.end(call, with, awaited);
+    }
+
+    /// The call waits for nobody and owns nothing any more; those that wait for it read that it was
+    /// dropped.
+    pub(crate) fn leave(&mut self, call: u64)
+        ensures { (w : DeskPart K V) (held : Option Write) → LoadsAre K.eq self.old (load_part w) → LoadsAre K.eq self.new (load_part (left w call held)) }
+    {
+        let awaited = self.readers_of(call) > 0;
+        self.stop_waiting(call);
+        self.end(call, Settled::Aborted, awaited);
+    }
+
+    // How the owner ended that the call waits for, if it has.
+    fn settlement_for(&self, call: u64) -> Result<Option<Settled<V>>, AllocError>
+    where
+        V: Clone,
+        requires { IsExact V.is_clone }
+        ensures { IfOk result (λ found. found ≡ option_and_then (get nat_eq self.now.settled) (get nat_eq self.now.joined call)) }
+    {
+        let Some(owner) = self.joined.get(&call) else {
+            return Ok(None);
+        };
+        match self.settled.get(owner) {
+            Some(settlement) => {
+                let copy = settlement_copy(settlement)?;
+                Ok(Some(copy))
+            }
+            None => Ok(None),
+        }
+    }
+
+    // The call waits no longer.
+    fn stop_waiting(&mut self, call: u64)
+        ensures { (w : DeskPart K V) → LoadsAre K.eq self.old (load_part w) → LoadsAre K.eq self.new (record (load_part w) { joined = put_at w.joined call None; readers = readers_without w call; settled = settled_without w call }) }
+    {
+        if let Some(owner) = self.joined.remove(&call) {
+            self.release(owner);
+        }
+    }
+
+    // One that waited for the owner is gone; the last takes away how it ended.
+    fn release(&mut self, owner: u64)
+        ensures { (p : LoadPart K V) → LoadsAre K.eq self.old p → LoadsAre K.eq self.new (record p { readers = put_at p.readers owner (p.readers owner - 1); settled = cond (p.readers owner == 1) (put_at p.settled owner None) p.settled }) }
+    {
+        match self.readers_of(owner) {
+            0 => {}
+            1 => {
+                let _ = self.readers.remove(&owner);
+                let _ = self.settled.remove(&owner);
+            }
+            waiting => lower(&mut self.readers, owner, waiting - 1),
+        }
+    }
+
+    // Ends what the call owns. Where somebody waits for it, that it ended so is kept.
+    fn end(&mut self, call: u64, with: Settled<V>, awaited: bool)
+        ensures { (w : DeskPart K V) → LoadsAre K.eq self.old (load_part w) → LoadsAre K.eq self.new (record (load_part w) { owners = owners_without w call; owning = put_at w.owning call None; settled = λ owner. cond (is_some (w.owning call) && awaited && call == owner) (Some with) (w.settled owner) }) }
+    {
+        let owned = self.disown(call);
+        if owned && awaited {
+            put(&mut self.settled, call, with);
+        }
+    }
+
+    // The call owns nothing from then on. Answers whether it owned a load, whose settlement then has
+    // a place.
+    fn disown(&mut self, call: u64) -> bool
+        ensures owned { result ≡ is_some (get nat_eq self.old.owning call) }
+        ensures room { OnTrue result (hash_map_len self.new.owning < spare self.new.settled) }
+        ensures makes { (w : DeskPart K V) → LoadsAre K.eq self.old (load_part w) → LoadsAre K.eq self.new (record (load_part w) { owners = owners_without w call; owning = put_at w.owning call None }) }
+    {
+        match self.owning.remove(&call) {
+            Some(load) => {
+                let _ = self.owners.remove(&load);
+                true
+            }
+            None => false,
+        }
+    }
+
     // How many wait for the owner.
     fn readers_of(&self, owner: u64) -> u64
         ensures { result ≡ unwrap_or (get nat_eq self.now.readers owner) 0 }
     {
         self.readers.get(&owner).copied().unwrap_or(0)
+    }
+}
+
+// An equal settlement.
+fn settlement_copy<V: Clone>(settlement: &Settled<V>) -> Result<Settled<V>, AllocError>
+    requires { IsExact V.is_clone }
+    ensures { IfOk result (λ copy. copy ≡ settlement.now) }
+{
+    match settlement {
+        Settled::NotYet => Ok(Settled::NotYet),
+        Settled::Ready(value) => {
+            let copy = value.clone()?;
+            Ok(Settled::Ready(copy))
+        }
+        Settled::Aborted => Ok(Settled::Aborted),
+    }
+}
+
+// Puts a number at a key that has one.
+fn lower(counts: &mut HashMap<u64, u64>, key: u64, count: u64)
+    requires { IsSome (get nat_eq counts.old key) }
+    ensures { (n : ℕ) → get nat_eq counts.new n ≡ cond (key == n) (Some count) (get nat_eq counts.old n) }
+{
+    match counts.insert(key, count) {
+        Ok(_) => {}
+        Err(_) => unreachable!(),
     }
 }
 
@@ -131,6 +267,7 @@ fn copy_of<K: Eq + Hash + Clone + Drop>(load: &Load<K>) -> Result<Load<K>, Alloc
 fn put<Q: Eq + Hash + Drop, T: Drop>(map: &mut HashMap<Q, T>, key: Q, value: T)
     requires { 0 < spare map.old }
     ensures updates { Updates Q.eq map.old map.new key (Some value) }
+    ensures spare { spare map.old ≤ spare map.new + 1 }
     ensures len { hash_map_len map.new ≡ hash_map_len map.old + (if is_some (get Q.eq map.old key) then 0 else 1) }
 {
     match map.insert(key, value) {
