@@ -2,3 +2,4 @@ pub mod Fallen
 pub mod Writes
 pub mod Exact
 pub mod Loads
+pub mod Asks

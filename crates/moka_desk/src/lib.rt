@@ -2,5 +2,6 @@
 #![tactic(auto)]
 
 mod applied;
+mod asks;
 mod loads;
 mod writes;
