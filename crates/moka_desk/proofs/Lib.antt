@@ -3,3 +3,4 @@ pub mod Holders
 pub mod SameLoads
 pub mod Owners
 pub mod Waiting
+pub mod Outcomes

@@ -1,6 +1,5 @@
 -- Owners and what they own, as one comes or goes.
 use Rattle.std.proofs.Common.{◌≡◌, ℕ, ◌==◌, Bool, true, false, cond, Option, Some, None, is_some, refl, sym, ap, ◌∙◌, subst}
-use Rattle.std.specs.Cmp.{IsEquivalence}
 use Rattle.std.specs.Option.{IsSomeAnd, option_map_or}
 use Rattle.std.proofs.lemmas.Bool.{eqb-true, eqb-false}
 use Rattle.moka_hist.specs.Finite.{put_at, put_key}
@@ -28,9 +27,11 @@ module _ {L : Type 0} (same : L → L → Bool) (owners : L → Option ℕ) (own
       here true e h =
           let gone : owning n ≡ None = ap owning (sym (eqb-true call n e)) ∙ none in
           absurd (subst (λ o. IsSomeAnd o (λ own. same own l ≡ true)) gone h)
+
       mine : (b : Bool) → (call == n) ≡ b → same load l ≡ true → call ≡ n → IsSomeAnd (cond b (Some load) (owning n)) (λ own. same own l ≡ true)
       mine true e s is = s
       mine false e s is = absurd (eqb-false call n e is)
+
       by : (b : Bool) → same load l ≡ b → cond b (Some call) (owners l) ≡ Some n → IsSomeAnd (put_at owning call (Some load) n) (λ own. same own l ≡ true)
       by true s is = let number : call ≡ n = cc in mine (call == n) refl s number
       by false s is = here (call == n) refl (owns l n is)
@@ -42,6 +43,7 @@ module _ {L : Type 0} (same : L → L → Bool) (owners : L → Option ℕ) (own
       other : (b : Bool) → same load l ≡ b → owners l ≡ Some n → cond b (Some call) (owners l) ≡ Some n
       other false s is = is
       other true s is = let no : None ≡ Some n = sym free ∙ alike l s ∙ is in cc
+
       by : (b : Bool) → (call == n) ≡ b → cond b (Some load) (owning n) ≡ Some l → cond (same load l) (Some call) (owners l) ≡ Some n
       by true e is =
           let it : load ≡ l = cc in
@@ -59,11 +61,13 @@ module _ {L : Type 0} (same : L → L → Bool) (owners : L → Option ℕ) (own
       here : (a : Bool) → (call == n) ≡ a → (n ≡ call → ⊥) → owners l ≡ Some n → IsSomeAnd (cond a None (owning n)) (λ own. same own l ≡ true)
       here false f apart is = owns l n is
       here true f apart is = absurd (apart (sym (eqb-true call n f)))
+
       tested : (m : ℕ) (b : Bool) → (m == call) ≡ b → owners l ≡ Some m → cond b None (Some m) ≡ Some n → IsSomeAnd (put_at owning call None n) (λ own. same own l ≡ true)
       tested m true e is h = let no : None ≡ Some n = h in cc
       tested m false e is h =
           let one : m ≡ n = cc in
           here (call == n) refl (λ it. eqb-false m call e (one ∙ it)) (is ∙ ap Some one)
+
       by : (o : Option ℕ) → owners l ≡ o → cond (option_map_or (λ m. m == call) o false) None o ≡ Some n → IsSomeAnd (put_at owning call None n) (λ own. same own l ≡ true)
       by None e is = let no : None ≡ Some n = is in cc
       by (Some m) e is = tested m (m == call) refl e is
@@ -74,6 +78,7 @@ module _ {L : Type 0} (same : L → L → Bool) (owners : L → Option ℕ) (own
       kept : (b : Bool) → (n == call) ≡ b → (call == n) ≡ false → cond b None (Some n) ≡ Some n
       kept false e f = refl
       kept true e f = absurd (eqb-false call n f (sym (eqb-true n call e)))
+
       by : (b : Bool) → (call == n) ≡ b → cond b None (owning n) ≡ Some l → but call l ≡ Some n
       by true e is = let no : None ≡ Some l = is in cc
       by false e is = rw (owned l n is) (kept (n == call) refl e)
@@ -87,6 +92,7 @@ module _ {L : Type 0} (same : L → L → Bool) (owners : L → Option ℕ) (own
       tested true n e is =
           let gone : owning n ≡ None = ap owning (eqb-true n call e) ∙ none in
           absurd (subst (λ o. IsSomeAnd o (λ own. same own l ≡ true)) gone (owns l n is))
+
       by : (o : Option ℕ) → owners l ≡ o → o ≡ cond (option_map_or (λ m. m == call) o false) None o
       by None e = refl
       by (Some n) e = tested (n == call) n refl e
@@ -99,6 +105,7 @@ module _ {L : Type 0} (same : L → L → Bool) (owners : L → Option ℕ) (own
       itself : (b : Bool) → (call == call) ≡ b → None ≡ cond b None (Some call)
       itself true e = refl
       itself false e = absurd (eqb-false call call e refl)
+
       tested : (b : Bool) (n : ℕ) → (n == call) ≡ b → same load l ≡ false → owners l ≡ Some n → Some n ≡ cond b None (Some n)
       tested false n e s is = refl
       tested true n e s is =
@@ -106,9 +113,11 @@ module _ {L : Type 0} (same : L → L → Bool) (owners : L → Option ℕ) (own
           let yes : same load l ≡ true = subst (λ o. IsSomeAnd o (λ own. same own l ≡ true)) mine (owns l n is) in
           let no : true ≡ false = sym yes ∙ s in
           cc
+
       other : (o : Option ℕ) → same load l ≡ false → owners l ≡ o → o ≡ cond (option_map_or (λ m. m == call) o false) None o
       other None s e = refl
       other (Some n) s e = tested (n == call) n refl s e
+
       by : (b : Bool) → same load l ≡ b → cond b None (owners l) ≡ but call l
       by false s = other (owners l) s refl
       by true s =

@@ -1,5 +1,5 @@
 -- Loads as keys of a hash map: what `==` on them answers.
-use Rattle.std.proofs.Common.{◌≡◌, Bool, true, ◌&&◌, refl, ap, sym, subst, ◌∙◌, Option}
+use Rattle.std.proofs.Common.{◌≡◌, Bool, true, ◌&&◌, refl, ap, sym, subst, ◌∙◌}
 use Rattle.std.specs.Cmp.{IsEquivalence}
 use Rattle.std.specs.HashMap.{HashMap, get, get_by}
 use Rattle.std.proofs.Math.Bool.{and-true}

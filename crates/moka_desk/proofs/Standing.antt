@@ -1,12 +1,11 @@
 -- The count of the records that stand, as one more write is applied.
-use Rattle.std.proofs.Common.{◌≡◌, ℕ, ◌+◌, ◌-◌, ◌≤◌, ◌==◌, eqb, Bool, true, false, not, cond, ◌||◌, eqb-true, List, [], ◌∷◌, ◌++◌, Option, Some, None, count_by, add-zero, zero-add, refl, sym, ap, ◌∙◌, subst, arith, rules}
-use Rattle.std.specs.List.{sum_by, list_any}
+use Rattle.std.proofs.Common.{◌≡◌, ℕ, ◌+◌, ◌≤◌, ◌==◌, Bool, true, false, not, cond, ◌||◌, eqb-true, List, [], ◌∷◌, ◌++◌, Option, Some, None, count_by, add-zero, zero-add, refl, sym, ap, ◌∙◌, arith}
+use Rattle.std.specs.List.{sum_by}
 use Rattle.std.specs.Option.{option_map_or}
 use Rattle.std.proofs.lemmas.List.Sums.{sum_by-cons, sum_by-append}
 use Rattle.std.proofs.lemmas.List.Folds.{list_any-append}
 use Rattle.std.proofs.Math.Bool.{or-false}
 use Rattle.std.proofs.lemmas.Bool.Decides.{nat_tests}
-use Rattle.std.proofs.lemmas.Grind.{common_steps}
 use mir.Val.{bool_byte}
 use Rattle.moka_hist.specs.Visits.{number_of, old_of, is_replaced, standing}
 use Rattle.moka_hist.specs.declared.writes.Write.{Write}
@@ -90,7 +89,7 @@ standing_then writes w =
     let after : ℕ → Bool = is_replaced (writes ++ w ∷ []) in
     let gone : ℕ → Bool = and_this (is_replaced writes) (old_of w) in
     let parts : standing (writes ++ w ∷ []) ≡ standing_but after writes + (0 + cond (not (after (number_of w))) 1 0) =
-        sum_by-append (λ v. cond (not (after (number_of v))) 1 0) writes (w ∷ []) in
+    sum_by-append (λ v. cond (not (after (number_of v))) 1 0) writes (w ∷ []) in
     let along : standing_but after writes ≡ standing_but gone writes = λ i. standing_but (λ n. gone_then writes w n i) writes in
     let rest : standing_but gone writes + fallen writes (old_of w) ≡ standing writes = falls (is_replaced writes) writes (old_of w) in
     let one = cond_not (after (number_of w)) in

@@ -3,3 +3,4 @@ pub mod Writes
 pub mod Exact
 pub mod Loads
 pub mod Asks
+pub mod StandsFor

@@ -1,5 +1,5 @@
 -- What the kept loads stand for.
-use Rattle.std.specs.Prelude.{◌≡◌, ℕ, ◌==◌, Bool, true, cond, ◌&&◌, Option, Some, None, is_some, unwrap_or, nat_eq, IsSomeAnd}
+use Rattle.std.specs.Prelude.{◌≡◌, ℕ, Bool, true, Option, Some, unwrap_or, nat_eq, IsSomeAnd}
 use Rattle.std.specs.HashMap.{get}
 use Rattle.std.specs.declared.cmp.PartialEq as PartialEq
 use Rattle.std.specs.declared.hash.Hash as Hash

@@ -9,10 +9,8 @@ ghost use Rattle.moka_hist.specs.declared.writes.Write.TheVariants as write_of;
 ghost use Rattle.moka_desk.specs.Fallen.{count_of, fallen};
 
 use moka_hist::Write;
-use std::alloc::AllocError;
-use std::alloc::Global;
-use std::collections::HashMap;
-use std::collections::HashSet;
+use std::alloc::{AllocError, Global};
+use std::collections::{HashMap, HashSet};
 
 /// The applied writes, oldest first, with the count of the records that they left standing, kept
 /// as they come. Each place that was reserved takes one more write without memory.

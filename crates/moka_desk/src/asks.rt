@@ -6,8 +6,7 @@ ghost use Rattle.moka_hist.specs.Telling.{does_take as takes_answer};
 ghost use Rattle.std.specs.HashMap.{get, spare, hash_map_len};
 
 use moka_hist::{Takes, Told};
-use std::alloc::AllocError;
-use std::alloc::Global;
+use std::alloc::{AllocError, Global};
 use std::collections::HashMap;
 
 /// What each open ask takes, and what was told to those that are closed and not taken yet. Each

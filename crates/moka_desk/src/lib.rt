@@ -3,5 +3,11 @@
 
 mod applied;
 mod asks;
+mod loading;
 mod loads;
+mod maps;
+mod state;
 mod writes;
+mod writing;
+
+pub use state::Desk;

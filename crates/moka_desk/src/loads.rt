@@ -6,9 +6,9 @@ ghost use Rattle.std.specs.Bool.{OnTrue};
 ghost use Rattle.std.specs.Option.{option_and_then};
 ghost use Rattle.std.specs.HashMap.{get, spare, hash_map_len, Updates};
 
+use crate::maps::{put, replace};
 use moka_hist::{Claim, Load, Settled};
-use std::alloc::AllocError;
-use std::alloc::Global;
+use std::alloc::{AllocError, Global};
 use std::collections::HashMap;
 use std::hash::Hash;
 
@@ -187,7 +187,7 @@ impl<K: Eq + Hash + Clone + Drop, V: Drop> Loads<K, V> {
                 let _ = self.readers.remove(&owner);
                 let _ = self.settled.remove(&owner);
             }
-            waiting => lower(&mut self.readers, owner, waiting - 1),
+            waiting => replace(&mut self.readers, owner, waiting - 1),
         }
     }
 
@@ -240,17 +240,6 @@ fn settlement_copy<V: Clone>(settlement: &Settled<V>) -> Result<Settled<V>, Allo
     }
 }
 
-// Puts a number at a key that has one.
-fn lower(counts: &mut HashMap<u64, u64>, key: u64, count: u64)
-    requires { IsSome (get nat_eq counts.old key) }
-    ensures { (n : ℕ) → get nat_eq counts.new n ≡ cond (key == n) (Some count) (get nat_eq counts.old n) }
-{
-    match counts.insert(key, count) {
-        Ok(_) => {}
-        Err(_) => unreachable!(),
-    }
-}
-
 // An equal load.
 fn copy_of<K: Eq + Hash + Clone + Drop>(load: &Load<K>) -> Result<Load<K>, AllocError>
     requires { IsExact K.is_clone }
@@ -261,17 +250,4 @@ fn copy_of<K: Eq + Hash + Clone + Drop>(load: &Load<K>) -> Result<Load<K>, Alloc
         key,
         kind: load.kind,
     })
-}
-
-// Puts the value at the key, for which there is room.
-fn put<Q: Eq + Hash + Drop, T: Drop>(map: &mut HashMap<Q, T>, key: Q, value: T)
-    requires { 0 < spare map.old }
-    ensures updates { Updates Q.eq map.old map.new key (Some value) }
-    ensures spare { spare map.old ≤ spare map.new + 1 }
-    ensures len { hash_map_len map.new ≡ hash_map_len map.old + (if is_some (get Q.eq map.old key) then 0 else 1) }
-{
-    match map.insert(key, value) {
-        Ok(_) => {}
-        Err(_) => unreachable!(),
-    }
 }

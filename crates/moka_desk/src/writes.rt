@@ -1,12 +1,11 @@
 //! The writes that were committed, in the places where the desk keeps them.
 
-ghost use Rattle.std.specs.Prelude.{◌≡◌, ℕ, ◌+◌, ◌≤◌, ◌<◌, ◌||◌, true, nat_lt, cond, [], ◌∷◌, ◌++◌, length, take, drop, is_some, option_to_list, OnOk, OnErr, IfOk};
+ghost use Rattle.std.specs.Prelude.{◌≡◌, ℕ, ◌+◌, ◌≤◌, ◌<◌, ◌||◌, true, nat_lt, cond, [], ◌∷◌, ◌++◌, length, take, drop, is_some, IsSome, option_to_list, OnOk, OnErr, IfOk};
 ghost use Rattle.std.specs.VecDeque.{deque_capacity};
 
 use crate::applied::Applied;
 use moka_hist::Write;
-use std::alloc::AllocError;
-use std::alloc::Global;
+use std::alloc::{AllocError, Global};
 use std::collections::VecDeque;
 
 /// The writes that dropped calls left, the log, and what was applied, each oldest first.
@@ -82,15 +81,25 @@ impl Writes {
         true
     }
 
-    /// A call leaves: the write that it held is owed from then on, or it gives its places up.
+    /// A call leaves: the write that it held is owed from then on. One that has a moment for its
+    /// write, and holds none yet, gives its places up.
     pub(crate) fn leave(&mut self, held: Option<Write>, stamped: bool)
-        requires { (is_some held || stamped) ≡ true → length self.old.owed.items + length self.old.log.items < self.old.applied.room }
+        requires { IsSome held → length self.old.owed.items + length self.old.log.items < self.old.applied.room }
         ensures makes { (call : ℕ) (p : WritePart) → WritesAre self.old p → ((is_some held || stamped) ≡ true → 0 < times call p.holders) → WritesAre self.new (record p { holders = without call p.holders; owed = p.owed ++ option_to_list held }) }
     {
         match held {
             Some(write) => self.owed.push_back_reserved(write),
-            None if stamped => self.applied.give_up(),
+            None if stamped => self.give_up(),
             None => {}
+        }
+    }
+
+    // Gives the places of one write up, if nobody else has them.
+    fn give_up(&mut self)
+        ensures { (call : ℕ) (p : WritePart) → WritesAre self.old p → 0 < times call p.holders → WritesAre self.new (record p { holders = without call p.holders }) }
+    {
+        if self.owed.len() + self.log.len() < self.applied.room {
+            self.applied.give_up();
         }
     }
 }
