@@ -1,10 +1,10 @@
 //! The writes that maintenance has applied, and how many records they left standing.
 
-ghost use Rattle.std.specs.Prelude.{◌≡◌, ℕ, ◌+◌, ◌-◌, ◌≤◌, ◌<◌, ◌==◌, ◌^◌, ◌||◌, false, cond, [], ◌∷◌, ◌++◌, length, count_by, unwrap_or, nat_eq, OnOk, OnErr, vec_len, vec_capacity};
+ghost use Rattle.std.specs.Prelude.{◌≡◌, ℕ, ◌+◌, ◌-◌, ◌≤◌, ◌<◌, ◌==◌, ◌^◌, ◌||◌, false, cond, [], ◌∷◌, ◌++◌, unwrap_or, nat_eq, OnOk, OnErr, vec_len, vec_capacity};
 ghost use Rattle.std.specs.Option.{option_map_or};
 ghost use Rattle.std.specs.HashMap.{get, spare};
 ghost use Rattle.std.specs.HashSet as hash_set;
-ghost use Rattle.moka_hist.specs.Visits.{number_of, is_replaced, standing as standing_of};
+ghost use Rattle.moka_hist.specs.Visits.{is_replaced, standing as standing_of};
 ghost use Rattle.moka_hist.specs.declared.writes.Write.TheVariants as write_of;
 ghost use Rattle.moka_desk.specs.Fallen.{count_of, fallen};
 

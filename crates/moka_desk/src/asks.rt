@@ -1,6 +1,6 @@
 //! The asks that calls have open, and the answers that they were told.
 
-ghost use Rattle.std.specs.Prelude.{◌≡◌, ℕ, ◌≤◌, cond, false, Option, Some, None, IsSome, nat_eq, OnOk, OnErr, if◌then◌else◌};
+ghost use Rattle.std.specs.Prelude.{◌≡◌, ◌≤◌, false, Option, Some, None, IsSome, nat_eq, OnOk, OnErr, if◌then◌else◌};
 ghost use Rattle.std.specs.Option.{option_map_or};
 ghost use Rattle.moka_hist.specs.Telling.{does_take as takes_answer};
 ghost use Rattle.std.specs.HashMap.{get, spare, hash_map_len};

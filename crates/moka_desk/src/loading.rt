@@ -1,6 +1,6 @@
 //! The visits that see to loads and asks, and a call that leaves.
 
-ghost use Rattle.std.specs.Prelude.{◌≡◌, ℕ, ◌<◌, false, IsSome, IfOk, OnOk, OnErr, if◌then◌else◌};
+ghost use Rattle.std.specs.Prelude.{◌≡◌, ◌<◌, false, IsSome, IfOk, OnOk, OnErr, if◌then◌else◌};
 
 use crate::Desk;
 use moka_hist::{Claim, Load, Settled, Takes, Told, Write};

@@ -1,10 +1,10 @@
 //! The loads that calls own and wait for.
 
-ghost use Rattle.std.specs.Prelude.{◌≡◌, ℕ, ◌+◌, ◌-◌, ◌≤◌, ◌<◌, ◌==◌, ◌&&◌, Bool, nat_lt, cond, Option, Some, None, is_some, IsSome, unwrap_or, nat_eq, OnOk, OnErr, IfOk, IfSome, if◌then◌else◌};
+ghost use Rattle.std.specs.Prelude.{◌≡◌, ℕ, ◌+◌, ◌-◌, ◌≤◌, ◌<◌, ◌==◌, ◌&&◌, cond, Option, Some, None, is_some, unwrap_or, nat_eq, OnOk, OnErr, IfOk, if◌then◌else◌};
 ghost use Rattle.moka_desk.specs.Exact.{IsExact};
 ghost use Rattle.std.specs.Bool.{OnTrue};
 ghost use Rattle.std.specs.Option.{option_and_then};
-ghost use Rattle.std.specs.HashMap.{get, spare, hash_map_len, Updates};
+ghost use Rattle.std.specs.HashMap.{get, spare, hash_map_len};
 
 use crate::maps::{put, replace};
 use moka_hist::{Claim, Load, Settled};

@@ -1,6 +1,6 @@
 //! The desk, its clock and its numbers.
 
-ghost use Rattle.std.specs.Prelude.{◌≡◌, ℕ, ◌+◌, ◌==◌, nat_lt, not, Option, Some, None, MatchOption, IfOk, if◌then◌else◌};
+ghost use Rattle.std.specs.Prelude.{◌≡◌, ◌+◌, ◌==◌, nat_lt, not, Option, Some, None, MatchOption, IfOk, if◌then◌else◌};
 
 use crate::asks::Asks;
 use crate::loads::Loads;
@@ -30,7 +30,7 @@ pub struct Desk<K: Eq + Hash, V> {
 impl<K: Eq + Hash + Clone + Drop, V: Drop> Desk<K, V> {
     ghost use Rattle.moka_hist.specs.State.{DeskPart, fresh_desk};
     ghost use Rattle.moka_hist.specs.Run.{last_call};
-    ghost use Rattle.moka_desk.specs.StandsFor.{StandsFor, Finds, Becomes, Makes, Stays, HasPlace};
+    ghost use Rattle.moka_desk.specs.StandsFor.{StandsFor, Becomes};
 
     /// A desk where nothing has happened, with a log of this many writes.
     pub fn new(alloc: Global, log: usize) -> Result<Self, AllocError>

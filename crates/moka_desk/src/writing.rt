@@ -1,6 +1,6 @@
 //! The visits that see to writes: owed, logged and applied.
 
-ghost use Rattle.std.specs.Prelude.{◌≡◌, ℕ, ◌<◌, IsSome, IsTrue, IfOk, OnOk, OnErr};
+ghost use Rattle.std.specs.Prelude.{◌<◌, IsTrue, IfOk, OnOk, OnErr};
 
 use crate::Desk;
 use crate::maps::put;
