@@ -8,7 +8,7 @@ use borrow.Author.Tests.{eqb-true}
 use Rattle.std.proofs.lemmas.Bool.Decides.{nat_tests}
 use Rattle.moka_hist.specs.Finite.{times, without}
 use Rattle.moka_sync.specs.declared.places.Place.{Place}
-use Rattle.moka_sync.specs.Waiting.{waits, IsListed, AreOnce}
+use Rattle.moka_sync.specs.Waiting.{Waiting, waits, IsListed, AreOnce}
 use Rattle.moka_sync.specs.Standing.{is_ticket, is_standing, standing_places, standing, places_of, AreBelow, AreKept}
 
 -- how often numbers stand in lists
@@ -223,3 +223,7 @@ length-none ((k, v) ∷ entries) none =
 -- nothing is kept of no places, where no call has a ticket
 pub AreKept-none : (f : ℕ → Option ℕ) → ((q : ℕ) → f q ≡ None) → AreKept f [] 0
 AreKept-none f none = record { counted = λ q. rw (none q) refl; below = tt }
+
+-- what a wait list shows, part by part
+pub Waiting-same : (calls calls' : List ℕ) (room room' : ℕ) → calls ≡ calls' → room ≡ room' → ◌≡◌ {A = Waiting} (record { calls = calls; room = room }) (record { calls = calls'; room = room' })
+Waiting-same calls calls' room room' c r = cc

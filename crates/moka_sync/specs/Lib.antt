@@ -2,3 +2,4 @@ pub mod Waiting
 pub mod Standing
 pub mod CallsLeft
 pub mod WaitView
+pub mod Holders

@@ -2,8 +2,14 @@
 #![tactic(auto)]
 
 mod call_list;
+mod event;
+mod mutex;
 mod places;
+mod rw_lock;
 mod wait_list;
 
 pub use call_list::{CallList, Calls};
+pub use event::Event;
+pub use mutex::PolledMutex;
+pub use rw_lock::PolledRwLock;
 pub use wait_list::WaitList;

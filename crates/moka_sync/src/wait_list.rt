@@ -54,7 +54,8 @@ impl WaitList {
 
     /// Answers how many calls wait.
     pub fn len(&self) -> usize
-        ensures { result ≡ length self.now.calls }
+        ensures len { result ≡ length self.now.calls }
+        ensures once { AreOnce self.now.calls }
     {
         self.tickets.len()
     }
@@ -78,9 +79,9 @@ impl WaitList {
     /// Answers an error where there is no memory, or where 2^64 waiters came since the list was last
     /// handed out; then nothing has changed.
     pub fn reserve(&mut self, additional: usize) -> Result<(), AllocError>
-        ensures calls { self.new.calls ≡ self.old.calls }
-        ensures ok { OnOk result (self.new.room ≡ self.old.room + additional) }
-        ensures err { OnErr result (self.new.room ≡ self.old.room) }
+        ensures ok { OnOk result
+            (self.new ≡ record self.old { room = self.old.room + additional }) }
+        ensures err { OnErr result (self.new ≡ self.old) }
     {
         let mut nodes = spare_nodes(self.alloc, additional)?;
         let room = self.spare.len() + additional;
@@ -97,9 +98,8 @@ impl WaitList {
     pub fn add_reserved(&mut self, call: u64)
         requires { 0 < self.old.room }
         ensures again { waits call self.old.calls ≡ true → self.new ≡ self.old }
-        ensures first { waits call self.old.calls ≡ false
-            → self.new.calls ≡ self.old.calls ++ call ∷ [] }
-        ensures room { waits call self.old.calls ≡ false → self.new.room + 1 ≡ self.old.room }
+        ensures first { waits call self.old.calls ≡ false → self.new ≡ record {
+            calls = self.old.calls ++ call ∷ []; room = self.old.room - 1 } }
     {
         if self.contains(call) {
             return;
@@ -115,8 +115,8 @@ impl WaitList {
     pub fn add(&mut self, call: u64) -> Result<(), AllocError>
         ensures listed { OnOk result (IsListed self.old.calls self.new.calls call) }
         ensures room { self.new.room ≡ self.old.room }
-        ensures err { OnErr result (self.new.calls ≡ self.old.calls) }
-        ensures new { OnErr result (waits call self.old.calls ≡ false) }
+        ensures err { OnErr result (self.new ≡ self.old) }
+        ensures unlisted { OnErr result (waits call self.old.calls ≡ false) }
     {
         if self.contains(call) {
             return Ok(());
@@ -128,8 +128,7 @@ impl WaitList {
 
     /// Takes the call off the list, if it waits.
     pub fn remove(&mut self, call: u64)
-        ensures calls { self.new.calls ≡ without call self.old.calls }
-        ensures room { self.new.room ≡ self.old.room }
+        ensures { self.new ≡ record self.old { calls = without call self.old.calls } }
     {
         self.tickets.remove(&call);
         sweep_stale(self.alloc, &self.tickets, &mut self.places);
@@ -139,8 +138,7 @@ impl WaitList {
     pub fn take_all(&mut self) -> CallList
         ensures all { result ≡ self.old.calls }
         ensures once { AreOnce result }
-        ensures calls { self.new.calls ≡ [] }
-        ensures room { self.new.room ≡ self.old.room }
+        ensures none { self.new ≡ record self.old { calls = [] } }
     {
         sweep(self.alloc, &self.tickets, &mut self.places);
         forget(&mut self.tickets, &self.places);

@@ -1,11 +1,11 @@
 -- The call gets the next ticket and the first spare node.
-use Rattle.std.proofs.Common.{◌≡◌, ◌∙◌, ◌++◌, ◌∷◌, [], ℕ, cond, None, Some, length, sym, ap, nat_eq, arith, length-append, length-drop, Bool, false}
+use Rattle.std.proofs.Common.{◌≡◌, ◌∙◌, ◌++◌, ◌∷◌, [], ◌-◌, ℕ, cond, None, Some, length, sym, ap, nat_eq, arith, length-append, length-drop, Bool, false}
 use Rattle.std.specs.HashMap.{get}
 use Rattle.moka_sync.specs.Waiting.{Waiting, waits}
 use Rattle.moka_sync.specs.WaitView.{view_of, IsWaitList}
 use Rattle.moka_sync.specs.declared.wait_list.WaitList.TheInside.{Inside}
 use Rattle.moka_sync.specs.Standing.{standing}
-use Rattle.moka_sync.proofs.Stands.{no-ticket, AreKept-list, AreKept-listed}
+use Rattle.moka_sync.proofs.Stands.{no-ticket, AreKept-list, AreKept-listed, Waiting-same}
 use Rattle.moka_sync.proofs.wait_list.WaitList.add_reserved.Goals as goal
 
 -- a call that does not wait has no ticket
@@ -45,4 +45,8 @@ returns-clause-first c =
     let calls : standing f w.places ≡ c.args.self.now.calls = ap (λ (v : Waiting). v.calls) c.self.view_is in
     let none = free w c.args.self.now c.args.call c.contains.result c.self.view_is c.self.invariant c.contains.ensures c.if-contains.false in
     let listed = AreKept-listed f g w.places c.args.call w.next none c.give_ticket.ensures.given c.self.invariant.kept in
-    λ _. rw (c.seat.ensures.places, listed) (ap (λ xs. xs ++ c.args.call ∷ []) calls)
+    let room : length w.spare ≡ c.args.self.now.room = ap (λ (v : Waiting). v.room) c.self.view_is in
+    let more : standing g c.seat.new.places ≡ c.args.self.now.calls ++ c.args.call ∷ [] =
+        rw (c.seat.ensures.places, listed) (ap (λ xs. xs ++ c.args.call ∷ []) calls) in
+    let less : length c.seat.new.spare ≡ c.args.self.now.room - 1 = rw (c.seat.ensures.spare, length-drop) (omega arith) in
+    λ _. Waiting-same _ _ _ _ more less

@@ -5,7 +5,7 @@ use Rattle.moka_hist.specs.Finite.{without}
 use Rattle.moka_sync.specs.declared.places.Place.{Place}
 use Rattle.moka_sync.specs.Waiting.{Waiting}
 use Rattle.moka_sync.specs.Standing.{standing}
-use Rattle.moka_sync.proofs.Stands.{AreKept-lost, AreKept-moved, standing-lost, length-lost}
+use Rattle.moka_sync.proofs.Stands.{AreKept-lost, AreKept-moved, standing-lost, length-lost, Waiting-same}
 use Rattle.moka_sync.proofs.wait_list.WaitList.remove.Goals as goal
 use Rattle.moka_sync.proofs.wait_list.WaitList.remove.Goals.{After-sweep_stale}
 
@@ -30,9 +30,10 @@ invariant_of-self c =
       nodes_fit = omega arith
     }
 
-pub returns-clause-calls : goal.returns-clause-calls
-returns-clause-calls c =
+pub returns : goal.returns
+returns c =
     let w = c.self.inside in
     let f = get nat_eq w.tickets in
     let g = get nat_eq c.remove.new.self in
-    swept c ∙ standing-lost f g c.args.call c.remove.ensures.updates.0 w.places ∙ ap (λ (v : Waiting). without c.args.call v.calls) c.self.view_is
+    let calls = swept c ∙ standing-lost f g c.args.call c.remove.ensures.updates.0 w.places ∙ ap (λ (v : Waiting). without c.args.call v.calls) c.self.view_is in
+    Waiting-same _ _ _ _ calls (ap (λ (v : Waiting). v.room) c.self.view_is)
