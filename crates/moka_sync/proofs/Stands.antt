@@ -1,6 +1,5 @@
 -- How the standing places change with the tickets and the places.
-use Rattle.std.proofs.Common.{◌≡◌, ℕ, suc, ◌+◌, ◌-◌, ◌<◌, ◌≤◌, ◌==◌, ◌||◌, eqb, nat_eq, eq-eqb, ltb, Bool, true, false, cond, List, [], ◌∷◌, ◌++◌, length, Option, None, Some, map, is_some, refl, sym, ap, ◌∙◌, arith, rules}
-use Rattle.std.specs.List.{filter}
+use Rattle.std.proofs.Common.{◌≡◌, ℕ, suc, ◌+◌, ◌≤◌, ◌==◌, ◌||◌, nat_eq, eq-eqb, ltb, Bool, true, false, cond, List, [], ◌∷◌, ◌++◌, length, Option, None, Some, is_some, refl, sym, ap, ◌∙◌, arith}
 use Rattle.std.specs.Map.{lookup}
 use Rattle.std.proofs.lemmas.List.Elements.{filter-append}
 use Rattle.std.proofs.lemmas.List.{map-append}
@@ -8,8 +7,8 @@ use borrow.Author.Tests.{eqb-true}
 use Rattle.std.proofs.lemmas.Bool.Decides.{nat_tests}
 use Rattle.moka_hist.specs.Finite.{times, without}
 use Rattle.moka_sync.specs.declared.places.Place.{Place}
-use Rattle.moka_sync.specs.Waiting.{Waiting, waits, IsListed, AreOnce}
-use Rattle.moka_sync.specs.Standing.{is_ticket, is_standing, standing_places, standing, places_of, AreBelow, AreKept}
+use Rattle.moka_sync.specs.Waiting.{Waiting, waits, AreOnce}
+use Rattle.moka_sync.specs.Standing.{is_standing, standing_places, standing, places_of, AreBelow, AreKept}
 
 -- how often numbers stand in lists
 
@@ -34,7 +33,6 @@ length-without c (x ∷ xs) = by (c == x) (length-without c xs) where
   by : (b : Bool) → length (without c xs) + times c xs ≡ length xs → length (cond b (without c xs) (x ∷ without c xs)) + cond b (times c xs + 1) (times c xs) ≡ suc (length xs)
   by true e = omega arith
   by false e = omega arith
-
 
 -- a call waits where it stands in the list
 pub waits-times : (c : ℕ) (xs : List ℕ) → waits c xs ≡ ltb 0 (times c xs)
@@ -123,8 +121,8 @@ AreKept-listed f g places c next free given kept =
 pub AreKept-list : (f g : ℕ → Option ℕ) (places : List Place) (c next : ℕ) → f c ≡ None → ((q : ℕ) → g q ≡ cond (c == q) (Some next) (f q)) → AreKept f places next → AreKept g (places ++ record { call = c; ticket = next } ∷ []) (next + 1)
 AreKept-list f g places c next free given kept = record {
   counted = λ q.
-    rw (AreKept-listed f g places c next free given kept, times-append q (standing f places) (c ∷ []), kept.counted q, given q) (by q (c == q) refl);
-  below = AreBelow-append (next + 1) places _ (AreBelow-more next (next + 1) places (omega arith) kept.below) (omega arith, tt)
+      rw (AreKept-listed f g places c next free given kept, times-append q (standing f places) (c ∷ []), kept.counted q, given q) (by q (c == q) refl);
+  below = AreBelow-append (next + 1) places _ (AreBelow-more next (next + 1) places (omega arith) kept.below) (omega arith, tt);
 } where
   by : (q : ℕ) (t : Bool) → (c == q) ≡ t → places_of (f q) + times q (c ∷ []) ≡ places_of (cond t (Some next) (f q))
   by q true e = rw (← eqb-true c q e, free, eq-eqb c c refl) refl
@@ -135,7 +133,7 @@ AreKept-list f g places c next free given kept = record {
 pub AreKept-lost : (f g : ℕ → Option ℕ) (places : List Place) (c next : ℕ) → ((q : ℕ) → g q ≡ cond (c == q) None (f q)) → AreKept f places next → AreKept g places next
 AreKept-lost f g places c next given kept = record {
   counted = λ q. rw (standing-lost f g c given places, times-without c q (standing f places), kept.counted q, given q) (by q (c == q));
-  below = kept.below
+  below = kept.below;
 } where
   by : (q : ℕ) (t : Bool) → cond t 0 (places_of (f q)) ≡ places_of (cond t None (f q))
   by q true = refl
@@ -144,13 +142,13 @@ AreKept-lost f g places c next given kept = record {
 pub AreKept-swept : (f : ℕ → Option ℕ) (places : List Place) (next : ℕ) → AreKept f places next → AreKept f (standing_places f places) next
 AreKept-swept f places next kept = record {
   counted = λ q. rw (standing_places-twice f places) (kept.counted q);
-  below = AreBelow-standing f next places kept.below
+  below = AreBelow-standing f next places kept.below;
 }
 
 pub AreKept-same : (f g : ℕ → Option ℕ) (places : List Place) (next : ℕ) → ((c : ℕ) → g c ≡ f c) → AreKept f places next → AreKept g places next
 AreKept-same f g places next same kept = record {
   counted = λ q. rw (standing-same f g same places, same q) (kept.counted q);
-  below = kept.below
+  below = kept.below;
 }
 
 -- a call waits where it has a ticket
@@ -163,7 +161,7 @@ waits-ticket f places next c kept = waits-times c (standing f places) ∙ ap (lt
 pub AreKept-moved : (f : ℕ → Option ℕ) (old new : List Place) (next : ℕ) → standing_places f new ≡ standing_places f old → (AreBelow next old → AreBelow next new) → AreKept f old next → AreKept f new next
 AreKept-moved f old new next same below kept = record {
   counted = λ q. rw same (kept.counted q);
-  below = below kept.below
+  below = below kept.below;
 }
 
 -- no call waits twice
@@ -177,9 +175,9 @@ AreOnce-kept f places next kept = λ c. rw (kept.counted c) (by (f c)) where
 pub length-lost : (f g : ℕ → Option ℕ) (places : List Place) (c next : ℕ) → ((q : ℕ) → g q ≡ cond (c == q) None (f q)) → AreKept f places next → length (standing g places) + cond (is_some (f c)) 1 0 ≡ length (standing f places)
 length-lost f g places c next given kept =
     rw (standing-lost f g c given places) (by (f c) (kept.counted c)) where
-  by : (o : Option ℕ) → times c (standing f places) ≡ places_of o → length (without c (standing f places)) + cond (is_some o) 1 0 ≡ length (standing f places)
-  by None e = omega (arith, length-without c (standing f places))
-  by (Some t) e = omega (arith, length-without c (standing f places))
+      by : (o : Option ℕ) → times c (standing f places) ≡ places_of o → length (without c (standing f places)) + cond (is_some o) 1 0 ≡ length (standing f places)
+      by None e = omega (arith, length-without c (standing f places))
+      by (Some t) e = omega (arith, length-without c (standing f places))
 
 pub waits-append : (q : ℕ) (xs ys : List ℕ) → waits q (xs ++ ys) ≡ (waits q xs || waits q ys)
 waits-append q [] ys = refl
@@ -207,11 +205,11 @@ pub gone-more : (first before after : ℕ → Option ℕ) (xs : List ℕ) (c q :
 gone-more first before after xs c q e so_far =
     let same : (q == c) ≡ (c == q) = grind (arith, nat_tests) in
     rw (e, so_far, waits-append q xs (c ∷ []), same) (by (waits q xs) (c == q) (first q)) where
-  by : (w t : Bool) (o : Option ℕ) → cond t None (cond w None o) ≡ cond (w || (t || false)) None o
-  by true true o = refl
-  by true false o = refl
-  by false true o = refl
-  by false false o = refl
+      by : (w t : Bool) (o : Option ℕ) → cond t None (cond w None o) ≡ cond (w || (t || false)) None o
+      by true true o = refl
+      by true false o = refl
+      by false true o = refl
+      by false false o = refl
 
 -- entries of which no key has a value are none
 pub length-none : (entries : List (ℕ × ℕ)) → ((q : ℕ) → lookup (nat_eq q) entries ≡ None) → length entries ≡ 0

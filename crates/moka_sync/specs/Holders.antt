@@ -1,5 +1,5 @@
 -- Who holds a lock, and who waits for it.
-use Rattle.std.specs.Prelude.{ℕ, ◌==◌, ◌||◌, Bool, true, false, not, List, [], ◌∷◌, Option, None, Some}
+use Rattle.std.specs.Prelude.{ℕ, ◌==◌, ◌||◌, Bool, false, not, List, [], ◌∷◌, Option, None, Some}
 use Rattle.moka_sync.specs.Waiting.{waits}
 
 -- what a mutex is seen as: the call that holds it, those that wait, in order, and how many more can be listed without memory

@@ -1,5 +1,5 @@
 -- Which places of a wait list stand: those whose call has their ticket still.
-use Rattle.std.specs.Prelude.{◌≡◌, ℕ, ◌==◌, ◌<◌, Bool, true, false, cond, List, [], ◌∷◌, Option, None, Some, map}
+use Rattle.std.specs.Prelude.{◌≡◌, ℕ, ◌==◌, ◌<◌, Bool, false, List, [], ◌∷◌, Option, None, Some, map}
 use Rattle.std.specs.List.{filter}
 use Rattle.moka_hist.specs.Finite.{times}
 use Rattle.moka_sync.specs.declared.places.Place.{Place}

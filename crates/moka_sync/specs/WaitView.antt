@@ -1,5 +1,5 @@
 -- What a wait list shows, and what holds of its parts.
-use Rattle.std.specs.Prelude.{◌≡◌, ℕ, ◌+◌, ◌<◌, ◌≤◌, ◌^◌, length, nat_eq}
+use Rattle.std.specs.Prelude.{◌≡◌, ◌+◌, ◌<◌, ◌≤◌, ◌^◌, length, nat_eq}
 use Rattle.std.specs.HashMap.{get, hash_map_len, spare}
 use Rattle.moka_sync.specs.Waiting.{Waiting}
 use Rattle.moka_sync.specs.Standing.{standing, AreKept}

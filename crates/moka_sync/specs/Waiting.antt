@@ -1,5 +1,5 @@
 -- Calls that wait, and are listed once each.
-use Rattle.std.specs.Prelude.{◌≡◌, ℕ, ◌+◌, ◌≤◌, ◌==◌, ◌||◌, Bool, true, false, List, [], ◌∷◌, ◌++◌}
+use Rattle.std.specs.Prelude.{◌≡◌, ℕ, ◌≤◌, ◌==◌, ◌||◌, Bool, true, false, List, [], ◌∷◌, ◌++◌}
 use Rattle.moka_hist.specs.Finite.{times}
 
 -- what a wait list is seen as: the calls that wait, the first to be listed first, and how many more can be listed without memory

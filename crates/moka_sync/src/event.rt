@@ -65,7 +65,9 @@ impl Event {
         requires { 0 < self.old.room }
         ensures again { waits call self.old.calls ≡ true → self.new ≡ self.old }
         ensures first { waits call self.old.calls ≡ false → self.new ≡ record {
-            calls = self.old.calls ++ call ∷ []; room = self.old.room - 1 } }
+          calls = self.old.calls ++ call ∷ [];
+          room = self.old.room - 1;
+        } }
     {
         self.listeners.add_reserved(call);
     }

@@ -13,3 +13,6 @@ pub use event::Event;
 pub use mutex::PolledMutex;
 pub use rw_lock::PolledRwLock;
 pub use wait_list::WaitList;
+
+#[cfg(test)]
+mod tests;

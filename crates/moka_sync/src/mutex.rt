@@ -88,7 +88,9 @@ impl PolledMutex {
         ensures room { OnTrue result (self.new.room ≡ self.old.room) }
         ensures again { OnFalse result (waits call self.old.waiting ≡ true → self.new ≡ self.old) }
         ensures first { OnFalse result (waits call self.old.waiting ≡ false → self.new ≡ record self.old {
-            waiting = self.old.waiting ++ call ∷ []; room = self.old.room - 1 }) }
+          waiting = self.old.waiting ++ call ∷ [];
+          room = self.old.room - 1;
+        }) }
     {
         if self.is_others(call) {
             self.waiters.add_reserved(call);
@@ -128,7 +130,9 @@ impl PolledMutex {
     /// Makes the call the holder, and takes it off the list.
     fn take(&mut self, call: u64)
         ensures { self.new ≡ record self.old {
-            holder = Some call; waiting = without call self.old.waiting } }
+          holder = Some call;
+          waiting = without call self.old.waiting;
+        } }
     {
         self.holder = Some(call);
         self.waiters.remove(call);

@@ -26,10 +26,11 @@ impl Model for PolledRwLock {
     ghost Value = { RwState };
 
     ghost view = { λ m. record {
-        writer = m.writer;
-        readers = m.readers.calls;
-        waiting = m.waiters.calls;
-        room = min m.readers.room m.waiters.room } };
+      writer = m.writer;
+      readers = m.readers.calls;
+      waiting = m.waiters.calls;
+      room = min m.readers.room m.waiters.room;
+    } };
 
     ghost invariant = { λ m. (call : ℕ) → m.writer ≡ Some call → m.readers.calls ≡ [] };
 }
@@ -120,13 +121,58 @@ impl PolledRwLock {
         Ok(true)
     }
 
+    /// Does as `try_read`, but takes no memory: it may take up room for one.
+    pub fn try_read_reserved(&mut self, call: u64) -> bool
+        requires { 0 < self.old.room }
+        ensures free { result ≡ is_none self.old.writer }
+        ensures writer { self.new.writer ≡ self.old.writer }
+        ensures reads { OnTrue result (IsListed self.old.readers self.new.readers call) }
+        ensures off { OnTrue result (self.new.waiting ≡ without call self.old.waiting) }
+        ensures stays { OnFalse result (self.new.readers ≡ self.old.readers) }
+        ensures listed { OnFalse result (IsListed self.old.waiting self.new.waiting call) }
+        ensures room { self.old.room ≤ self.new.room + 1 }
+    {
+        if self.writer.is_some() {
+            self.waiters.add_reserved(call);
+            return false;
+        }
+        self.readers.add_reserved(call);
+        self.waiters.remove(call);
+        true
+    }
+
+    /// Does as `try_write`, but takes no memory: a call that was not listed takes up room for one.
+    pub fn try_write_reserved(&mut self, call: u64) -> bool
+        requires { 0 < self.old.room }
+        ensures free { result ≡ not (is_held_by_others self.old call) }
+        ensures takes { OnTrue result (self.new ≡ record self.old {
+          writer = Some call;
+          readers = [];
+          waiting = without call self.old.waiting;
+        }) }
+        ensures stays { OnFalse result (self.new.writer ≡ self.old.writer) }
+        ensures read { OnFalse result (self.new.readers ≡ self.old.readers) }
+        ensures listed { OnFalse result (IsListed self.old.waiting self.new.waiting call) }
+        ensures room { self.old.room ≤ self.new.room + 1 }
+    {
+        if self.is_held_by_others(call) {
+            self.waiters.add_reserved(call);
+            return false;
+        }
+        self.take_to_write(call);
+        true
+    }
+
     /// Gives up the lock, which the call holds, and hands out all that wait, in order; also where
     /// others read on.
     pub fn release(&mut self, call: u64) -> CallList
         requires { holds self.old call ≡ true }
         ensures all { result ≡ self.old.waiting }
         ensures free { self.new ≡ record self.old {
-            writer = None; readers = without call self.old.readers; waiting = [] } }
+          writer = None;
+          readers = without call self.old.readers;
+          waiting = [];
+        } }
     {
         prove!(self.holds(call));
         self.writer = None;
@@ -154,7 +200,10 @@ impl PolledRwLock {
     fn take_to_write(&mut self, call: u64)
         requires { is_held_by_others self.old call ≡ false }
         ensures { self.new ≡ record self.old {
-            writer = Some call; readers = []; waiting = without call self.old.waiting } }
+          writer = Some call;
+          readers = [];
+          waiting = without call self.old.waiting;
+        } }
     {
         self.readers.remove(call);
         self.writer = Some(call);

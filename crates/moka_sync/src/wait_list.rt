@@ -99,7 +99,9 @@ impl WaitList {
         requires { 0 < self.old.room }
         ensures again { waits call self.old.calls ≡ true → self.new ≡ self.old }
         ensures first { waits call self.old.calls ≡ false → self.new ≡ record {
-            calls = self.old.calls ++ call ∷ []; room = self.old.room - 1 } }
+          calls = self.old.calls ++ call ∷ [];
+          room = self.old.room - 1;
+        } }
     {
         if self.contains(call) {
             return;

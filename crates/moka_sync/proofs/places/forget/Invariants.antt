@@ -8,5 +8,5 @@ abbrev pub invariant-loop-place : goal.invariant-loop-place
 invariant-loop-place l = record {
   gone : (call : ℕ) → get nat_eq l.tickets call
       ≡ (if waits call (map (λ p. p.now.call) l.yielded) then None else get nat_eq l.initial.tickets call);
-  spare : spare l.initial.tickets ≤ spare l.tickets
+  spare : spare l.initial.tickets ≤ spare l.tickets;
 }

@@ -1,5 +1,5 @@
 -- One more place is kept where it stands.
-use Rattle.std.proofs.Common.{◌≡◌, ◌+◌, ◌≤◌, length, take, drop, nat_eq, sym, subst, List, arith, rules, length-take}
+use Rattle.std.proofs.Common.{◌≡◌, ◌+◌, take, drop, nat_eq, sym, arith, rules, length-take}
 use Rattle.std.specs.HashMap.{get}
 use Rattle.std.proofs.lemmas.List.{drop-drop}
 use Rattle.std.proofs.Math.Seq.{take-add}
@@ -13,8 +13,8 @@ loop-preserved c =
     let xs = c.args.places.now in
     let i = c.loop.counter in
     let kept : c.keep_standing.new.kept ≡ standing_places f (take (i + 1) xs) =
-        rw (c.keep_standing.ensures, c.loop.invariant.kept, c.take_first-node.ensures.first, c.loop.invariant.left, take-add i 1 xs)
-          (sym (standing_places-append f (take i xs) (take 1 (drop i xs)))) in
+    rw (c.keep_standing.ensures, c.loop.invariant.kept, c.take_first-node.ensures.first, c.loop.invariant.left, take-add i 1 xs)
+    (sym (standing_places-append f (take i xs) (take 1 (drop i xs)))) in
     let short = standing_places-short f (take (i + 1) xs) in
     let long = length-take (i + 1) xs in
     record {
@@ -22,5 +22,5 @@ loop-preserved c =
       kept = kept;
       short = rw kept (omega arith);
       few = search rules;
-      count = search rules
+      count = search rules;
     }

@@ -10,5 +10,5 @@ invariant-loop l = record {
   kept : l.kept ≡ standing_places (get nat_eq l.tickets) (take l.counter l.fn.places);
   short : length l.kept ≤ l.counter;
   few : l.count < 2 ^ 63;
-  count : l.count ≡ length l.fn.places
+  count : l.count ≡ length l.fn.places;
 }

@@ -1,5 +1,5 @@
 -- The call gets the next ticket and the first spare node.
-use Rattle.std.proofs.Common.{◌≡◌, ◌∙◌, ◌++◌, ◌∷◌, [], ◌-◌, ℕ, cond, None, Some, length, sym, ap, nat_eq, arith, length-append, length-drop, Bool, false}
+use Rattle.std.proofs.Common.{◌≡◌, ◌∙◌, ◌++◌, ◌∷◌, [], ◌-◌, ℕ, None, length, sym, ap, nat_eq, arith, length-append, length-drop, Bool, false}
 use Rattle.std.specs.HashMap.{get}
 use Rattle.moka_sync.specs.Waiting.{Waiting, waits}
 use Rattle.moka_sync.specs.WaitView.{view_of, IsWaitList}
@@ -18,7 +18,7 @@ give_ticket-requires c =
     let room : length c.self.inside.spare ≡ c.args.self.now.room = ap (λ (v : Waiting). v.room) c.self.view_is in
     record {
       room = omega arith;
-      free = free c.self.inside c.args.self.now c.args.call c.contains.result c.self.view_is c.self.invariant c.contains.ensures c.if-contains.false
+      free = free c.self.inside c.args.self.now c.args.call c.contains.result c.self.view_is c.self.invariant c.contains.ensures c.if-contains.false;
     }
 
 pub invariant_of-self : goal.invariant_of-self
@@ -34,7 +34,7 @@ invariant_of-self c =
       count = rw (c.seat.ensures.places, listed, length-append) (omega arith);
       map_room = rw (c.seat.ensures.spare, length-drop) (omega arith);
       tickets_left = rw (c.seat.ensures.spare, length-drop) (omega arith);
-      nodes_fit = rw (c.seat.ensures.spare, c.seat.ensures.places, length-append, length-drop) (omega arith)
+      nodes_fit = rw (c.seat.ensures.spare, c.seat.ensures.places, length-append, length-drop) (omega arith);
     }
 
 pub returns-clause-first : goal.returns-clause-first
@@ -47,6 +47,6 @@ returns-clause-first c =
     let listed = AreKept-listed f g w.places c.args.call w.next none c.give_ticket.ensures.given c.self.invariant.kept in
     let room : length w.spare ≡ c.args.self.now.room = ap (λ (v : Waiting). v.room) c.self.view_is in
     let more : standing g c.seat.new.places ≡ c.args.self.now.calls ++ c.args.call ∷ [] =
-        rw (c.seat.ensures.places, listed) (ap (λ xs. xs ++ c.args.call ∷ []) calls) in
+    rw (c.seat.ensures.places, listed) (ap (λ xs. xs ++ c.args.call ∷ []) calls) in
     let less : length c.seat.new.spare ≡ c.args.self.now.room - 1 = rw (c.seat.ensures.spare, length-drop) (omega arith) in
     λ _. Waiting-same _ _ _ _ more less

@@ -9,4 +9,4 @@ pub returns : goal.returns
 returns c =
     let w = c.self.inside in
     subst (λ (v : Waiting). c.contains_key.result ≡ waits c.args.call v.calls) c.self.view_is
-      (c.contains_key.ensures ∙ sym (waits-ticket (get nat_eq w.tickets) w.places w.next c.args.call c.self.invariant.kept))
+    (c.contains_key.ensures ∙ sym (waits-ticket (get nat_eq w.tickets) w.places w.next c.args.call c.self.invariant.kept))

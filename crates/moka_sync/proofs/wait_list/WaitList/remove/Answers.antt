@@ -1,6 +1,6 @@
 -- The call loses its ticket, and its place stands no more.
-use Rattle.std.proofs.Common.{◌≡◌, ◌∙◌, ◌+◌, ℕ, cond, None, is_some, length, map, sym, ap, nat_eq, arith}
-use Rattle.std.specs.HashMap.{get, hash_map_len}
+use Rattle.std.proofs.Common.{◌≡◌, ◌∙◌, ℕ, cond, None, length, map, ap, nat_eq, arith}
+use Rattle.std.specs.HashMap.{get}
 use Rattle.moka_hist.specs.Finite.{without}
 use Rattle.moka_sync.specs.declared.places.Place.{Place}
 use Rattle.moka_sync.specs.Waiting.{Waiting}
@@ -27,7 +27,7 @@ invariant_of-self c =
       count = rw (ap length (swept c)) (omega arith);
       map_room = omega arith;
       tickets_left = omega arith;
-      nodes_fit = omega arith
+      nodes_fit = omega arith;
     }
 
 pub returns : goal.returns

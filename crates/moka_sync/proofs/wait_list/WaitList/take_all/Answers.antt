@@ -1,8 +1,7 @@
 -- Nobody has a ticket, and there is no place.
-use Rattle.std.proofs.Common.{◌≡◌, ◌∙◌, ℕ, None, length, map, [], sym, ap, nat_eq, arith, rules, if◌then◌else◌}
-use Rattle.std.specs.HashMap.{get, hash_map_len}
-use Rattle.moka_sync.specs.declared.places.Place.{Place}
-use Rattle.moka_sync.specs.Waiting.{Waiting, waits}
+use Rattle.std.proofs.Common.{◌≡◌, ◌∙◌, ℕ, None, [], nat_eq, arith, if◌then◌else◌}
+use Rattle.std.specs.HashMap.{get}
+use Rattle.moka_sync.specs.Waiting.{waits}
 use Rattle.moka_sync.specs.Standing.{standing}
 use Rattle.moka_sync.proofs.Stands.{AreKept-none, tickets-gone, length-none}
 use Rattle.moka_sync.proofs.wait_list.WaitList.take_all.Goals as goal
@@ -20,5 +19,5 @@ invariant_of-self c =
       count = rw empty (length-none c.forget.new.tickets.entries none);
       map_room = omega arith;
       tickets_left = omega arith;
-      nodes_fit = rw empty (omega arith)
+      nodes_fit = rw empty (omega arith);
     }
