@@ -20,7 +20,7 @@ fn a_call_that_leaves_and_comes_again_is_last(rt: HostRuntime) -> Result<(), Fai
     for call in [5, 6, 5, 7] {
         list.add(call)?;
     }
-    assert_eq!(rt; list.len(), 3, "listed once");
+    assert_eq!(rt; list.len(), 3, "listed only once");
     list.remove(5);
     assert!(rt; !list.contains(5));
     list.add(5)?;
@@ -69,22 +69,31 @@ fn a_mutex_hands_out_all_that_waited(rt: HostRuntime) -> Result<(), Fail> {
 }
 
 #[test]
-fn a_reader_that_leaves_a_fellow_hands_out_the_writer(rt: HostRuntime) -> Result<(), Fail> {
+fn a_lock_hands_out_all_that_waited(rt: HostRuntime) -> Result<(), Fail> {
     let alloc = rt.alloc();
-    let mut lock = PolledRwLock::new(alloc);
-    lock.reserve(1)?;
-    assert!(rt; lock.try_read(1)?);
-    assert!(rt; lock.try_read(2)?);
-    assert!(rt; !lock.try_write(3)?);
-    assert!(rt; lock.holds(1));
-    let calls = lock.release(1);
-    assert_eq!(rt; calls_of(alloc, &calls)?.as_slice(), [3].as_slice());
-    assert!(rt; !lock.try_write(3)?, "one reads on");
-    assert!(rt; lock.try_write(2)?, "the one that reads");
-    assert!(rt; lock.try_write(2)?, "the writer again");
-    assert!(rt; !lock.try_read(2)?, "the writer, to read");
-    assert!(rt; lock.holds(2));
-    let calls = lock.release(2);
-    assert_eq!(rt; calls_of(alloc, &calls)?.as_slice(), [3, 2].as_slice());
+    // whether the call asks to write, and whether it gets the lock
+    let beside_a_fellow = [(1, false, true), (2, false, true), (3, true, false)];
+    let a_writer_again = [(1, false, true), (1, true, true), (1, true, true)];
+    let a_writer_to_read = [(1, true, true), (1, false, false), (2, false, false)];
+    let cases = [
+        (beside_a_fellow, [3].as_slice()),
+        (a_writer_again, [].as_slice()),
+        (a_writer_to_read, [1, 2].as_slice()),
+    ];
+    for (steps, waited) in cases {
+        let mut lock = PolledRwLock::new(alloc);
+        lock.reserve(1)?;
+        for (call, writes, want) in steps {
+            let taken = if writes {
+                lock.try_write(call)?
+            } else {
+                lock.try_read(call)?
+            };
+            assert_eq!(rt; taken, want, "call {call}");
+        }
+        assert!(rt; lock.holds(1));
+        let calls = lock.release(1);
+        assert_eq!(rt; calls_of(alloc, &calls)?.as_slice(), waited);
+    }
     Ok(())
 }
