@@ -14,13 +14,14 @@ has_others-times call (x ∷ xs) = by (call == x) (has_others-times call xs) (le
   by true e l = grind (arith, nat_tests)
   by false e l = grind (arith, nat_tests)
 
--- what the call has of the list: one where it waits, and nothing where it doesn't
+-- what the call has of the list where it waits
 pub times-waiting : (call : ℕ) (xs : List ℕ) → AreOnce xs → waits call xs ≡ true → times call xs ≡ 1
 times-waiting call xs once e =
     let some : ltb 0 (times call xs) ≡ true = sym (waits-times call xs) ∙ e in
     let most = once call in
     grind (arith, nat_tests)
 
+-- what it has of the list where it does not wait
 pub times-absent : (call : ℕ) (xs : List ℕ) → waits call xs ≡ false → times call xs ≡ 0
 times-absent call xs e =
     let none : ltb 0 (times call xs) ≡ false = sym (waits-times call xs) ∙ e in
@@ -34,6 +35,7 @@ without-alone call (x ∷ xs) e = by (call == x) e (without-alone call xs) where
   by true e rest = rest e
   by false e rest = cc
 
+-- where neither holds, the second does not
 pub right-false : (a b : Bool) → (a || b) ≡ false → b ≡ false
 right-false true b e = cc
 right-false false b e = e

@@ -19,6 +19,7 @@ times-append q (x ∷ xs) ys = by (q == x) (times-append q xs ys) where
   by true e = omega arith
   by false e = omega arith
 
+-- the call is gone, and each other number stands as often as before
 pub times-without : (c q : ℕ) (xs : List ℕ) → times q (without c xs) ≡ cond (c == q) 0 (times q xs)
 times-without c q [] = by (c == q) where
   by : (b : Bool) → ◌≡◌ {A = ℕ} 0 (cond b 0 0)
@@ -45,9 +46,11 @@ waits-times c (x ∷ xs) = by (c == x) (waits-times c xs) where
 -- places that stand
 
 module _ (f : ℕ → Option ℕ) where
+  -- what stands of two chains
   pub standing_places-append : (xs ys : List Place) → standing_places f (xs ++ ys) ≡ standing_places f xs ++ standing_places f ys
   standing_places-append xs ys = filter-append (is_standing f) xs ys
 
+  -- no more places stand than there are
   pub standing_places-short : (xs : List Place) → length (standing_places f xs) ≤ length xs
   standing_places-short [] = omega arith
   standing_places-short (p ∷ ps) = by (is_standing f p) (standing_places-short ps) where
@@ -66,11 +69,6 @@ module _ (f : ℕ → Option ℕ) where
   -- a new place that stands comes at the end
   pub standing-append : (xs ys : List Place) → standing f (xs ++ ys) ≡ standing f xs ++ standing f ys
   standing-append xs ys = rw (standing_places-append xs ys) (map-append (λ (p : Place). p.call) (standing_places f xs) (standing_places f ys))
-
--- places stand by the tickets of their calls alone
-pub standing-same : (f g : ℕ → Option ℕ) → ((c : ℕ) → g c ≡ f c) → (xs : List Place) → standing_places g xs ≡ standing_places f xs
-standing-same f g same [] = refl
-standing-same f g same (p ∷ ps) = rw (same p.call, standing-same f g same ps) refl
 
 -- where a call without ticket gets the next one, all places stand as before
 pub standing-ticket : (f g : ℕ → Option ℕ) (c next : ℕ) → f c ≡ None → ((q : ℕ) → g q ≡ cond (c == q) (Some next) (f q)) → (xs : List Place) → AreBelow next xs → standing_places g xs ≡ standing_places f xs
@@ -99,10 +97,12 @@ pub AreBelow-append : (n : ℕ) (xs ys : List Place) → AreBelow n xs → AreBe
 AreBelow-append n [] ys h k = k
 AreBelow-append n (p ∷ ps) ys (h, hs) k = (h, AreBelow-append n ps ys hs k)
 
+-- below a ticket is below a later one
 pub AreBelow-more : (m n : ℕ) (xs : List Place) → m ≤ n → AreBelow m xs → AreBelow n xs
 AreBelow-more m n [] l h = tt
 AreBelow-more m n (p ∷ ps) l (h, hs) = (omega arith, AreBelow-more m n ps l hs)
 
+-- what stands of a chain below a ticket
 pub AreBelow-standing : (f : ℕ → Option ℕ) (n : ℕ) (xs : List Place) → AreBelow n xs → AreBelow n (standing_places f xs)
 AreBelow-standing f n [] h = tt
 AreBelow-standing f n (p ∷ ps) (h, hs) = by (is_standing f p) (AreBelow-standing f n ps hs) where
@@ -118,6 +118,7 @@ AreKept-listed f g places c next free given kept =
     let stands : is_standing g new ≡ true = rw (given c, eq-eqb c c refl) (eq-eqb next next refl) in
     rw (standing-append g places (new ∷ []), standing-ticket f g c next free given places kept.below, stands) refl
 
+-- the new place is kept with the others
 pub AreKept-list : (f g : ℕ → Option ℕ) (places : List Place) (c next : ℕ) → f c ≡ None → ((q : ℕ) → g q ≡ cond (c == q) (Some next) (f q)) → AreKept f places next → AreKept g (places ++ record { call = c; ticket = next } ∷ []) (next + 1)
 AreKept-list f g places c next free given kept = record {
   counted = λ q.
@@ -130,6 +131,7 @@ AreKept-list f g places c next free given kept = record {
       let other : (q == c) ≡ false = grind (arith, nat_tests) in
       rw other (omega arith)
 
+-- the others are kept where a call loses its ticket
 pub AreKept-lost : (f g : ℕ → Option ℕ) (places : List Place) (c next : ℕ) → ((q : ℕ) → g q ≡ cond (c == q) None (f q)) → AreKept f places next → AreKept g places next
 AreKept-lost f g places c next given kept = record {
   counted = λ q. rw (standing-lost f g c given places, times-without c q (standing f places), kept.counted q, given q) (by q (c == q));
@@ -139,18 +141,6 @@ AreKept-lost f g places c next given kept = record {
   by q true = refl
   by q false = refl
 
-pub AreKept-swept : (f : ℕ → Option ℕ) (places : List Place) (next : ℕ) → AreKept f places next → AreKept f (standing_places f places) next
-AreKept-swept f places next kept = record {
-  counted = λ q. rw (standing_places-twice f places) (kept.counted q);
-  below = AreBelow-standing f next places kept.below;
-}
-
-pub AreKept-same : (f g : ℕ → Option ℕ) (places : List Place) (next : ℕ) → ((c : ℕ) → g c ≡ f c) → AreKept f places next → AreKept g places next
-AreKept-same f g places next same kept = record {
-  counted = λ q. rw (standing-same f g same places, same q) (kept.counted q);
-  below = kept.below;
-}
-
 -- a call waits where it has a ticket
 pub waits-ticket : (f : ℕ → Option ℕ) (places : List Place) (next c : ℕ) → AreKept f places next → waits c (standing f places) ≡ is_some (f c)
 waits-ticket f places next c kept = waits-times c (standing f places) ∙ ap (ltb 0) (kept.counted c) ∙ by (f c) where
@@ -158,6 +148,7 @@ waits-ticket f places next c kept = waits-times c (standing f places) ∙ ap (lt
   by None = refl
   by (Some t) = refl
 
+-- what is kept depends on the places that stand alone
 pub AreKept-moved : (f : ℕ → Option ℕ) (old new : List Place) (next : ℕ) → standing_places f new ≡ standing_places f old → (AreBelow next old → AreBelow next new) → AreKept f old next → AreKept f new next
 AreKept-moved f old new next same below kept = record {
   counted = λ q. rw same (kept.counted q);
@@ -179,6 +170,7 @@ length-lost f g places c next given kept =
       by None e = omega (arith, length-without c (standing f places))
       by (Some t) e = omega (arith, length-without c (standing f places))
 
+-- a call waits in two lists where it waits in one
 pub waits-append : (q : ℕ) (xs ys : List ℕ) → waits q (xs ++ ys) ≡ (waits q xs || waits q ys)
 waits-append q [] ys = refl
 waits-append q (x ∷ xs) ys = by (q == x) (waits-append q xs ys) where
