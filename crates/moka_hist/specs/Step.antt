@@ -1,10 +1,10 @@
 -- One step of a call: one access, and what follows from its answer.
-use Rattle.std.specs.Prelude.{◌≡◌, ℕ, Bool, true, false, List, [], ◌∷◌, Some}
+use Rattle.std.specs.Prelude.{◌≢◌, ◌<◌, suc, zero, ◌≡◌, ℕ, Bool, true, false, List, [], ◌∷◌, Some}
 use Rattle.moka_hist.specs.Finite.{put_at}
 use Rattle.moka_hist.specs.State.{Call, World, State}
 use Rattle.moka_hist.specs.Plan.{Item}
 use Rattle.moka_hist.specs.Plan as plan
-use Rattle.moka_hist.specs.Visits.{finds, makes}
+use Rattle.moka_hist.specs.Visits.{finds, makes, MayVisit}
 use Rattle.moka_hist.specs.Tables.{table_answer, table_after}
 use Rattle.moka_hist.specs.Next.{Next, goes, waits}
 use Rattle.moka_hist.specs.Posting.{after_drain, after_post, after_turn, after_apply, after_end}
@@ -27,6 +27,7 @@ use Rattle.moka_hist.specs.declared.accesses.Want.TheVariants as want
 use Rattle.moka_hist.specs.declared.accesses.Got.{Got}
 use Rattle.moka_hist.specs.declared.accesses.Got.TheVariants as got
 use Rattle.moka_hist.specs.declared.accesses.Turn.{Turn}
+use Rattle.moka_hist.specs.declared.accesses.Turn.TheVariants as turns
 
 -- what a call does to the world in one step: a step of a table operation, or a visit of the desk
 pub data Access (K V : Type 0) : Type 0 where
@@ -126,3 +127,44 @@ module _ {K V : Type 0} where
     pub gets : Gets eq s.world (access_of n call) given world
     pub turns : turn ≡ (next_of n call given).turn
     pub after : new ≡ state_after s n world (next_of n call given)
+
+module _ {K V : Type 0} where
+  -- what the world must have for an access: what the desk must have for a visit
+  abbrev pub May : World K V → Access K V → Type 0
+  May w (On_desk made) = MayVisit w.desk made
+  May w (On_table operation) = Unit {0}
+
+  -- one step of a call by itself: how it goes on, and the world then
+  pub record Moves (eq : K → K → Bool) (n : ℕ) (c : Call K V) (w : World K V) (next : Next K V) (new : World K V) : Type 0 where
+    pub given : Got K V
+    pub gets : Gets eq w (access_of n c) given new
+    pub goes : next ≡ next_of n c given
+
+  -- the call is still live, and goes on as d
+  abbrev pub going_as : Call K V → Next K V
+  going_as d = record { left = Some d; turn = turns.Going }
+
+  -- k steps of a call by itself, each of which leaves it going
+  unfoldable pub MovesOn : (K → K → Bool) → ℕ → ℕ → Call K V → World K V → Call K V → World K V → Type 0
+  MovesOn eq zero n c w d new = (d ≡ c) × (new ≡ w)
+  MovesOn eq (suc k) n c w d new =
+    (b : Call K V) × (mid : World K V) × MovesOn eq k n c w b mid × Moves eq n b mid (going_as d) new
+
+  -- steps of a call by itself, all of which leave it going but the last, which doesn't
+  pub record Polled (eq : K → K → Bool) (n : ℕ) (c : Call K V) (w : World K V) (next : Next K V) (new : World K V) : Type 0 where
+    pub going : ℕ
+    pub call : Call K V
+    pub mid : World K V
+    pub goes : MovesOn eq going n c w call mid
+    pub last : Moves eq n call mid next new
+    pub ends : next.turn ≢ turns.Going
+
+  -- the world has what each step of the call needs, as long as it goes on by itself
+  abbrev pub IsSafe : (K → K → Bool) → ℕ → Call K V → World K V → Type 0
+  IsSafe eq n c w = (k : ℕ) (d : Call K V) (mid : World K V) → MovesOn eq k n c w d mid → May mid (access_of n d)
+
+  -- accesses with what they gave, by which the call goes on from c to d, always going
+  abbrev pub Leads : ℕ → Call K V → List (Access K V × Got K V) → Call K V → Type 0
+  Leads n c [] d = d ≡ c
+  Leads n c (made ∷ more) d =
+    (mid : Call K V) × (made.0 ≡ access_of n c) × (next_of n c made.1 ≡ going_as mid) × Leads n mid more d

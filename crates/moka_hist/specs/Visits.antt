@@ -1,8 +1,8 @@
 -- The visits of the desk: what each finds, and what it changes.
-use Rattle.std.specs.Prelude.{ℕ, ◌+◌, ◌-◌, ◌==◌, nat_lt, max, Bool, true, false, not, cond, ◌&&◌, List, [], ◌∷◌, ◌++◌, length, take, drop, Option, Some, None, is_some, unwrap_or}
+use Rattle.std.specs.Prelude.{◌<◌, ℕ, ◌+◌, ◌-◌, ◌==◌, nat_lt, max, Bool, true, false, not, cond, ◌&&◌, List, [], ◌∷◌, ◌++◌, length, take, drop, Option, Some, None, is_some, unwrap_or}
 use Rattle.std.specs.Option.{option_map_or, option_and_then}
 use Rattle.std.specs.List.{list_any, count_by}
-use Rattle.moka_hist.specs.Finite.{put_at, put_key, load_eq, without_one}
+use Rattle.moka_hist.specs.Finite.{times, put_at, put_key, load_eq, without_one}
 use Rattle.moka_hist.specs.State.{DeskPart}
 use Rattle.moka_hist.specs.declared.loads.Load.{Load}
 use Rattle.moka_hist.specs.declared.writes.Write.{Write}
@@ -178,3 +178,8 @@ module _ {K V : Type 0} where
   makes eq w (visit.TakeTurn call) = took_turn w call
   makes eq w (visit.ApplyOne call) = applied_one w
   makes eq w (visit.EndTurn call) = ended_turn w
+
+  -- what the desk must have for it: the place of a write that is posted
+  abbrev pub MayVisit : DeskPart K V → Visit K V → Type 0
+  MayVisit w (visit.PostWrite call write) = 0 < times call w.holders
+  MayVisit w _ = Unit {0}

@@ -1,5 +1,7 @@
 //! What a call wants next, what it gets, and what its step replies.
 
+ghost use Rattle.std.specs.Prelude.{◌≡◌, ◌↔◌, IsTrue};
+
 use crate::{Answer, Ask, Found, TableOp, TableTurn, Visit};
 
 /// The one access of a step: a table operation's first step, a further step of it, or a visit.
@@ -25,4 +27,18 @@ pub enum Turn<V> {
     Wait,
     Ask(Ask),
     Answer(Answer<V>),
+}
+
+impl<V> Turn<V> {
+    /// Whether the call goes on by itself.
+    pub fn is_going(&self) -> bool
+        ensures { IsTrue result ↔ (self.now ≡ Turn.Going) }
+    {
+        match self {
+            Turn::Going => true,
+            Turn::Wait => false,
+            Turn::Ask(_) => false,
+            Turn::Answer(_) => false,
+        }
+    }
 }

@@ -1,5 +1,7 @@
 //! The operations of a table, and what they answer.
 
+ghost use Rattle.std.specs.Prelude.{◌≡◌, ◌↔◌, IsTrue};
+
 use crate::Stored;
 
 /// An operation on the table's map.
@@ -21,4 +23,16 @@ pub enum TableAnswer<K, V> {
 pub enum TableTurn<K, V> {
     Going,
     Decided(TableAnswer<K, V>),
+}
+
+impl<K, V> TableTurn<K, V> {
+    /// Whether the operation is still undecided.
+    pub fn is_going(&self) -> bool
+        ensures { IsTrue result ↔ (self.now ≡ TableTurn.Going) }
+    {
+        match self {
+            TableTurn::Going => true,
+            TableTurn::Decided(_) => false,
+        }
+    }
 }

@@ -1,0 +1,6 @@
+-- What holds in any case holds in one.
+use Rattle.std.proofs.Common.{Result, Ok, Err, OnErr}
+
+pub on_err : {T E P : Type 0} (r : Result T E) → P → OnErr r P
+on_err (Ok x) h = tt
+on_err (Err e) h = h

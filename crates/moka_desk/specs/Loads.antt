@@ -1,0 +1,33 @@
+-- What the kept loads stand for.
+use Rattle.std.specs.Prelude.{◌≡◌, ℕ, Bool, true, Option, Some, unwrap_or, nat_eq, IsSomeAnd}
+use Rattle.std.specs.HashMap.{get}
+use Rattle.std.specs.declared.cmp.PartialEq as PartialEq
+use Rattle.std.specs.declared.hash.Hash as Hash
+use Rattle.moka_hist.specs.Finite.{load_eq}
+use Rattle.moka_hist.specs.State.{DeskPart}
+use Rattle.moka_hist.specs.declared.loads.Load.{Load}
+use Rattle.moka_hist.specs.declared.visits.Settled.{Settled}
+use Rattle.moka_desk.specs.declared.loads.Loads.{Loads}
+
+-- What the desk's part says of loads.
+pub record LoadPart (K V : Type 0) : Type 0 where
+  pub owners : Load K → Option ℕ
+  pub owning : ℕ → Option (Load K)
+  pub joined : ℕ → Option ℕ
+  pub readers : ℕ → ℕ
+  pub settled : ℕ → Option (Settled V)
+
+module _ {K V : Type 0} where
+  -- that part of it
+  abbrev pub load_part : DeskPart K V → LoadPart K V
+  load_part w = record { owners = w.owners; owning = w.owning; joined = w.joined; readers = w.readers; settled = w.settled }
+
+-- The maps are those that are kept, and each call owns the load that it is the owner of, and no other.
+pub record LoadsAre {K V : Type 0} {same : PartialEq.Ghosts K} {hash : Hash.Ghosts K} (eq : K → K → Bool) (loads : Loads K V same hash) (p : LoadPart K V) : Type 0 where
+  pub owners : (l : Load K) → get (load_eq eq) loads.owners l ≡ p.owners l
+  pub owning : (n : ℕ) → get nat_eq loads.owning n ≡ p.owning n
+  pub joined : (n : ℕ) → get nat_eq loads.joined n ≡ p.joined n
+  pub readers : (n : ℕ) → unwrap_or (get nat_eq loads.readers n) 0 ≡ p.readers n
+  pub settled : (n : ℕ) → get nat_eq loads.settled n ≡ p.settled n
+  pub owns : (l : Load K) (n : ℕ) → p.owners l ≡ Some n → IsSomeAnd (p.owning n) (λ own. load_eq eq own l ≡ true)
+  pub owned : (l : Load K) (n : ℕ) → p.owning n ≡ Some l → p.owners l ≡ Some n

@@ -1,0 +1,253 @@
+//! The loads that calls own and wait for.
+
+ghost use Rattle.std.specs.Prelude.{◌≡◌, ℕ, ◌+◌, ◌-◌, ◌≤◌, ◌<◌, ◌==◌, ◌&&◌, Bool, nat_lt, cond, Option, Some, None, is_some, IsSome, unwrap_or, nat_eq, OnOk, OnErr, IfOk, IfSome, if◌then◌else◌};
+ghost use Rattle.moka_desk.specs.Exact.{IsExact};
+ghost use Rattle.std.specs.Bool.{OnTrue};
+ghost use Rattle.std.specs.Option.{option_and_then};
+ghost use Rattle.std.specs.HashMap.{get, spare, hash_map_len, Updates};
+
+use crate::maps::{put, replace};
+use moka_hist::{Claim, Load, Settled};
+use std::alloc::{AllocError, Global};
+use std::collections::HashMap;
+use std::hash::Hash;
+
+/// The owners of loads with what each owns, those that wait for an owner, how many wait for each,
+/// and how owners ended that somebody has still to read. Each owner has the place of its
+/// settlement.
+#[derive(Drop)]
+pub(crate) struct Loads<K: Eq + Hash, V> {
+    pub(crate) owners: HashMap<Load<K>, u64>,
+    pub(crate) owning: HashMap<u64, Load<K>>,
+    pub(crate) joined: HashMap<u64, u64>,
+    pub(crate) readers: HashMap<u64, u64>,
+    pub(crate) settled: HashMap<u64, Settled<V>>,
+    ghost settlements_have_places: { hash_map_len owning ≤ spare settled },
+}
+
+impl<K: Eq + Hash + Clone + Drop, V: Drop> Loads<K, V> {
+    ghost use Rattle.moka_hist.specs.Finite.{load_eq, put_at, put_key};
+    ghost use Rattle.moka_hist.specs.State.{DeskPart};
+    ghost use Rattle.moka_hist.specs.declared.loads.Load.{Load as load_of};
+    ghost use Rattle.moka_hist.specs.declared.visits.Settled.TheVariants as settled;
+    ghost use Rattle.moka_hist.specs.declared.writes.Write.{Write};
+    ghost use Rattle.moka_hist.specs.Visits.{claim_of, claimed, read, readers_without, settled_without, settled_as, owners_without, settlement_for};
+    ghost use Rattle.moka_hist.specs.Dropping.{left};
+    ghost use Rattle.moka_desk.specs.Loads.{LoadPart, load_part, LoadsAre};
+
+    /// Nothing is owned, and nobody waits.
+    pub(crate) fn new(alloc: Global) -> Self
+        ensures { LoadsAre K.eq result (record { owners = λ _. None; owning = λ _. None; joined = λ _. None; readers = λ _. 0; settled = λ _. None }) }
+    {
+        Loads {
+            owners: HashMap::new(alloc),
+            owning: HashMap::new(alloc),
+            joined: HashMap::new(alloc),
+            readers: HashMap::new(alloc),
+            settled: HashMap::new(alloc),
+        }
+    }
+
+    /// Makes the call the owner of a load that nobody owns, or lets it wait for the owner. A call
+    /// owns one load at a time: there is no place for a second.
+    pub(crate) fn claim(&mut self, call: u64, load: Load<K>) -> Result<Claim, AllocError>
+        requires { IsExact K.is_clone }
+        ensures finds { IfOk result (λ claim. (w : DeskPart K V) → LoadsAre K.eq self.old (load_part w) → claim ≡ claim_of (w.owners load)) }
+        ensures ok { OnOk result ((w : DeskPart K V) → LoadsAre K.eq self.old (load_part w) → LoadsAre K.eq self.new (load_part (claimed K.eq w call load (w.owners load)))) }
+        ensures err { OnErr result ((w : DeskPart K V) → LoadsAre K.eq self.old (load_part w) → LoadsAre K.eq self.new (load_part w)) }
+    {
+        match self.owners.get(&load).copied() {
+            Some(owner) => {
+                self.join(call, owner)?;
+                Ok(Claim::Waits { owner })
+            }
+            None => {
+                self.own(call, load)?;
+                Ok(Claim::Owner)
+            }
+        }
+    }
+
+    // Lets the call wait for the owner.
+    fn join(&mut self, call: u64, owner: u64) -> Result<(), AllocError>
+        ensures ok { OnOk result ((p : LoadPart K V) → LoadsAre K.eq self.old p → LoadsAre K.eq self.new (record p { joined = put_at p.joined call (Some owner); readers = put_at p.readers owner (p.readers owner + 1) })) }
+        ensures err { OnErr result ((p : LoadPart K V) → LoadsAre K.eq self.old p → LoadsAre K.eq self.new p) }
+    {
+        let waiting = self.readers_of(owner).checked_add(1).ok_or(AllocError)?;
+        self.joined.reserve(1)?;
+        self.readers.insert(owner, waiting)?;
+        match self.joined.insert(call, owner) {
+            Ok(_) => Ok(()),
+            Err(_) => unreachable!(),
+        }
+    }
+
+    // Makes the call the owner of the load, which has no owner.
+    fn own(&mut self, call: u64, load: Load<K>) -> Result<(), AllocError>
+        requires exact { IsExact K.is_clone }
+        requires free { get (load_eq K.eq) self.old.owners load ≡ None }
+        ensures ok { OnOk result ((p : LoadPart K V) → LoadsAre K.eq self.old p → LoadsAre K.eq self.new (record p { owners = put_key (load_eq K.eq) p.owners load (Some call); owning = put_at p.owning call (Some load) })) }
+        ensures err { OnErr result ((p : LoadPart K V) → LoadsAre K.eq self.old p → LoadsAre K.eq self.new p) }
+    {
+        if self.owning.contains_key(&call) {
+            return Err(AllocError);
+        }
+        let own = copy_of(&load)?;
+        self.make_room()?;
+        put(&mut self.owners, own, call);
+        put(&mut self.owning, call, load);
+        Ok(())
+    }
+
+    // Makes room for one more owner, with the place of its settlement.
+    fn make_room(&mut self) -> Result<(), AllocError>
+        ensures same { (p : LoadPart K V) → LoadsAre K.eq self.old p → LoadsAre K.eq self.new p }
+        ensures room { OnOk result ((0 < spare self.new.owners) × (0 < spare self.new.owning) × (hash_map_len self.new.owning < spare self.new.settled)) }
+        ensures owners { (l : load_of K) → get (load_eq K.eq) self.new.owners l ≡ get (load_eq K.eq) self.old.owners l }
+        ensures owning { (n : ℕ) → get nat_eq self.new.owning n ≡ get nat_eq self.old.owning n }
+    {
+        self.settled.reserve(self.owning.len() + 1)?;
+        self.owners.reserve(1)?;
+        self.owning.reserve(1)
+    }
+
+    /// Reads how the owner ended that the call waits for: NotYet where it has not, or the call waits
+    /// for nobody. A call that has read it waits no longer, and the last one takes it away. For want
+    /// of memory nothing was read.
+    pub(crate) fn read(&mut self, call: u64) -> Result<Settled<V>, AllocError>
+    where
+        V: Clone,
+        requires { IsExact V.is_clone }
+        ensures finds { IfOk result (λ found. (w : DeskPart K V) → LoadsAre K.eq self.old (load_part w) → found ≡ unwrap_or (settlement_for w call) settled.NotYet) }
+        ensures ok { OnOk result ((w : DeskPart K V) → LoadsAre K.eq self.old (load_part w) → LoadsAre K.eq self.new (load_part (read w call))) }
+        ensures err { OnErr result (self.new ≡ self.old) }
+    {
+        match self.settlement_for(call)? {
+            Some(settlement) => {
+                self.stop_waiting(call);
+                Ok(settlement)
+            }
+            None => Ok(Settled::NotYet),
+        }
+    }
+
+    /// Ends what the call owns, and keeps how it ended for those that wait for it.
+    pub(crate) fn settle(&mut self, call: u64, with: Settled<V>)
+        ensures { (w : DeskPart K V) → LoadsAre K.eq self.old (load_part w) → LoadsAre K.eq self.new (load_part (settled_as w call with)) }
+    {
+        let awaited = self.readers_of(call) > 0;
+        self.end(call, with, awaited);
+    }
+
+    /// The call waits for nobody and owns nothing any more; those that wait for it read that it was
+    /// dropped.
+    pub(crate) fn leave(&mut self, call: u64)
+        ensures { (w : DeskPart K V) (held : Option Write) → LoadsAre K.eq self.old (load_part w) → LoadsAre K.eq self.new (load_part (left w call held)) }
+    {
+        let awaited = self.readers_of(call) > 0;
+        self.stop_waiting(call);
+        self.end(call, Settled::Aborted, awaited);
+    }
+
+    // How the owner ended that the call waits for, if it has.
+    fn settlement_for(&self, call: u64) -> Result<Option<Settled<V>>, AllocError>
+    where
+        V: Clone,
+        requires { IsExact V.is_clone }
+        ensures { IfOk result (λ found. found ≡ option_and_then (get nat_eq self.now.settled) (get nat_eq self.now.joined call)) }
+    {
+        let Some(owner) = self.joined.get(&call) else {
+            return Ok(None);
+        };
+        match self.settled.get(owner) {
+            Some(settlement) => {
+                let copy = settlement_copy(settlement)?;
+                Ok(Some(copy))
+            }
+            None => Ok(None),
+        }
+    }
+
+    // The call waits no longer.
+    fn stop_waiting(&mut self, call: u64)
+        ensures { (w : DeskPart K V) → LoadsAre K.eq self.old (load_part w) → LoadsAre K.eq self.new (record (load_part w) { joined = put_at w.joined call None; readers = readers_without w call; settled = settled_without w call }) }
+    {
+        if let Some(owner) = self.joined.remove(&call) {
+            self.release(owner);
+        }
+    }
+
+    // One that waited for the owner is gone; the last takes away how it ended.
+    fn release(&mut self, owner: u64)
+        ensures { (p : LoadPart K V) → LoadsAre K.eq self.old p → LoadsAre K.eq self.new (record p { readers = put_at p.readers owner (p.readers owner - 1); settled = cond (p.readers owner == 1) (put_at p.settled owner None) p.settled }) }
+    {
+        match self.readers_of(owner) {
+            0 => {}
+            1 => {
+                let _ = self.readers.remove(&owner);
+                let _ = self.settled.remove(&owner);
+            }
+            waiting => replace(&mut self.readers, owner, waiting - 1),
+        }
+    }
+
+    // Ends what the call owns. Where somebody waits for it, that it ended so is kept.
+    fn end(&mut self, call: u64, with: Settled<V>, awaited: bool)
+        ensures { (w : DeskPart K V) → LoadsAre K.eq self.old (load_part w) → LoadsAre K.eq self.new (record (load_part w) { owners = owners_without w call; owning = put_at w.owning call None; settled = λ owner. cond (is_some (w.owning call) && awaited && call == owner) (Some with) (w.settled owner) }) }
+    {
+        let owned = self.disown(call);
+        if owned && awaited {
+            put(&mut self.settled, call, with);
+        }
+    }
+
+    // The call owns nothing from then on. Answers whether it owned a load, whose settlement then has
+    // a place.
+    fn disown(&mut self, call: u64) -> bool
+        ensures owned { result ≡ is_some (get nat_eq self.old.owning call) }
+        ensures room { OnTrue result (hash_map_len self.new.owning < spare self.new.settled) }
+        ensures makes { (w : DeskPart K V) → LoadsAre K.eq self.old (load_part w) → LoadsAre K.eq self.new (record (load_part w) { owners = owners_without w call; owning = put_at w.owning call None }) }
+    {
+        match self.owning.remove(&call) {
+            Some(load) => {
+                let _ = self.owners.remove(&load);
+                true
+            }
+            None => false,
+        }
+    }
+
+    // How many wait for the owner.
+    fn readers_of(&self, owner: u64) -> u64
+        ensures { result ≡ unwrap_or (get nat_eq self.now.readers owner) 0 }
+    {
+        self.readers.get(&owner).copied().unwrap_or(0)
+    }
+}
+
+// An equal settlement.
+fn settlement_copy<V: Clone>(settlement: &Settled<V>) -> Result<Settled<V>, AllocError>
+    requires { IsExact V.is_clone }
+    ensures { IfOk result (λ copy. copy ≡ settlement.now) }
+{
+    match settlement {
+        Settled::NotYet => Ok(Settled::NotYet),
+        Settled::Ready(value) => {
+            let copy = value.clone()?;
+            Ok(Settled::Ready(copy))
+        }
+        Settled::Aborted => Ok(Settled::Aborted),
+    }
+}
+
+// An equal load.
+fn copy_of<K: Eq + Hash + Clone + Drop>(load: &Load<K>) -> Result<Load<K>, AllocError>
+    requires { IsExact K.is_clone }
+    ensures { IfOk result (λ copy. copy ≡ load.now) }
+{
+    let key = load.key.clone()?;
+    Ok(Load {
+        key,
+        kind: load.kind,
+    })
+}

@@ -1,0 +1,124 @@
+//! The desk, its clock and its numbers.
+
+ghost use Rattle.std.specs.Prelude.{◌≡◌, ℕ, ◌+◌, ◌==◌, nat_lt, not, Option, Some, None, MatchOption, IfOk, if◌then◌else◌};
+
+use crate::asks::Asks;
+use crate::loads::Loads;
+use crate::writes::Writes;
+use moka_hist::Write;
+use std::alloc::{AllocError, Global};
+use std::collections::{HashMap, VecDeque};
+use std::hash::Hash;
+
+/// What calls leave for one another: the clock, the writes that aren't applied yet, the owners of
+/// loads and those that wait for them, and open asks. Moments are nanoseconds, and calls go by their
+/// numbers. A call that takes a moment, owns a load or opens an ask gets the places of what follows,
+/// so that a later visit never fails for want of memory where its signature has no error.
+#[derive(Drop)]
+pub struct Desk<K: Eq + Hash, V> {
+    pub(crate) clock: u64,
+    pub(crate) accessed: HashMap<u64, u64>,
+    pub(crate) pending: HashMap<u64, u64>,
+    pub(crate) turn: Option<u64>,
+    pub(crate) published: u64,
+    pub(crate) last: u64,
+    pub(crate) writes: Writes,
+    pub(crate) loads: Loads<K, V>,
+    pub(crate) asks: Asks<V>,
+}
+
+impl<K: Eq + Hash + Clone + Drop, V: Drop> Desk<K, V> {
+    ghost use Rattle.moka_hist.specs.State.{DeskPart, fresh_desk};
+    ghost use Rattle.moka_hist.specs.Run.{last_call};
+    ghost use Rattle.moka_desk.specs.StandsFor.{StandsFor};
+
+    /// A desk where nothing has happened, with a log of this many writes.
+    pub fn new(alloc: Global, log: usize) -> Result<Self, AllocError>
+        ensures { IfOk result (λ desk. StandsFor K.eq desk (fresh_desk K V log)) }
+    {
+        Desk::starting_after(alloc, log, 0)
+    }
+
+    /// The same, where this call number and those before it were given out.
+    pub fn starting_after(alloc: Global, log: usize, last: u64) -> Result<Self, AllocError>
+        ensures { IfOk result (λ desk. StandsFor K.eq desk (record (fresh_desk K V log) { last = last })) }
+    {
+        Ok(Desk {
+            clock: 0,
+            accessed: HashMap::new(alloc),
+            pending: HashMap::new(alloc),
+            turn: None,
+            published: 0,
+            last,
+            writes: Writes::new(alloc, log)?,
+            loads: Loads::new(alloc),
+            asks: Asks::new(alloc),
+        })
+    }
+
+    /// The clock's moment.
+    pub fn clock(&self) -> u64
+        ensures { (w : DeskPart K V) → StandsFor K.eq self.now w → result ≡ w.clock }
+    {
+        self.clock
+    }
+
+    /// The greatest call number that was given out, or 0.
+    pub fn last(&self) -> u64
+        ensures { (w : DeskPart K V) → StandsFor K.eq self.now w → result ≡ w.last }
+    {
+        self.last
+    }
+
+    /// Moves the clock on to the moment. Answers false where that is before the clock; nothing has
+    /// changed then.
+    pub fn at(&mut self, moment: u64) -> bool
+        ensures finds { (w : DeskPart K V) → StandsFor K.eq self.old w → result ≡ not (nat_lt moment w.clock) }
+        ensures makes { (w : DeskPart K V) → StandsFor K.eq self.old w → StandsFor K.eq self.new (if nat_lt moment w.clock then w else record w { clock = moment }) }
+    {
+        if moment < self.clock {
+            return false;
+        }
+        self.clock = moment;
+        true
+    }
+
+    /// Gives the next call number out. Answers None where the greatest one was given out; nothing has
+    /// changed then.
+    pub fn enter(&mut self) -> Option<u64>
+        ensures finds { (w : DeskPart K V) → StandsFor K.eq self.old w → result ≡ (if w.last == last_call then None else Some (w.last + 1)) }
+        ensures makes { (w : DeskPart K V) → StandsFor K.eq self.old w → MatchOption result (StandsFor K.eq self.new w) (λ n. StandsFor K.eq self.new (record w { last = n })) }
+    {
+        let next = self.last.checked_add(1)?;
+        self.last = next;
+        Some(next)
+    }
+
+    /// The writes that dropped calls left, oldest first.
+    pub fn owed(&self) -> &VecDeque<Write>
+        ensures { (w : DeskPart K V) → StandsFor K.eq self.now w → result.now.items ≡ w.owed }
+    {
+        &self.writes.owed
+    }
+
+    /// The writes in the log, oldest first.
+    pub fn logged(&self) -> &VecDeque<Write>
+        ensures { (w : DeskPart K V) → StandsFor K.eq self.now w → result.now.items ≡ w.log }
+    {
+        &self.writes.log
+    }
+
+    /// The applied writes, oldest first.
+    pub fn applied(&self) -> &[Write]
+        ensures { (w : DeskPart K V) → StandsFor K.eq self.now w → result.now ≡ w.applied }
+    {
+        self.writes.applied.writes.as_slice()
+    }
+
+    /// How many applied upserts stood unreplaced as the last turn ended.
+    pub fn published(&self) -> u64
+        ensures { (w : DeskPart K V) → StandsFor K.eq self.now w → result ≡ w.published }
+    {
+        self.published
+    }
+}

@@ -1,0 +1,49 @@
+-- Steps of a call by itself, one after the other.
+use Rattle.std.proofs.Common.{◌≡◌, ◌≢◌, ℕ, Bool, ◌+◌, refl, sym, subst, add-one}
+use Rattle.moka_hist.specs.State.{Call, World}
+use Rattle.moka_hist.specs.Step.{Moves, MovesOn, Polled, IsSafe, May, access_of, going_as}
+use Rattle.moka_hist.specs.declared.accesses.Turn.{Turn}
+use Rattle.moka_hist.specs.declared.accesses.Turn.TheVariants as turn
+use Rattle.moka_init.specs.declared.flow.Flow.{Flow}
+use Rattle.moka_init.specs.FlowPlan.{call_of, next_in}
+use Rattle.moka_init.specs.Grounds.{access_at}
+
+module _ {K V : Type 0} (eq : K → K → Bool) where
+  pub moves_none : (n : ℕ) (c : Call K V) (w : World K V) → MovesOn eq 0 n c w c w
+  unfolding MovesOn
+  moves_none n c w = (refl, refl)
+
+  pub moves_more : (k n : ℕ) (c : Call K V) (w : World K V) (b : Call K V) (mid : World K V) (d : Call K V) (new : World K V)
+      → MovesOn eq k n c w b mid → Moves eq n b mid (going_as d) new → MovesOn eq (k + 1) n c w d new
+  unfolding MovesOn
+  moves_more k n c w b mid d new before more =
+      subst (λ (j : ℕ). MovesOn eq j n c w d new) (sym (add-one k)) (b, mid, before, more)
+
+  -- the world has what the next step of a flow needs that has gone on so far
+  pub safe_next : (k : ℕ) (first flow : Flow K V) (w mid : World K V) → flow.call ≡ first.call
+      → MovesOn eq k first.call (call_of first) w (call_of flow) mid → IsSafe eq first.call (call_of first) w → May mid (access_at flow)
+  safe_next k first flow w mid number before safe =
+      subst (λ (n : ℕ). May mid (access_of n (call_of flow))) (sym number) (safe k (call_of flow) mid before)
+
+  -- one more step
+  pub flow_more : (k : ℕ) (first flow new : Flow K V) (w mid after : World K V) (t : Turn V) → flow.call ≡ first.call → t ≡ turn.Going
+      → MovesOn eq k first.call (call_of first) w (call_of flow) mid → Moves eq flow.call (call_of flow) mid (next_in t new) after
+      → MovesOn eq (k + 1) first.call (call_of first) w (call_of new) after
+  flow_more k first flow new w mid after t number going before more =
+      moves_more k first.call (call_of first) w (call_of flow) mid (call_of new) after before
+      (subst (λ (u : Turn V). Moves eq first.call (call_of flow) mid (next_in u new) after) going
+      (subst (λ (n : ℕ). Moves eq n (call_of flow) mid (next_in t new) after) number more))
+
+  -- the last step
+  pub flow_last : (k : ℕ) (first flow new : Flow K V) (w mid after : World K V) (t : Turn V) → flow.call ≡ first.call → t ≢ turn.Going
+      → MovesOn eq k first.call (call_of first) w (call_of flow) mid → Moves eq flow.call (call_of flow) mid (next_in t new) after
+      → Polled eq first.call (call_of first) w (next_in t new) after
+  flow_last k first flow new w mid after t number ends before more =
+      record {
+        going = k;
+        call = call_of flow;
+        mid = mid;
+        goes = before;
+        last = subst (λ (n : ℕ). Moves eq n (call_of flow) mid (next_in t new) after) number more;
+        ends = ends;
+      }

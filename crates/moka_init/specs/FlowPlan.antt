@@ -1,0 +1,99 @@
+-- What a flow stands for: the call of the reference cache, with its plan.
+use Rattle.std.specs.Prelude.{◌≡◌, Bool, true, false, cond, List, [], ◌∷◌, Option, Some, None}
+use Rattle.moka_hist.specs.State.{Call}
+use Rattle.moka_hist.specs.Plan.{Item, Aim}
+use Rattle.moka_hist.specs.Next.{Next}
+use Rattle.moka_hist.specs.Plan as plan
+use Rattle.moka_hist.specs.declared.replies.Answer.TheVariants as answer
+use Rattle.moka_hist.specs.declared.visits.Settled.TheVariants as settled
+use Rattle.moka_hist.specs.declared.accesses.Turn.{Turn}
+use Rattle.moka_hist.specs.declared.accesses.Turn.TheVariants as turn
+use Rattle.moka_hist.specs.declared.accesses.Got.{Got}
+use Rattle.moka_hist.specs.declared.accesses.Got.TheVariants as got
+use Rattle.moka_hist.specs.declared.tables.TableTurn.TheVariants as table
+use Rattle.moka_init.specs.declared.flow.Flow.{Flow}
+use Rattle.moka_init.specs.declared.points.Look as looks
+use Rattle.moka_init.specs.declared.points.Look.TheVariants as look
+use Rattle.moka_init.specs.declared.points.Put.{Put}
+use Rattle.moka_init.specs.declared.points.Drained.{Drained}
+use Rattle.moka_init.specs.declared.points.Drained.TheVariants as drained
+use Rattle.moka_init.specs.declared.points.Posted.{Posted}
+use Rattle.moka_init.specs.declared.points.Posted.TheVariants as posted
+use Rattle.moka_init.specs.declared.points.Point.{Point}
+use Rattle.moka_init.specs.declared.points.Point.TheVariants as point
+
+module _ {K : Type 0} where
+  abbrev pub aim_of : looks.Look K → Aim K
+  aim_of (look.Answer key) = plan.To_answer
+  aim_of (look.Load load) = plan.To_load load
+  aim_of (look.Own load) = plan.To_own load
+
+  abbrev pub key_of : looks.Look K → K
+  key_of (look.Answer key) = key
+  key_of (look.Load load) = load.key
+  key_of (look.Own load) = load.key
+
+module _ {K V : Type 0} where
+  -- a told value is settled, and then answered
+  abbrev pub settles : V → Bool → List (Item K V)
+  settles value fresh = plan.Settle (settled.Ready value) ∷ plan.Reply (answer.Loaded value fresh) ∷ []
+
+  -- what follows once the value is stored and the write posted
+  abbrev pub put_rest : Put K V → List (Item K V)
+  put_rest p = cond p.loads (settles p.value true) (plan.Reply answer.Done ∷ [])
+
+  abbrev pub drained_rest : Drained K V → List (Item K V)
+  drained_rest (drained.Look l) = plan.Get (aim_of l) (key_of l) ∷ []
+  drained_rest (drained.Put p) = plan.Moment p.key p.value ∷ put_rest p
+
+  abbrev pub posted_rest : Posted K V → List (Item K V)
+  posted_rest (posted.Drain then) = plan.Drain ∷ drained_rest then
+  posted_rest posted.Done = plan.Reply answer.Done ∷ []
+  posted_rest (posted.Settle value) = settles value true
+
+  -- what a call that stands there has still to do
+  abbrev pub plan_at : Point K V → List (Item K V)
+  plan_at (point.Drain then) = plan.Drain ∷ drained_rest then
+  plan_at (point.Post write then) = plan.Post write ∷ posted_rest then
+  plan_at (point.Turn write then) = plan.Turn ∷ plan.Apply ∷ plan.End ∷ plan.Post write ∷ posted_rest then
+  plan_at (point.Apply write then) = plan.Apply ∷ plan.End ∷ plan.Post write ∷ posted_rest then
+  plan_at (point.End write then) = plan.End ∷ plan.Post write ∷ posted_rest then
+  plan_at (point.Get l) = plan.Get (aim_of l) (key_of l) ∷ []
+  plan_at (point.Judge l key stored) = plan.Judge (aim_of l) key stored ∷ []
+  plan_at (point.Own load) = plan.Own load ∷ []
+  plan_at (point.Read load) = plan.Read load ∷ []
+  plan_at (point.Settle value fresh) = settles value fresh
+  plan_at (point.Ask load) = plan.Ask load ∷ []
+  plan_at (point.Told load) = plan.Told load ∷ []
+  plan_at (point.Moment p) = plan.Moment p.key p.value ∷ put_rest p
+  plan_at (point.Write p moment) = plan.Write p.key p.value moment ∷ put_rest p
+  plan_at point.Spent = []
+
+  abbrev pub call_of : Flow K V → Call K V
+  call_of flow = record { mode = flow.mode; plan = plan_at flow.point; aborts = flow.aborts }
+
+module _ {K V : Type 0} where
+  -- the flow's call, with this plan
+  abbrev pub standing : Flow K V → List (Item K V) → Call K V
+  standing flow items = record { mode = flow.mode; plan = items; aborts = flow.aborts }
+
+  -- the call that a turn leaves in the flow
+  abbrev pub left_in : Turn V → Flow K V → Option (Call K V)
+  left_in turn.Going flow = Some (call_of flow)
+  left_in turn.Wait flow = Some (call_of flow)
+  left_in (turn.Ask ask) flow = Some (call_of flow)
+  left_in (turn.Answer answer) flow = None
+
+  abbrev pub next_in : Turn V → Flow K V → Next K V
+  next_in t flow = record { left = left_in t flow; turn = t }
+
+  -- a table operation was begun and hasn't decided
+  abbrev pub is_begun : Got K V → Bool
+  is_begun (got.Table table.Going) = true
+  is_begun (got.Table (table.Decided answer)) = false
+  is_begun (got.Desk found) = false
+
+  -- the flow is still of its call, and where its table operation is
+  pub record Keeps (old new : Flow K V) : Type 0 where
+    pub number : new.call ≡ old.call
+    pub begun : new.begun ≡ old.begun

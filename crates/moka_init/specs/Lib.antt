@@ -1,0 +1,2 @@
+pub mod FlowPlan
+pub mod Grounds

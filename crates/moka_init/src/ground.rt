@@ -1,0 +1,42 @@
+//! What a flow stands on: a table and a desk, on which it makes one access a step.
+ghost use Rattle.std.specs.Prelude.{◌≡◌, List, [], ◌∷◌, ◌++◌, Option, Some, IfOk, OnErr};
+ghost use Rattle.moka_hist.specs.Finite.{IsExact};
+ghost use Rattle.moka_hist.specs.State.{World};
+ghost use Rattle.moka_hist.specs.Step.{Access, Gets, May};
+ghost use Rattle.moka_hist.specs.declared.tables.TableOp.{TableOp};
+ghost use Rattle.moka_hist.specs.declared.accesses.Got.{Got};
+ghost use Rattle.moka_init.specs.Grounds.{wanted, still_begun, MayWant};
+
+use moka_hist::{Got, Want};
+use std::alloc::AllocError;
+
+/// A table and a desk, as one call reaches them.
+pub trait Ground<K: Eq + Clone, V: Clone> {
+    /// The worlds that it stands for.
+    ghost stands: { Self → World K V → Type 0 };
+
+    /// The call's table operation that was begun there and has not decided.
+    ghost begun: { Self → Option (TableOp K V) };
+
+    /// The accesses that were made there with what they gave, where it can tell them.
+    ghost made: { Self → Option (List (Access K V × Got K V)) };
+
+    /// Makes the wanted access. Condition: the ground stands for a world that has what it needs.
+    /// After want of memory nothing has changed.
+    fn access(&mut self, want: Want<K, V>) -> Result<Got<K, V>, AllocError>
+        requires keys { IsExact K.is_clone }
+        requires values { IsExact V.is_clone }
+        requires may { (w : World K V) × stands self.old w × MayWant w (begun self.old) want }
+        ensures gives { IfOk result (λ given. (access : Access K V) → wanted (begun self.old) want ≡ Some access
+            → (w : World K V) → stands self.old w → May w access → (new : World K V) × Gets K.eq w access given new × stands self.new new) }
+        ensures begins { IfOk result (λ given. (access : Access K V) → wanted (begun self.old) want ≡ Some access
+            → begun self.new ≡ still_begun access given) }
+        ensures tells { IfOk result (λ given. (access : Access K V) → wanted (begun self.old) want ≡ Some access
+            → (before : List (Access K V × Got K V)) → made self.old ≡ Some before → made self.new ≡ Some (before ++ (access, given) ∷ [])) }
+        ensures err { OnErr result ((w : World K V) → stands self.old w → stands self.new w) }
+        ensures err_begun { OnErr result (begun self.new ≡ begun self.old) }
+        ensures err_made { OnErr result (made self.new ≡ made self.old) };
+}
+
+/// A ground that nobody else changes while it is lent: what it stands for stays until its next access.
+pub trait Alone<K: Eq + Clone, V: Clone>: Ground<K, V> {}

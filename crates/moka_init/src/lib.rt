@@ -1,0 +1,18 @@
+//! The calls of a cache as states made of single steps.
+//!
+//! A `Flow` tells its next access (`want`) and goes on with what that access gave (`take`). `step`
+//! makes one step of a flow on a `Ground`, and `poll` steps up to the first turn that isn't Going.
+//! The schedule machine drives them; the polls of a cache are to drive the same.
+#![tactic(auto)]
+
+mod flow;
+mod goings;
+mod ground;
+mod points;
+mod takes;
+mod wants;
+
+pub use flow::Flow;
+pub use goings::{Unfinished, poll, step};
+pub use ground::{Alone, Ground};
+pub use moka_hist::{Got, Turn, Want};

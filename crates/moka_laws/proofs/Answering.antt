@@ -1,0 +1,226 @@
+-- Live calls have still something to do, and what others wait for is an answer.
+use Rattle.std.proofs.Common.{◌≡◌, ◌≢◌, ℕ, ◌+◌, ◌==◌, Bool, true, false, cond, List, [], ◌∷◌, Option, Some, None, refl, sym, ◌∙◌, subst}
+use Rattle.std.proofs.lemmas.Bool.{false≢true}
+use Rattle.moka_hist.specs.Finite.{put_at}
+use Rattle.moka_hist.specs.State.{State, World, Call, DeskPart}
+use Rattle.moka_hist.specs.Plan.{Item, Aim, held_by, plan_of}
+use Rattle.moka_hist.specs.Plan as plan
+use Rattle.moka_hist.specs.Visits.{settlement_for, settled_with, settled_without}
+use Rattle.moka_hist.specs.Next.{Next, goes}
+use Rattle.moka_hist.specs.Looking.{hits, misses}
+use Rattle.moka_hist.specs.Loading.{after_read, after_told, after_abort, retries}
+use Rattle.moka_hist.specs.Telling.{is_asked, does_take}
+use Rattle.std.specs.Option.{option_and_then, option_map_or}
+use Rattle.moka_hist.specs.Step.{Step, state_after}
+use Rattle.moka_hist.specs.Run.{IsReached, fresh_call}
+use Rattle.moka_hist.specs.declared.events.Start.{Start}
+use Rattle.moka_hist.specs.declared.events.Start.TheVariants as start
+use Rattle.moka_hist.specs.declared.events.Told.{Told}
+use Rattle.moka_hist.specs.declared.events.Told.TheVariants as answer
+use Rattle.moka_hist.specs.declared.loads.Load.{Load}
+use Rattle.moka_hist.specs.declared.visits.Takes.{Takes}
+use Rattle.moka_hist.specs.declared.visits.Takes.TheVariants as takes
+use Rattle.moka_hist.specs.declared.visits.Settled.{Settled}
+use Rattle.moka_hist.specs.declared.visits.Settled.TheVariants as settled
+use Rattle.moka_hist.specs.declared.visits.Found.TheVariants as found
+use Rattle.moka_hist.specs.declared.accesses.Turn.{Turn}
+use Rattle.moka_laws.proofs.Counting.{none_some, put_cases}
+use Rattle.moka_laws.proofs.Kept.{IsKept, in_reached}
+use Rattle.moka_laws.proofs.StepCases.{OnStep, step_cases}
+use Rattle.moka_laws.proofs.Outcomes.{Outcomes, outcomes}
+
+kept_or : {A : Type 0} (b : Bool) (x y : A) (P : A → Type 0) → P x → P y → P (cond b x y)
+kept_or true x y P p q = p
+kept_or false x y P p q = q
+
+none_told : {V : Type 0} (x : ℕ) (f : ℕ → Option (Told V)) (n : ℕ) → f x ≢ Some answer.Done → put_at f n None x ≢ Some answer.Done
+none_told x f n h = kept_or (n == x) None (f x) (λ v. v ≢ Some answer.Done) none_some h
+
+-- no owner is kept as not yet settled, and no answer of a listener is told
+pub record Answers {V : Type 0} (kept : ℕ → Option (Settled V)) (given : ℕ → Option (Told V)) : Type 0 where
+  pub settled : (x : ℕ) → kept x ≢ Some settled.NotYet
+  pub told : (x : ℕ) → given x ≢ Some answer.Done
+
+module _ {K V : Type 0} where
+  -- the plan ends with an item that answers or says how the call goes on, and all owners are settled with an answer
+  abbrev EndsWell : List (Item K V) → Type 0
+  EndsWell [] = ⊥
+  EndsWell (plan.Get aim key ∷ rest) = Unit {0}
+  EndsWell (plan.Judge aim key stored ∷ rest) = Unit {0}
+  EndsWell (plan.Own load ∷ rest) = Unit {0}
+  EndsWell (plan.Read load ∷ rest) = Unit {0}
+  EndsWell (plan.Ask load ∷ rest) = Unit {0}
+  EndsWell (plan.Told load ∷ rest) = Unit {0}
+  EndsWell (plan.Reply answer ∷ rest) = Unit {0}
+  EndsWell (plan.Settle settled.NotYet ∷ rest) = ⊥
+  EndsWell (_ ∷ rest) = EndsWell rest
+
+  -- the same of a call that may have ended
+  abbrev LeftWell : Option (Call K V) → Type 0
+  LeftWell None = Unit {0}
+  LeftWell (Some c) = EndsWell c.plan
+
+  -- what the desk keeps for those that wait
+  abbrev pub HasAnswers : DeskPart K V → Type 0
+  HasAnswers d = Answers d.settled d.told
+
+  pub record IsAnswering (s : State K V) : Type 0 where
+    pub calls : (n : ℕ) (c : Call K V) → s.calls n ≡ Some c → EndsWell c.plan
+    pub desk : HasAnswers s.world.desk
+
+  goes_well : (c : Call K V) (rest : List (Item K V)) → EndsWell rest → LeftWell (goes c rest).left
+  goes_well c (plan.Reply a ∷ []) h = tt
+  goes_well c (plan.Reply a ∷ x ∷ rest) h = h
+  goes_well c [] h = h
+  goes_well c (_ ∷ rest) h = h
+
+  fresh_well : (start : Start K V) → EndsWell (plan_of start)
+  fresh_well (start.Get key) = tt
+  fresh_well (start.Insert key value) = tt
+  fresh_well (start.GetWith key) = tt
+
+  misses_well : (c : Call K V) (aim : Aim K) → LeftWell (misses c aim).left
+  misses_well c plan.To_answer = tt
+  misses_well c (plan.To_load load) = tt
+  misses_well c (plan.To_own load) = tt
+
+  hits_well : (c : Call K V) (aim : Aim K) (value : V) → LeftWell (hits c aim value).left
+  hits_well c plan.To_answer value = tt
+  hits_well c (plan.To_load load) value = tt
+  hits_well c (plan.To_own load) value = tt
+
+  read_well : (c : Call K V) (load : Load K) (with : Settled V) → EndsWell c.plan →
+      LeftWell (after_read c load (found.ReadSettled with)).left
+  read_well c load (settled.Ready value) h = tt
+  read_well c load settled.NotYet h = h
+  read_well c load settled.Aborted h = by (c.aborts + 1 == retries) refl
+    where
+      by : (b : Bool) → (c.aborts + 1 == retries) ≡ b → LeftWell (after_abort c load).left
+      by true e = rw e tt
+      by false e = rw e tt
+
+  told_well : (c : Call K V) (load : Load K) (given : Told V) → EndsWell c.plan →
+      LeftWell (after_told c load (found.TakeTold (Some given))).left
+  told_well c load (answer.Value value) h = tt
+  told_well c load answer.Done h = h
+
+  -- ---- what is told and settled
+
+  -- no ask takes the answer of a listener
+  not_asked : (d : DeskPart K V) (n : ℕ) → is_asked d n answer.Done ≡ false
+  not_asked d n = by (d.asks n)
+    where
+      by : (o : Option Takes) → option_map_or (λ t. does_take {V = V} t answer.Done) o false ≡ false
+      by None = refl
+      by (Some takes.Value) = refl
+
+  asked_for : (d : DeskPart K V) (n : ℕ) (given : Told V) → is_asked d n given ≡ true → Some given ≢ Some answer.Done
+  asked_for d n (answer.Value value) asked = λ e. cc
+  asked_for d n answer.Done asked = λ e. false≢true (sym (not_asked d n) ∙ asked)
+
+  some_ready : (with : Settled V) (rest : List (Item K V)) → EndsWell (plan.Settle with ∷ rest) →
+      (Some with ≢ Some settled.NotYet) × EndsWell rest
+  some_ready settled.NotYet rest h = absurd h
+  some_ready settled.Aborted rest h = (λ e. cc, h)
+  some_ready (settled.Ready value) rest h = (λ e. cc, h)
+
+  settles_with : (d : DeskPart K V) (n : ℕ) (with : Settled V) (kept : ℕ → Option (Settled V)) (x : ℕ) → Some with ≢ Some settled.NotYet →
+      kept x ≢ Some settled.NotYet → settled_with d n with kept x ≢ Some settled.NotYet
+  settles_with d n with kept x h k = kept_or _ (Some with) (kept x) (λ v. v ≢ Some settled.NotYet) h k
+
+  settles_without : (d : DeskPart K V) (n : ℕ) (x : ℕ) → d.settled x ≢ Some settled.NotYet → settled_without d n x ≢ Some settled.NotYet
+  settles_without d n x h = kept_or _ None (d.settled x) (λ v. v ≢ Some settled.NotYet) none_some h
+
+  -- an owner's settlement is an answer
+  pub settlement_ready : (d : DeskPart K V) (n : ℕ) (with : Settled V) → HasAnswers d → settlement_for d n ≡ Some with →
+      Some with ≢ Some settled.NotYet
+  settlement_ready d n with has e = by (d.joined n) e
+    where
+      by : (o : Option ℕ) → option_and_then d.settled o ≡ Some with → Some with ≢ Some settled.NotYet
+      by None e = absurd (none_some e)
+      by (Some owner) e = λ h. has.settled owner (e ∙ h)
+
+  -- what a step has to show
+  abbrev Leaves : World K V → Next K V → Type 0
+  Leaves new next = LeftWell next.left × HasAnswers new.desk
+
+  module _ (eq : K → K → Bool) (w : World K V) (n : ℕ) (c : Call K V) (d : HasAnswers w.desk) where
+    on_item : (item : Item K V) (rest : List (Item K V)) → EndsWell (item ∷ rest) → EndsWell c.plan → Outcomes eq Leaves w n c item rest
+    on_item plan.Drain rest h p = (λ e. ((goes_well c rest h), d), λ x xs e. (h, d))
+    on_item (plan.Post write) rest h p = (λ e. ((goes_well c rest h), d), λ e. (h, d))
+    on_item plan.Turn rest h p = (λ e. ((goes_well c rest h), d), λ e. (p, d))
+    on_item plan.Apply rest h p = (λ e. ((goes_well c rest h), d), λ x xs e. (h, d))
+    on_item plan.End rest h p = ((goes_well c rest h), d)
+    on_item (plan.Get aim key) rest h p = ((p, d), ((misses_well c aim), d), λ k stored. (tt, d))
+    on_item (plan.Judge aim key stored) rest h p = ((hits_well c aim stored.value), d)
+    on_item (plan.Own load) rest h p = (λ e. (tt, d), λ owner e. (tt, d))
+    on_item (plan.Read load) rest h p = (
+      λ e. (p, d),
+      λ with e. (read_well c load with p, record { settled = λ x. settles_without w.desk n x (d.settled x); told = d.told }),
+    )
+    on_item (plan.Settle with) rest h p =
+        let ready = some_ready with rest h in
+        (goes_well c rest ready.1, record { settled = λ x. settles_with w.desk n with w.desk.settled x ready.0 (d.settled x); told = d.told })
+    on_item (plan.Ask load) rest h p = (tt, record { settled = d.settled; told = λ x. none_told x w.desk.told n (d.told x) })
+    on_item (plan.Told load) rest h p = (
+      λ e. (p, d),
+      λ given e. (told_well c load given p, record { settled = d.settled; told = λ x. none_told x w.desk.told n (d.told x) }),
+    )
+    on_item (plan.Moment key value) rest h p = (h, d)
+    on_item (plan.Write key value moment) rest h p = ((p, d), (h, d))
+    on_item (plan.Reply answer) rest h p = (tt, d)
+
+    on_plan : (plan : List (Item K V)) → c.plan ≡ plan → EndsWell c.plan → OnStep eq Leaves w n c plan
+    on_plan [] e p = (p, d)
+    on_plan (item ∷ rest) e p = outcomes eq Leaves w n c item rest (on_item item rest (rw e at p) p)
+
+module _ {K V : Type 0} (eq : K → K → Bool) where
+  leaves : (s : State K V) (n : ℕ) (w : World K V) (next : Next K V) → IsAnswering s → LeftWell next.left × HasAnswers w.desk →
+      IsAnswering (state_after s n w next)
+  leaves s n w next i h = record {
+    calls = λ m c live. put_cases s.calls n next.left m (Some c) (EndsWell c.plan) live (λ here is. subst LeftWell is h.0)
+        (λ there is. i.calls m c is);
+    desk = h.1;
+  }
+
+  answering_step : (s t : State K V) (n : ℕ) (turn : Turn V) → IsAnswering s → Step eq s n turn t → IsAnswering t
+  answering_step s t n turn i step =
+      step_cases eq Leaves (λ v _. IsAnswering v) s t n turn step
+      (on_plan eq s.world n step.call i.desk step.call.plan refl (i.calls n step.call step.live)) (λ w next. leaves s n w next i)
+
+  pub answering_kept : IsKept eq (IsAnswering {K = K} {V = V})
+  answering_kept = record {
+    fresh = λ size. record { calls = λ n c live. absurd (none_some live); desk = record { settled = λ x. none_some; told = λ x. none_some } };
+    at = λ s moment i. record { calls = i.calls; desk = i.desk };
+    start = λ s start i. record {
+      calls = λ n c live.
+          put_cases s.calls (s.world.desk.last + 1) (Some (fresh_call start)) n (Some c) (EndsWell c.plan) live
+          (λ here is. subst LeftWell is (fresh_well start))
+          (λ there is. i.calls n c is);
+      desk = i.desk;
+    };
+    step = answering_step;
+    tell = λ s n given asked i. record {
+      calls = i.calls;
+      desk = record {
+        settled = i.desk.settled;
+        told = λ x. kept_or (n == x) (Some given) (s.world.desk.told x) (λ v. v ≢ Some answer.Done)
+            (asked_for s.world.desk n given asked) (i.desk.told x);
+      };
+    };
+    drop = λ s n c live between i. record {
+      calls = λ m b lives. put_cases s.calls n None m (Some b) (EndsWell b.plan) lives (λ here is. absurd (none_some is))
+          (λ there is. i.calls m b is);
+      desk = record {
+        settled = λ x. settles_with s.world.desk n settled.Aborted (settled_without s.world.desk n) x (λ e. cc)
+            (settles_without s.world.desk n x (i.desk.settled x));
+        told = λ x. none_told x s.world.desk.told n (i.desk.told x);
+      };
+    };
+  }
+
+  pub answering : (s : State K V) → IsReached eq s → IsAnswering s
+  answering s h = in_reached eq IsAnswering answering_kept s h
+
+  pub live_go_on : (s : State K V) (n : ℕ) (c : Call K V) → IsReached eq s → s.calls n ≡ Some c → c.plan ≢ []
+  live_go_on s n c h live e = subst EndsWell e ((answering s h).calls n c live)

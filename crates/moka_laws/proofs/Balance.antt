@@ -1,0 +1,219 @@
+-- Committed writes are counted: each stands as often as it was committed, which is at most once.
+use Rattle.std.proofs.Common.{◌≡◌, ℕ, ◌+◌, ◌<◌, ◌≤◌, ◌==◌, Bool, true, false, cond, List, [], ◌∷◌, ◌++◌, map, Some, refl, ap, ◌∙◌, arith}
+use Rattle.std.proofs.lemmas.List.{map-append}
+use Rattle.moka_hist.specs.Finite.{times}
+use Rattle.moka_hist.specs.State.{State, World, Call, DeskPart}
+use Rattle.moka_hist.specs.Plan.{Item, Aim, held_by, plan_of}
+use Rattle.moka_hist.specs.Plan as plan
+use Rattle.moka_hist.specs.Visits.{number_of}
+use Rattle.moka_hist.specs.Next.{Next, goes}
+use Rattle.moka_hist.specs.declared.records.Mode.{Mode}
+use Rattle.moka_hist.specs.declared.records.Mode.TheVariants as mode
+use Rattle.moka_hist.specs.declared.writes.Write.{Write}
+use Rattle.moka_hist.specs.declared.accesses.Turn.{Turn}
+use Rattle.moka_hist.specs.declared.accesses.Turn.TheVariants as turn
+use Rattle.moka_laws.proofs.Counting.{times_append, same_number, other_number}
+use Rattle.moka_laws.proofs.Sums.{sum_to}
+use Rattle.moka_laws.proofs.Weights.{weigh, weigh_call, weigh_goes}
+use Rattle.moka_laws.proofs.Posts.{once, among, post_of, may_write, late, late_call, late_goes, late_none, posts_none, IsClear, misses_clear, hits_clear, read_clear, told_clear}
+use Rattle.moka_laws.proofs.StepCases.{OnStep}
+use Rattle.moka_laws.proofs.Outcomes.{Outcomes, outcomes}
+
+-- a number stands once more in a list with one more
+times_first : (x y : ℕ) (ys : List ℕ) → times x (y ∷ ys) ≡ once x y + times x ys
+times_first x y ys = by (x == y)
+  where
+    by : (b : Bool) → cond b (times x ys + 1) (times x ys) ≡ cond b 1 0 + times x ys
+    by true = omega arith
+    by false = omega arith
+
+times_last : (x y : ℕ) (ys : List ℕ) → times x (ys ++ y ∷ []) ≡ times x ys + once x y
+times_last x y ys = omega (arith, times_append x ys (y ∷ []), times_first x y [])
+
+pub among_append : (x : ℕ) (xs ys : List Write) → among x (xs ++ ys) ≡ among x xs + among x ys
+among_append x xs ys = ap (times x) (map-append number_of xs ys) ∙ times_append x (map number_of xs) (map number_of ys)
+
+among_last : (x : ℕ) (w : Write) (xs : List Write) → among x (xs ++ w ∷ []) ≡ among x xs + once x (number_of w)
+among_last x w xs = omega (arith, among_append x xs (w ∷ []), times_first x (number_of w) [])
+
+module _ {K V : Type 0} where
+  -- how often the write of the number stands with the desk: owed, logged or applied
+  abbrev pub on_desk : ℕ → DeskPart K V → ℕ
+  on_desk x d = among x d.owed + among x d.log + among x d.applied
+
+  -- how often live calls hold the write of the number
+  abbrev pub with_calls : ℕ → State K V → ℕ
+  with_calls x s = sum_to s.world.desk.last (λ n. weigh_call (post_of x) (s.calls n))
+
+  -- What is counted of a state.
+  pub record IsBalanced (s : State K V) : Type 0 where
+    -- each live call has a number that was given out; it holds its one write where it can be found
+    pub numbered : (n : ℕ) (c : Call K V) → s.calls n ≡ Some c → n ≤ s.world.desk.last
+    pub tidy : (n : ℕ) (c : Call K V) → s.calls n ≡ Some c → late c.plan ≡ 0
+    -- a call that may still write has committed nothing, and nothing was committed by no call
+    pub unspent : (n : ℕ) (c : Call K V) → s.calls n ≡ Some c → times n s.world.table.committed + weigh may_write c.plan ≤ 1
+    pub unborn : (n : ℕ) → s.world.desk.last < n → times n s.world.table.committed ≡ 0
+    -- each write was committed at most once, and stands as often as it was committed
+    pub once : (x : ℕ) → times x s.world.table.committed ≤ 1
+    pub balance : (x : ℕ) → with_calls x s + on_desk x s.world.desk ≡ times x s.world.table.committed
+
+  -- what a step of a call with this plan has to show
+  pub record Balances (w : World K V) (n : ℕ) (plan : List (Item K V)) (new : World K V) (next : Next K V) : Type 0 where
+    pub last : new.desk.last ≡ w.desk.last
+    pub tidy : late_call next.left ≡ 0
+    pub spent : times n new.table.committed + weigh_call may_write next.left ≤ 1
+    pub others : (m : ℕ) → (n == m) ≡ false → times m new.table.committed ≡ times m w.table.committed
+    pub balance : (x : ℕ) → weigh_call (post_of x) next.left + on_desk x new.desk + times x w.table.committed ≡ weigh
+        (post_of x) plan + on_desk x w.desk + times x new.table.committed
+
+  module _ (w : World K V) (n : ℕ) (plan : List (Item K V)) where
+    -- the world and the call's plan are as they were
+    stays_put : (c : Call K V) → c.plan ≡ plan → late plan ≡ 0 → times n w.table.committed + weigh may_write plan ≤ 1 →
+        (mode : Mode) (turn : Turn V) → Balances w n plan w (record { left = Some (record c { mode = mode }); turn = turn })
+    stays_put c e t spent mode turn = record {
+      last = refl;
+      tidy = ap late e ∙ t;
+      spent = omega (arith, ap (weigh may_write) e);
+      others = λ m h. refl;
+      balance = λ x. omega (arith, ap (weigh (post_of x)) e);
+    }
+
+    -- a call with nothing to post is clear
+    was_clear : (c : Call K V) → c.plan ≡ plan → late plan ≡ 0 → times n w.table.committed + weigh may_write plan ≤ 1 →
+        ((x : ℕ) → weigh (post_of x) plan ≡ 0) → IsClear (Some c)
+    was_clear c e t spent posts = record {
+      late = ap late e ∙ t;
+      posts = λ x. ap (weigh (post_of x)) e ∙ posts x;
+      may = omega
+          (arith, ap (weigh may_write) e);
+    }
+
+    -- the call goes on, or has ended, with no write of its own
+    clears : {new : World K V} {next : Next K V} → new.desk.last ≡ w.desk.last → new.table.committed ≡ w.table.committed →
+        ((x : ℕ) → on_desk x new.desk ≡ on_desk x w.desk) → IsClear next.left → ((x : ℕ) → weigh (post_of x) plan ≡ 0) →
+        times n w.table.committed + 1 ≤ 1 → Balances w n plan new next
+    clears l t d clear posts spent = record {
+      last = l;
+      tidy = clear.late;
+      spent = omega (arith, ap (times n) t, clear.may);
+      others = λ m h. ap (times m) t;
+      balance = λ x. omega (arith, clear.posts x, posts x, d x, ap (times x) t);
+    }
+
+  module _ (w : World K V) (n : ℕ) (c : Call K V) (item : Item K V) (rest : List (Item K V)) where
+    -- the call goes on with the rest of its plan, and the item had no part in its writes
+    goes_on : {new : World K V} → new.desk.last ≡ w.desk.last → new.table.committed ≡ w.table.committed →
+        ((x : ℕ) → on_desk x new.desk ≡ on_desk x w.desk) → late rest ≡ 0 → ((x : ℕ) → post_of x item ≡ 0) →
+        times n w.table.committed + weigh may_write rest ≤ 1 → Balances w n (item ∷ rest) new (goes c rest)
+    goes_on l t d late posts spent = record {
+      last = l;
+      tidy = late_goes c rest ∙ late;
+      spent = omega (arith, ap (times n) t, weigh_goes may_write c rest (λ a. refl));
+      others = λ m h. ap (times m) t;
+      balance = λ x. omega (arith, weigh_goes (post_of x) c rest (λ a. refl), posts x, d x, ap (times x) t);
+    }
+
+  module _ (eq : K → K → Bool) (w : World K V) (n : ℕ) (c : Call K V) where
+    on_item : (item : Item K V) (rest : List (Item K V)) → c.plan ≡ item ∷ rest → late (item ∷ rest) ≡ 0 →
+        times n w.table.committed + weigh may_write (item ∷ rest) ≤ 1 → Outcomes eq (Balances w n (item ∷ rest)) w n c item rest
+    on_item plan.Drain rest e t sp = (
+      λ none. goes_on w n c plan.Drain rest refl refl (λ x. refl) (late_none rest t) (λ x. refl) (omega arith),
+      λ y ys some. record {
+        last = refl;
+        tidy = omega arith;
+        spent = omega arith;
+        others = λ m h. refl;
+        balance = λ x. omega (arith, ap (among x) some, times_first x (number_of y) (map number_of ys));
+      },
+    )
+    on_item (plan.Post write) rest e t sp = (
+      λ room. record {
+        last = refl;
+        tidy = late_goes c rest ∙ late_none rest t;
+        spent = omega (arith, weigh_goes may_write c rest (λ a. refl));
+        others = λ m h. refl;
+        balance = λ x. omega (arith, weigh_goes (post_of x) c rest (λ a. refl), among_last x write w.desk.log);
+      },
+      λ full. record {
+        last = refl;
+        tidy = t;
+        spent = omega arith;
+        others = λ m h. refl;
+        balance = λ x. omega arith;
+      },
+    )
+    on_item plan.Turn rest e t sp = (
+      λ free. goes_on w n c plan.Turn rest refl refl (λ x. refl) t (λ x. refl) (omega arith),
+      λ taken. stays_put w n (plan.Turn ∷ rest) c e t sp mode.Parked turn.Wait,
+    )
+    on_item plan.Apply rest e t sp = (
+      λ none. goes_on w n c plan.Apply rest refl refl (λ x. refl) t (λ x. refl) (omega arith),
+      λ y ys some. record {
+        last = refl;
+        tidy = t;
+        spent = omega arith;
+        others = λ m h. refl;
+        balance = λ x. omega (arith, ap (among x) some, times_first x (number_of y) (map number_of ys), among_last x y w.desk.applied);
+      },
+    )
+    on_item plan.End rest e t sp = goes_on w n c plan.End rest refl refl (λ x. refl) t (λ x. refl) (omega arith)
+    on_item (plan.Get aim key) rest e t sp = (
+      stays_put w n (plan.Get aim key ∷ rest) c e t sp mode.Mid turn.Going,
+      clears w n (plan.Get aim key ∷ rest) refl refl (λ x. refl) (misses_clear c aim) (λ x. omega (arith, posts_none x rest t)) (omega arith),
+      λ k stored. clears w n (plan.Get aim key ∷ rest) refl refl (λ x. refl) (record { late = refl; posts = λ x. refl; may = omega arith })
+          (λ x. omega (arith, posts_none x rest t)) (omega arith),
+    )
+    on_item (plan.Judge aim key stored) rest e t sp =
+        clears w n (plan.Judge aim key stored ∷ rest) refl refl (λ x. refl) (hits_clear c aim stored.value)
+        (λ x. omega (arith, posts_none x rest t)) (omega arith)
+    on_item (plan.Own load) rest e t sp = (
+      λ none. clears w n (plan.Own load ∷ rest) refl refl (λ x. refl) (record { late = refl; posts = λ x. refl; may = omega arith })
+          (λ x. omega (arith, posts_none x rest t)) (omega arith),
+      λ owner some. clears w n (plan.Own load ∷ rest) refl refl (λ x. refl) (record { late = refl; posts = λ x. refl; may = omega arith })
+          (λ x. omega (arith, posts_none x rest t)) (omega arith),
+    )
+    on_item (plan.Read load) rest e t sp = (
+      λ none. stays_put w n (plan.Read load ∷ rest) c e t sp mode.Parked turn.Wait,
+      λ with some. clears w n (plan.Read load ∷ rest) refl refl (λ x. refl)
+          (read_clear c load with (was_clear w n (plan.Read load ∷ rest) c e t sp (λ x. omega (arith, posts_none x rest t))))
+          (λ x. omega (arith, posts_none x rest t)) (omega arith),
+    )
+    on_item (plan.Settle with) rest e t sp = goes_on w n c (plan.Settle with) rest refl refl (λ x. refl) (late_none rest t) (λ x. refl) (omega arith)
+    on_item (plan.Ask load) rest e t sp =
+        clears w n (plan.Ask load ∷ rest) refl refl (λ x. refl) (record { late = refl; posts = λ x. refl; may = omega arith })
+        (λ x. omega (arith, posts_none x rest t)) (omega arith)
+    on_item (plan.Told load) rest e t sp = (
+      λ none. stays_put w n (plan.Told load ∷ rest) c e t sp mode.Parked turn.Wait,
+      λ given some. clears w n (plan.Told load ∷ rest) refl refl (λ x. refl)
+          (told_clear c load given (was_clear w n (plan.Told load ∷ rest) c e t sp (λ x. omega (arith, posts_none x rest t))))
+          (λ x. omega (arith, posts_none x rest t)) (omega arith),
+    )
+    on_item (plan.Moment key value) rest e t sp = record {
+      last = refl;
+      tidy = t;
+      spent = omega arith;
+      others = λ m h. refl;
+      balance = λ x. omega arith;
+    }
+    on_item (plan.Write key value moment) rest e t sp = (
+      stays_put w n (plan.Write key value moment ∷ rest) c e t sp mode.Mid turn.Going,
+      record {
+        last = refl;
+        tidy = t;
+        spent = omega (arith, times_last n n w.table.committed, ap (λ b. cond {A = ℕ} b 1 0) (same_number n));
+        others = λ m h. omega (arith, times_last m n w.table.committed, ap (λ b. cond {A = ℕ} b 1 0) (other_number n m h));
+        balance = λ x. omega (arith, times_last x n w.table.committed);
+      },
+    )
+    on_item (plan.Reply answer) rest e t sp = record {
+      last = refl;
+      tidy = refl;
+      spent = omega arith;
+      others = λ m h. refl;
+      balance = λ x. omega (arith, posts_none x rest t);
+    }
+
+    pub on_plan : (plan : List (Item K V)) → c.plan ≡ plan → late plan ≡ 0 → times n w.table.committed + weigh may_write plan ≤ 1 →
+        OnStep eq (Balances w n plan) w n c plan
+    on_plan [] e t sp = stays_put w n [] c e t sp mode.Parked turn.Wait
+    on_plan (item ∷ rest) e t sp = outcomes eq (Balances w n (item ∷ rest)) w n c item rest (on_item item rest e t sp)

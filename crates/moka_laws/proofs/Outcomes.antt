@@ -1,0 +1,178 @@
+-- What a step may make, item by item.
+use Rattle.std.proofs.Common.{append-nil, ◌≡◌, ℕ, suc, Bool, true, false, cond, nat_lt, ◌==◌, List, [], ◌∷◌, ◌++◌, length, drop, take, Option, Some, None, is_some, unwrap_or, refl, sym, ap, ◌∙◌, subst, arith}
+use Rattle.std.proofs.lemmas.Bool.{eqb-true}
+use Rattle.std.proofs.lemmas.Bool.Decides.{nat_tests}
+use Rattle.moka_hist.specs.Finite.{put_at, without_one}
+use Rattle.moka_hist.specs.State.{Call, World, DeskPart}
+use Rattle.moka_hist.specs.Plan.{Item, Aim, look}
+use Rattle.moka_hist.specs.Plan as plan
+use Rattle.moka_hist.specs.Visits.{decided, claimed, claim_of, finds, has_room, is_free_for, settlement_for, readers_without, settled_without, stamped, judged, settled_as, opened, took_told, ended_turn}
+use Rattle.moka_hist.specs.Tables.{table_answer, table_after, answer_of}
+use Rattle.moka_hist.specs.Next.{Next, goes, stays, waits, asks, answers}
+use Rattle.moka_hist.specs.Posting.{after_drain, after_post, after_turn, after_apply}
+use Rattle.moka_hist.specs.Looking.{misses, hits, after_get}
+use Rattle.moka_hist.specs.Loading.{after_own, after_read, after_told}
+use Rattle.moka_hist.specs.Writing.{old_stamp}
+use Rattle.moka_hist.specs.Step.{access_for, takes_of}
+use Rattle.moka_hist.specs.declared.records.Stored.{Stored}
+use Rattle.moka_hist.specs.declared.events.Told.{Told}
+use Rattle.moka_hist.specs.declared.loads.Load.{Load}
+use Rattle.moka_hist.specs.declared.writes.Write.{Write}
+use Rattle.moka_hist.specs.declared.writes.Write.TheVariants.{Upsert}
+use Rattle.moka_hist.specs.declared.replies.Ask.TheVariants as ask
+use Rattle.moka_hist.specs.declared.visits.Settled.{Settled}
+use Rattle.moka_hist.specs.declared.visits.Settled.TheVariants as settled
+use Rattle.moka_hist.specs.declared.visits.Visit.TheVariants as visit
+use Rattle.moka_hist.specs.declared.visits.Found.TheVariants as found
+use Rattle.moka_hist.specs.declared.tables.TableOp.{TableOp}
+use Rattle.moka_hist.specs.declared.tables.TableOp.TheVariants as op
+use Rattle.moka_hist.specs.declared.tables.TableTurn.TheVariants as table
+use Rattle.moka_laws.proofs.StepCases.{OnAccess}
+
+some_left : (k : ℕ) → nat_lt 0 (suc k) ≡ true
+some_left k = grind (arith, nat_tests)
+
+-- a map is itself with what it has at a number put there
+put_same_at : {A : Type 0} (f : ℕ → A) (n : ℕ) (v : A) → f n ≡ v → (m : ℕ) → put_at f n v m ≡ f m
+put_same_at f n v e m = by (n == m) refl
+  where
+    by : (b : Bool) → (n == m) ≡ b → cond b v (f m) ≡ f m
+    by true h = sym e ∙ ap f (eqb-true n m h)
+    by false h = refl
+
+pub put_same : {A : Type 0} (f : ℕ → A) (n : ℕ) (v : A) → f n ≡ v → put_at f n v ≡ f
+put_same f n v e = λ i m. (put_same_at f n v e m) i
+
+module _ {K V : Type 0} (eq : K → K → Bool) where
+  abbrev pub on_desk : World K V → DeskPart K V → World K V
+  on_desk w d = record w { desk = d }
+
+  -- the desk once the call took up the first owed write, posted its write, applied the first logged
+  -- write, or read how its owner ended
+  abbrev pub was_owed : DeskPart K V → ℕ → List Write → DeskPart K V
+  was_owed d n rest = record d { holders = n ∷ d.holders; owed = rest }
+
+  abbrev pub was_posted : DeskPart K V → ℕ → Write → DeskPart K V
+  was_posted d n write = record d { pending = put_at d.pending n None; holders = without_one n d.holders; log = d.log ++ write ∷ [] }
+
+  abbrev pub was_applied : DeskPart K V → Write → List Write → DeskPart K V
+  was_applied d first rest = record d { log = rest; applied = d.applied ++ first ∷ [] }
+
+  abbrev pub was_read : DeskPart K V → ℕ → DeskPart K V
+  was_read d n = record d { joined = put_at d.joined n None; readers = readers_without d n; settled = settled_without d n }
+
+  -- M holds of each outcome of the item, with what is known there
+  abbrev pub Outcomes : (World K V → Next K V → Type 0) → World K V → ℕ → Call K V → Item K V → List (Item K V) → Type 0
+  Outcomes M w n c plan.Drain rest =
+      (w.desk.owed ≡ [] → M w (goes c rest)) ×
+      ((x : Write) (xs : List Write) → w.desk.owed ≡ x ∷ xs →
+      M (on_desk w (was_owed w.desk n xs)) (goes c (plan.Post x ∷ plan.Drain ∷ rest)))
+  Outcomes M w n c (plan.Post write) rest =
+      (has_room w.desk ≡ true → M (on_desk w (was_posted w.desk n write)) (goes c rest)) ×
+      (has_room w.desk ≡ false →
+      M (on_desk w (decided w.desk n)) (goes c (plan.Turn ∷ plan.Apply ∷ plan.End ∷ plan.Post write ∷ rest)))
+  Outcomes M w n c plan.Turn rest =
+      (is_free_for w.desk n ≡ true → M (on_desk w (record w.desk { turn = Some n })) (goes c rest)) ×
+      (is_free_for w.desk n ≡ false → M w (waits c))
+  Outcomes M w n c plan.Apply rest =
+      (w.desk.log ≡ [] → M w (goes c rest)) ×
+      ((x : Write) (xs : List Write) → w.desk.log ≡ x ∷ xs → M (on_desk w (was_applied w.desk x xs)) (goes c (plan.Apply ∷ rest)))
+  Outcomes M w n c plan.End rest = M (on_desk w (ended_turn w.desk)) (goes c rest)
+  Outcomes M w n c (plan.Get aim key) rest =
+      M w (stays c) × M w (misses c aim) × ((k : K) (stored : Stored V) → M w (goes c (plan.Judge aim k stored ∷ [])))
+  Outcomes M w n c (plan.Judge aim key stored) rest = M (on_desk w (judged w.desk stored.stamp stored.modified)) (hits c aim stored.value)
+  Outcomes M w n c (plan.Own load) rest =
+      (w.desk.owners load ≡ None → M (on_desk w (claimed eq w.desk n load None)) (goes c (look (plan.To_own load) load.key))) ×
+      ((owner : ℕ) → w.desk.owners load ≡ Some owner → M (on_desk w (claimed eq w.desk n load (Some owner))) (goes c (plan.Read load ∷ [])))
+  Outcomes M w n c (plan.Read load) rest =
+      (settlement_for w.desk n ≡ None → M w (waits c)) ×
+      ((with : Settled V) → settlement_for w.desk n ≡ Some with → M (on_desk w (was_read w.desk n)) (after_read c load (found.ReadSettled with)))
+  Outcomes M w n c (plan.Settle with) rest = M (on_desk w (settled_as w.desk n with)) (goes c rest)
+  Outcomes M w n c (plan.Ask load) rest = M (on_desk w (opened w.desk n (takes_of load.kind))) (asks c ask.Init (plan.Told load ∷ []))
+  Outcomes M w n c (plan.Told load) rest =
+      (w.desk.told n ≡ None → M w (waits c)) ×
+      ((given : Told V) → w.desk.told n ≡ Some given → M (on_desk w (took_told w.desk n)) (after_told c load (found.TakeTold (Some given))))
+  Outcomes M w n c (plan.Moment key value) rest = M (on_desk w (stamped w.desk n)) (goes c (plan.Write key value w.desk.clock ∷ rest))
+  Outcomes M w n c (plan.Write key value moment) rest =
+      let write : TableOp K V = op.InsertOrModify key (record { value = value; stamp = n; modified = moment }) in
+      M w (stays c) ×
+      M (record w { table = table_after eq w.table write }) (goes c (plan.Post (Upsert n (old_stamp (table_answer w.table write))) ∷ rest))
+  Outcomes M w n c (plan.Reply answer) rest = M w (answers answer)
+
+  -- the desk once the call has tried to post its write
+  abbrev posted_if : DeskPart K V → ℕ → Write → Bool → DeskPart K V
+  posted_if d n write b = record d {
+    pending = put_at d.pending n None;
+    holders = cond b (without_one n d.holders) d.holders;
+    log = cond b (d.log ++ write ∷ []) d.log;
+  }
+
+  module _ (M : World K V → Next K V → Type 0) (w : World K V) (n : ℕ) (c : Call K V) where
+    drained : (rest : List (Item K V)) (owed : List Write) → w.desk.owed ≡ owed → Outcomes M w n c plan.Drain rest →
+        M (on_desk w (record w.desk { holders = cond (nat_lt 0 (length owed)) (n ∷ w.desk.holders) w.desk.holders; owed = drop 1 owed }))
+        (after_drain c rest (finds (record w.desk { owed = owed }) (visit.TakeOwed n)))
+    drained rest [] e o = subst (λ v. M (on_desk w (record w.desk { owed = v })) (goes c rest)) e (o.0 e)
+    drained rest (x ∷ xs) e o = subst
+        (λ b. M (on_desk w (record w.desk { holders = cond b (n ∷ w.desk.holders) w.desk.holders; owed = xs }))
+        (goes c (plan.Post x ∷ plan.Drain ∷ rest))) (sym (some_left (length xs))) (o.1 x xs e)
+
+    posted : (write : Write) (rest : List (Item K V)) (b : Bool) → has_room w.desk ≡ b → Outcomes M w n c (plan.Post write) rest →
+        M (on_desk w (posted_if w.desk n write b)) (after_post c write rest (found.PostWrite b))
+    posted write rest true e o = o.0 e
+    posted write rest false e o = o.1 e
+
+    turned : (rest : List (Item K V)) (b : Bool) → is_free_for w.desk n ≡ b → Outcomes M w n c plan.Turn rest →
+        M (on_desk w (record w.desk { turn = cond b (Some n) w.desk.turn })) (after_turn c rest (found.TakeTurn b))
+    turned rest true e o = o.0 e
+    turned rest false e o = o.1 e
+
+    applied : (rest : List (Item K V)) (log : List Write) → w.desk.log ≡ log → Outcomes M w n c plan.Apply rest →
+        M (on_desk w (record w.desk { log = drop 1 log; applied = w.desk.applied ++ take 1 log }))
+        (after_apply c rest (found.ApplyOne (nat_lt 0 (length log))))
+    applied rest [] e o =
+        subst (λ v. M (on_desk w (record w.desk { log = v; applied = w.desk.applied ++ [] })) (goes c rest)) e
+        (subst (λ v. M (on_desk w (record w.desk { applied = v })) (goes c rest)) (sym (append-nil w.desk.applied)) (o.0 e))
+    applied rest (x ∷ xs) e o = subst
+        (λ b. M (on_desk w (record w.desk { log = xs; applied = w.desk.applied ++ x ∷ [] })) (after_apply c rest (found.ApplyOne b)))
+        (sym (some_left (length xs))) (o.1 x xs e)
+
+    got : (aim : Aim K) (key : K) (rest : List (Item K V)) (pair : Option (K × Stored V)) → Outcomes M w n c (plan.Get aim key) rest →
+        M w (after_get c aim (table.Decided (answer_of pair)))
+    got aim key rest None o = o.1
+    got aim key rest (Some pair) o = o.2 pair.0 pair.1
+
+    owned : (load : Load K) (rest : List (Item K V)) (owner : Option ℕ) → w.desk.owners load ≡ owner →
+        Outcomes M w n c (plan.Own load) rest →
+        M (on_desk w (claimed eq w.desk n load owner)) (after_own c load (found.WaitOrOwn (claim_of owner)))
+    owned load rest None e o = o.0 e
+    owned load rest (Some owner) e o = o.1 owner e
+
+    was_told : (load : Load K) (rest : List (Item K V)) (with : Option (Settled V)) → settlement_for w.desk n ≡ with →
+        Outcomes M w n c (plan.Read load) rest →
+        M (on_desk w (cond (is_some with) (was_read w.desk n) w.desk)) (after_read c load (found.ReadSettled (unwrap_or with settled.NotYet)))
+    was_told load rest None e o = o.0 e
+    was_told load rest (Some with) e o = o.1 with e
+
+    taken : (load : Load K) (rest : List (Item K V)) (given : Option (Told V)) → w.desk.told n ≡ given →
+        Outcomes M w n c (plan.Told load) rest →
+        M (on_desk w (took_told w.desk n)) (after_told c load (found.TakeTold given))
+    taken load rest None e o = subst (λ v. M (on_desk w (record w.desk { told = v })) (waits c)) (sym (put_same w.desk.told n None e)) (o.0 e)
+    taken load rest (Some given) e o = o.1 given e
+
+  pub outcomes : (M : World K V → Next K V → Type 0) (w : World K V) (n : ℕ) (c : Call K V) (item : Item K V) (rest : List (Item K V)) →
+      Outcomes M w n c item rest → OnAccess eq M w n c item rest (access_for n item)
+  outcomes M w n c plan.Drain rest o = drained M w n c rest w.desk.owed refl o
+  outcomes M w n c (plan.Post write) rest o = posted M w n c write rest (has_room w.desk) refl o
+  outcomes M w n c plan.Turn rest o = turned M w n c rest (is_free_for w.desk n) refl o
+  outcomes M w n c plan.Apply rest o = applied M w n c rest w.desk.log refl o
+  outcomes M w n c plan.End rest o = o
+  outcomes M w n c (plan.Get aim key) rest o = (o.0, got M w n c aim key rest (w.table.stored key) o)
+  outcomes M w n c (plan.Judge aim key stored) rest o = o
+  outcomes M w n c (plan.Own load) rest o = owned M w n c load rest (w.desk.owners load) refl o
+  outcomes M w n c (plan.Read load) rest o = was_told M w n c load rest (settlement_for w.desk n) refl o
+  outcomes M w n c (plan.Settle with) rest o = o
+  outcomes M w n c (plan.Ask load) rest o = o
+  outcomes M w n c (plan.Told load) rest o = taken M w n c load rest (w.desk.told n) refl o
+  outcomes M w n c (plan.Moment key value) rest o = o
+  outcomes M w n c (plan.Write key value moment) rest o = o
+  outcomes M w n c (plan.Reply answer) rest o = o

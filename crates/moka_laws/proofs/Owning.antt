@@ -1,0 +1,298 @@
+-- A call that asks for a load owns it, and a load has one owner.
+use Rattle.std.proofs.Common.{◌≡◌, ℕ, ◌+◌, ◌==◌, Bool, true, false, cond, ◌&&◌, List, [], ◌∷◌, Option, Some, None, refl, sym, ap, ◌∙◌, subst, arith}
+use Rattle.std.proofs.lemmas.Bool.{false≢true}
+use Rattle.std.specs.Option.{option_map_or}
+use Rattle.std.specs.Cmp.{IsEquivalence}
+use Rattle.moka_hist.specs.Finite.{put_key, load_eq, kind_eq}
+use Rattle.moka_hist.specs.State.{State, World, Call, DeskPart}
+use Rattle.moka_hist.specs.Plan.{Item, Aim, plan_of}
+use Rattle.moka_hist.specs.Plan as plan
+use Rattle.moka_hist.specs.Visits.{owners_without}
+use Rattle.moka_hist.specs.Next.{Next, goes}
+use Rattle.moka_hist.specs.Looking.{hits, misses}
+use Rattle.moka_hist.specs.Loading.{after_read, after_told, retries}
+use Rattle.moka_hist.specs.Step.{Step, state_after}
+use Rattle.moka_hist.specs.Run.{IsReached, fresh_call}
+use Rattle.moka_hist.specs.Places.{Initializes}
+use Rattle.moka_hist.specs.declared.records.Stored.{Stored}
+use Rattle.moka_hist.specs.declared.loads.Load.{Load}
+use Rattle.moka_hist.specs.declared.loads.Kind.{Kind}
+use Rattle.moka_hist.specs.declared.loads.Kind.TheVariants.{GetWith}
+use Rattle.moka_hist.specs.declared.events.Start.{Start}
+use Rattle.moka_hist.specs.declared.events.Start.TheVariants as start
+use Rattle.moka_hist.specs.declared.events.Told.{Told}
+use Rattle.moka_hist.specs.declared.events.Told.TheVariants as answer
+use Rattle.moka_hist.specs.declared.visits.Settled.{Settled}
+use Rattle.moka_hist.specs.declared.visits.Settled.TheVariants as settled
+use Rattle.moka_hist.specs.declared.visits.Found.TheVariants as found
+use Rattle.moka_hist.specs.declared.accesses.Turn.{Turn}
+use Rattle.moka_laws.proofs.Counting.{some_same, none_some, put_cases, other_number}
+use Rattle.moka_laws.proofs.Weights.{weigh}
+use Rattle.moka_laws.proofs.Kept.{IsKept, in_reached}
+use Rattle.moka_laws.proofs.StepCases.{OnStep, step_cases}
+use Rattle.moka_laws.proofs.Outcomes.{Outcomes, outcomes}
+
+-- kinds are equal as one, and so are loads, where keys are equal by an equivalence
+kinds_alike : (a b : Kind) → kind_eq a b ≡ true
+kinds_alike GetWith GetWith = refl
+
+and_left : (x y : Bool) → (x && y) ≡ true → x ≡ true
+and_left true y h = refl
+and_left false y h = absurd (false≢true h)
+
+module _ {K : Type 0} (eq : K → K → Bool) (laws : IsEquivalence eq) where
+  loads_self : (a : Load K) → load_eq eq a a ≡ true
+  loads_self a = rw (laws.refl a.key, kinds_alike a.kind a.kind) refl
+
+  -- a load is equal to both or to neither of two that are equal
+  loads_alike : (l a b : Load K) → load_eq eq a b ≡ true → load_eq eq l a ≡ load_eq eq l b
+  loads_alike l a b e =
+      let keys = and_left _ _ e in
+      let alike : eq l.key a.key ≡ eq l.key b.key = laws.symm l.key a.key ∙ laws.congr a.key b.key l.key keys ∙ laws.symm b.key l.key in
+      rw (kinds_alike l.kind a.kind, kinds_alike l.kind b.kind, alike) refl
+
+-- who owned a load owns it still, but for the call
+abbrev OthersOwn : {K : Type 0} → ℕ → (Load K → Option ℕ) → (Load K → Option ℕ) → Type 0
+OthersOwn {K = K} n f g = (m : ℕ) → (n == m) ≡ false → (load : Load K) → f load ≡ Some m → g load ≡ Some m
+
+module _ {K : Type 0} (eq : K → K → Bool) where
+  -- equal loads have one owner
+  abbrev pub OneOwner : (Load K → Option ℕ) → Type 0
+  OneOwner owners = (a b : Load K) → load_eq eq a b ≡ true → owners a ≡ owners b
+
+module _ {K V : Type 0} where
+  -- the item is one of an owner that has not yet asked, or whose ask is open
+  abbrev owning : Item K V → ℕ
+  owning (plan.Get (plan.To_own load) key) = 1
+  owning (plan.Judge (plan.To_own load) key stored) = 1
+  owning (plan.Ask load) = 1
+  owning (plan.Told load) = 1
+  owning _ = 0
+
+  -- the load that the plan's first item wants owned
+  abbrev wanted : List (Item K V) → Option (Load K)
+  wanted (plan.Get (plan.To_own load) key ∷ rest) = Some load
+  wanted (plan.Judge (plan.To_own load) key stored ∷ rest) = Some load
+  wanted (plan.Ask load ∷ rest) = Some load
+  wanted (plan.Told load ∷ rest) = Some load
+  wanted _ = None
+
+  abbrev behind : List (Item K V) → ℕ
+  behind [] = 0
+  behind (item ∷ rest) = weigh owning rest
+
+  abbrev pub plan_left : Option (Call K V) → List (Item K V)
+  plan_left None = []
+  plan_left (Some c) = c.plan
+
+  -- the call owns the load that its first item wants owned, and no later item wants one
+  pub record Owns (owners : Load K → Option ℕ) (n : ℕ) (plan : List (Item K V)) : Type 0 where
+    pub first : (load : Load K) → wanted plan ≡ Some load → owners load ≡ Some n
+    pub later : behind plan ≡ 0
+
+  module _ (owners : Load K → Option ℕ) (n : ℕ) where
+    owns_none : (plan : List (Item K V)) → weigh owning plan ≡ 0 → Owns owners n plan
+    owns_none [] h = record { first = λ l e. absurd (none_some e); later = refl }
+    owns_none (plan.Get (plan.To_own load) key ∷ rest) h = absurd (omega arith)
+    owns_none (plan.Judge (plan.To_own load) key stored ∷ rest) h = absurd (omega arith)
+    owns_none (plan.Ask load ∷ rest) h = absurd (omega arith)
+    owns_none (plan.Told load ∷ rest) h = absurd (omega arith)
+    owns_none (_ ∷ rest) h = record { first = λ l e. absurd (none_some e); later = omega arith }
+
+    goes_owns : (c : Call K V) (rest : List (Item K V)) → weigh owning rest ≡ 0 → Owns owners n (plan_left (goes c rest).left)
+    goes_owns c (plan.Reply a ∷ []) h = owns_none [] refl
+    goes_owns c (plan.Reply a ∷ x ∷ rest) h = owns_none (plan.Reply a ∷ x ∷ rest) h
+    goes_owns c [] h = owns_none [] h
+    goes_owns c (item ∷ rest) h = owns_none (item ∷ rest) h
+
+    misses_owns : (c : Call K V) (aim : Aim K) (key : K) (rest : List (Item K V)) → Owns owners n (plan.Get aim key ∷ rest) →
+        Owns owners n (plan_left (misses c aim).left)
+    misses_owns c plan.To_answer key rest o = owns_none [] refl
+    misses_owns c (plan.To_load load) key rest o = owns_none (plan.Own load ∷ []) refl
+    misses_owns c (plan.To_own load) key rest o = record { first = o.first; later = refl }
+
+    judge_owns : (aim : Aim K) (key k : K) (stored : Stored V) (rest : List (Item K V)) → Owns owners n (plan.Get aim key ∷ rest) →
+        Owns owners n (plan.Judge aim k stored ∷ [])
+    judge_owns plan.To_answer key k stored rest o = owns_none (plan.Judge plan.To_answer k stored ∷ []) refl
+    judge_owns (plan.To_load load) key k stored rest o = owns_none (plan.Judge (plan.To_load load) k stored ∷ []) refl
+    judge_owns (plan.To_own load) key k stored rest o = record { first = o.first; later = refl }
+
+    hits_owns : (c : Call K V) (aim : Aim K) (value : V) → Owns owners n (plan_left (hits c aim value).left)
+    hits_owns c plan.To_answer value = owns_none [] refl
+    hits_owns c (plan.To_load load) value = owns_none [] refl
+    hits_owns c (plan.To_own load) value = owns_none (plan.Settle (settled.Ready value) ∷ plan.Reply _ ∷ []) refl
+
+    either_owns : (b : Bool) (x y : Next K V) → Owns owners n (plan_left x.left) → Owns owners n (plan_left y.left) →
+        Owns owners n (plan_left (cond b x y).left)
+    either_owns true x y h k = h
+    either_owns false x y h k = k
+
+    read_owns : (c : Call K V) (load : Load K) (with : Settled V) → Owns owners n c.plan →
+        Owns owners n (plan_left (after_read c load (found.ReadSettled with)).left)
+    read_owns c load (settled.Ready value) h = owns_none [] refl
+    read_owns c load settled.NotYet h = h
+    read_owns c load settled.Aborted h = either_owns (c.aborts + 1 == retries) _ _ (owns_none [] refl) (owns_none (plan.Own load ∷ []) refl)
+
+    told_owns : (c : Call K V) (load : Load K) (given : Told V) → Owns owners n c.plan →
+        Owns owners n (plan_left (after_told c load (found.TakeTold (Some given))).left)
+    told_owns c load (answer.Value value) h = owns_none _ refl
+    told_owns c load answer.Done h = h
+
+    fresh_owns : (start : Start K V) → Owns owners n (plan_of start)
+    fresh_owns (start.Get key) = owns_none _ refl
+    fresh_owns (start.Insert key value) = owns_none _ refl
+    fresh_owns (start.GetWith key) = owns_none _ refl
+
+module _ {K V : Type 0} (eq : K → K → Bool) where
+  -- each live call owns what it asks for, and equal loads have one owner
+  pub record IsOwned (s : State K V) : Type 0 where
+    pub one_owner : OneOwner eq s.world.desk.owners
+    pub calls : (n : ℕ) (c : Call K V) → s.calls n ≡ Some c → Owns s.world.desk.owners n c.plan
+
+  -- what a step has to show
+  record Leaves (w : World K V) (n : ℕ) (new : World K V) (next : Next K V) : Type 0 where
+    one_owner : OneOwner eq new.desk.owners
+    owns : Owns new.desk.owners n (plan_left next.left)
+    others : OthersOwn n w.desk.owners new.desk.owners
+
+  -- ---- the owners without a call
+
+  without_one_owner : (d : DeskPart K V) (n : ℕ) → OneOwner eq d.owners → OneOwner eq (owners_without d n)
+  without_one_owner d n one a b e = ap (λ o. cond (option_map_or (λ v. v == n) o false) None o) (one a b e)
+
+  without_others : (d : DeskPart K V) (n : ℕ) → OthersOwn n d.owners (owners_without d n)
+  without_others d n m h load e = ap (λ o. cond (option_map_or (λ v. v == n) o false) None o) e ∙ ap
+      (λ b. cond {A = Option ℕ} b None (Some m)) (other_number n m h)
+
+  module _ (laws : IsEquivalence eq) (w : World K V) (n : ℕ) (c : Call K V) (one : OneOwner eq w.desk.owners) where
+    -- ---- the owners with a call that owns a load which nobody owned
+
+    claimed_one_owner : (load : Load K) → OneOwner eq (put_key (load_eq eq) w.desk.owners load (Some n))
+    claimed_one_owner load a b e = by (load_eq eq load a) (load_eq eq load b) (loads_alike eq laws load a b e)
+      where
+        by : (x y : Bool) → x ≡ y → cond x (Some n) (w.desk.owners a) ≡ cond y (Some n) (w.desk.owners b)
+        by true true h = refl
+        by false false h = one a b e
+        by true false h = absurd (false≢true (sym h))
+        by false true h = absurd (false≢true h)
+
+    claimed_others : (load : Load K) → w.desk.owners load ≡ None →
+        OthersOwn n w.desk.owners (put_key (load_eq eq) w.desk.owners load (Some n))
+    claimed_others load none m h other e = by (load_eq eq load other) refl
+      where
+        by : (x : Bool) → load_eq eq load other ≡ x → cond x (Some n) (w.desk.owners other) ≡ Some m
+        by true same = absurd (none_some (sym none ∙ one load other same ∙ e))
+        by false same = e
+
+    claimed_owns : (load : Load K) → put_key (load_eq eq) w.desk.owners load (Some n) load ≡ Some n
+    claimed_owns load = ap (λ b. cond b (Some n) (w.desk.owners load)) (loads_self eq laws load)
+
+    -- the owners are as they were
+    keeps : {new : World K V} {next : Next K V} → new.desk.owners ≡ w.desk.owners → Owns new.desk.owners n (plan_left next.left) →
+        Leaves w n new next
+    keeps e o = record { one_owner = subst (OneOwner eq) (sym e) one; owns = o; others = λ m h load f. subst (λ v. v load ≡ Some m) (sym e) f }
+
+    on_item : (item : Item K V) (rest : List (Item K V)) → Owns w.desk.owners n c.plan → Owns w.desk.owners n (item ∷ rest) →
+        Outcomes eq (Leaves w n) w n c item rest
+    on_item plan.Drain rest p o = (
+      λ e. keeps refl (goes_owns _ n c rest o.later),
+      λ x xs e. keeps refl
+          (owns_none _ n (plan.Post x ∷ plan.Drain ∷ rest) (omega (arith, o.later))),
+    )
+    on_item (plan.Post write) rest p o = (
+      λ e. keeps refl (goes_owns _ n c rest o.later),
+      λ e. keeps refl
+          (owns_none _ n (plan.Turn ∷ plan.Apply ∷ plan.End ∷ plan.Post write ∷ rest) (omega (arith, o.later))),
+    )
+    on_item plan.Turn rest p o = (λ e. keeps refl (goes_owns _ n c rest o.later), λ e. keeps refl p)
+    on_item plan.Apply rest p o = (
+      λ e. keeps refl (goes_owns _ n c rest o.later),
+      λ x xs e. keeps refl
+          (owns_none _ n (plan.Apply ∷ rest) (omega (arith, o.later))),
+    )
+    on_item plan.End rest p o = keeps refl (goes_owns _ n c rest o.later)
+    on_item (plan.Get aim key) rest p o =
+        (keeps refl p, keeps refl (misses_owns _ n c aim key rest o), λ k stored. keeps refl (judge_owns _ n aim key k stored rest o))
+    on_item (plan.Judge aim key stored) rest p o = keeps refl (hits_owns _ n c aim stored.value)
+    on_item (plan.Own load) rest p o = (
+      λ none. record {
+        one_owner = claimed_one_owner load;
+        owns = record {
+          first = λ l e. subst (λ v. put_key (load_eq eq) w.desk.owners load (Some n) v ≡ Some n) (some_same e)
+              (claimed_owns load);
+          later = refl;
+        };
+        others = claimed_others load none;
+      },
+      λ owner some. keeps refl (owns_none _ n (plan.Read load ∷ []) refl),
+    )
+    on_item (plan.Read load) rest p o = (λ none. keeps refl p, λ with some. keeps refl (read_owns _ n c load with p))
+    on_item (plan.Settle with) rest p o =
+        record { one_owner = without_one_owner w.desk n one; owns = goes_owns _ n c rest o.later; others = without_others w.desk n }
+    on_item (plan.Ask load) rest p o = keeps refl (record { first = o.first; later = refl })
+    on_item (plan.Told load) rest p o = (λ none. keeps refl p, λ given some. keeps refl (told_owns _ n c load given p))
+    on_item (plan.Moment key value) rest p o = keeps refl (owns_none _ n (plan.Write key value w.desk.clock ∷ rest) (omega (arith, o.later)))
+    on_item (plan.Write key value moment) rest p o = (keeps refl p, keeps refl (owns_none _ n (plan.Post _ ∷ rest) (omega (arith, o.later))))
+    on_item (plan.Reply answer) rest p o = keeps refl (owns_none _ n [] refl)
+
+    on_plan : (plan : List (Item K V)) → c.plan ≡ plan → Owns w.desk.owners n c.plan → OnStep eq (Leaves w n) w n c plan
+    on_plan [] e p = keeps refl p
+    on_plan (item ∷ rest) e p = outcomes eq (Leaves w n) w n c item rest (on_item item rest p (subst (Owns w.desk.owners n) e p))
+
+module _ {K V : Type 0} (eq : K → K → Bool) (laws : IsEquivalence eq) where
+  -- what another call owns it owns still
+  owns_still : (n m : ℕ) (f g : Load K → Option ℕ) (plan : List (Item K V)) → (n == m) ≡ false → OthersOwn n f g → Owns f m plan →
+      Owns g m plan
+  owns_still n m f g plan h others o = record { first = λ load e. others m h load (o.first load e); later = o.later }
+
+  owned : (s : State K V) (n : ℕ) (w : World K V) (next : Next K V) → IsOwned eq s → Leaves eq s.world n w next →
+      IsOwned eq (state_after s n w next)
+  owned s n w next i l = record {
+    one_owner = l.one_owner;
+    calls = λ m c live.
+        put_cases s.calls n next.left m (Some c) (Owns w.desk.owners m c.plan) live
+        (λ here is. subst (λ v. Owns w.desk.owners v c.plan) here (subst (λ v. Owns w.desk.owners n (plan_left v)) is l.owns))
+        (λ there is. owns_still n m s.world.desk.owners w.desk.owners c.plan there l.others (i.calls m c is));
+  }
+
+  owned_step : (s t : State K V) (n : ℕ) (turn : Turn V) → IsOwned eq s → Step eq s n turn t → IsOwned eq t
+  owned_step s t n turn i step =
+      let c : Call K V = step.call in
+      step_cases eq (Leaves eq s.world n) (λ v _. IsOwned eq v) s t n turn step
+      (on_plan eq laws s.world n c i.one_owner c.plan refl (i.calls n c step.live)) (λ w next. owned s n w next i)
+
+  owned_kept : IsKept eq (IsOwned {K = K} {V = V} eq)
+  owned_kept = record {
+    fresh = λ size. record { one_owner = λ a b e. refl; calls = λ n c live. absurd (none_some live) };
+    at = λ s moment i. record { one_owner = i.one_owner; calls = i.calls };
+    start = λ s start i. record {
+      one_owner = i.one_owner;
+      calls = λ m c live.
+          put_cases s.calls (s.world.desk.last + 1) (Some (fresh_call start)) m (Some c) (Owns s.world.desk.owners m c.plan) live
+          (λ here is. subst (λ v. Owns s.world.desk.owners m (plan_left v)) is (fresh_owns s.world.desk.owners m start))
+          (λ there is. i.calls m c is);
+    };
+    step = owned_step;
+    tell = λ s n given asked i. record { one_owner = i.one_owner; calls = i.calls };
+    drop = λ s n c live between i. record {
+      one_owner = without_one_owner eq s.world.desk n i.one_owner;
+      calls = λ m b lives.
+          put_cases s.calls n None m (Some b) (Owns (owners_without s.world.desk n) m b.plan) lives
+          (λ here is. absurd (none_some is))
+          (λ there is. owns_still n m s.world.desk.owners (owners_without s.world.desk n) b.plan there (without_others eq s.world.desk n)
+          (i.calls m b is));
+    };
+  }
+
+  pub in_owned : (s : State K V) → IsReached eq s → IsOwned eq s
+  in_owned s h = in_reached eq (IsOwned eq) owned_kept s h
+
+  -- a call with an open initializer owns its load
+  initializer_owns : (s : State K V) → IsOwned eq s → (n : ℕ) (load : Load K) → Initializes s n load → s.world.desk.owners load ≡ Some n
+  initializer_owns s i n load h = (i.calls n h.call h.live).first load (ap wanted h.asked)
+
+  pub one_initializes : (s : State K V) → IsReached eq s → (n m : ℕ) (a b : Load K) → Initializes s n a → Initializes s m b →
+      load_eq eq a b ≡ true → n ≡ m
+  one_initializes s h n m a b x y e =
+      let i = in_owned s h in
+      some_same (sym (initializer_owns s i n a x) ∙ i.one_owner a b e ∙ initializer_owns s i m b y)

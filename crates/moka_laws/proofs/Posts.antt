@@ -1,0 +1,132 @@
+-- Which writes a plan posts, and whether it may still make one.
+use Rattle.std.proofs.Common.{◌≡◌, ℕ, ◌+◌, ◌≤◌, ◌==◌, Bool, true, false, cond, List, [], ◌∷◌, map, Option, Some, None, refl, arith}
+use Rattle.std.specs.Option.{option_to_list}
+use Rattle.moka_hist.specs.Finite.{times}
+use Rattle.moka_hist.specs.State.{Call}
+use Rattle.moka_hist.specs.Plan.{Item, Aim, held_by, plan_of}
+use Rattle.moka_hist.specs.Plan as plan
+use Rattle.moka_hist.specs.Visits.{number_of}
+use Rattle.moka_hist.specs.Next.{Next, goes}
+use Rattle.moka_hist.specs.Looking.{hits, misses}
+use Rattle.moka_hist.specs.Loading.{after_read, after_told, retries}
+use Rattle.moka_hist.specs.Run.{fresh_call}
+use Rattle.moka_hist.specs.declared.writes.Write.{Write}
+use Rattle.moka_hist.specs.declared.loads.Load.{Load}
+use Rattle.moka_hist.specs.declared.events.Start.{Start}
+use Rattle.moka_hist.specs.declared.events.Start.TheVariants as start
+use Rattle.moka_hist.specs.declared.events.Told.{Told}
+use Rattle.moka_hist.specs.declared.events.Told.TheVariants as answer
+use Rattle.moka_hist.specs.declared.visits.Settled.{Settled}
+use Rattle.moka_hist.specs.declared.visits.Settled.TheVariants as settled
+use Rattle.moka_hist.specs.declared.visits.Found.TheVariants as found
+use Rattle.moka_laws.proofs.Weights.{weigh, weigh_call}
+
+-- 1 where two numbers are one, and else 0
+abbrev pub once : ℕ → ℕ → ℕ
+once x y = cond (x == y) 1 0
+
+-- how often a number stands among the numbers of the writes
+abbrev pub among : ℕ → List Write → ℕ
+among x writes = times x (map number_of writes)
+
+module _ {K V : Type 0} where
+  -- the item posts a write; it posts the write of this number
+  abbrev pub any_post : Item K V → ℕ
+  any_post (plan.Post write) = 1
+  any_post _ = 0
+
+  abbrev pub post_of : ℕ → Item K V → ℕ
+  post_of x (plan.Post write) = once x (number_of write)
+  post_of x _ = 0
+
+  -- the item makes a write, or may lead to one
+  abbrev pub may_write : Item K V → ℕ
+  may_write plan.Drain = 0
+  may_write (plan.Post write) = 0
+  may_write plan.Turn = 0
+  may_write plan.Apply = 0
+  may_write plan.End = 0
+  may_write (plan.Settle with) = 0
+  may_write (plan.Reply answer) = 0
+  may_write _ = 1
+
+  -- how many posts stand behind where the plan's one post may stand: the front, or behind a turn's items
+  abbrev pub late : List (Item K V) → ℕ
+  late [] = 0
+  late (plan.Turn ∷ rest) = late rest
+  late (plan.Apply ∷ rest) = late rest
+  late (plan.End ∷ rest) = late rest
+  late (_ ∷ rest) = weigh any_post rest
+
+  abbrev pub late_call : Option (Call K V) → ℕ
+  late_call None = 0
+  late_call (Some c) = late c.plan
+
+  pub late_goes : (c : Call K V) (rest : List (Item K V)) → late_call (goes c rest).left ≡ late rest
+  late_goes c (plan.Reply a ∷ []) = refl
+  late_goes c (plan.Reply a ∷ x ∷ rest) = refl
+  late_goes c [] = refl
+  late_goes c (_ ∷ rest) = refl
+
+  -- where no write is posted none is posted late
+  pub late_none : (rest : List (Item K V)) → weigh any_post rest ≡ 0 → late rest ≡ 0
+  late_none [] h = refl
+  late_none (plan.Turn ∷ rest) h = late_none rest (omega arith)
+  late_none (plan.Apply ∷ rest) h = late_none rest (omega arith)
+  late_none (plan.End ∷ rest) h = late_none rest (omega arith)
+  late_none (_ ∷ rest) h = omega arith
+
+  -- where no write is posted the write of no number is
+  pub posts_none : (x : ℕ) (rest : List (Item K V)) → weigh any_post rest ≡ 0 → weigh (post_of x) rest ≡ 0
+  posts_none x [] h = refl
+  posts_none x (plan.Post write ∷ rest) h = absurd (omega arith)
+  posts_none x (_ ∷ rest) h = let e = posts_none x rest (omega arith) in omega arith
+
+  -- a call posts the one write that it holds
+  pub posts_held : (x : ℕ) (plan : List (Item K V)) → late plan ≡ 0 → weigh (post_of x) plan ≡ among x (option_to_list (held_by plan))
+  posts_held x [] h = refl
+  posts_held x (plan.Turn ∷ rest) h = let e = posts_held x rest h in omega arith
+  posts_held x (plan.Apply ∷ rest) h = let e = posts_held x rest h in omega arith
+  posts_held x (plan.End ∷ rest) h = let e = posts_held x rest h in omega arith
+  posts_held x (plan.Post write ∷ rest) h = let e = posts_none x rest h in omega arith
+  posts_held x (_ ∷ rest) h = let e = posts_held x rest (late_none rest h) in omega arith
+
+  -- ---- what is left after an item
+
+  -- a call that may have ended posts no write, none late, and may make at most one
+  pub record IsClear (left : Option (Call K V)) : Type 0 where
+    pub late : late_call left ≡ 0
+    pub posts : (x : ℕ) → weigh_call (post_of x) left ≡ 0
+    pub may : weigh_call may_write left ≤ 1
+
+  pub fresh_clear : (start : Start K V) → IsClear (Some (fresh_call start))
+  fresh_clear (start.Get key) = record { late = refl; posts = λ x. refl; may = omega arith }
+  fresh_clear (start.Insert key value) = record { late = refl; posts = λ x. refl; may = omega arith }
+  fresh_clear (start.GetWith key) = record { late = refl; posts = λ x. refl; may = omega arith }
+
+  pub misses_clear : (c : Call K V) (aim : Aim K) → IsClear (misses c aim).left
+  misses_clear c plan.To_answer = record { late = refl; posts = λ x. refl; may = omega arith }
+  misses_clear c (plan.To_load load) = record { late = refl; posts = λ x. refl; may = omega arith }
+  misses_clear c (plan.To_own load) = record { late = refl; posts = λ x. refl; may = omega arith }
+
+  pub hits_clear : (c : Call K V) (aim : Aim K) (value : V) → IsClear (hits c aim value).left
+  hits_clear c plan.To_answer value = record { late = refl; posts = λ x. refl; may = omega arith }
+  hits_clear c (plan.To_load load) value = record { late = refl; posts = λ x. refl; may = omega arith }
+  hits_clear c (plan.To_own load) value = record { late = refl; posts = λ x. refl; may = omega arith }
+
+  either_clear : (b : Bool) (x y : Next K V) → IsClear x.left → IsClear y.left → IsClear (cond b x y).left
+  either_clear true x y h k = h
+  either_clear false x y h k = k
+
+  pub read_clear : (c : Call K V) (load : Load K) (with : Settled V) → IsClear (Some c) →
+      IsClear (after_read c load (found.ReadSettled with)).left
+  read_clear c load (settled.Ready value) h = record { late = refl; posts = λ x. refl; may = omega arith }
+  read_clear c load settled.NotYet h = record { late = h.late; posts = h.posts; may = h.may }
+  read_clear c load settled.Aborted h =
+      either_clear (c.aborts + 1 == retries) _ _ (record { late = refl; posts = λ x. refl; may = omega arith })
+      (record { late = refl; posts = λ x. refl; may = omega arith })
+
+  pub told_clear : (c : Call K V) (load : Load K) (given : Told V) → IsClear (Some c) →
+      IsClear (after_told c load (found.TakeTold (Some given))).left
+  told_clear c load (answer.Value value) h = record { late = refl; posts = λ x. refl; may = omega arith }
+  told_clear c load answer.Done h = record { late = h.late; posts = h.posts; may = h.may }

@@ -1,0 +1,119 @@
+-- What a plan says of its call: whether it owns a load, and which load it waits for.
+use Rattle.std.proofs.Common.{◌≡◌, ◌≢◌, ℕ, ◌+◌, ◌==◌, Bool, true, false, cond, List, [], ◌∷◌, Option, Some, None, is_some, refl, arith}
+use Rattle.moka_hist.specs.State.{Call}
+use Rattle.moka_hist.specs.Plan.{Item, Aim, plan_of}
+use Rattle.moka_hist.specs.Plan as plan
+use Rattle.moka_hist.specs.Next.{Next, goes}
+use Rattle.moka_hist.specs.Looking.{hits, misses}
+use Rattle.moka_hist.specs.Loading.{after_read, after_told, retries}
+use Rattle.moka_hist.specs.declared.records.Stored.{Stored}
+use Rattle.moka_hist.specs.declared.loads.Load.{Load}
+use Rattle.moka_hist.specs.declared.events.Start.{Start}
+use Rattle.moka_hist.specs.declared.events.Start.TheVariants as start
+use Rattle.moka_hist.specs.declared.events.Told.{Told}
+use Rattle.moka_hist.specs.declared.events.Told.TheVariants as answer
+use Rattle.moka_hist.specs.declared.visits.Settled.{Settled}
+use Rattle.moka_hist.specs.declared.visits.Settled.TheVariants as settled
+use Rattle.moka_hist.specs.declared.visits.Found.TheVariants as found
+use Rattle.moka_laws.proofs.Weights.{weigh}
+use Rattle.moka_laws.proofs.Owning.{plan_left}
+
+module _ {K V : Type 0} where
+  -- an item that answers, or says itself how the call goes on, is the plan's last
+  abbrev pub IsLast : List (Item K V) → Type 0
+  IsLast [] = Unit {0}
+  IsLast (plan.Get aim key ∷ rest) = rest ≡ []
+  IsLast (plan.Judge aim key stored ∷ rest) = rest ≡ []
+  IsLast (plan.Own load ∷ rest) = rest ≡ []
+  IsLast (plan.Read load ∷ rest) = rest ≡ []
+  IsLast (plan.Ask load ∷ rest) = rest ≡ []
+  IsLast (plan.Told load ∷ rest) = rest ≡ []
+  IsLast (plan.Reply answer ∷ rest) = rest ≡ []
+  IsLast (_ ∷ rest) = IsLast rest
+
+  -- the item is an owner's
+  abbrev pub owners : Item K V → ℕ
+  owners (plan.Get (plan.To_own load) key) = 1
+  owners (plan.Judge (plan.To_own load) key stored) = 1
+  owners (plan.Ask load) = 1
+  owners (plan.Told load) = 1
+  owners (plan.Settle with) = 1
+  owners _ = 0
+
+  -- the load whose owner the plan waits for
+  abbrev pub awaited : List (Item K V) → Option (Load K)
+  awaited [] = None
+  awaited (plan.Read load ∷ rest) = Some load
+  awaited (_ ∷ rest) = awaited rest
+
+  -- the plan is that of a call that owns this load, if any, and waits for this owner, if any
+  pub record Fits (owned : Option (Load K)) (joined : Option ℕ) (plan : List (Item K V)) : Type 0 where
+    pub last : IsLast plan
+    pub owning : weigh owners plan ≡ cond (is_some owned) 1 0
+    pub waiting : is_some joined ≡ is_some (awaited plan)
+
+  module _ (o : Option (Load K)) (j : Option ℕ) where
+    pub goes_fits : (c : Call K V) (rest : List (Item K V)) → Fits o j rest → Fits o j (plan_left (goes c rest).left)
+    goes_fits c (plan.Reply a ∷ []) f = record { last = tt; owning = omega (arith, f.owning); waiting = f.waiting }
+    goes_fits c (plan.Reply a ∷ x ∷ rest) f = f
+    goes_fits c [] f = f
+    goes_fits c (item ∷ rest) f = f
+
+    pub misses_fits : (c : Call K V) (aim : Aim K) (key : K) → Fits o j (plan.Get aim key ∷ []) → Fits o j (plan_left (misses c aim).left)
+    misses_fits c plan.To_answer key f = record { last = tt; owning = omega (arith, f.owning); waiting = f.waiting }
+    misses_fits c (plan.To_load load) key f = record { last = refl; owning = f.owning; waiting = f.waiting }
+    misses_fits c (plan.To_own load) key f = record { last = refl; owning = f.owning; waiting = f.waiting }
+
+    pub judge_fits : (aim : Aim K) (key k : K) (stored : Stored V) → Fits o j (plan.Get aim key ∷ []) →
+        Fits o j (plan.Judge aim k stored ∷ [])
+    judge_fits plan.To_answer key k stored f = record { last = refl; owning = f.owning; waiting = f.waiting }
+    judge_fits (plan.To_load load) key k stored f = record { last = refl; owning = f.owning; waiting = f.waiting }
+    judge_fits (plan.To_own load) key k stored f = record { last = refl; owning = f.owning; waiting = f.waiting }
+
+    pub hits_fits : (c : Call K V) (aim : Aim K) (key : K) (stored : Stored V) (value : V) → Fits o j (plan.Judge aim key stored ∷ []) →
+        Fits o j (plan_left (hits c aim value).left)
+    hits_fits c plan.To_answer key stored value f = record { last = tt; owning = omega (arith, f.owning); waiting = f.waiting }
+    hits_fits c (plan.To_load load) key stored value f = record { last = tt; owning = omega (arith, f.owning); waiting = f.waiting }
+    hits_fits c (plan.To_own load) key stored value f = record { last = refl; owning = omega (arith, f.owning); waiting = f.waiting }
+
+    pub told_fits : (c : Call K V) (load : Load K) (given : Told V) → Fits o j c.plan → Fits o j (plan.Told load ∷ []) →
+        Fits o j (plan_left (after_told c load (found.TakeTold (Some given))).left)
+    told_fits c load (answer.Value value) p f = record { last = refl; owning = omega (arith, f.owning); waiting = f.waiting }
+    told_fits c load answer.Done p f = p
+
+  -- no load is awaited where the call has missed, hit or been told
+  pub misses_awaits : (c : Call K V) (aim : Aim K) → awaited (plan_left (misses c aim).left) ≡ None
+  misses_awaits c plan.To_answer = refl
+  misses_awaits c (plan.To_load load) = refl
+  misses_awaits c (plan.To_own load) = refl
+
+  pub hits_awaits : (c : Call K V) (aim : Aim K) (value : V) → awaited (plan_left (hits c aim value).left) ≡ None
+  hits_awaits c plan.To_answer value = refl
+  hits_awaits c (plan.To_load load) value = refl
+  hits_awaits c (plan.To_own load) value = refl
+
+  pub goes_awaits : (c : Call K V) (rest : List (Item K V)) → awaited (plan_left (goes c rest).left) ≡ awaited rest
+  goes_awaits c (plan.Reply a ∷ []) = refl
+  goes_awaits c (plan.Reply a ∷ x ∷ rest) = refl
+  goes_awaits c [] = refl
+  goes_awaits c (item ∷ rest) = refl
+
+  either_fits : (o : Option (Load K)) (b : Bool) (x y : Next K V) → Fits o None (plan_left x.left) → Fits o None (plan_left y.left) →
+      Fits o None (plan_left (cond b x y).left)
+  either_fits o true x y h k = h
+  either_fits o false x y h k = k
+
+  -- a call that has read how its owner ended waits for nobody
+  pub read_fits : (o : Option (Load K)) (j : Option ℕ) (c : Call K V) (load : Load K) (with : Settled V) →
+      Some with ≢ Some settled.NotYet → Fits o j (plan.Read load ∷ []) →
+      Fits o None (plan_left (after_read c load (found.ReadSettled with)).left)
+  read_fits o j c load (settled.Ready value) n f = record { last = tt; owning = omega (arith, f.owning); waiting = refl }
+  read_fits o j c load settled.NotYet n f = absurd (n refl)
+  read_fits o j c load settled.Aborted n f =
+      either_fits o (c.aborts + 1 == retries) _ _ (record { last = tt; owning = omega (arith, f.owning); waiting = refl })
+      (record { last = refl; owning = f.owning; waiting = refl })
+
+  pub fresh_fits : (start : Start K V) → Fits None None (plan_of start)
+  fresh_fits (start.Get key) = record { last = refl; owning = refl; waiting = refl }
+  fresh_fits (start.Insert key value) = record { last = refl; owning = refl; waiting = refl }
+  fresh_fits (start.GetWith key) = record { last = refl; owning = refl; waiting = refl }

@@ -1,0 +1,127 @@
+-- Each item of a plan keeps what those that wait for owners count on.
+use Rattle.std.proofs.Common.{ap, ◌≡◌, ℕ, ◌+◌, ◌≤◌, ◌==◌, Bool, false, List, [], ◌∷◌, Option, Some, None, is_some, refl, sym, ◌∙◌, subst, arith}
+use Rattle.moka_hist.specs.State.{World, Call}
+use Rattle.moka_hist.specs.Plan.{Item, Aim}
+use Rattle.moka_hist.specs.Plan as plan
+use Rattle.moka_hist.specs.Next.{Next, goes}
+use Rattle.moka_hist.specs.Loading.{after_told}
+use Rattle.moka_hist.specs.declared.loads.Load.{Load}
+use Rattle.moka_hist.specs.declared.events.Told.{Told}
+use Rattle.moka_hist.specs.declared.events.Told.TheVariants as answer
+use Rattle.moka_hist.specs.declared.visits.Found.TheVariants as found
+use Rattle.moka_laws.proofs.Weights.{weigh}
+use Rattle.moka_laws.proofs.StepCases.{OnStep}
+use Rattle.moka_laws.proofs.Outcomes.{Outcomes, outcomes}
+use Rattle.moka_laws.proofs.Answering.{HasAnswers, settlement_ready}
+use Rattle.moka_laws.proofs.Owning.{plan_left}
+use Rattle.moka_laws.proofs.Roles.{IsLast, owners, Fits, awaited, goes_fits, misses_fits, judge_fits, hits_fits, told_fits, read_fits, goes_awaits, misses_awaits, hits_awaits}
+use Rattle.moka_laws.proofs.Readers.{joins, Answered, OwnerOf}
+use Rattle.moka_laws.proofs.Serving.{Serves, part, no_load, no_owner, at_most_one, keeps, keeps_none, claims, joins_owner, leaves_owner, ends_own}
+
+module _ {K V : Type 0} (eq : K → K → Bool) (w : World K V) (n : ℕ) (c : Call K V)
+    (owner : (load : Load K) (o : ℕ) → w.desk.owners load ≡ Some o → OwnerOf eq w.desk.owning o load)
+    (enough : (m o : ℕ) → (n == m) ≡ false → w.desk.joined m ≡ Some o → joins o (w.desk.joined n) + 1 ≤ w.desk.readers o)
+    (enough_own : (o : ℕ) → joins o (w.desk.joined n) ≤ w.desk.readers o)
+    (ready : HasAnswers w.desk) where
+  -- the call fits a plan, and what this plan awaits is answered
+  record Plans (plan : List (Item K V)) : Type 0 where
+    fits : Fits (w.desk.owning n) (w.desk.joined n) plan
+    own : (o : ℕ) (load : Load K) → w.desk.joined n ≡ Some o → awaited plan ≡ Some load → Answered eq w.desk.owning w.desk.settled o load
+
+  abbrev Leaves : World K V → Next K V → Type 0
+  Leaves new next = Serves eq w.desk n (part new.desk) next.left
+
+  -- the call goes on with this plan, or as it was, and nothing else has changed
+  goes_with : (left : Option (Call K V)) → Plans (plan_left left) → Serves eq w.desk n (part w.desk) left
+  goes_with left p = keeps eq w.desk n owner enough enough_own p.fits p.own
+
+  -- the call goes on with a plan that awaits no load
+  goes_free : {left : Option (Call K V)} → Fits (w.desk.owning n) (w.desk.joined n) (plan_left left) → awaited (plan_left left) ≡ None →
+      Serves eq w.desk n (part w.desk) left
+  goes_free f none = keeps_none eq w.desk n owner enough enough_own f none
+
+  rest_plans : (rest : List (Item K V)) → Plans rest → Plans (plan_left (goes c rest).left)
+  rest_plans rest p = record { fits = goes_fits _ _ c rest p.fits; own = λ o load j a. p.own o load j (sym (goes_awaits c rest) ∙ a) }
+
+  goes_rest : (rest : List (Item K V)) → Plans rest → Serves eq w.desk n (part w.desk) (goes c rest).left
+  goes_rest rest p = goes_with (goes c rest).left (rest_plans rest p)
+
+  -- the plan's one item, where that is the last
+  alone : (item : Item K V) (rest : List (Item K V)) → rest ≡ [] → Plans (item ∷ rest) →
+      Fits (w.desk.owning n) (w.desk.joined n) (item ∷ [])
+  alone item rest e p = subst (λ v. Fits (w.desk.owning n) (w.desk.joined n) (item ∷ v)) e p.fits
+
+  takes_told : (load : Load K) (given : Told V) → Plans c.plan → Fits {V = V} (w.desk.owning n) (w.desk.joined n) (plan.Told load ∷ []) →
+      Serves eq w.desk n (part w.desk) (after_told c load (found.TakeTold (Some given))).left
+  takes_told load (answer.Value value) p f = goes_free (told_fits _ _ c load (answer.Value value) p.fits f) refl
+  takes_told load answer.Done p f = goes_with _ p
+
+  -- a call fits a plan that tells as much as one that it fits
+  like : (plan old : List (Item K V)) → Plans old → IsLast plan → weigh owners plan ≡ weigh owners old → awaited plan ≡ awaited old → Plans plan
+  like plan old p last weight alike = record {
+    fits = record { last = last; owning = weight ∙ p.fits.owning; waiting = p.fits.waiting ∙ ap is_some (sym alike) };
+    own = λ o load j a. p.own o load j (sym alike ∙ a);
+  }
+
+  on_item : (item : Item K V) (rest : List (Item K V)) → Plans c.plan → Plans (item ∷ rest) → Outcomes eq Leaves w n c item rest
+  on_item plan.Drain rest p q = (
+    λ e. goes_rest rest (like rest _ q q.fits.last (omega arith) refl),
+    λ x xs e. goes_with _ (like (plan.Post x ∷ plan.Drain ∷ rest) _ q q.fits.last (omega arith) refl),
+  )
+  on_item (plan.Post write) rest p q = (
+    λ e. goes_rest rest (like rest _ q q.fits.last (omega arith) refl),
+    λ e. goes_with _ (like (plan.Turn ∷ plan.Apply ∷ plan.End ∷ plan.Post write ∷ rest) _ q q.fits.last (omega arith) refl),
+  )
+  on_item plan.Turn rest p q = (λ e. goes_rest rest (like rest _ q q.fits.last (omega arith) refl), λ e. goes_with _ p)
+  on_item plan.Apply rest p q = (λ e. goes_rest rest (like rest _ q q.fits.last (omega arith) refl), λ x xs e. goes_with _ q)
+  on_item plan.End rest p q = goes_rest rest (like rest _ q q.fits.last (omega arith) refl)
+  on_item (plan.Get aim key) rest p q =
+      let f = alone (plan.Get aim key) rest q.fits.last q in (
+        goes_with _ p,
+        goes_free (misses_fits _ _ c aim key f) (misses_awaits c aim),
+        λ k stored. goes_free (judge_fits _ _ aim key k stored f) refl,
+      )
+  on_item (plan.Judge aim key stored) rest p q =
+      goes_free (hits_fits _ _ c aim key stored stored.value (alone (plan.Judge aim key stored) rest q.fits.last q)) (hits_awaits c aim stored.value)
+  on_item (plan.Own load) rest p q =
+      let f = alone (plan.Own load) rest q.fits.last q in
+      let none = no_load (w.desk.owning n) (sym f.owning) in (
+        λ e. claims eq w.desk n owner enough enough_own load none load.key refl f.waiting,
+        λ who e. joins_owner eq w.desk n owner enough enough_own load who e refl none (no_owner (w.desk.joined n) f.waiting),
+      )
+  on_item (plan.Read load) rest p q = (
+    λ e. goes_with _ p,
+    λ with e. leaves_owner eq w.desk n owner enough enough_own
+        (read_fits _ _ c load with (settlement_ready w.desk n with ready e) (alone (plan.Read load) rest q.fits.last q)),
+  )
+  on_item (plan.Settle with) rest p q =
+      let f : Fits None (w.desk.joined n) rest = record {
+        last = q.fits.last;
+        owning = omega (arith, q.fits.owning, at_most_one (is_some (w.desk.owning n)));
+        waiting = q.fits.waiting;
+      } in
+      ends_own eq w.desk n owner enough enough_own with (goes_fits _ _ c rest f) (λ o load j a. q.own o load j (sym (goes_awaits c rest) ∙ a))
+  on_item (plan.Ask load) rest p q =
+      let f = alone (plan.Ask load) rest q.fits.last q in
+      goes_free (record { last = refl; owning = f.owning; waiting = f.waiting }) refl
+  on_item (plan.Told load) rest p q = (
+    λ e. goes_with _ p,
+    λ given e. takes_told load given p (alone (plan.Told load) rest q.fits.last q),
+  )
+  on_item (plan.Moment key value) rest p q =
+      goes_with _ (like (plan.Write key value w.desk.clock ∷ rest) _ q q.fits.last refl refl)
+  on_item (plan.Write key value moment) rest p q = (
+    goes_with _ p,
+    goes_with _ (like (plan.Post _ ∷ rest) _ q q.fits.last refl refl),
+  )
+  on_item (plan.Reply answer) rest p q =
+      let f = alone (plan.Reply answer) rest q.fits.last q in
+      goes_free (record { last = tt; owning = omega (arith, f.owning); waiting = f.waiting }) refl
+
+  pub on_plan : (plan : List (Item K V)) → c.plan ≡ plan → Fits (w.desk.owning n) (w.desk.joined n) c.plan →
+      ((o : ℕ) (load : Load K) → w.desk.joined n ≡ Some o → awaited c.plan ≡ Some load → Answered eq w.desk.owning w.desk.settled o load) →
+      OnStep eq Leaves w n c plan
+  on_plan [] e f own = goes_with _ (record { fits = f; own = own })
+  on_plan (item ∷ rest) e f own =
+      let p : Plans c.plan = record { fits = f; own = own } in
+      outcomes eq Leaves w n c item rest (on_item item rest p (subst Plans e p))

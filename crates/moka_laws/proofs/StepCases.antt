@@ -1,0 +1,75 @@
+-- One step, taken apart by the first item of the call's plan.
+use Rattle.std.proofs.Common.{ℕ, Bool, List, [], ◌∷◌, sym, subst}
+use Rattle.moka_hist.specs.State.{State, Call, World}
+use Rattle.moka_hist.specs.Plan.{Item}
+use Rattle.moka_hist.specs.Visits.{finds, makes}
+use Rattle.moka_hist.specs.Tables.{table_answer, table_after}
+use Rattle.moka_hist.specs.Next.{Next, waits}
+use Rattle.moka_hist.specs.Step.{Access, On_table, On_desk, access_for, access_of, after_table, after_visit, next_of, Gets, state_after, Step}
+use Rattle.moka_hist.specs.declared.records.Mode.{Mode}
+use Rattle.moka_hist.specs.declared.accesses.Got.{Got}
+use Rattle.moka_hist.specs.declared.accesses.Got.TheVariants as got
+use Rattle.moka_hist.specs.declared.accesses.Turn.{Turn}
+use Rattle.moka_hist.specs.declared.tables.TableTurn.TheVariants as table
+
+module _ {K V : Type 0} (eq : K → K → Bool) where
+  -- M holds of all that the access may make of the world and of the call
+  abbrev pub OnAccess : (World K V → Next K V → Type 0) → World K V → ℕ → Call K V → Item K V → List (Item K V) → Access K V → Type 0
+  OnAccess M w n c item rest (On_table op) =
+      M w (after_table n c item rest table.Going) × M (record w { table = table_after eq w.table op })
+      (after_table n c item rest (table.Decided (table_answer w.table op)))
+  OnAccess M w n c item rest (On_desk made) =
+      M (record w { desk = makes eq w.desk made }) (after_visit c item rest (finds w.desk made))
+
+  -- M holds of all that a step may make of the world and of the call, with this plan
+  abbrev pub OnStep : (World K V → Next K V → Type 0) → World K V → ℕ → Call K V → List (Item K V) → Type 0
+  OnStep M w n c [] = M w (waits c)
+  OnStep M w n c (item ∷ rest) = OnAccess M w n c item rest (access_for n item)
+
+  -- how a call goes on whose plan begins with the item
+  abbrev after : ℕ → Call K V → Item K V → List (Item K V) → Got K V → Next K V
+  after n c item rest (got.Table turn) = after_table n c item rest turn
+  after n c item rest (got.Desk f) = after_visit c item rest f
+
+  by_access : (M : World K V → Next K V → Type 0) (w : World K V) (n : ℕ) (c : Call K V) (item : Item K V) (rest : List (Item K V))
+      (a : Access K V) (given : Got K V) (new : World K V) → Gets eq w a given new → OnAccess M w n c item rest a → M new
+      (after n c item rest given)
+  by_access M w n c item rest (On_table op) (got.Table table.Going) new h m = subst (λ v. M v (after_table n c item rest table.Going)) (sym h) m.0
+  by_access M w n c item rest (On_table op) (got.Table (table.Decided answer)) new h m = rw (h.1, h.0) m.1
+  by_access M w n c item rest (On_desk made) (got.Desk f) new h m = rw (h.1, h.0) m
+  by_access M w n c item rest (On_table op) (got.Desk f) new h m = absurd h
+  by_access M w n c item rest (On_desk made) (got.Table turn) new h m = absurd h
+
+  by_plan : (M : World K V → Next K V → Type 0) (w : World K V) (n : ℕ) (mode : Mode) (plan : List (Item K V)) (aborts : ℕ)
+      (given : Got K V) (new : World K V) →
+      let c : Call K V = record { mode = mode; plan = plan; aborts = aborts } in
+      Gets eq w (access_of n c) given new → OnStep M w n c plan → M new (next_of n c given)
+  by_plan M w n mode [] aborts (got.Desk f) new h m = rw h.1 m
+  by_plan M w n mode [] aborts (got.Table turn) new h m = absurd h
+  by_plan M w n mode (item ∷ rest) aborts (got.Table turn) new h m = by_access M w n
+      (record { mode = mode; plan = item ∷ rest; aborts = aborts }) item rest (access_for n item) (got.Table turn) new h m
+  by_plan M w n mode (item ∷ rest) aborts (got.Desk f) new h m = by_access M w n
+      (record { mode = mode; plan = item ∷ rest; aborts = aborts }) item rest (access_for n item) (got.Desk f) new h m
+
+  more_access : (M N : World K V → Next K V → Type 0) → ((w : World K V) (next : Next K V) → M w next → N w next) →
+      (w : World K V) (n : ℕ) (c : Call K V) (item : Item K V) (rest : List (Item K V)) (a : Access K V) → OnAccess M w n c item rest a →
+      OnAccess N w n c item rest a
+  more_access M N f w n c item rest (On_table op) m = (f _ _ m.0, f _ _ m.1)
+  more_access M N f w n c item rest (On_desk made) m = f _ _ m
+
+  more_step : (M N : World K V → Next K V → Type 0) → ((w : World K V) (next : Next K V) → M w next → N w next) →
+      (w : World K V) (n : ℕ) (c : Call K V) (plan : List (Item K V)) → OnStep M w n c plan → OnStep N w n c plan
+  more_step M N f w n c [] m = f _ _ m
+  more_step M N f w n c (item ∷ rest) m = more_access M N f w n c item rest (access_for n item) m
+
+  -- what follows from all that a step may make holds of what it made
+  pub step_cases : (M : World K V → Next K V → Type 0) (P : State K V → Turn V → Type 0) (s t : State K V) (n : ℕ) (turn : Turn V)
+      (step : Step eq s n turn t) →
+      OnStep M s.world n step.call step.call.plan → ((w : World K V) (next : Next K V) → M w next → P (state_after s n w next) next.turn) → P t turn
+  step_cases M P s t n turn step cases follows =
+      let c : Call K V = step.call in
+      let on_plan : OnStep (λ w next. P (state_after s n w next) next.turn) s.world n c c.plan = more_step M
+      (λ w next. P (state_after s n w next) next.turn) follows s.world n c c.plan cases in
+      let p : P (state_after s n step.world (next_of n c step.given)) (next_of n c step.given).turn =
+      by_plan (λ w next. P (state_after s n w next) next.turn) s.world n c.mode c.plan c.aborts step.given step.world step.gets on_plan in
+      subst (λ v. P v turn) (sym step.after) (subst (λ v. P (state_after s n step.world (next_of n c step.given)) v) (sym step.turns) p)

@@ -1,0 +1,118 @@
+-- When a step waits.
+use Rattle.std.proofs.Common.{◌≡◌, ◌≢◌, ◌↔◌, ℕ, ◌+◌, ◌==◌, Bool, true, false, List, [], ◌∷◌, Option, Some, None, IsNone, is_some, refl, sym, ap, ◌∙◌, subst}
+use Rattle.std.proofs.lemmas.Bool.{false≢true}
+use Rattle.moka_hist.specs.State.{World, Call}
+use Rattle.moka_hist.specs.Plan.{Item, Aim}
+use Rattle.moka_hist.specs.Plan as plan
+use Rattle.moka_hist.specs.Next.{Next, goes, waits}
+use Rattle.moka_hist.specs.Looking.{hits, misses}
+use Rattle.moka_hist.specs.Loading.{after_read, after_told, after_abort, retries}
+use Rattle.moka_hist.specs.Missing.{IsMissing}
+use Rattle.moka_hist.specs.declared.records.Mode.TheVariants as mode
+use Rattle.moka_hist.specs.declared.loads.Load.{Load}
+use Rattle.moka_hist.specs.declared.events.Told.{Told}
+use Rattle.moka_hist.specs.declared.events.Told.TheVariants as answer
+use Rattle.moka_hist.specs.declared.visits.Settled.{Settled}
+use Rattle.moka_hist.specs.declared.visits.Settled.TheVariants as settled
+use Rattle.moka_hist.specs.declared.visits.Found.TheVariants as found
+use Rattle.moka_hist.specs.declared.accesses.Turn.TheVariants as turn
+use Rattle.moka_laws.specs.Waiting.{WaitsByCause, WaitsFor}
+use Rattle.moka_laws.proofs.Counting.{none_some}
+use Rattle.moka_laws.proofs.StepCases.{OnStep, step_cases}
+use Rattle.moka_laws.proofs.Outcomes.{Outcomes, outcomes}
+use Rattle.moka_laws.proofs.Answering.{HasAnswers, answering, settlement_ready}
+
+not_none : {A : Type 0} {a : A} (o : Option A) → o ≡ Some a → ¬ IsNone o
+not_none None e = λ h. none_some e
+not_none (Some a) e = λ h. false≢true (sym h)
+
+module _ {K V : Type 0} where
+  -- the step doesn't wait
+  abbrev GoesOn : Next K V → Type 0
+  GoesOn next = next.turn ≢ turn.Wait
+
+  goes_on : (c : Call K V) (rest : List (Item K V)) → GoesOn (goes c rest)
+  goes_on c (plan.Reply a ∷ []) = λ e. cc
+  goes_on c (plan.Reply a ∷ x ∷ rest) = λ e. cc
+  goes_on c [] = λ e. cc
+  goes_on c (_ ∷ rest) = λ e. cc
+
+  misses_on : (c : Call K V) (aim : Aim K) → GoesOn (misses c aim)
+  misses_on c plan.To_answer = λ e. cc
+  misses_on c (plan.To_load load) = λ e. cc
+  misses_on c (plan.To_own load) = λ e. cc
+
+  hits_on : (c : Call K V) (aim : Aim K) (value : V) → GoesOn (hits c aim value)
+  hits_on c plan.To_answer value = λ e. cc
+  hits_on c (plan.To_load load) value = λ e. cc
+  hits_on c (plan.To_own load) value = λ e. cc
+
+  read_on : (c : Call K V) (load : Load K) (with : Settled V) → Some with ≢ Some settled.NotYet →
+      GoesOn (after_read c load (found.ReadSettled with))
+  read_on c load (settled.Ready value) h = λ e. cc
+  read_on c load settled.NotYet h = absurd (h refl)
+  read_on c load settled.Aborted h = by (c.aborts + 1 == retries) refl
+    where
+      by : (b : Bool) → (c.aborts + 1 == retries) ≡ b → GoesOn (after_abort c load)
+      by true e = rw e (λ e. cc)
+      by false e = rw e (λ e. cc)
+
+  told_on : (c : Call K V) (load : Load K) (given : Told V) → Some given ≢ Some answer.Done →
+      GoesOn (after_told c load (found.TakeTold (Some given)))
+  told_on c load (answer.Value value) h = λ e. cc
+  told_on c load answer.Done h = absurd (h refl)
+
+  -- what a step has to show: it waits where Q holds, and then it changes nothing
+  record Waits (w : World K V) (c : Call K V) (Q : Type 0) (new : World K V) (next : Next K V) : Type 0 where
+    cause : (next.turn ≡ turn.Wait) ↔ Q
+    world : next.turn ≡ turn.Wait → new ≡ w
+    left : next.turn ≡ turn.Wait → next.left ≡ Some (record c { mode = mode.Parked })
+
+  module _ (w : World K V) (c : Call K V) where
+    never : {Q : Type 0} {new : World K V} {next : Next K V} → ¬ Q → GoesOn next → Waits w c Q new next
+    never not g = record { cause = (λ e. absurd (g e), λ q. absurd (not q)); world = λ e. absurd (g e); left = λ e. absurd (g e) }
+
+    always : {Q : Type 0} → Q → Waits w c Q w (waits c)
+    always q = record { cause = (λ e. q, λ q. refl); world = λ e. refl; left = λ e. refl }
+
+  module _ (eq : K → K → Bool) (w : World K V) (n : ℕ) (c : Call K V) (has : HasAnswers w.desk) where
+    on_item : (item : Item K V) (rest : List (Item K V)) → Outcomes eq (Waits w c (IsMissing w.desk n item)) w n c item rest
+    on_item plan.Drain rest = (λ e. never w c (λ q. q) (goes_on c rest), λ x xs e. never w c (λ q. q) (λ e. cc))
+    on_item (plan.Post write) rest = (λ e. never w c (λ q. q) (goes_on c rest), λ e. never w c (λ q. q) (λ e. cc))
+    on_item plan.Turn rest = (λ e. never w c (λ q. false≢true (sym q ∙ e)) (goes_on c rest), λ e. always w c e)
+    on_item plan.Apply rest = (λ e. never w c (λ q. q) (goes_on c rest), λ x xs e. never w c (λ q. q) (λ e. cc))
+    on_item plan.End rest = never w c (λ q. q) (goes_on c rest)
+    on_item (plan.Get aim key) rest = (never w c (λ q. q) (λ e. cc), never w c (λ q. q) (misses_on c aim), λ k stored. never w c (λ q. q) (λ e. cc))
+    on_item (plan.Judge aim key stored) rest = never w c (λ q. q) (hits_on c aim stored.value)
+    on_item (plan.Own load) rest = (λ e. never w c (λ q. q) (λ e. cc), λ owner e. never w c (λ q. q) (λ e. cc))
+    on_item (plan.Read load) rest = (
+      λ e. always w c (ap is_some e),
+      λ with e. never w c (not_none _ e) (read_on c load with (settlement_ready w.desk n with has e)),
+    )
+    on_item (plan.Settle with) rest = never w c (λ q. q) (goes_on c rest)
+    on_item (plan.Ask load) rest = never w c (λ q. q) (λ e. cc)
+    on_item (plan.Told load) rest = (
+      λ e. always w c (ap is_some e),
+      λ given e. never w c (not_none _ e) (told_on c load given (λ h. has.told n (e ∙ h))),
+    )
+    on_item (plan.Moment key value) rest = never w c (λ q. q) (λ e. cc)
+    on_item (plan.Write key value moment) rest = (never w c (λ q. q) (λ e. cc), never w c (λ q. q) (λ e. cc))
+    on_item (plan.Reply answer) rest = never w c (λ q. q) (λ e. cc)
+
+module _ {K V : Type 0} (eq : K → K → Bool) where
+  -- a call that a look-up gives is the one that another gives
+  one_call : {o : Option (Call K V)} (a b : Call K V) → o ≡ Some a → o ≡ Some b → a ≡ b
+  one_call a b e f = cc
+
+  pub by_cause : WaitsByCause K V eq
+  by_cause s t n c item rest reply h live e step =
+      let M : World K V → Next K V → Type 0 = Waits s.world c (IsMissing s.world.desk n item) in
+      let on_plan : OnStep eq M s.world n c c.plan =
+      subst (λ p. OnStep eq M s.world n c p) (sym e)
+      (outcomes eq M s.world n c item rest (on_item eq s.world n c (answering eq s h).desk item rest)) in
+      step_cases eq M (λ v r. WaitsFor s n c item r v) s t n reply step
+      (subst (λ v. OnStep eq M s.world n v v.plan) (one_call c step.call live step.live) on_plan)
+      (λ w next m. record {
+        cause = m.cause;
+        parks = λ waited. rw (m.world waited, m.left waited) refl;
+      })

@@ -1,0 +1,5 @@
+use Rattle.moka_laws.proofs.Lawfully.{run_is_lawful}
+use Rattle.moka_laws.proofs.lawful.run_is_lawful.Goals as goal
+
+pub returns : goal.returns
+returns g c = record { lawful = run_is_lawful g.K.PartialEq.eq g.met.K.Eq.laws }

@@ -1,0 +1,6 @@
+pub mod Reaching
+pub mod Holders
+pub mod Waiting
+pub mod Lawful
+pub mod Missing
+pub mod Moving

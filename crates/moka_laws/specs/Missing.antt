@@ -1,0 +1,64 @@
+-- What a call may have to wait for can still come.
+use Rattle.std.specs.Prelude.{◌≡◌, ◌↔◌, ◌⊎◌, ℕ, Bool, true, List, ◌∷◌, Some, IsSome}
+use Rattle.moka_hist.specs.Finite.{load_eq}
+use Rattle.moka_hist.specs.State.{Call, State}
+use Rattle.moka_hist.specs.Plan.{Item}
+use Rattle.moka_hist.specs.Plan as plan
+use Rattle.moka_hist.specs.Run.{IsReached}
+use Rattle.moka_hist.specs.Missing.{IsMissing}
+use Rattle.moka_hist.specs.declared.loads.Load.{Load}
+use Rattle.moka_hist.specs.declared.records.Mode.TheVariants as mode
+
+module _ {K V : Type 0} where
+  -- the plan applies the log, and then ends the turn
+  abbrev pub IsApplying : List (Item K V) → Type 0
+  IsApplying (plan.Apply ∷ rest) = IsApplying rest
+  IsApplying (plan.End ∷ rest) = Unit {0}
+  IsApplying _ = ⊥
+
+  -- The live call of this number applies the log: it is between two steps, where it can't be
+  -- dropped, and what it does next waits for nothing.
+  pub record AppliesLog (s : State K V) (n : ℕ) : Type 0 where
+    pub call : Call K V
+    pub live : s.calls n ≡ Some call
+    pub between : call.mode ≡ mode.Mid
+    pub applying : IsApplying call.plan
+
+  -- the live call of this number owns a load that is equal to the one given
+  pub record OwnsAlike (eq : K → K → Bool) (s : State K V) (n : ℕ) (load : Load K) : Type 0 where
+    pub call : Call K V
+    pub live : s.calls n ≡ Some call
+    pub owned : Load K
+    pub owning : s.world.desk.owning n ≡ Some owned
+    pub alike : load_eq eq owned load ≡ true
+
+  -- The call waits for an owner, which is live and owns an equal load, or whose end is there to be
+  -- read.
+  pub record HasOwner (eq : K → K → Bool) (s : State K V) (n : ℕ) (load : Load K) : Type 0 where
+    pub owner : ℕ
+    pub joined : s.world.desk.joined n ≡ Some owner
+    pub served : OwnsAlike eq s owner load ⊎ IsSome (s.world.desk.settled owner)
+
+  -- What the item may miss can still come: from the call that has the turn, which applies the log;
+  -- from the owner, which owns an equal load; or as the answer to the own ask, which is open.
+  abbrev pub CanCome : (K → K → Bool) → State K V → ℕ → Item K V → Type 0
+  CanCome eq s n plan.Turn = (holder : ℕ) × (s.world.desk.turn ≡ Some holder) × AppliesLog s holder
+  CanCome eq s n (plan.Read load) = (owner : ℕ) × (s.world.desk.joined n ≡ Some owner) × OwnsAlike eq s owner load
+  CanCome eq s n (plan.Told load) = IsSome (s.world.desk.asks n)
+  CanCome eq s n _ = ⊥
+
+-- in every reached state a call has the turn exactly where it applies the log
+abbrev pub TurnIsHeld : (K V : Type 0) → (K → K → Bool) → Type 0
+TurnIsHeld K V eq = (s : State K V) (n : ℕ) → IsReached eq s → (s.world.desk.turn ≡ Some n) ↔ AppliesLog s n
+
+-- in every reached state each call that waits for the owner of a load has one
+abbrev pub WaitersHaveOwners : (K V : Type 0) → (K → K → Bool) → Type 0
+WaitersHaveOwners K V eq =
+    (s : State K V) (n : ℕ) (c : Call K V) (load : Load K) (rest : List (Item K V)) →
+    IsReached eq s → s.calls n ≡ Some c → c.plan ≡ plan.Read load ∷ rest → HasOwner eq s n load
+
+-- in every reached state what a live call misses can still come
+abbrev pub MissingCanCome : (K V : Type 0) → (K → K → Bool) → Type 0
+MissingCanCome K V eq =
+    (s : State K V) (n : ℕ) (c : Call K V) (item : Item K V) (rest : List (Item K V)) →
+    IsReached eq s → s.calls n ≡ Some c → c.plan ≡ item ∷ rest → IsMissing s.world.desk n item → CanCome eq s n item

@@ -1,0 +1,39 @@
+-- Which states a run can reach, and how a run goes on.
+use Rattle.std.specs.Prelude.{ℕ, Bool, List, [], ◌∷◌, ◌++◌}
+use Rattle.moka_hist.specs.State.{State, fresh}
+use Rattle.moka_hist.specs.Step.{Step}
+use Rattle.moka_hist.specs.Run.{Goings, Happens, Run, Any, IsReached}
+use Rattle.moka_hist.specs.declared.events.Event.{Event}
+use Rattle.moka_hist.specs.declared.replies.Reply.{Reply}
+use Rattle.moka_hist.specs.declared.accesses.Turn.{Turn}
+
+-- a fresh cache is reached, with a log of any size
+abbrev pub FreshIsReached : (K V : Type 0) → (K → K → Bool) → Type 0
+FreshIsReached K V eq = (size : ℕ) → IsReached eq (fresh K V size)
+
+-- what an event leaves of a reached state is reached
+abbrev pub ReachedByEvent : (K V : Type 0) → (K → K → Bool) → Type 0
+ReachedByEvent K V eq =
+    (s t : State K V) (e : Event K V) (r : Reply V) → IsReached eq s → Happens eq Any s e r t → IsReached eq t
+
+-- what a step leaves of a reached state is reached
+abbrev pub ReachedByStep : (K V : Type 0) → (K → K → Bool) → Type 0
+ReachedByStep K V eq =
+    (s t : State K V) (n : ℕ) (turn : Turn V) → IsReached eq s → Step eq s n turn t → IsReached eq t
+
+-- what steps of one call leave of a reached state is reached
+abbrev pub ReachedBySteps : (K V : Type 0) → (K → K → Bool) → Type 0
+ReachedBySteps K V eq =
+    (k : ℕ) (s t : State K V) (n : ℕ) → IsReached eq s → Goings eq Any k s n t → IsReached eq t
+
+-- what a run leaves of a reached state is reached
+abbrev pub ReachedByRun : (K V : Type 0) → (K → K → Bool) → Type 0
+ReachedByRun K V eq =
+    (s t : State K V) (es : List (Event K V)) (rs : List (Reply V)) →
+    IsReached eq s → Run eq Any s es rs t → IsReached eq t
+
+-- a run goes on by one event at its end
+abbrev pub RunGoesOn : (K V : Type 0) → (K → K → Bool) → Type 0
+RunGoesOn K V eq =
+    (s m t : State K V) (es : List (Event K V)) (rs : List (Reply V)) (e : Event K V) (r : Reply V) →
+    Run eq Any s es rs m → Happens eq Any m e r t → Run eq Any s (es ++ e ∷ []) (rs ++ r ∷ []) t

@@ -1,0 +1,29 @@
+//! What holds in every state of a run.
+
+ghost use Rattle.moka_laws.specs.Lawful.{EventIsLawful, LawfulRunGoesOn, ReachedIsLawful, RunIsLawful, StepsAreLawful};
+
+/// Cites the law that every reached state is lawful: each committed write stands in exactly one
+/// place, no other write stands anywhere, and no key and kind has two open initializers.
+pub fn reached_is_lawful<K: Eq, V>()
+    ensures lawful { ReachedIsLawful K V K.eq }
+{}
+
+/// Cites the law that steps of one call on a reached state go through lawful states.
+pub fn steps_are_lawful<K: Eq, V>()
+    ensures lawful { StepsAreLawful K V K.eq }
+{}
+
+/// Cites the law that an event on a reached state goes through lawful states.
+pub fn event_is_lawful<K: Eq, V>()
+    ensures lawful { EventIsLawful K V K.eq }
+{}
+
+/// Cites the law that a run from a reached state goes through lawful states.
+pub fn run_is_lawful<K: Eq, V>()
+    ensures lawful { RunIsLawful K V K.eq }
+{}
+
+/// Cites the law that a run through lawful states goes on by one event at its end.
+pub fn lawful_run_goes_on<K: Eq, V>()
+    ensures goes_on { LawfulRunGoesOn K V K.eq }
+{}

@@ -1,0 +1,33 @@
+//! Which states a run can reach, and how a run goes on.
+
+ghost use Rattle.moka_laws.specs.Reaching.{FreshIsReached, ReachedByEvent, ReachedByRun, ReachedByStep, ReachedBySteps, RunGoesOn};
+
+/// Cites the law that a fresh cache is reached, with a log of any size.
+pub fn fresh_is_reached<K: Eq, V>()
+    ensures reached { FreshIsReached K V K.eq }
+{}
+
+/// Cites the law that an event on a reached state leaves a reached state.
+pub fn reached_by_event<K: Eq, V>()
+    ensures reached { ReachedByEvent K V K.eq }
+{}
+
+/// Cites the law that a step of a live call on a reached state leaves a reached state.
+pub fn reached_by_step<K: Eq, V>()
+    ensures reached { ReachedByStep K V K.eq }
+{}
+
+/// Cites the law that steps of a live call on a reached state leave a reached state.
+pub fn reached_by_steps<K: Eq, V>()
+    ensures reached { ReachedBySteps K V K.eq }
+{}
+
+/// Cites the law that events on a reached state leave a reached state.
+pub fn reached_by_run<K: Eq, V>()
+    ensures reached { ReachedByRun K V K.eq }
+{}
+
+/// Cites the law that a run goes on by one event at its end.
+pub fn run_goes_on<K: Eq, V>()
+    ensures goes_on { RunGoesOn K V K.eq }
+{}

@@ -1,0 +1,5 @@
+pub mod TableSteps
+pub mod Wanted
+pub mod Places
+pub mod LiveCalls
+pub mod ReportPlaces

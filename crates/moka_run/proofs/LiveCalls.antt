@@ -1,0 +1,73 @@
+-- The live calls, listed by the places of a machine's calls.
+use Rattle.std.proofs.Common.{◌≡◌, ℕ, ◌==◌, Bool, true, false, cond, List, [], ◌∷◌, Option, Some, None, nat_eq, refl, sym, ap, ◌∙◌}
+use Rattle.std.specs.Cmp.{nat_eq_equiv}
+use Rattle.std.specs.List.{IsDistinct, AllByRecursion, filter_map, cons_option}
+use Rattle.std.specs.Map.{lookup, keys_of, values_of}
+use Rattle.std.specs.Option.{option_map, option_and_then}
+use Rattle.std.proofs.lemmas.Map.{lookup-none}
+use Rattle.std.proofs.lemmas.Map.Entries.{none_past_head}
+use Rattle.moka_hist.specs.Finite.{Lists}
+use Rattle.moka_hist.specs.State.{Call}
+use Rattle.moka_run.specs.Calls.{held_in}
+use Rattle.moka_run.specs.Machine.{call_in}
+use Rattle.moka_run.specs.Report.{held_number, AreHeld}
+use Rattle.moka_run.specs.declared.calls.Running.{Running}
+
+module _ {K V : Type 0} where
+  -- the live call of a place
+  abbrev live : ℕ × Option (Running K V) → Option (ℕ × Call K V)
+  live p = option_map (λ r. (p.0, call_in r)) p.1
+
+  -- a place of the map, as a live call
+  abbrev at_key : Option (Option (Running K V)) → Option (Call K V)
+  at_key found = option_map call_in (option_and_then (λ place. place) found)
+
+  -- a key that none of the places has is none of a live call
+  apart : (n : ℕ) (es : List (ℕ × Option (Running K V))) → AllByRecursion (λ y. nat_eq n y ≡ false) (keys_of es)
+      → AllByRecursion (λ y. nat_eq n y ≡ false) (keys_of (filter_map live es))
+  apart n [] h = h
+  apart n ((k, None) ∷ es) h = apart n es h.1
+  apart n ((k, Some r) ∷ es) h = (h.0, apart n es h.1)
+
+  distinct : (es : List (ℕ × Option (Running K V))) → IsDistinct nat_eq (keys_of es) → IsDistinct nat_eq (keys_of (filter_map live es))
+  unfolding IsDistinct
+  distinct [] h = h
+  distinct ((k, None) ∷ es) h = distinct es h.1
+  distinct ((k, Some r) ∷ es) h = (apart k es h.0, distinct es h.1)
+
+  tail : (e : ℕ × Option (Running K V)) (es : List (ℕ × Option (Running K V))) → IsDistinct nat_eq (keys_of (e ∷ es)) → IsDistinct nat_eq (keys_of es)
+  unfolding IsDistinct
+  tail e es h = h.1
+
+  -- a look-up past a place of no call
+  past : (q k : ℕ) (es : List (ℕ × Option (Running K V))) → IsDistinct nat_eq (keys_of ((k, None) ∷ es)) → (b : Bool) → nat_eq q k ≡ b
+      → at_key (lookup (nat_eq q) es) ≡ at_key (cond b (Some None) (lookup (nat_eq q) es))
+  past q k es h true e = ap at_key (lookup-none (nat_eq q) es (none_past_head nat_eq_equiv q (k, None) es h e))
+  past q k es h false e = refl
+
+  -- a look-up that begins at a live call
+  first : (r : Running K V) (found : Option (Call K V)) (rest : Option (Option (Running K V))) → found ≡ at_key rest → (b : Bool)
+      → cond b (Some (call_in r)) found ≡ at_key (cond b (Some (Some r)) rest)
+  first r found rest e true = refl
+  first r found rest e false = e
+
+  looked_up : (q : ℕ) (es : List (ℕ × Option (Running K V))) → IsDistinct nat_eq (keys_of es)
+      → lookup (nat_eq q) (filter_map live es) ≡ at_key (lookup (nat_eq q) es)
+  looked_up q [] h = refl
+  looked_up q ((k, None) ∷ es) h = looked_up q es (tail (k, None) es h) ∙ past q k es h (nat_eq q k) refl
+  looked_up q ((k, Some r) ∷ es) h = first r (lookup (nat_eq q) (filter_map live es)) (lookup (nat_eq q) es) (looked_up q es (tail (k, Some r) es h)) (nat_eq q k)
+
+  same_numbers : (es : List (ℕ × Option (Running K V))) → filter_map held_in (values_of es) ≡ filter_map held_number (filter_map live es)
+  same_numbers [] = refl
+  same_numbers ((k, None) ∷ es) = same_numbers es
+  same_numbers ((k, Some r) ∷ es) = ap (cons_option (held_number (k, call_in r))) (same_numbers es)
+
+  -- the numbers that the places hold are those of the live calls
+  pub live_hold : (es : List (ℕ × Option (Running K V))) → IsDistinct nat_eq (keys_of es) → (numbers : List ℕ) → numbers ≡ filter_map held_in (values_of es)
+      → AreHeld numbers (λ n. at_key (lookup (nat_eq n) es))
+  live_hold es unique numbers e =
+      record {
+        calls = filter_map live es;
+        lists = record { distinct = distinct es unique; same = λ q. looked_up q es unique };
+        are = e ∙ same_numbers es;
+      }

@@ -1,0 +1,22 @@
+-- A machine that was just built stands for the fresh state, which is reached.
+use Rattle.std.proofs.Common.{◌≡◌, Some, None, [], refl, sym, ap, ◌∙◌}
+use Rattle.std.specs.Option.{option_map}
+use Rattle.moka_hist.specs.State.{fresh}
+use Rattle.moka_run.specs.Machine.{StandsFor, call_in}
+use Rattle.moka_run.proofs.machine.Machine.build.Goals as goal
+
+pub returns-clause-fresh : goal.returns-clause-fresh
+returns-clause-fresh g c =
+    record {
+      world = record { table = record { map = c.new-2.ensures.empty; keys = c.new-2.ensures.count }; desk = c.in_ok-desk.ensures };
+      calls = λ n. ap (option_map call_in) (c.new-3.ensures n);
+      each = λ n r e. let f : None ≡ Some r = sym (c.new-3.ensures n) ∙ e in absurd (cc);
+    }
+
+pub returns-clause-valid : goal.returns-clause-valid
+returns-clause-valid g c =
+    record {
+      state = fresh g.row.K.Denot g.row.V.Denot c.args.log;
+      stands = returns-clause-fresh g c;
+      reached = record { size = c.args.log; events = []; replies = []; run = refl };
+    }

@@ -1,0 +1,103 @@
+-- What a machine stands for, and what its calls do.
+use Rattle.std.specs.Prelude.{◌≡◌, ◌≢◌, ℕ, Bool, Option, Some, None}
+use Rattle.std.specs.Option.{option_map}
+use Rattle.std.specs.declared.cmp.PartialEq as PartialEq
+use Rattle.std.specs.declared.hash.Hash as Hash
+use Rattle.moka_hist.specs.State.{Call, State, World}
+use Rattle.moka_hist.specs.Finite.{put_at}
+use Rattle.moka_hist.specs.Next.{Next}
+use Rattle.moka_hist.specs.Step.{May, Moves, MovesOn, Polled, IsSafe}
+use Rattle.moka_hist.specs.Run.{Any, Goings, Happens, IsReached, reply_of}
+use Rattle.moka_hist.specs.declared.events.Event.{Event}
+use Rattle.moka_hist.specs.declared.events.Event.TheVariants as event
+use Rattle.moka_hist.specs.declared.replies.Reply.{Reply}
+use Rattle.moka_init.specs.declared.flow.Flow.{Flow}
+use Rattle.moka_init.specs.FlowPlan.{call_of}
+use Rattle.moka_init.specs.Grounds.{IsOn, access_at}
+use Rattle.moka_run.specs.Calls.{running_at, HasPlace}
+use Rattle.moka_run.specs.Layers.{WorldIs, operation_of}
+use Rattle.moka_run.specs.declared.calls.Running.{Running}
+use Rattle.moka_run.specs.declared.machine.Machine.{Machine}
+
+module _ {K V : Type 0} where
+  -- the call that runs
+  abbrev pub call_in : Running K V → Call K V
+  call_in r = call_of r.flow
+
+  -- of a poll so many steps were made, each of which left the call going; nothing of any other event
+  abbrev pub Begins : (K → K → Bool) → State K V → Event K V → ℕ → State K V → Type 0
+  Begins eq s (event.Poll n) steps t = Goings eq Any steps s n t
+  Begins eq s _ steps t = (steps ≡ 0) × (t ≡ s)
+
+  -- the running call is of this number, and its flow on its ground
+  pub record IsOf (n : ℕ) (r : Running K V) : Type 0 where
+    pub number : r.flow.call ≡ n
+    pub on : IsOn (operation_of r.begun) r.flow
+
+-- The machine stands for the state: its layers for the world, its running calls for the live ones.
+pub record StandsFor {K V : Type 0} {same : PartialEq.Ghosts K} {hash : Hash.Ghosts K} (eq : K → K → Bool) (m : Machine K V same hash) (s : State K V) : Type 0 where
+  pub world : WorldIs eq m.layers s.world
+  pub calls : (n : ℕ) → option_map call_in (running_at m.calls n) ≡ s.calls n
+  pub each : (n : ℕ) (r : Running K V) → running_at m.calls n ≡ Some r → IsOf n r
+
+-- One call was taken out of the machine, and is this flow. The layers stand for the world, and the
+-- other calls are these.
+pub record Without {K V : Type 0} {same : PartialEq.Ghosts K} {hash : Hash.Ghosts K} (eq : K → K → Bool) (m : Machine K V same hash) (n : ℕ) (flow : Flow K V) (others : ℕ → Option (Call K V)) (w : World K V) : Type 0 where
+  pub world : WorldIs eq m.layers w
+  pub calls : (k : ℕ) → n ≢ k → option_map call_in (running_at m.calls k) ≡ others k
+  pub each : (k : ℕ) (r : Running K V) → running_at m.calls k ≡ Some r → IsOf k r
+  pub number : flow.call ≡ n
+  pub on : IsOn (operation_of m.layers.begun) flow
+
+module _ {K V : Type 0} {same : PartialEq.Ghosts K} {hash : Hash.Ghosts K} where
+  -- the machine stands for a state that a run can reach
+  pub record IsValid (eq : K → K → Bool) (m : Machine K V same hash) : Type 0 where
+    pub state : State K V
+    pub stands : StandsFor eq m state
+    pub reached : IsReached eq state
+
+  -- the live call of this number is taken out of the state that the machine stood for
+  pub record TakenOut (eq : K → K → Bool) (m : Machine K V same hash) (n : ℕ) (flow : Flow K V) (s : State K V) : Type 0 where
+    pub live : s.calls n ≡ Some (call_of flow)
+    pub rest : Without eq m n flow s.calls s.world
+
+  -- the event was carried out or refused with this reply, from whatever state the machine stood for
+  abbrev pub Serves : (K → K → Bool) → Machine K V same hash → Event K V → Reply V → Machine K V same hash → Type 0
+  Serves eq old e r new =
+    (s : State K V) → StandsFor eq old s → IsReached eq s → (t : State K V) × Happens eq Any s e r t × StandsFor eq new t
+
+  -- nothing has changed
+  abbrev pub Keeps : (K → K → Bool) → Machine K V same hash → Machine K V same hash → Type 0
+  Keeps eq old new = (s : State K V) → StandsFor eq old s → StandsFor eq new s
+
+  -- want of memory came with the event, and this much of it was done
+  abbrev pub Stops : (K → K → Bool) → Machine K V same hash → Event K V → ℕ → Machine K V same hash → Type 0
+  Stops eq old e steps new =
+    (s : State K V) → StandsFor eq old s → IsReached eq s → (t : State K V) × Begins eq s e steps t × StandsFor eq new t
+
+  -- a step of a call that was taken out: the call made it, and was put back or has ended
+  abbrev pub StepOut : (K → K → Bool) → Machine K V same hash → ℕ → Flow K V → Reply V → Machine K V same hash → Type 0
+  StepOut eq old n flow r new =
+    (others : ℕ → Option (Call K V)) (w : World K V) → Without eq old n flow others w → May w (access_at flow)
+      → (next : Next K V) × (after : World K V) × Moves eq n (call_of flow) w next after × (r ≡ reply_of next.turn)
+      × StandsFor eq new (record { world = after; calls = put_at others n next.left })
+
+  -- the call that was taken out was put back as it was
+  abbrev pub KeepsOut : (K → K → Bool) → Machine K V same hash → ℕ → Flow K V → Machine K V same hash → Type 0
+  KeepsOut eq old n flow new =
+    (others : ℕ → Option (Call K V)) (w : World K V) → Without eq old n flow others w
+      → StandsFor eq new (record { world = w; calls = put_at others n (Some (call_of flow)) })
+
+  -- a poll of a call that was taken out
+  abbrev pub PollOut : (K → K → Bool) → Machine K V same hash → ℕ → Flow K V → Reply V → Machine K V same hash → Type 0
+  PollOut eq old n flow r new =
+    (others : ℕ → Option (Call K V)) (w : World K V) → Without eq old n flow others w → IsSafe eq n (call_of flow) w
+      → (next : Next K V) × (after : World K V) × Polled eq n (call_of flow) w next after × (r ≡ reply_of next.turn)
+      × StandsFor eq new (record { world = after; calls = put_at others n next.left })
+
+  -- so many steps of a call that was taken out, each of which left it going
+  abbrev pub UnfinishedOut : (K → K → Bool) → Machine K V same hash → ℕ → Flow K V → ℕ → Machine K V same hash → Type 0
+  UnfinishedOut eq old n flow steps new =
+    (others : ℕ → Option (Call K V)) (w : World K V) → Without eq old n flow others w → IsSafe eq n (call_of flow) w
+      → (d : Call K V) × (after : World K V) × MovesOn eq steps n (call_of flow) w d after
+      × StandsFor eq new (record { world = after; calls = put_at others n (Some d) })

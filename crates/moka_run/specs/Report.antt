@@ -1,0 +1,49 @@
+-- What a report tells of a state.
+use Rattle.std.specs.Prelude.{◌≡◌, ℕ, Bool, List, [], ◌∷◌, ◌++◌, map, Option, Some, None, nat_eq, IsPermutation, IsSortedByKey}
+use Rattle.std.specs.Option.{option_map}
+use Rattle.std.specs.Ordering.{nat_cmp}
+use Rattle.std.specs.List.{filter_map}
+use Rattle.moka_hist.specs.Finite.{Lists}
+use Rattle.moka_hist.specs.State.{Call, State}
+use Rattle.moka_hist.specs.Plan.{held_by}
+use Rattle.moka_hist.specs.Visits.{number_of}
+use Rattle.moka_hist.specs.declared.records.Stored.{Stored}
+use Rattle.moka_hist.specs.declared.replies.Reply.{Reply}
+use Rattle.moka_hist.specs.declared.writes.Place.{Place}
+use Rattle.moka_hist.specs.declared.writes.Place.TheVariants as place
+use Rattle.moka_table.specs.Map.{ListsPairs}
+
+-- each of the numbers, with the place where its write stands
+abbrev pub at_place : Place → List ℕ → List (ℕ × Place)
+at_place p numbers = map (λ n. (n, p)) numbers
+
+module _ {K V : Type 0} where
+  -- the number of the write that the call holds
+  abbrev pub held_number : ℕ × Call K V → Option ℕ
+  held_number c = option_map number_of (held_by c.1.plan)
+
+  -- the numbers are those of the writes that the live calls hold
+  pub record AreHeld (numbers : List ℕ) (live : ℕ → Option (Call K V)) : Type 0 where
+    pub calls : List (ℕ × Call K V)
+    pub lists : Lists nat_eq calls live
+    pub are : numbers ≡ filter_map held_number calls
+
+  -- the writes of the state, with their places: held by one of these calls, owed, logged, applied
+  abbrev pub all_places : List (ℕ × Call K V) → State K V → List (ℕ × Place)
+  all_places calls s =
+      at_place place.Held (filter_map held_number calls)
+      ++ at_place place.Owed (map number_of s.world.desk.owed)
+      ++ at_place place.Logged (map number_of s.world.desk.log)
+      ++ at_place place.Applied (map number_of s.world.desk.applied)
+
+  -- the list has each write of the state, once for each place where it stands, ascending by number
+  pub record ArePlaces (places : List (ℕ × Place)) (s : State K V) : Type 0 where
+    pub calls : List (ℕ × Call K V)
+    pub live : Lists nat_eq calls s.calls
+    pub all : IsPermutation (all_places calls s) places
+    pub ascending : IsSortedByKey (λ p. p.0) nat_cmp places
+
+  -- the lists of a report are those of the state
+  pub record Reports (eq : K → K → Bool) (stored : List (K × Stored V)) (writes : List (ℕ × Place)) (s : State K V) : Type 0 where
+    pub entries : ListsPairs eq stored s.world.table.stored
+    pub places : ArePlaces writes s

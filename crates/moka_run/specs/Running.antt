@@ -1,0 +1,34 @@
+-- What a run of events on a machine answers.
+use Rattle.std.specs.Prelude.{◌≡◌, ℕ, ◌<◌, Bool, List, [], ◌∷◌, take, slice_get, Option, Some, length}
+use Rattle.std.specs.declared.cmp.PartialEq as PartialEq
+use Rattle.std.specs.declared.hash.Hash as Hash
+use Rattle.moka_hist.specs.State.{State}
+use Rattle.moka_hist.specs.Places.{IsLawful}
+use Rattle.moka_hist.specs.Run.{Goings, Run, IsReached}
+use Rattle.moka_hist.specs.declared.events.Event.{Event}
+use Rattle.moka_hist.specs.declared.events.Event.TheVariants as event
+use Rattle.moka_hist.specs.declared.replies.Reply.{Reply}
+use Rattle.moka_run.specs.Machine.{StandsFor}
+use Rattle.moka_run.specs.declared.machine.Machine.{Machine}
+
+module _ {K V : Type 0} where
+  -- so many steps were made of the event, which is a poll, each through a lawful state and leaving its call going; nothing of any other event
+  abbrev pub Begins : (K → K → Bool) → State K V → Option (Event K V) → ℕ → State K V → Type 0
+  Begins eq s (Some (event.Poll n)) steps t = Goings eq (IsLawful eq) steps s n t
+  Begins eq s _ steps t = (steps ≡ 0) × (t ≡ s)
+
+-- The headline: from each reached state that the machine stood for these replies answer the events
+-- in order, one for each, by a run of the reference cache through lawful states to a state that the
+-- machine stands for now.
+pub record Answers {K V : Type 0} {same : PartialEq.Ghosts K} {hash : Hash.Ghosts K} (eq : K → K → Bool) (events : List (Event K V)) (replies : List (Reply V)) (new : Machine K V same hash) (s : State K V) : Type 0 where
+  pub final : State K V
+  pub run : Run eq (IsLawful eq) s events replies final
+  pub stands : StandsFor eq new final
+
+-- Memory was wanting: the first events were done, and then so many steps of the next one.
+pub record StopsAt {K V : Type 0} {same : PartialEq.Ghosts K} {hash : Hash.Ghosts K} (eq : K → K → Bool) (events : List (Event K V)) (done steps : ℕ) (replies : List (Reply V)) (new : Machine K V same hash) (s : State K V) : Type 0 where
+  pub mid : State K V
+  pub run : Run eq (IsLawful eq) s (take done events) replies mid
+  pub final : State K V
+  pub begins : Begins eq mid (slice_get events done) steps final
+  pub stands : StandsFor eq new final

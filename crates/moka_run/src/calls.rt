@@ -1,0 +1,120 @@
+//! The live calls, by number.
+ghost use Rattle.std.specs.Prelude.{◌≡◌, ℕ, ◌<◌, Some, None, IfOk, OnOk, OnSome};
+ghost use Rattle.std.specs.Option.{option_map, option_copied};
+ghost use Rattle.std.specs.HashMap.{spare};
+ghost use Rattle.moka_hist.specs.Finite.{put_at};
+ghost use Rattle.moka_run.specs.Calls.{running_at, held_in, HasPlace};
+ghost use Rattle.moka_run.specs.Machine.{call_in};
+ghost use Rattle.moka_run.specs.Report.{AreHeld};
+
+use crate::lists::number_of;
+use moka_init::Flow;
+use moka_table::PlainCall;
+use std::alloc::{AllocError, Global};
+use std::collections::HashMap;
+
+/// A call that runs: its flow, and its table operation where one was begun.
+#[derive(Drop)]
+pub(crate) struct Running<K, V> {
+    pub(crate) flow: Flow<K, V>,
+    pub(crate) begun: Option<PlainCall<K, V>>,
+}
+
+/// The live calls, by number. A call that is being stepped is taken out, and its place stays.
+#[derive(Drop)]
+pub(crate) struct Calls<K, V> {
+    places: HashMap<u64, Option<Running<K, V>>>,
+}
+
+impl<K: Drop, V: Drop> Calls<K, V> {
+    /// No calls. It takes no memory.
+    pub(crate) fn new(alloc: Global) -> Self
+        ensures { (n : ℕ) → running_at result n ≡ None }
+    {
+        Calls {
+            places: HashMap::new(alloc),
+        }
+    }
+
+    /// Makes room for one more call.
+    pub(crate) fn reserve(&mut self) -> Result<(), AllocError>
+        ensures room { OnOk result (0 < spare self.new.places) }
+        ensures same { (n : ℕ) → running_at self.new n ≡ running_at self.old n }
+    {
+        self.places.reserve(1)
+    }
+
+    /// A call starts to run. There is room, so it takes no memory.
+    pub(crate) fn add(&mut self, call: u64, running: Running<K, V>)
+        requires { 0 < spare self.old.places }
+        ensures { (n : ℕ) → running_at self.new n ≡ put_at (running_at self.old) call (Some running) n }
+    {
+        match self.places.insert(call, Some(running)) {
+            Ok(_) => {}
+            Err(_) => unreachable!(),
+        }
+    }
+
+    /// The flow of a running call.
+    pub(crate) fn flow(&self, call: u64) -> Option<&Flow<K, V>>
+        ensures { option_copied result ≡ option_map (λ r. r.flow) (running_at self.now call) }
+    {
+        match self.places.get(&call) {
+            Some(Some(running)) => Some(&running.flow),
+            _ => None,
+        }
+    }
+
+    /// Takes a running call out, and leaves its place.
+    pub(crate) fn take(&mut self, call: u64) -> Option<Running<K, V>>
+        ensures taken { result ≡ running_at self.old call }
+        ensures rest { (n : ℕ) → running_at self.new n ≡ put_at (running_at self.old) call None n }
+        ensures place { OnSome result (HasPlace self.new call) }
+    {
+        match self.places.get_mut(&call) {
+            Some(place) => place.take(),
+            None => None,
+        }
+    }
+
+    /// Puts a call back that was taken out. It takes no memory.
+    pub(crate) fn put_back(&mut self, call: u64, running: Running<K, V>)
+        requires { HasPlace self.old call }
+        ensures { (n : ℕ) → running_at self.new n ≡ put_at (running_at self.old) call (Some running) n }
+    {
+        match self.places.get_mut(&call) {
+            Some(place) => *place = Some(running),
+            None => unreachable!(),
+        }
+    }
+
+    /// Gives the place of a call up that has ended.
+    pub(crate) fn forget(&mut self, call: u64)
+        ensures { (n : ℕ) → running_at self.new n ≡ put_at (running_at self.old) call None n }
+    {
+        self.places.remove(&call);
+    }
+
+    /// Lists the numbers of the writes that running calls hold.
+    pub(crate) fn held(&self, alloc: Global) -> Result<Vec<u64>, AllocError>
+        ensures { IfOk result (λ numbers. AreHeld numbers.items (λ n. option_map call_in (running_at self.now n))) }
+    {
+        let mut numbers = Vec::new(alloc);
+        for place in self.places.values() {
+            if let Some(number) = held_number(place) {
+                numbers.push(number)?;
+            }
+        }
+        Ok(numbers)
+    }
+}
+
+/// The number of the write that the call of this place holds, where one runs.
+fn held_number<K, V>(place: &Option<Running<K, V>>) -> Option<u64>
+    ensures { result ≡ held_in place.now }
+{
+    match place {
+        Some(running) => running.flow.held().map(number_of),
+        None => None,
+    }
+}

@@ -1,0 +1,121 @@
+//! The lists of a report.
+ghost use Rattle.std.specs.Prelude.{◌≡◌, ◌++◌, ℕ, List, map, nat_eq, IfOk, OnOk};
+ghost use Rattle.moka_hist.specs.Finite.{IsExact, Lists};
+ghost use Rattle.moka_hist.specs.State.{Call, State};
+ghost use Rattle.moka_hist.specs.Visits.{number_of};
+ghost use Rattle.moka_table.specs.Map.{ListsPairs};
+ghost use Rattle.moka_run.specs.Machine.{StandsFor};
+ghost use Rattle.moka_run.specs.Report.{at_place, all_places, ArePlaces, Reports};
+
+use crate::machine::Machine;
+use crate::report::PlaceList;
+use moka_hist::{Place, Write};
+use moka_table::{EntryList, Table};
+use std::alloc::{AllocError, Global};
+use std::collections::VecDeque;
+use std::hash::Hash;
+
+/// The number of the call that made the write.
+pub(crate) fn number_of(write: Write) -> u64
+    ensures { result ≡ number_of write }
+{
+    match write {
+        Write::Upsert { number, .. } => number,
+    }
+}
+
+/// Appends the numbers, each with the place.
+fn push_numbers(
+    places: &mut Vec<(u64, Place)>,
+    numbers: &[u64],
+    place: Place,
+) -> Result<(), AllocError>
+    ensures { OnOk result (places.new.items ≡ places.old.items ++ at_place place numbers.now) }
+{
+    for number in numbers {
+        places.push((*number, place))?;
+    }
+    Ok(())
+}
+
+/// Appends the numbers of the writes, each with the place.
+fn push_writes(
+    places: &mut Vec<(u64, Place)>,
+    writes: &[Write],
+    place: Place,
+) -> Result<(), AllocError>
+    ensures { OnOk result (places.new.items
+        ≡ places.old.items ++ at_place place (map number_of writes.now)) }
+{
+    for write in writes {
+        places.push((number_of(*write), place))?;
+    }
+    Ok(())
+}
+
+/// Appends the numbers of the queue's writes, each with the place.
+fn push_queue(
+    places: &mut Vec<(u64, Place)>,
+    writes: &VecDeque<Write>,
+    place: Place,
+) -> Result<(), AllocError>
+    ensures { OnOk result (places.new.items
+        ≡ places.old.items ++ at_place place (map number_of writes.now.items)) }
+{
+    for write in writes {
+        places.push((number_of(*write), place))?;
+    }
+    Ok(())
+}
+
+impl<K: Eq + Hash + Clone + Drop, V: Clone + Drop> Machine<K, V> {
+    /// Lists each stored pair once, in any order.
+    pub fn entries(&self, alloc: Global) -> Result<EntryList<K, V>, AllocError>
+        requires keys { IsExact K.is_clone }
+        requires values { IsExact V.is_clone }
+        ensures { IfOk result (λ pairs. (s : State K V) → StandsFor K.eq self.now s
+            → ListsPairs K.eq pairs s.world.table.stored) }
+    {
+        self.layers.table.pairs(alloc)
+    }
+
+    /// Lists each committed write by its number, with the place where it stands, ascending.
+    pub fn places(&self, alloc: Global) -> Result<PlaceList, AllocError>
+        ensures { IfOk result (λ places. (s : State K V) → StandsFor K.eq self.now s
+            → ArePlaces places s) }
+    {
+        let mut places = self.unsorted(alloc)?;
+        places.sort_unstable_by_key(|place| place.0);
+        Ok(PlaceList::from_vec(places))
+    }
+
+    /// The same places in another order: held, owed, logged, applied.
+    fn unsorted(&self, alloc: Global) -> Result<Vec<(u64, Place)>, AllocError>
+        ensures { IfOk result (λ places. (s : State K V) → StandsFor K.eq self.now s
+            → (calls : List (ℕ × Call K V)) × Lists nat_eq calls s.calls
+            × (places.items ≡ all_places calls s)) }
+    {
+        let held = self.calls.held(alloc)?;
+        let mut places = Vec::new(alloc);
+        push_numbers(&mut places, &held, Place::Held)?;
+        push_queue(&mut places, self.layers.desk.owed(), Place::Owed)?;
+        push_queue(&mut places, self.layers.desk.logged(), Place::Logged)?;
+        push_writes(&mut places, self.layers.desk.applied(), Place::Applied)?;
+        Ok(places)
+    }
+}
+
+/// The lists of a report on the machine's state.
+pub(crate) fn lists<K: Eq + Hash + Clone + Drop, V: Clone + Drop>(
+    alloc: Global,
+    machine: &Machine<K, V>,
+) -> Result<(EntryList<K, V>, PlaceList), AllocError>
+    requires keys { IsExact K.is_clone }
+    requires values { IsExact V.is_clone }
+    ensures { IfOk result (λ lists. (s : State K V) → StandsFor K.eq machine.now s
+        → Reports K.eq lists.0 lists.1 s) }
+{
+    let entries = machine.entries(alloc)?;
+    let places = machine.places(alloc)?;
+    Ok((entries, places))
+}

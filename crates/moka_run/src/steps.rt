@@ -1,0 +1,166 @@
+//! Steps and polls of the live calls.
+ghost use Rattle.std.specs.Prelude.{◌≡◌, ℕ, Option, Some, None, IfOk, IfErr, IfSome, IfNone, OnErr, OnSome};
+ghost use Rattle.moka_hist.specs.Finite.{IsExact, put_at};
+
+use crate::calls::Running;
+use crate::machine::Machine;
+use moka_hist::{Refusal, Reply, Turn};
+use moka_init::{Flow, Unfinished, poll, step};
+use std::alloc::AllocError;
+use std::hash::Hash;
+
+impl<K: Eq + Hash + Clone + Drop, V: Clone + Drop> Machine<K, V> {
+    ghost use Rattle.moka_hist.specs.State.{Call, State, World};
+    ghost use Rattle.moka_hist.specs.Run.{reply_of};
+    ghost use Rattle.moka_hist.specs.declared.events.Event.{Event};
+    ghost use Rattle.moka_init.specs.FlowPlan.{call_of, left_in};
+    ghost use Rattle.moka_init.specs.declared.flow.Flow.{Flow};
+    ghost use Rattle.moka_hist.specs.Step.{May, IsSafe};
+    ghost use Rattle.moka_init.specs.Grounds.{IsOn, access_at};
+    ghost use Rattle.moka_run.specs.Layers.{WorldIs, operation_of};
+    ghost use Rattle.moka_run.specs.Calls.{HasPlace};
+    ghost use Rattle.moka_run.specs.declared.calls.Running.{Running};
+    ghost use Rattle.moka_run.specs.Machine.{StandsFor, Without, TakenOut, IsValid, Serves, Keeps, Stops, StepOut, KeepsOut, PollOut, UnfinishedOut};
+
+    /// Makes one step of a call. After want of memory nothing has changed.
+    pub(crate) fn step(&mut self, call: u64) -> Result<Reply<V>, AllocError>
+        requires keys { IsExact K.is_clone }
+        requires values { IsExact V.is_clone }
+        requires valid { IsValid K.eq self.old }
+        ensures serves { IfOk result (λ r. Serves K.eq self.old (Event.Step call) r self.new) }
+        ensures err { OnErr result (Keeps K.eq self.old self.new) }
+    {
+        moka_laws::calls_are_safe::<K, V>();
+        moka_laws::move_is_step::<K, V>();
+        match self.take_out(call) {
+            None => Ok(Reply::Refused(Refusal::UnknownCall)),
+            Some(flow) => self.step_out(call, flow),
+        }
+    }
+
+    /// Makes steps of a call up to the first whose reply is not Going. After want of memory the steps
+    /// made so far stand.
+    pub(crate) fn poll(&mut self, call: u64) -> Result<Reply<V>, Unfinished>
+        requires keys { IsExact K.is_clone }
+        requires values { IsExact V.is_clone }
+        requires valid { IsValid K.eq self.old }
+        ensures serves { IfOk result (λ r. Serves K.eq self.old (Event.Poll call) r self.new) }
+        ensures stops { IfErr result (λ u. Stops K.eq self.old (Event.Poll call) u.steps self.new) }
+    {
+        moka_laws::calls_are_safe::<K, V>();
+        moka_laws::moves_are_steps::<K, V>();
+        moka_laws::polled_is_poll::<K, V>();
+        match self.take_out(call) {
+            None => Ok(Reply::Refused(Refusal::UnknownCall)),
+            Some(flow) => self.poll_out(call, flow),
+        }
+    }
+
+    // Takes a live call out, with the table operation that it has begun.
+    fn take_out(&mut self, call: u64) -> Option<Flow<K, V>>
+        ensures none { IfNone result ((s : State K V) → StandsFor K.eq self.old s → (s.calls call ≡ None)) }
+        ensures same { IfNone result (Keeps K.eq self.old self.new) }
+        ensures some { IfSome result (λ flow. (s : State K V) → StandsFor K.eq self.old s → TakenOut K.eq self.new call flow s) }
+        ensures place { OnSome result (HasPlace self.new.calls call) }
+    {
+        match self.calls.take(call) {
+            Some(running) => Some(self.lend(running)),
+            None => None,
+        }
+    }
+
+    // The flow of a running call, whose table operation the layers take over.
+    fn lend(&mut self, running: Running<K, V>) -> Flow<K, V>
+        ensures flow { result ≡ running.flow }
+        ensures machine { self.new ≡ record self.old { layers = record self.old.layers { begun = running.begun } } }
+    {
+        let Running { flow, begun } = running;
+        self.layers.begun = begun;
+        flow
+    }
+
+    // Puts the call back that was taken out.
+    fn put_in(&mut self, call: u64, flow: Flow<K, V>)
+        requires { HasPlace self.old.calls call }
+        ensures { (others : ℕ → Option (Call K V)) (w : World K V) → Without K.eq self.old call flow others w
+            → StandsFor K.eq self.new (record { world = w; calls = put_at others call (Some (call_of flow)) }) }
+    {
+        let begun = self.layers.begun.take();
+        self.calls.put_back(call, Running { flow, begun });
+    }
+
+    // The call has ended, and gives its place up.
+    fn end(&mut self, call: u64)
+        ensures { (flow : Flow K V) (others : ℕ → Option (Call K V)) (w : World K V) → Without K.eq self.old call flow others w
+            → StandsFor K.eq self.new (record { world = w; calls = put_at others call None }) }
+    {
+        self.layers.begun = None;
+        self.calls.forget(call);
+    }
+
+    // The call after a step: it is put back, or has ended.
+    fn after_step(&mut self, call: u64, flow: Flow<K, V>, turn: Turn<V>) -> Reply<V>
+        requires { HasPlace self.old.calls call }
+        ensures reply { result ≡ reply_of turn }
+        ensures stands { (others : ℕ → Option (Call K V)) (w : World K V) → Without K.eq self.old call flow others w
+            → StandsFor K.eq self.new (record { world = w; calls = put_at others call (left_in turn flow) }) }
+    {
+        match turn {
+            Turn::Answer(answer) => {
+                self.end(call);
+                Reply::Answer(answer)
+            }
+            Turn::Going => {
+                self.put_in(call, flow);
+                Reply::Going
+            }
+            Turn::Wait => {
+                self.put_in(call, flow);
+                Reply::Wait
+            }
+            Turn::Ask(ask) => {
+                self.put_in(call, flow);
+                Reply::Ask(ask)
+            }
+        }
+    }
+
+    // Makes a step of the call that was taken out, and puts it back unless it has ended.
+    fn step_out(&mut self, call: u64, mut flow: Flow<K, V>) -> Result<Reply<V>, AllocError>
+        requires keys { IsExact K.is_clone }
+        requires values { IsExact V.is_clone }
+        requires place { HasPlace self.old.calls call }
+        requires on { IsOn (operation_of self.old.layers.begun) flow }
+        requires may { (w : World K V) × WorldIs K.eq self.old.layers w × May w (access_at flow) }
+        ensures steps { IfOk result (λ r. StepOut K.eq self.old call flow r self.new) }
+        ensures err { OnErr result (KeepsOut K.eq self.old call flow self.new) }
+    {
+        match step(&mut flow, &mut self.layers) {
+            Ok(turn) => Ok(self.after_step(call, flow, turn)),
+            Err(e) => {
+                self.put_in(call, flow);
+                Err(e)
+            }
+        }
+    }
+
+    // Makes steps of the call that was taken out, up to the first that doesn't leave it going, and
+    // puts it back unless it has ended.
+    fn poll_out(&mut self, call: u64, mut flow: Flow<K, V>) -> Result<Reply<V>, Unfinished>
+        requires keys { IsExact K.is_clone }
+        requires values { IsExact V.is_clone }
+        requires place { HasPlace self.old.calls call }
+        requires on { IsOn (operation_of self.old.layers.begun) flow }
+        requires safe { (w : World K V) × WorldIs K.eq self.old.layers w × IsSafe K.eq flow.call (call_of flow) w }
+        ensures polls { IfOk result (λ r. PollOut K.eq self.old call flow r self.new) }
+        ensures unfinished { IfErr result (λ u. UnfinishedOut K.eq self.old call flow u.steps self.new) }
+    {
+        match poll(&mut flow, &mut self.layers) {
+            Ok(turn) => Ok(self.after_step(call, flow, turn)),
+            Err(stopped) => {
+                self.put_in(call, flow);
+                Err(stopped)
+            }
+        }
+    }
+}

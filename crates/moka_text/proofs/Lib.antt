@@ -1,0 +1,4 @@
+pub mod Numbers
+pub mod Splitting
+pub mod Spelled
+pub mod Texts

@@ -1,0 +1,95 @@
+-- The lines of a text, taken off one by one.
+use Rattle.std.proofs.Common.{◌≡◌, ℕ, suc, ◌+◌, ◌<◌, Bool, true, false, cond, eqb, List, [], ◌∷◌, ◌++◌, length, take, drop, Some, None, Result, Ok, Err, refl, sym, ap, ◌∙◌, append_assoc, append-nil, add-one, arith}
+use Rattle.std.specs.List.{position_or_len, onto_first}
+use Rattle.std.proofs.lemmas.Option.{none-some}
+use Rattle.moka_hist.specs.declared.events.Event.{Event}
+use Rattle.moka_text.specs.declared.schedules.ScheduleError.{ScheduleError}
+use Rattle.moka_text.specs.declared.schedules.ScheduleError.TheVariants as errors
+use Rattle.moka_text.specs.Words.{before_byte, after_byte}
+use Rattle.moka_text.specs.ScheduleText.{lines}
+use Rattle.moka_text.specs.ScheduleReading.{call_after, event_of, event_then, events_from, with_front, with_log, log_of, log_then, schedule_of, schedule, Fails}
+
+-- the mark stands first
+place_here : (m b : ℕ) (bs : List ℕ) → eqb b m ≡ true → position_or_len (λ x. eqb x m) (b ∷ bs) ≡ 0
+place_here m b bs e = rw e refl
+
+pub before_here : (m b : ℕ) (bs : List ℕ) → eqb b m ≡ true → before_byte m (b ∷ bs) ≡ []
+before_here m b bs e = ap (λ n. take n (b ∷ bs)) (place_here m b bs e)
+
+pub after_here : (m b : ℕ) (bs : List ℕ) → eqb b m ≡ true → after_byte m (b ∷ bs) ≡ bs
+after_here m b bs e = ap (λ n. drop (n + 1) (b ∷ bs)) (place_here m b bs e)
+
+-- another byte stands first
+place_later : (m b : ℕ) (bs : List ℕ) → eqb b m ≡ false → position_or_len (λ x. eqb x m) (b ∷ bs) ≡ suc (position_or_len (λ x. eqb x m) bs)
+place_later m b bs e = rw e (omega arith)
+
+pub before_later : (m b : ℕ) (bs : List ℕ) → eqb b m ≡ false → before_byte m (b ∷ bs) ≡ b ∷ before_byte m bs
+before_later m b bs e = ap (λ n. take n (b ∷ bs)) (place_later m b bs e)
+
+pub after_later : (m b : ℕ) (bs : List ℕ) → eqb b m ≡ false → after_byte m (b ∷ bs) ≡ after_byte m bs
+after_later m b bs e =
+    let next : position_or_len (λ x. eqb x m) (b ∷ bs) + 1 ≡ suc (position_or_len (λ x. eqb x m) bs + 1) = omega (arith, place_later m b bs e) in
+    ap (λ n. drop n (b ∷ bs)) next
+
+both : {A : Type 0} (a b : A) (c d : List A) → a ≡ b → c ≡ d → a ∷ c ≡ b ∷ d
+both a b c d e f = cc
+
+line_step : (b : ℕ) (bs : List ℕ) → (0 < length bs → lines bs ≡ before_byte 10 bs ∷ lines (after_byte 10 bs)) → (r : Bool) → eqb b 10 ≡ r → lines (b ∷ bs) ≡ before_byte 10 (b ∷ bs) ∷ lines (after_byte 10 (b ∷ bs))
+line_step b bs rest true e =
+    ap (λ t. cond t ([] ∷ lines bs) (onto_first b (lines bs))) e ∙ both _ _ _ _ (sym (before_here 10 b bs e)) (ap lines (sym (after_here 10 b bs e)))
+line_step b [] rest false e =
+    ap (λ t. cond t ([] ∷ []) ((b ∷ []) ∷ [])) e ∙ both _ _ _ _ (sym (before_later 10 b [] e)) (ap lines (sym (after_later 10 b [] e)))
+line_step b (x ∷ xs) rest false e =
+    ap (λ t. cond t ([] ∷ lines (x ∷ xs)) (onto_first b (lines (x ∷ xs)))) e
+    ∙ ap (onto_first b) (rest (omega arith))
+    ∙ both _ _ _ _ (sym (before_later 10 b (x ∷ xs) e)) (ap lines (sym (after_later 10 b (x ∷ xs) e)))
+
+-- a text that isn't empty is its first line, and then the lines after the first byte 10
+pub lines_cut : (bytes : List ℕ) → 0 < length bytes → lines bytes ≡ before_byte 10 bytes ∷ lines (after_byte 10 bytes)
+lines_cut [] h = absurd (omega arith)
+lines_cut (b ∷ bs) h = line_step b bs (lines_cut bs) (eqb b 10) refl
+
+-- what is read goes after what was read
+pub front_front : (done more : List (Event ℕ ℕ)) (r : Result (List (Event ℕ ℕ)) ℕ) → with_front done (with_front more r) ≡ with_front (done ++ more) r
+front_front done more (Ok events) = ap Ok (sym (append_assoc done more events))
+front_front done more (Err number) = refl
+
+-- a line that spells an event
+pub read_one : (done : List (Event ℕ ℕ)) (number : ℕ) (rest : List ℕ) (e : Event ℕ ℕ) → 0 < length rest → Some e ≡ event_of (before_byte 10 rest) → with_front (done ++ e ∷ []) (events_from (number + 1) (lines (after_byte 10 rest))) ≡ with_front done (events_from number (lines rest))
+read_one done number rest e some is =
+    sym (front_front done (e ∷ []) (events_from (number + 1) (lines (after_byte 10 rest))))
+    ∙ ap (with_front done) (ap (λ n. with_front (e ∷ []) (events_from n (lines (after_byte 10 rest)))) (add-one number)
+    ∙ ap (λ o. event_then number o (events_from (suc number) (lines (after_byte 10 rest)))) is
+    ∙ ap (events_from number) (sym (lines_cut rest some)))
+
+-- a line that spells none
+pub read_none : (done : List (Event ℕ ℕ)) (number : ℕ) (rest : List ℕ) → 0 < length rest → None ≡ event_of (before_byte 10 rest) → with_front done (events_from number (lines rest)) ≡ Err number
+read_none done number rest some is =
+    ap (with_front done) (ap (events_from number) (lines_cut rest some)
+    ∙ ap (λ o. event_then number o (events_from (suc number) (lines (after_byte 10 rest)))) (sym is))
+
+-- no line is left
+pub read_end : (done : List (Event ℕ ℕ)) (number : ℕ) (rest : List ℕ) → length rest ≡ 0 → with_front done (events_from number (lines rest)) ≡ Ok done
+read_end done number [] h = ap Ok (append-nil done)
+read_end done number (b ∷ bs) h = absurd (omega arith)
+
+-- a first line that says no cache
+pub no_log : (text : List ℕ) → None ≡ log_of (before_byte 10 text) → schedule text ≡ Err 1
+unfolding schedule
+no_log [] h = refl
+no_log (b ∷ bs) h = ap schedule_of (lines_cut (b ∷ bs) (omega arith)) ∙ ap (λ o. log_then o (events_from 2 (lines (after_byte 10 (b ∷ bs))))) (sym h)
+
+no_log_of_nothing : log_of [] ≡ None
+unfolding log_of call_after
+no_log_of_nothing = refl
+
+-- a first line that says one
+pub with_rest : (text : List ℕ) (log : ℕ) → Some log ≡ log_of (before_byte 10 text) → schedule text ≡ with_log log (events_from 2 (lines (after_byte 10 text)))
+unfolding schedule
+with_rest [] log h = absurd (none-some log (sym (h ∙ no_log_of_nothing)))
+with_rest (b ∷ bs) log h = ap schedule_of (lines_cut (b ∷ bs) (omega arith)) ∙ ap (λ o. log_then o (events_from 2 (lines (after_byte 10 (b ∷ bs))))) (sym h)
+
+-- an error of the events is one of the whole
+pub passed_on : (e : ScheduleError) (log : ℕ) (whole : Result (ℕ × List (Event ℕ ℕ)) ℕ) (events : Result (List (Event ℕ ℕ)) ℕ) → whole ≡ with_log log events → Fails e events → Fails e whole
+passed_on (errors.BadLine line) log whole events e h = e ∙ ap (with_log log) h
+passed_on errors.Memory log whole events e h = tt

@@ -1,0 +1,195 @@
+-- Whole texts: what is read is said, and what is said is read.
+use Rattle.std.proofs.Common.{◌≡◌, ℕ, suc, ◌+◌, ◌⊎◌, List, [], ◌∷◌, ◌++◌, length, map, Option, Some, None, IfSome, IfOk, Result, Ok, Err, refl, sym, ap, ◌∙◌, subst, inl, inr, arith}
+use Rattle.std.specs.List.{AllByRecursion}
+use Rattle.std.proofs.lemmas.Option.{same_Some, none-some}
+use Rattle.moka_hist.specs.declared.events.Event.{Event}
+use Rattle.moka_text.specs.declared.schedules.Schedule.{Schedule}
+use Rattle.moka_text.specs.declared.schedules.ScheduleError.{ScheduleError}
+use Rattle.moka_text.specs.declared.schedules.ScheduleError.TheVariants as errors
+use Rattle.moka_text.specs.ScheduleText.{event_line, EventFits, IsCacheLine, SpellsNone, lines, Says, BeginsBadly, IsFirstBad}
+use Rattle.moka_text.specs.ScheduleReading.{event_of, event_then, events_from, with_front, with_log, log_of, log_then, schedule_of, schedule, Gives, parts}
+use Rattle.moka_text.proofs.Spelled.{event_is, event_read, event_none, log_is, log_read}
+
+-- a value that is there has what each value there has
+value_has : {X : Type 0} (P : X → Type 0) (o : Option X) (x : X) → IfSome o P → o ≡ Some x → P x
+value_has P (Some y) x h e = subst P (same_Some y x e) h
+value_has P None x h e = absurd (none-some x e)
+
+joined : {X : Type 0} {a b : X} {xs ys : List X} → a ≡ b → xs ≡ ys → a ∷ xs ≡ b ∷ ys
+joined {X} {a} {b} {xs} {ys} e f = cc
+
+head_of : {X : Type 0} {a b : X} {xs ys : List X} → a ∷ xs ≡ b ∷ ys → a ≡ b
+head_of {X} {a} {b} {xs} {ys} e = cc
+
+-- the first line's event, and the others
+record Splits (o : Option (Event ℕ ℕ)) (r : Result (List (Event ℕ ℕ)) ℕ) (events : List (Event ℕ ℕ)) : Type 0 where
+  first : Event ℕ ℕ
+  rest : List (Event ℕ ℕ)
+  is : o ≡ Some first
+  others : r ≡ Ok rest
+  whole : first ∷ rest ≡ events
+
+splits : (number : ℕ) (o : Option (Event ℕ ℕ)) (r : Result (List (Event ℕ ℕ)) ℕ) (events : List (Event ℕ ℕ)) → event_then number o r ≡ Ok events → Splits o r events
+splits number (Some e) (Ok rest) events h = record { first = e; rest = rest; is = refl; others = refl; whole = cc }
+splits number (Some e) (Err k) events h = absurd cc
+splits number None r events h = absurd cc
+
+-- what is read of lines are the events that they spell
+events_said : (number : ℕ) (ls : List (List ℕ)) (events : List (Event ℕ ℕ)) → events_from number ls ≡ Ok events → (ls ≡ map event_line events) × AllByRecursion EventFits events
+events_said number [] [] h = (refl, tt)
+events_said number [] (e ∷ events) h = absurd cc
+events_said number (l ∷ ls) events h =
+    let s = splits number (event_of l) (events_from (suc number) ls) events h in
+    let line = value_has (λ e. (l ≡ event_line e) × EventFits e) (event_of l) s.first (event_is l) s.is in
+    let rest = events_said (suc number) ls s.rest s.others in
+    let both : l ∷ ls ≡ map event_line (s.first ∷ s.rest) = joined line.0 rest.0 in
+    subst (λ es. (l ∷ ls ≡ map event_line es) × AllByRecursion EventFits es) s.whole (both, (line.1, rest.1))
+
+-- lines that spell events are read as those
+events_read : (number : ℕ) (events : List (Event ℕ ℕ)) → AllByRecursion EventFits events → events_from number (map event_line events) ≡ Ok events
+events_read number [] fit = refl
+events_read number (e ∷ events) fit =
+    ap (λ o. event_then number o (events_from (suc number) (map event_line events))) (event_read e fit.0) ∙ ap (with_front (e ∷ [])) (events_read (suc number) events fit.1)
+
+-- lines that spell events, and then one that spells none, whose number this is
+record Stops (number : ℕ) (ls : List (List ℕ)) (bad : ℕ) : Type 0 where
+  events : List (Event ℕ ℕ)
+  line : List ℕ
+  rest : List (List ℕ)
+  split : ls ≡ map event_line events ++ line ∷ rest
+  fit : AllByRecursion EventFits events
+  none : SpellsNone line
+  place : bad ≡ length events + number
+
+stops : (number : ℕ) (o : Option (Event ℕ ℕ)) (r : Result (List (Event ℕ ℕ)) ℕ) (bad : ℕ) → event_then number o r ≡ Err bad → ((o ≡ None) × (bad ≡ number)) ⊎ ((e : Event ℕ ℕ) × (o ≡ Some e) × (r ≡ Err bad))
+stops number None r bad h = inl (refl, cc)
+stops number (Some e) (Ok rest) bad h = absurd cc
+stops number (Some e) (Err k) bad h = inr (e, refl, cc)
+
+bad_at : (number : ℕ) (l : List ℕ) (ls : List (List ℕ)) (bad : ℕ) → (events_from (suc number) ls ≡ Err bad → Stops (suc number) ls bad) → ((event_of l ≡ None) × (bad ≡ number)) ⊎ ((e : Event ℕ ℕ) × (event_of l ≡ Some e) × (events_from (suc number) ls ≡ Err bad)) → Stops number (l ∷ ls) bad
+bad_at number l ls bad later (inl h) =
+    record { events = []; line = l; rest = ls; split = refl; fit = tt; none = event_none l h.0; place = omega (arith, h.1) }
+bad_at number l ls bad later (inr h) =
+    let r = later h.2 in
+    let line = value_has (λ e. (l ≡ event_line e) × EventFits e) (event_of l) h.0 (event_is l) h.1 in
+    record {
+      events = h.0 ∷ r.events;
+      line = r.line;
+      rest = r.rest;
+      split = joined line.0 r.split;
+      fit = (line.1, r.fit);
+      none = r.none;
+      place = omega (arith, r.place);
+    }
+
+-- the first bad line of what is read
+events_bad : (number : ℕ) (ls : List (List ℕ)) (bad : ℕ) → events_from number ls ≡ Err bad → Stops number ls bad
+events_bad number [] bad h = absurd cc
+events_bad number (l ∷ ls) bad h = bad_at number l ls bad (events_bad (suc number) ls bad) (stops number (event_of l) (events_from (suc number) ls) bad h)
+
+-- the log's size and the events of what is read
+log_and_events : (o : Option ℕ) (r : Result (List (Event ℕ ℕ)) ℕ) (log : ℕ) (events : List (Event ℕ ℕ)) → log_then o r ≡ Ok (log, events) → (o ≡ Some log) × (r ≡ Ok events)
+log_and_events None r log events h = absurd cc
+log_and_events (Some n) (Err bad) log events h = absurd cc
+log_and_events (Some n) (Ok es) log events h =
+    let p : ◌≡◌ {A = ℕ × List (Event ℕ ℕ)} (n, es) (log, events) = cc in
+    (ap (λ q. Some q.0) p, ap (λ q. Ok q.1) p)
+
+said_of : (text : List ℕ) (ls : List (List ℕ)) (log : ℕ) (events : List (Event ℕ ℕ)) → lines text ≡ ls → schedule_of ls ≡ Ok (log, events) → Says text log events
+said_of text [] log events split h = absurd cc
+said_of text (first ∷ rest) log events split h =
+    let p = log_and_events (log_of first) (events_from 2 rest) log events h in
+    let said = events_said 2 rest events p.1 in
+    record {
+      first = first;
+      cache = value_has (IsCacheLine first) (log_of first) log (log_is first) p.0;
+      split = split ∙ ap (λ ls. first ∷ ls) said.0;
+      fit = said.1;
+    }
+
+-- what is read of a text is what it says
+pub schedule_said : (text : List ℕ) (log : ℕ) (events : List (Event ℕ ℕ)) → schedule text ≡ Ok (log, events) → Says text log events
+unfolding schedule
+schedule_said text log events h = said_of text (lines text) log events refl h
+
+-- what a text says is read
+pub says_read : (text : List ℕ) (log : ℕ) (events : List (Event ℕ ℕ)) → Says text log events → schedule text ≡ Ok (log, events)
+unfolding schedule
+says_read text log events s =
+    ap schedule_of s.split ∙ ap (λ o. log_then o (events_from 2 (map event_line events))) (log_read s.first log s.cache) ∙ ap (with_log log) (events_read 2 events s.fit)
+
+first_or_later : (o : Option ℕ) (r : Result (List (Event ℕ ℕ)) ℕ) (bad : ℕ) → log_then o r ≡ Err bad → ((o ≡ None) × (bad ≡ 1)) ⊎ ((log : ℕ) × (o ≡ Some log) × (r ≡ Err bad))
+first_or_later None r bad h = inl (refl, cc)
+first_or_later (Some n) (Ok events) bad h = absurd cc
+first_or_later (Some n) (Err k) bad h = inr (n, refl, cc)
+
+bad_of_lines : (text first : List ℕ) (rest : List (List ℕ)) (bad : ℕ) → lines text ≡ first ∷ rest → ((log_of first ≡ None) × (bad ≡ 1)) ⊎ ((log : ℕ) × (log_of first ≡ Some log) × (events_from 2 rest ≡ Err bad)) → IsFirstBad text bad
+bad_of_lines text first rest bad split (inl h) =
+    inl (
+      h.1,
+      λ other more log same cache.
+          let one : other ≡ first = head_of (sym same ∙ split) in
+          none-some log (sym h.0 ∙ ap log_of (sym one) ∙ log_read other log cache),
+    )
+bad_of_lines text first rest bad split (inr h) =
+    let r = events_bad 2 rest bad h.2 in
+    inr (
+      r.events,
+      record {
+        first = first;
+        log = h.0;
+        cache = value_has (IsCacheLine first) (log_of first) h.0 (log_is first) h.1;
+        line = r.line;
+        rest = r.rest;
+        split = split ∙ ap (λ ls. first ∷ ls) r.split;
+        fit = r.fit;
+        none = r.none;
+      },
+      r.place,
+    )
+
+bad_of : (text : List ℕ) (ls : List (List ℕ)) (bad : ℕ) → lines text ≡ ls → schedule_of ls ≡ Err bad → IsFirstBad text bad
+bad_of text [] bad split h = inl (cc, λ first rest log same cache. absurd cc)
+bad_of text (first ∷ rest) bad split h = bad_of_lines text first rest bad split (first_or_later (log_of first) (events_from 2 rest) bad h)
+
+-- a bad line that is read is the first
+pub schedule_bad : (text : List ℕ) (bad : ℕ) → schedule text ≡ Err bad → IsFirstBad text bad
+unfolding schedule
+schedule_bad text bad h = bad_of text (lines text) bad refl h
+
+-- what was returned is what the text says
+pub found_said : (text : List ℕ) (r : Result Schedule ScheduleError) → Gives parts r (schedule text) → IfOk r (λ s. Says text s.log s.events.items)
+found_said text (Ok s) h = schedule_said text s.log s.events.items h
+found_said text (Err e) h = tt
+
+-- and the bad line that was returned is the first
+pub returned_bad : (text : List ℕ) (r : Result Schedule ScheduleError) → Gives parts r (schedule text) → (bad : ℕ) → r ≡ Err (errors.BadLine bad) → IsFirstBad text bad
+returned_bad text r h bad e = schedule_bad text bad (subst (λ q. Gives parts q (schedule text)) e h)
+
+-- where no value has what each value there has, there is none
+no_value : {X : Type 0} (P : X → Type 0) (o : Option X) → IfSome o P → ((x : X) → P x → ⊥) → o ≡ None
+no_value P (Some x) h none = absurd (none x h)
+no_value P None h none = refl
+
+-- events, and then a line that spells none
+read_stops : (number : ℕ) (events : List (Event ℕ ℕ)) (line : List ℕ) (rest : List (List ℕ)) → AllByRecursion EventFits events → SpellsNone line → events_from number (map event_line events ++ line ∷ rest) ≡ Err (length events + number)
+read_stops number [] line rest fit none =
+    ap (λ o. event_then number o (events_from (suc number) rest)) (no_value _ (event_of line) (event_is line) (λ e h. none e h.1 h.0)) ∙ ap Err (omega arith)
+read_stops number (e ∷ events) line rest fit none =
+    ap (λ o. event_then number o (events_from (suc number) (map event_line events ++ line ∷ rest))) (event_read e fit.0)
+    ∙ ap (with_front (e ∷ [])) (read_stops (suc number) events line rest fit.1 none) ∙ ap Err (omega arith)
+
+bad_first : (text : List ℕ) (ls : List (List ℕ)) → lines text ≡ ls → BeginsBadly text → schedule_of ls ≡ Err 1
+bad_first text [] split bad = refl
+bad_first text (first ∷ rest) split bad =
+    ap (λ o. log_then o (events_from 2 rest)) (no_value (IsCacheLine first) (log_of first) (log_is first) (λ log cache. bad first rest log split cache))
+
+-- the first bad line is read
+pub bad_read : (text : List ℕ) (number : ℕ) → IsFirstBad text number → schedule text ≡ Err number
+unfolding schedule
+bad_read text number (inl h) = bad_first text (lines text) refl h.1 ∙ ap Err (sym h.0)
+bad_read text number (inr h) =
+    let g = h.1 in
+    ap schedule_of g.split
+    ∙ ap (λ o. log_then o (events_from 2 (map event_line h.0 ++ g.line ∷ g.rest))) (log_read g.first g.log g.cache)
+    ∙ ap (with_log g.log) (read_stops 2 h.0 g.line g.rest g.fit g.none) ∙ ap Err (sym h.2)

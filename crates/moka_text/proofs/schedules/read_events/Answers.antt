@@ -1,0 +1,22 @@
+use Rattle.std.proofs.Common.{◌<◌, ◌+◌, ◌++◌, ◌∷◌, [], length, ap, sym, ◌∙◌, arith}
+use Rattle.moka_text.specs.ScheduleText.{lines}
+use Rattle.moka_text.specs.ScheduleReading.{event_of, events_from, with_front}
+use Rattle.moka_text.proofs.Splitting.{read_one, read_none}
+use Rattle.moka_text.proofs.schedules.read_events.Goals as goal
+
+pub returns-in_default : goal.returns-in_default
+returns-in_default c =
+    let some : 0 < length c.loop-rest.rest.now = grind (arith, c.loop-rest-test.ensures) in
+    sym c.loop-rest.invariant.left ∙ read_none c.loop-rest.events.items c.loop-rest.number c.loop-rest.rest.now some (sym c.in_default.is ∙ c.event_of.ensures ∙ ap event_of c.cut.ensures.front)
+
+pub loop-rest-preserved : goal.loop-rest-preserved
+loop-rest-preserved c =
+    let some : 0 < length c.loop-rest.rest.now = grind (arith, c.loop-rest-test.ensures) in
+    let spelled = sym c.in-Some.is ∙ c.event_of.ensures ∙ ap event_of c.cut.ensures.front in
+    record {
+      left =
+          ap (λ events. with_front events (events_from (c.loop-rest.number + 1) (lines c.cut.result.1.now))) c.in_ok-push.ensures.items
+          ∙ ap (λ rest. with_front (c.loop-rest.events.items ++ c.in-Some.event ∷ []) (events_from (c.loop-rest.number + 1) (lines rest))) c.cut.ensures.rest
+          ∙ read_one c.loop-rest.events.items c.loop-rest.number c.loop-rest.rest.now c.in-Some.event some spelled ∙ c.loop-rest.invariant.left;
+      count = let less = c.cut.ensures.shorter some in omega (arith, c.loop-rest.invariant.count);
+    }

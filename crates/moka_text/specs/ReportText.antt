@@ -1,0 +1,70 @@
+-- The text of a report.
+use Rattle.std.specs.Prelude.{ℕ, true, false, List, [], ◌∷◌, ◌++◌, Some, None, flat_map, codes, decimal}
+use Rattle.moka_hist.specs.declared.replies.Ask.{Ask}
+use Rattle.moka_hist.specs.declared.replies.Ask.TheVariants as ask
+use Rattle.moka_hist.specs.declared.replies.Answer.{Answer}
+use Rattle.moka_hist.specs.declared.replies.Answer.TheVariants as answer
+use Rattle.moka_hist.specs.declared.replies.Refusal.{Refusal}
+use Rattle.moka_hist.specs.declared.replies.Refusal.TheVariants as refusal
+use Rattle.moka_hist.specs.declared.replies.Reply.{Reply}
+use Rattle.moka_hist.specs.declared.replies.Reply.TheVariants as reply
+use Rattle.moka_hist.specs.declared.records.Stored.{Stored}
+use Rattle.moka_hist.specs.declared.writes.Place.{Place}
+use Rattle.moka_hist.specs.declared.writes.Place.TheVariants as place
+
+-- a line's words and its end
+abbrev pub ended : List ℕ → List ℕ
+ended words = words ++ 10 ∷ []
+
+abbrev pub answer_words : Answer ℕ → List ℕ
+answer_words answer.Done = codes "done"
+answer_words (answer.Found (Some value)) = codes "some " ++ decimal value
+answer_words (answer.Found None) = codes "none"
+answer_words (answer.Loaded value true) = codes "value " ++ decimal value ++ codes " fresh"
+answer_words (answer.Loaded value false) = codes "value " ++ decimal value
+answer_words answer.RetriesExhausted = codes "exhausted"
+
+abbrev pub refusal_words : Refusal → List ℕ
+refusal_words refusal.UnknownCall = codes "UnknownCall"
+refusal_words refusal.NotParked = codes "NotParked"
+refusal_words refusal.NotAsked = codes "NotAsked"
+refusal_words refusal.ClockBack = codes "ClockBack"
+refusal_words refusal.CallsSpent = codes "CallsSpent"
+
+abbrev pub ask_words : Ask → List ℕ
+ask_words ask.Init = codes "init"
+
+-- the words of a reply
+abbrev pub reply_words : Reply ℕ → List ℕ
+reply_words reply.At = codes "at"
+reply_words (reply.Call number) = codes "call " ++ decimal number
+reply_words reply.Going = codes "going"
+reply_words reply.Wait = codes "wait"
+reply_words (reply.Ask ask) = codes "ask " ++ ask_words ask
+reply_words (reply.Answer answer) = codes "answer " ++ answer_words answer
+reply_words reply.Told = codes "told"
+reply_words reply.Dropped = codes "dropped"
+reply_words (reply.Refused why) = codes "refused " ++ refusal_words why
+
+-- the line of a reply
+abbrev pub reply_line : Reply ℕ → List ℕ
+reply_line r = ended (reply_words r)
+
+-- the line of a key and its record: the value, the stamp, and the moment of the write
+abbrev pub entry_line : ℕ × Stored ℕ → List ℕ
+entry_line e =
+    ended (codes "entry " ++ decimal e.0 ++ 32 ∷ decimal e.1.value ++ codes " stamp " ++ decimal e.1.stamp ++ codes " at " ++ decimal e.1.modified)
+
+abbrev pub place_word : Place → List ℕ
+place_word place.Held = codes "held"
+place_word place.Owed = codes "owed"
+place_word place.Logged = codes "logged"
+place_word place.Applied = codes "applied"
+
+-- the line of a committed write, by its number, and of where it stands
+abbrev pub write_line : ℕ × Place → List ℕ
+write_line w = ended (codes "write " ++ decimal w.0 ++ 32 ∷ place_word w.1)
+
+-- the replies, then what is stored, then the committed writes
+abbrev pub report_text : List (Reply ℕ) → List (ℕ × Stored ℕ) → List (ℕ × Place) → List ℕ
+report_text replies entries places = flat_map reply_line replies ++ flat_map entry_line entries ++ flat_map write_line places

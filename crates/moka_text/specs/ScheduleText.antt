@@ -1,0 +1,90 @@
+-- The text of a schedule: how its lines are spelled, and what a whole text says.
+use Rattle.std.specs.Prelude.{◌≡◌, ℕ, ◌+◌, ◌^◌, ◌<◌, ◌≤◌, ◌==◌, ◌⊎◌, List, [], ◌∷◌, ◌++◌, map, length, codes, decimal, if◌then◌else◌}
+use Rattle.std.specs.List.{AllByRecursion, onto_first}
+use Rattle.moka_hist.specs.declared.events.Start.{Start}
+use Rattle.moka_hist.specs.declared.events.Start.TheVariants as start
+use Rattle.moka_hist.specs.declared.events.Told.{Told}
+use Rattle.moka_hist.specs.declared.events.Told.TheVariants as told
+use Rattle.moka_hist.specs.declared.events.Event.{Event}
+use Rattle.moka_hist.specs.declared.events.Event.TheVariants as event
+
+-- what a call is started for
+abbrev pub start_words : Start ℕ ℕ → List ℕ
+start_words (start.Get key) = codes "get " ++ decimal key
+start_words (start.Insert key value) = codes "insert " ++ (decimal key ++ 32 ∷ decimal value)
+start_words (start.GetWith key) = codes "get_with " ++ decimal key
+
+-- what an ask is told
+abbrev pub told_words : Told ℕ → List ℕ
+told_words (told.Value value) = codes "value " ++ decimal value
+told_words told.Done = codes "done"
+
+-- the one spelling of an event
+abbrev pub event_line : Event ℕ ℕ → List ℕ
+event_line (event.At moment) = codes "at " ++ decimal moment
+event_line (event.Start start) = codes "start " ++ start_words start
+event_line (event.Step call) = codes "step " ++ decimal call
+event_line (event.Poll call) = codes "poll " ++ decimal call
+event_line (event.Tell call answer) = codes "tell " ++ (decimal call ++ 32 ∷ told_words answer)
+event_line (event.Drop call) = codes "drop " ++ decimal call
+
+-- keys and values are of 32 bits
+abbrev pub StartFits : Start ℕ ℕ → Type 0
+StartFits (start.Get key) = key < 2 ^ 32
+StartFits (start.Insert key value) = (key < 2 ^ 32) × (value < 2 ^ 32)
+StartFits (start.GetWith key) = key < 2 ^ 32
+
+abbrev pub ToldFits : Told ℕ → Type 0
+ToldFits (told.Value value) = value < 2 ^ 32
+ToldFits told.Done = Unit {0}
+
+-- the event's numbers are in their ranges: moments and numbers of calls are of 64 bits
+abbrev pub EventFits : Event ℕ ℕ → Type 0
+EventFits (event.At moment) = moment < 2 ^ 64
+EventFits (event.Start start) = StartFits start
+EventFits (event.Step call) = call < 2 ^ 64
+EventFits (event.Poll call) = call < 2 ^ 64
+EventFits (event.Tell call answer) = (call < 2 ^ 64) × ToldFits answer
+EventFits (event.Drop call) = call < 2 ^ 64
+
+-- the first line says the size of the write log, which is 384 where it doesn't
+abbrev pub IsCacheLine : List ℕ → ℕ → Type 0
+IsCacheLine line log =
+    ((line ≡ codes "cache") × (log ≡ 384)) ⊎ ((line ≡ codes "cache log=" ++ decimal log) × (1 ≤ log) × (log ≤ 65536))
+
+-- Each line ends with byte 10, and the last may lack it: what stands after the last byte 10 is a line
+-- only where it isn't empty.
+abbrev pub lines : List ℕ → List (List ℕ)
+lines [] = []
+lines (b ∷ bytes) = if b == 10 then [] ∷ lines bytes else onto_first b (lines bytes)
+
+-- the text is the first line and a line for each event
+pub record Says (text : List ℕ) (log : ℕ) (events : List (Event ℕ ℕ)) : Type 0 where
+  pub first : List ℕ
+  pub cache : IsCacheLine first log
+  pub split : lines text ≡ first ∷ map event_line events
+  pub fit : AllByRecursion EventFits events
+
+-- the first line is none of a cache, or there is no line
+abbrev pub BeginsBadly : List ℕ → Type 0
+BeginsBadly text = (first : List ℕ) (rest : List (List ℕ)) (log : ℕ) → lines text ≡ first ∷ rest → IsCacheLine first log → ⊥
+
+-- the line spells no event
+abbrev pub SpellsNone : List ℕ → Type 0
+SpellsNone line = (e : Event ℕ ℕ) → EventFits e → line ≡ event_line e → ⊥
+
+-- after the first line and these events stands a line that spells none
+pub record GoesBad (text : List ℕ) (events : List (Event ℕ ℕ)) : Type 0 where
+  pub first : List ℕ
+  pub log : ℕ
+  pub cache : IsCacheLine first log
+  pub line : List ℕ
+  pub rest : List (List ℕ)
+  pub split : lines text ≡ first ∷ (map event_line events ++ line ∷ rest)
+  pub fit : AllByRecursion EventFits events
+  pub none : SpellsNone line
+
+-- this is the number, from 1, of the first line that is not in the grammar
+abbrev pub IsFirstBad : List ℕ → ℕ → Type 0
+IsFirstBad text number =
+    ((number ≡ 1) × BeginsBadly text) ⊎ ((events : List (Event ℕ ℕ)) × GoesBad text events × (number ≡ length events + 2))

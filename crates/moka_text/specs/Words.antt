@@ -1,0 +1,28 @@
+-- The parts of a line: numbers, what follows a word, and the two sides of a space.
+use Rattle.std.specs.Prelude.{ℕ, ◌^◌, ◌==◌, ◌&&◌, List, Option, Some, None, length, take, drop, nat_lt, decimal, bytes_eq, if◌then◌else◌}
+use Rattle.std.specs.List.{before_first, after_first}
+use Rattle.std.specs.Str.Parse.{digits_value}
+
+-- the number below the limit of which these bytes are the decimal form
+unfoldable pub number_of : ℕ → List ℕ → Option ℕ
+number_of limit bytes =
+    if bytes_eq bytes (decimal (digits_value 10 bytes)) && nat_lt (digits_value 10 bytes) limit then Some (digits_value 10 bytes) else None
+
+-- a moment or the number of a call
+abbrev pub call_of : List ℕ → Option ℕ
+call_of = number_of (2 ^ 64)
+
+-- a key or a value
+abbrev pub key_of : List ℕ → Option ℕ
+key_of = number_of (2 ^ 32)
+
+-- what follows these bytes at the front of the line
+abbrev pub after : List ℕ → List ℕ → Option (List ℕ)
+after front line = if bytes_eq (take (length front) line) front then Some (drop (length front) line) else None
+
+-- what stands before the first of such bytes, and what stands after it
+abbrev pub before_byte : ℕ → List ℕ → List ℕ
+before_byte mark bytes = before_first (λ b. b == mark) bytes
+
+abbrev pub after_byte : ℕ → List ℕ → List ℕ
+after_byte mark bytes = after_first (λ b. b == mark) bytes

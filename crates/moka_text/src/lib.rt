@@ -1,0 +1,17 @@
+//! The text of schedules and of reports, for keys and values of 32 bits.
+//!
+//! `specs/ScheduleText` is the grammar of a schedule and `specs/ReportText` the text of a report.
+#![tactic(auto)]
+
+mod laws;
+mod lines;
+mod reports;
+mod schedules;
+mod words;
+
+pub use laws::schedule_text_round_trip;
+pub use reports::write_report;
+pub use schedules::{Schedule, ScheduleError, read_schedule};
+
+#[cfg(test)]
+mod tests;

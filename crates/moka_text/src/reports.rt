@@ -1,0 +1,153 @@
+//! Writing the text of a report.
+
+ghost use Rattle.std.specs.Prelude.{◌≡◌, ◌++◌, flat_map, IfOk, OnOk};
+ghost use Rattle.std.specs.String.{string_bytes};
+ghost use Rattle.moka_text.specs.ReportText.{reply_line, entry_line, write_line, report_text};
+
+use moka_hist::{Answer, Ask, Place, Refusal, Reply, Stored};
+use std::alloc::{AllocError, Global};
+use std::fmt::Write;
+
+/// Appends the line of a found value, or of none.
+fn push_found(text: &mut String, found: &Option<u32>) -> Result<(), AllocError>
+    ensures { OnOk result (string_bytes text.new
+        ≡ string_bytes text.old ++ reply_line (Reply.Answer (Answer.Found found.now))) }
+{
+    match found {
+        Some(value) => write!(text, "answer some {value}\n"),
+        None => text.push_str("answer none\n"),
+    }
+}
+
+/// Appends the line of a loaded value.
+fn push_loaded(text: &mut String, value: u32, fresh: bool) -> Result<(), AllocError>
+    ensures { OnOk result (string_bytes text.new
+        ≡ string_bytes text.old ++ reply_line (Reply.Answer (Answer.Loaded value fresh))) }
+{
+    if fresh {
+        write!(text, "answer value {value} fresh\n")
+    } else {
+        write!(text, "answer value {value}\n")
+    }
+}
+
+/// Appends the line of an answer.
+fn push_answer(text: &mut String, answer: &Answer<u32>) -> Result<(), AllocError>
+    ensures { OnOk result (string_bytes text.new
+        ≡ string_bytes text.old ++ reply_line (Reply.Answer answer.now)) }
+{
+    match answer {
+        Answer::Done => text.push_str("answer done\n"),
+        Answer::Found(found) => push_found(text, found),
+        Answer::Loaded { value, fresh } => push_loaded(text, *value, *fresh),
+        Answer::RetriesExhausted => text.push_str("answer exhausted\n"),
+    }
+}
+
+/// Appends the line of a refusal.
+fn push_refusal(text: &mut String, why: Refusal) -> Result<(), AllocError>
+    ensures { OnOk result (string_bytes text.new
+        ≡ string_bytes text.old ++ reply_line (Reply.Refused why)) }
+{
+    match why {
+        Refusal::UnknownCall => text.push_str("refused UnknownCall\n"),
+        Refusal::NotParked => text.push_str("refused NotParked\n"),
+        Refusal::NotAsked => text.push_str("refused NotAsked\n"),
+        Refusal::ClockBack => text.push_str("refused ClockBack\n"),
+        Refusal::CallsSpent => text.push_str("refused CallsSpent\n"),
+    }
+}
+
+/// Appends the line of a reply.
+fn push_reply(text: &mut String, reply: &Reply<u32>) -> Result<(), AllocError>
+    ensures { OnOk result (string_bytes text.new
+        ≡ string_bytes text.old ++ reply_line reply.now) }
+{
+    match reply {
+        Reply::At => text.push_str("at\n"),
+        Reply::Call(number) => write!(text, "call {number}\n"),
+        Reply::Going => text.push_str("going\n"),
+        Reply::Wait => text.push_str("wait\n"),
+        Reply::Ask(Ask::Init) => text.push_str("ask init\n"),
+        Reply::Answer(answer) => push_answer(text, answer),
+        Reply::Told => text.push_str("told\n"),
+        Reply::Dropped => text.push_str("dropped\n"),
+        Reply::Refused(why) => push_refusal(text, *why),
+    }
+}
+
+/// Appends the line of a key and its record.
+fn push_entry(text: &mut String, entry: &(u32, Stored<u32>)) -> Result<(), AllocError>
+    ensures { OnOk result (string_bytes text.new
+        ≡ string_bytes text.old ++ entry_line entry.now) }
+{
+    let key = entry.0;
+    let value = entry.1.value;
+    let stamp = entry.1.stamp;
+    let modified = entry.1.modified;
+    write!(text, "entry {key} {value} stamp {stamp} at {modified}\n")
+}
+
+/// Appends the line of a committed write.
+fn push_write(text: &mut String, number: u64, place: Place) -> Result<(), AllocError>
+    ensures { OnOk result (string_bytes text.new
+        ≡ string_bytes text.old ++ write_line (number, place)) }
+{
+    match place {
+        Place::Held => write!(text, "write {number} held\n"),
+        Place::Owed => write!(text, "write {number} owed\n"),
+        Place::Logged => write!(text, "write {number} logged\n"),
+        Place::Applied => write!(text, "write {number} applied\n"),
+    }
+}
+
+/// Appends the lines of the replies.
+fn push_replies(text: &mut String, replies: &[Reply<u32>]) -> Result<(), AllocError>
+    ensures { OnOk result (string_bytes text.new
+        ≡ string_bytes text.old ++ flat_map reply_line replies.now) }
+{
+    for reply in replies {
+        push_reply(text, reply)?;
+    }
+    Ok(())
+}
+
+/// Appends the lines of the stored records.
+fn push_entries(text: &mut String, entries: &[(u32, Stored<u32>)]) -> Result<(), AllocError>
+    ensures { OnOk result (string_bytes text.new
+        ≡ string_bytes text.old ++ flat_map entry_line entries.now) }
+{
+    for entry in entries {
+        push_entry(text, entry)?;
+    }
+    Ok(())
+}
+
+/// Appends the lines of the committed writes.
+fn push_writes(text: &mut String, places: &[(u64, Place)]) -> Result<(), AllocError>
+    ensures { OnOk result (string_bytes text.new
+        ≡ string_bytes text.old ++ flat_map write_line places.now) }
+{
+    for (number, place) in places {
+        push_write(text, *number, *place)?;
+    }
+    Ok(())
+}
+
+/// Writes a report: a line for each reply, then for each stored record, which stands beside its
+/// key, then for each committed write, by its number. Each list keeps its order.
+pub fn write_report(
+    alloc: Global,
+    replies: &[Reply<u32>],
+    entries: &[(u32, Stored<u32>)],
+    places: &[(u64, Place)],
+) -> Result<String, AllocError>
+    ensures { IfOk result (λ text. string_bytes text
+        ≡ report_text replies.now entries.now places.now) }
+{
+    let mut text = String::new(alloc);
+    push_replies(&mut text, replies)?;
+    push_entries(&mut text, entries)?;
+    push_writes(&mut text, places)?;
+    Ok(text)
+}

@@ -1,0 +1,176 @@
+//! What no clause says: tables of texts and what they are read as, and printed lines.
+
+use crate::{Schedule, ScheduleError, read_schedule, write_report};
+use moka_hist::{Answer, Ask, Event, Place, Refusal, Reply, Start, Stored, Told};
+use std::alloc::Global;
+use std::test::Fail;
+
+/// The bad line of a text.
+fn bad_line(alloc: Global, text: &[u8]) -> Option<u64> {
+    match read_schedule(alloc, text) {
+        Ok(_) => None,
+        Err(ScheduleError::BadLine { line }) => Some(line),
+        Err(ScheduleError::Memory) => None,
+    }
+}
+
+#[test]
+fn a_bad_first_line_is_line_1(rt: HostRuntime) {
+    let texts = [
+        "",
+        "\n",
+        "\ncache\n",
+        "at 1\n",
+        "cache \n",
+        " cache\n",
+        "Cache\n",
+        "cache\r\n",
+        "cache log\n",
+        "cache log=\n",
+        "cache log=0\n",
+        "cache log=08\n",
+        "cache log=65537\n",
+        "cache  log=8\n",
+        "cache log=8 log=8\n",
+        "cache size=8\n",
+    ];
+    for text in texts {
+        assert_eq!(rt; bad_line(rt.alloc(), text.as_bytes()), Some(1), "at {text}");
+    }
+}
+
+#[test]
+fn the_first_bad_line_is_numbered(rt: HostRuntime) {
+    let cases = [
+        ("cache\n\n", 2),
+        ("cache\n\nat 1\n", 2),
+        ("cache\ncache\n", 2),
+        ("cache\nat 1\nstep  1\nnonsense\n", 3),
+        ("cache\nat 1\n at 2\n", 3),
+        ("cache\nat 1 \n", 2),
+        ("cache\nat\t1\n", 2),
+        ("cache\nat 1\r\n", 2),
+        ("cache\nat 01\n", 2),
+        ("cache\nat +1\n", 2),
+        ("cache\nAT 1\n", 2),
+        ("cache\nat 18446744073709551616\n", 2),
+        ("cache\nstep 18446744073709551616\n", 2),
+        ("cache\nstart get 4294967296\n", 2),
+        ("cache\nstart insert 1 4294967296\n", 2),
+        ("cache\nstart insert 1\n", 2),
+        ("cache\nstart get_with\n", 2),
+        ("cache\ntell 1\n", 2),
+        ("cache\ntell 1 done \n", 2),
+        ("cache\ntell 1 value\n", 2),
+    ];
+    for (text, line) in cases {
+        assert_eq!(rt;
+            bad_line(rt.alloc(), text.as_bytes()),
+            Some(line),
+            "at {text}"
+        );
+    }
+}
+
+#[test]
+fn bytes_that_are_no_text_are_bad(rt: HostRuntime) {
+    assert_eq!(rt; bad_line(rt.alloc(), b"cache\nat 1\nat \xff\n"), Some(3));
+}
+
+#[test]
+fn the_last_line_may_lack_its_end(rt: HostRuntime) -> Result<(), Fail> {
+    for text in ["cache log=1\nstep 1\n", "cache log=1\nstep 1"] {
+        let Schedule { log, events } = read_schedule(rt.alloc(), text.as_bytes())?;
+        assert_eq!(rt; log, 1);
+        assert_eq!(rt; events.as_slice(), [Event::Step { call: 1 }].as_slice());
+    }
+    Ok(())
+}
+
+#[test]
+fn every_form_of_line_is_read(rt: HostRuntime) -> Result<(), Fail> {
+    let text = "cache\nat 18446744073709551615\nstart get 0\nstart insert 4294967295 7\n\
+        start get_with 10\nstep 1\npoll 2\ntell 3 value 9\ntell 3 done\ndrop 18446744073709551615\n";
+    let Schedule { log, events } = read_schedule(rt.alloc(), text.as_bytes())?;
+    assert_eq!(rt; log, 384);
+    let want = [
+        Event::At { moment: u64::MAX },
+        Event::Start {
+            start: Start::Get { key: 0 },
+        },
+        Event::Start {
+            start: Start::Insert {
+                key: u32::MAX,
+                value: 7,
+            },
+        },
+        Event::Start {
+            start: Start::GetWith { key: 10 },
+        },
+        Event::Step { call: 1 },
+        Event::Poll { call: 2 },
+        Event::Tell {
+            call: 3,
+            answer: Told::Value(9),
+        },
+        Event::Tell {
+            call: 3,
+            answer: Told::Done,
+        },
+        Event::Drop { call: u64::MAX },
+    ];
+    assert_eq!(rt; events.as_slice(), want.as_slice());
+    Ok(())
+}
+
+#[test]
+fn every_form_of_line_is_written(rt: HostRuntime) -> Result<(), Fail> {
+    let replies = [
+        Reply::At,
+        Reply::Call(u64::MAX),
+        Reply::Going,
+        Reply::Wait,
+        Reply::Ask(Ask::Init),
+        Reply::Told,
+        Reply::Dropped,
+        Reply::Refused(Refusal::UnknownCall),
+        Reply::Refused(Refusal::NotParked),
+        Reply::Refused(Refusal::NotAsked),
+        Reply::Refused(Refusal::ClockBack),
+        Reply::Refused(Refusal::CallsSpent),
+        Reply::Answer(Answer::Done),
+        Reply::Answer(Answer::Found(Some(0))),
+        Reply::Answer(Answer::Found(None)),
+        Reply::Answer(Answer::Loaded {
+            value: 5,
+            fresh: true,
+        }),
+        Reply::Answer(Answer::Loaded {
+            value: 6,
+            fresh: false,
+        }),
+        Reply::Answer(Answer::RetriesExhausted),
+    ];
+    let entries = [(
+        7,
+        Stored {
+            value: 8,
+            stamp: 9,
+            modified: 10,
+        },
+    )];
+    let places = [
+        (1, Place::Held),
+        (2, Place::Owed),
+        (3, Place::Logged),
+        (4, Place::Applied),
+    ];
+    let text = write_report(rt.alloc(), &replies, &entries, &places)?;
+    let want = "at\ncall 18446744073709551615\ngoing\nwait\nask init\ntold\ndropped\n\
+        refused UnknownCall\nrefused NotParked\nrefused NotAsked\nrefused ClockBack\n\
+        refused CallsSpent\nanswer done\nanswer some 0\nanswer none\nanswer value 5 fresh\n\
+        answer value 6\nanswer exhausted\nentry 7 8 stamp 9 at 10\nwrite 1 held\nwrite 2 owed\n\
+        write 3 logged\nwrite 4 applied\n";
+    assert_eq!(rt; text.as_str(), want);
+    Ok(())
+}
