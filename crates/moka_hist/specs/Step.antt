@@ -1,5 +1,5 @@
 -- One step of a call: one access, and what follows from its answer.
-use Rattle.std.specs.Prelude.{◌≢◌, ◌<◌, suc, zero, ◌≡◌, ℕ, Bool, true, false, List, [], ◌∷◌, Some}
+use Rattle.std.specs.Prelude.{◌≢◌, suc, zero, ◌≡◌, ℕ, Bool, true, false, List, [], ◌∷◌, Some}
 use Rattle.moka_hist.specs.Finite.{put_at}
 use Rattle.moka_hist.specs.State.{Call, World, State}
 use Rattle.moka_hist.specs.Plan.{Item}
@@ -148,7 +148,7 @@ module _ {K V : Type 0} where
   unfoldable pub MovesOn : (K → K → Bool) → ℕ → ℕ → Call K V → World K V → Call K V → World K V → Type 0
   MovesOn eq zero n c w d new = (d ≡ c) × (new ≡ w)
   MovesOn eq (suc k) n c w d new =
-    (b : Call K V) × (mid : World K V) × MovesOn eq k n c w b mid × Moves eq n b mid (going_as d) new
+      (b : Call K V) × (mid : World K V) × MovesOn eq k n c w b mid × Moves eq n b mid (going_as d) new
 
   -- steps of a call by itself, all of which leave it going but the last, which doesn't
   pub record Polled (eq : K → K → Bool) (n : ℕ) (c : Call K V) (w : World K V) (next : Next K V) (new : World K V) : Type 0 where
@@ -167,4 +167,4 @@ module _ {K V : Type 0} where
   abbrev pub Leads : ℕ → Call K V → List (Access K V × Got K V) → Call K V → Type 0
   Leads n c [] d = d ≡ c
   Leads n c (made ∷ more) d =
-    (mid : Call K V) × (made.0 ≡ access_of n c) × (next_of n c made.1 ≡ going_as mid) × Leads n mid more d
+      (mid : Call K V) × (made.0 ≡ access_of n c) × (next_of n c made.1 ≡ going_as mid) × Leads n mid more d
