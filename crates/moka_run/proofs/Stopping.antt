@@ -1,5 +1,5 @@
 -- Where a run stops for want of memory.
-use Rattle.std.proofs.Common.{◌≡◌, ℕ, Bool, List, [], ◌∷◌, take, Option, Some, None, refl, sym, subst, ◌↔◌}
+use Rattle.std.proofs.Common.{◌≡◌, ℕ, Bool, List, [], ◌∷◌, take, Option, Some, None, IfSome, refl, sym, subst, ◌⊎◌, inr}
 use Rattle.std.specs.Prelude.{slice_get}
 use Rattle.std.specs.declared.cmp.PartialEq as PartialEq
 use Rattle.std.specs.declared.hash.Hash as Hash
@@ -11,7 +11,7 @@ use Rattle.moka_hist.specs.declared.events.Event.TheVariants as event
 use Rattle.moka_hist.specs.declared.replies.Reply.{Reply}
 use Rattle.moka_run.specs.Machine.{StandsFor}
 use Rattle.moka_run.specs.Machine as machine
-use Rattle.moka_run.specs.Running.{Begins, StopsAt}
+use Rattle.moka_run.specs.Running.{Begins, StopsAt, TakesMemory}
 use Rattle.moka_run.specs.declared.machine.Machine.{Machine}
 use Rattle.moka_run.specs.declared.report.Memory.{Memory}
 
@@ -51,20 +51,22 @@ module _ {K V : Type 0} {same : PartialEq.Ghosts K} {hash : Hash.Ghosts K} (eq :
   -- memory was wanting between two events, or after the last
   pub stops_between : (m : Machine K V same hash) (events : List (Event K V)) (stop : Memory V) (done : ℕ) (replies : List (Reply V)) (s mid : State K V)
     → stop ≡ record { done = done; steps = 0; replies = replies } → Run eq (IsLawful eq) s (take done events) replies mid → StandsFor eq m mid
+    → (done ≡ 0) ⊎ IfSome (slice_get events done) TakesMemory
     → StopsAt eq events stop.done stop.steps stop.replies m s
-  stops_between m events stop done replies s mid is run stands =
+  stops_between m events stop done replies s mid is run stands cause =
     subst (λ (x : Memory V). StopsAt eq events x.done x.steps x.replies m s) (sym is)
-      (record { mid = mid; run = run; final = mid; begins = begins_none eq mid (slice_get events done); stands = stands })
+      (record { mid = mid; run = run; final = mid; begins = begins_none eq mid (slice_get events done); stands = stands; cause = cause })
 
   -- memory was wanting in an event
   pub stops_in : (m : Machine K V same hash) (events : List (Event K V)) (stop : Memory V) (done steps : ℕ) (replies : List (Reply V)) (s mid t : State K V) (e : Event K V)
     → stop ≡ record { done = done; steps = steps; replies = replies } → Run eq (IsLawful eq) s (take done events) replies mid → slice_get events done ≡ Some e
-    → ((n : ℕ) → Goings eq Any steps mid n t → Goings eq (IsLawful eq) steps mid n t) → machine.Begins eq mid e steps t → StandsFor eq m t
+    → ((n : ℕ) → Goings eq Any steps mid n t → Goings eq (IsLawful eq) steps mid n t) → machine.Begins eq mid e steps t → StandsFor eq m t → TakesMemory e
     → StopsAt eq events stop.done stop.steps stop.replies m s
-  stops_in m events stop done steps replies s mid t e is run next lawful begins stands =
+  stops_in m events stop done steps replies s mid t e is run next lawful begins stands takes =
     subst (λ (x : Memory V). StopsAt eq events x.done x.steps x.replies m s) (sym is)
       (record {
         mid = mid; run = run; final = t;
         begins = subst (λ (o : Option (Event K V)). Begins eq mid o steps t) (sym next) (begins_lawful eq mid t e steps lawful begins);
         stands = stands;
+        cause = inr (subst (λ (o : Option (Event K V)). IfSome o TakesMemory) (sym next) takes);
       })

@@ -1,5 +1,5 @@
 -- What a run of events on a machine answers.
-use Rattle.std.specs.Prelude.{◌≡◌, ℕ, ◌<◌, Bool, List, [], ◌∷◌, take, slice_get, Option, Some, length}
+use Rattle.std.specs.Prelude.{◌≡◌, ◌⊎◌, IfSome, ℕ, ◌<◌, Bool, List, [], ◌∷◌, take, slice_get, Option, Some, length}
 use Rattle.std.specs.declared.cmp.PartialEq as PartialEq
 use Rattle.std.specs.declared.hash.Hash as Hash
 use Rattle.moka_hist.specs.State.{State}
@@ -17,6 +17,15 @@ module _ {K V : Type 0} where
   Begins eq s (Some (event.Poll n)) steps t = Goings eq (IsLawful eq) steps s n t
   Begins eq s _ steps t = (steps ≡ 0) × (t ≡ s)
 
+  -- memory may be wanting in such an event. Moving the clock and dropping a call take none
+  abbrev pub TakesMemory : Event K V → Type 0
+  TakesMemory (event.At moment) = ⊥
+  TakesMemory (event.Start start) = Unit {0}
+  TakesMemory (event.Step n) = Unit {0}
+  TakesMemory (event.Poll n) = Unit {0}
+  TakesMemory (event.Tell n answer) = Unit {0}
+  TakesMemory (event.Drop n) = ⊥
+
 -- The headline: from each reached state that the machine stood for these replies answer the events
 -- in order, one for each, by a run of the reference cache through lawful states to a state that the
 -- machine stands for now.
@@ -32,3 +41,5 @@ pub record StopsAt {K V : Type 0} {same : PartialEq.Ghosts K} {hash : Hash.Ghost
   pub final : State K V
   pub begins : Begins eq mid (slice_get events done) steps final
   pub stands : StandsFor eq new final
+  -- at the very beginning, for the room of the replies; in an event that takes memory; or after the last one, for the lists
+  pub cause : (done ≡ 0) ⊎ IfSome (slice_get events done) TakesMemory

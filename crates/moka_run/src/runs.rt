@@ -4,6 +4,7 @@ ghost use Rattle.std.specs.Vec.{vec_capacity};
 ghost use Rattle.moka_hist.specs.Finite.{IsExact};
 ghost use Rattle.moka_hist.specs.State.{State};
 ghost use Rattle.moka_hist.specs.Run.{IsReached};
+ghost use Rattle.moka_laws.specs.Waiting.{WaitsByCause};
 ghost use Rattle.moka_run.specs.Machine.{StandsFor, IsValid};
 ghost use Rattle.moka_run.specs.Running.{Answers, StopsAt};
 ghost use Rattle.moka_run.specs.Report.{Reports};
@@ -35,7 +36,10 @@ pub fn run<K: Eq + Hash + Clone + Drop, V: Clone + Drop>(
     ensures memory { IfErr result (λ m. (s : State K V) → StandsFor K.eq cache.old s → IsReached K.eq s
         → StopsAt K.eq events.now m.done m.steps m.replies cache.new s) }
     ensures valid { IsValid K.eq cache.new }
+    // of whatever state, not of this run alone
+    ensures waits { WaitsByCause K V K.eq }
 {
+    moka_laws::waits_by_cause::<K, V>();
     let replies = run_events(alloc, cache, events)?;
     let replies = ReplyList::from_vec(replies);
     match lists(alloc, cache) {

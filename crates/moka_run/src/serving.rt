@@ -18,6 +18,7 @@ impl<K: Eq + Hash + Clone + Drop, V: Clone + Drop> Machine<K, V> {
     ghost use Rattle.moka_hist.specs.State.{State};
     ghost use Rattle.moka_init.specs.FlowPlan.{call_of};
     ghost use Rattle.moka_run.specs.Calls.{HasPlace};
+    ghost use Rattle.moka_run.specs.Running.{TakesMemory};
     ghost use Rattle.moka_run.specs.Machine.{StandsFor, TakenOut, IsValid, Serves, Keeps, Stops};
 
     /// Carries one event out, or refuses it. Want of memory tells how many steps of a poll were made;
@@ -28,6 +29,7 @@ impl<K: Eq + Hash + Clone + Drop, V: Clone + Drop> Machine<K, V> {
         requires valid { IsValid K.eq self.old }
         ensures serves { IfOk result (λ r. Serves K.eq self.old event.now r self.new) }
         ensures stops { IfErr result (λ u. Stops K.eq self.old event.now u.steps self.new) }
+        ensures cause { OnErr result (TakesMemory event.now) }
     {
         match event {
             Event::At { moment } => Ok(self.at(*moment)),

@@ -1,12 +1,13 @@
 -- The lists of the report are those of the last state; where they find no memory all events were done.
-use Rattle.std.proofs.Common.{◌≡◌, List, take, length, refl, sym, subst}
+use Rattle.std.proofs.Common.{◌≡◌, List, Option, IfSome, take, length, refl, sym, subst, inr, arith}
+use Rattle.std.proofs.lemmas.Option.{slice_get_past}
 use Rattle.std.proofs.Math.Seq.{take-length}
 use Rattle.moka_hist.specs.Places.{IsLawful}
 use Rattle.moka_hist.specs.Run.{Run}
 use Rattle.moka_hist.specs.declared.events.Event.{Event}
 use Rattle.moka_hist.specs.declared.replies.Reply.{Reply}
 use Rattle.moka_run.specs.declared.report.Memory.{Memory}
-use Rattle.moka_run.specs.Running.{Answers}
+use Rattle.moka_run.specs.Running.{Answers, TakesMemory}
 use Rattle.moka_run.proofs.Stopping.{stops_between}
 use Rattle.moka_run.proofs.runs.run.Goals as goal
 
@@ -30,3 +31,4 @@ returns-in-Err-clause-memory g c = λ s h reached.
       (subst (λ (rs : List (Reply g.row.V.Denot)). Run g.K.PartialEq.eq (IsLawful g.K.PartialEq.eq) s (take (length events) events) rs a.final) same
         (subst (λ (es : List (Event g.row.K.Denot g.row.V.Denot)). Run g.K.PartialEq.eq (IsLawful g.K.PartialEq.eq) s es c.in_ok-replies.replies.items a.final) (sym (take-length events)) a.run))
       a.stands
+      (inr (subst (λ (o : Option (Event g.row.K.Denot g.row.V.Denot)). IfSome o TakesMemory) (sym (slice_get_past events (length events) (omega arith))) tt))
