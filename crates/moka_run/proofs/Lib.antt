@@ -1,4 +1,5 @@
 pub mod LiveCalls
+pub mod OneWord
 pub mod Places
 pub mod ReportPlaces
 pub mod TableSteps
