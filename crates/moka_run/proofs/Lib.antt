@@ -1,7 +1,9 @@
+pub mod ByKey
 pub mod LiveCalls
 pub mod OneWord
 pub mod Places
 pub mod ReportPlaces
+pub mod Reported
 pub mod TableSteps
 pub mod Wanted
 pub mod Lifting

@@ -1,18 +1,20 @@
 -- What `play` reads and writes.
-use Rattle.std.specs.Prelude.{◌≡◌, ℕ, ◌≤◌, List, [], ◌∷◌, map, length, take, nat_eq, codes, Option, IsPermutation, IsSortedByKey}
-use Rattle.std.specs.Ordering.{nat_cmp}
+use Rattle.std.specs.Prelude.{◌≡◌, ℕ, ◌≤◌, List, [], ◌∷◌, map, length, take, nat_eq, codes, Option}
+use Rattle.std.specs.List.Sorted.{IsStrictlyIncreasing}
+use Rattle.std.specs.Map.{lookup, keys_of}
+use Rattle.std.specs.Option.{option_map}
 use Rattle.std.specs.String.{string_bytes}
 use Rattle.std.specs.declared.string.String.{String}
 use Rattle.std.specs.declared.alloc.Global.{Global}
 use Rattle.moka_ends.specs.Bytes.{GivesAll, Extends}
 use Rattle.moka_hist.specs.State.{State, fresh}
 use Rattle.moka_hist.specs.Places.{IsLawful}
-use Rattle.moka_hist.specs.Run.{Run}
+use Rattle.moka_hist.specs.Run.{Run, IsReached}
 use Rattle.moka_hist.specs.declared.events.Event.{Event}
 use Rattle.moka_hist.specs.declared.records.Stored.{Stored}
 use Rattle.moka_hist.specs.declared.replies.Reply.{Reply}
 use Rattle.moka_hist.specs.declared.writes.Place.{Place}
-use Rattle.moka_table.specs.Map.{Pairs, ListsPairs}
+use Rattle.moka_table.specs.Map.{Pairs}
 use Rattle.moka_text.specs.ReportText.{report_text}
 use Rattle.moka_text.specs.ScheduleText.{Says, IsFirstBad}
 use Rattle.moka_run.specs.Report.{ArePlaces, Reports}
@@ -28,18 +30,17 @@ use Rattle.moka_text.specs.declared.schedules.ScheduleError.TheVariants as sched
 abbrev pub IsPlay : List (String Global) → Type 0
 IsPlay words = map string_bytes words ≡ codes "play" ∷ []
 
--- the entries are the stored pairs of the map, each once, ascending by key
+-- the entries are what the map has: at each key the record that is stored there, ascending by key
 pub record ListsByKey (entries : List (ℕ × Stored ℕ)) (stored : Pairs ℕ ℕ) : Type 0 where
-  pub pairs : List (ℕ × Stored ℕ)
-  pub lists : ListsPairs nat_eq pairs stored
-  pub all : IsPermutation pairs entries
-  pub ascending : IsSortedByKey (λ e. e.0) nat_cmp entries
+  pub each : (key : ℕ) → lookup (nat_eq key) entries ≡ option_map (λ p. p.1) (stored key)
+  pub ascending : IsStrictlyIncreasing (keys_of entries)
 
 -- What was run on a fresh cache with a log of this size is to be reported so.
 pub record RunsFresh (log : ℕ) (events : List (Event ℕ ℕ)) (report : Report ℕ ℕ) : Type 0 where
   pub final : State ℕ ℕ
   pub run : Run nat_eq (IsLawful nat_eq) (fresh ℕ ℕ log) events report.replies final
   pub reports : Reports nat_eq report.entries report.places final
+  pub reached : IsReached nat_eq final
 
 -- The text reports a run of the reference cache on the events, from a fresh cache with a log of this
 -- size, in which each state is lawful: its replies, and what stands after it.

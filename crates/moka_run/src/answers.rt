@@ -33,6 +33,7 @@ fn run_fresh(
     requires most { log ≤ 65536 }
     ensures { IfOk result (λ report. RunsFresh log events.now report) }
 {
+    moka_laws::reached_by_lawful_run::<u32, u32>();
     let mut machine = Machine::build(alloc, log)?;
     match run(alloc, &mut machine, events) {
         Ok(report) => Ok(report),
@@ -46,6 +47,7 @@ fn report_on(alloc: Global, log: usize, events: &[Event<u32, u32>]) -> Result<St
     requires most { log ≤ 65536 }
     ensures { IfOk result (λ text. ReportsRun log events.now (string_bytes text)) }
 {
+    moka_laws::stored_under_own_keys::<u32, u32>();
     let report = run_fresh(alloc, log, events)?;
     let Report {
         replies,
