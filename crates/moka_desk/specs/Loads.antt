@@ -31,3 +31,16 @@ pub record LoadsAre {K V : Type 0} {same : PartialEq.Ghosts K} {hash : Hash.Ghos
   pub settled : (n : ℕ) → get nat_eq loads.settled n ≡ p.settled n
   pub owns : (l : Load K) (n : ℕ) → p.owners l ≡ Some n → IsSomeAnd (p.owning n) (λ own. load_eq eq own l ≡ true)
   pub owned : (l : Load K) (n : ℕ) → p.owning n ≡ Some l → p.owners l ≡ Some n
+
+module _ {K V : Type 0} {same : PartialEq.Ghosts K} {hash : Hash.Ghosts K} (eq : K → K → Bool) where
+  -- the loads change as the part does, whatever they stand for
+  abbrev pub LoadsBecome : Loads K V same hash → (LoadPart K V → LoadPart K V) → Loads K V same hash → Type 0
+  LoadsBecome old change new = (p : LoadPart K V) → LoadsAre eq old p → LoadsAre eq new (change p)
+
+  -- nothing has changed of what they stand for
+  abbrev pub LoadsStay : Loads K V same hash → Loads K V same hash → Type 0
+  LoadsStay old new = LoadsBecome old (λ p. p) new
+
+  -- the loads change as those of the reference's desk do
+  abbrev pub LoadsMake : Loads K V same hash → (DeskPart K V → LoadPart K V) → Loads K V same hash → Type 0
+  LoadsMake old change new = (w : DeskPart K V) → LoadsAre eq old (load_part w) → LoadsAre eq new (change w)

@@ -5,9 +5,12 @@ use Rattle.std.specs.declared.cmp.PartialEq as PartialEq
 use Rattle.std.specs.declared.hash.Hash as Hash
 use Rattle.moka_hist.specs.Finite.{times}
 use Rattle.moka_hist.specs.State.{DeskPart}
+use Rattle.moka_hist.specs.Visits.{finds, makes}
+use Rattle.moka_hist.specs.declared.visits.Visit.{Visit}
+use Rattle.moka_hist.specs.declared.visits.Found.{Found}
 use Rattle.moka_desk.specs.Writes.{write_part, WritesAre}
 use Rattle.moka_desk.specs.Loads.{load_part, LoadsAre}
-use Rattle.moka_desk.specs.Asks.{AsksAre}
+use Rattle.moka_desk.specs.Asks.{ask_part, AsksAre}
 use Rattle.moka_desk.specs.declared.state.Desk.{Desk}
 
 -- The desk has what the reference's desk has, part by part. Of the holders it keeps only that each
@@ -21,5 +24,26 @@ pub record StandsFor {K V : Type 0} {same : PartialEq.Ghosts K} {hash : Hash.Gho
   pub last : desk.last ≡ w.last
   pub writes : WritesAre desk.writes (write_part w)
   pub loads : LoadsAre eq desk.loads (load_part w)
-  pub asks : AsksAre desk.asks w.asks w.told
+  pub asks : AsksAre desk.asks (ask_part w)
   pub stamped : (n : ℕ) → IsSome (w.pending n) → 0 < times n w.holders
+
+module _ {K V : Type 0} {same : PartialEq.Ghosts K} {hash : Hash.Ghosts K} (eq : K → K → Bool) where
+  -- the visit finds this, whatever the desk stands for
+  abbrev pub Finds : Desk K V same hash → Visit K V → Found V → Type 0
+  Finds desk visit found = (w : DeskPart K V) → StandsFor eq desk w → found ≡ finds w visit
+
+  -- the desk changes as the state does, whatever it stands for
+  abbrev pub Becomes : Desk K V same hash → (DeskPart K V → DeskPart K V) → Desk K V same hash → Type 0
+  Becomes old change new = (w : DeskPart K V) → StandsFor eq old w → StandsFor eq new (change w)
+
+  -- the visit was made, and nothing else
+  abbrev pub Makes : Desk K V same hash → Visit K V → Desk K V same hash → Type 0
+  Makes old visit new = Becomes old (λ w. makes eq w visit) new
+
+  -- nothing has changed of what the desk stands for
+  abbrev pub Stays : Desk K V same hash → Desk K V same hash → Type 0
+  Stays old new = Becomes old (λ w. w) new
+
+  -- the desk stands for a state where the call has a place for a write
+  abbrev pub HasPlace : Desk K V same hash → ℕ → Type 0
+  HasPlace desk call = (w : DeskPart K V) × StandsFor eq desk w × 0 < times call w.holders

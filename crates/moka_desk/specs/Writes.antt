@@ -24,3 +24,7 @@ pub record WritesAre (writes : Writes) (p : WritePart) : Type 0 where
   pub applied : writes.applied.writes.items ≡ p.applied
   pub size : writes.size ≡ p.size
   pub places : length p.holders + length p.owed + length p.log ≤ writes.applied.room
+
+-- the writes change as the part does, whatever they stand for
+abbrev pub WritesBecome : Writes → (WritePart → WritePart) → Writes → Type 0
+WritesBecome old change new = (p : WritePart) → WritesAre old p → WritesAre new (change p)

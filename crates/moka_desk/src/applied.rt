@@ -1,10 +1,10 @@
 //! The writes that maintenance has applied, and how many records they left standing.
 
-ghost use Rattle.std.specs.Prelude.{◌≡◌, ℕ, ◌+◌, ◌-◌, ◌≤◌, ◌<◌, ◌==◌, ◌^◌, ◌||◌, false, cond, [], ◌∷◌, ◌++◌, length, count_by, unwrap_or, nat_eq, OnOk, OnErr, vec_len, vec_capacity};
+ghost use Rattle.std.specs.Prelude.{◌≡◌, ℕ, ◌+◌, ◌-◌, ◌≤◌, ◌<◌, ◌==◌, ◌^◌, ◌||◌, false, cond, [], ◌∷◌, ◌++◌, unwrap_or, nat_eq, OnOk, OnErr, vec_len, vec_capacity};
 ghost use Rattle.std.specs.Option.{option_map_or};
 ghost use Rattle.std.specs.HashMap.{get, spare};
 ghost use Rattle.std.specs.HashSet as hash_set;
-ghost use Rattle.moka_hist.specs.Visits.{number_of, is_replaced, standing as standing_of};
+ghost use Rattle.moka_hist.specs.Visits.{is_replaced, standing as standing_of};
 ghost use Rattle.moka_hist.specs.declared.writes.Write.TheVariants as write_of;
 ghost use Rattle.moka_desk.specs.Fallen.{count_of, fallen};
 
@@ -113,7 +113,9 @@ impl Applied {
 // Marks the stamp as replaced, in a place that was reserved.
 fn mark(replaced: &mut HashSet<u64>, old: Option<u64>)
     requires { 0 < hash_set.spare replaced.old }
-    ensures marked { (n : ℕ) → hash_set.contains nat_eq replaced.new n ≡ (hash_set.contains nat_eq replaced.old n || option_map_or (λ stamp. stamp == n) old false) }
+    ensures marked { (n : ℕ) → hash_set.contains nat_eq replaced.new n ≡
+        (hash_set.contains nat_eq replaced.old n || option_map_or
+        (λ stamp. stamp == n) old false) }
     ensures spare { hash_set.spare replaced.old ≤ hash_set.spare replaced.new + 1 }
 {
     if let Some(stamp) = old {
@@ -135,7 +137,8 @@ fn made_by(made: &HashMap<u64, u64>, number: u64) -> u64
 fn count(made: &mut HashMap<u64, u64>, number: u64)
     requires room { 0 < spare made.old }
     requires fits { unwrap_or (get nat_eq made.old number) 0 + 1 < 2 ^ 64 }
-    ensures counted { (n : ℕ) → unwrap_or (get nat_eq made.new n) 0 ≡ unwrap_or (get nat_eq made.old n) 0 + cond (number == n) 1 0 }
+    ensures counted { (n : ℕ) → unwrap_or (get nat_eq made.new n) 0 ≡ unwrap_or (get nat_eq made.old n) 0 + cond
+        (number == n) 1 0 }
     ensures spare { spare made.old ≤ spare made.new + 1 }
 {
     let before = made_by(made, number);

@@ -1,6 +1,6 @@
 //! The asks that calls have open, and the answers that they were told.
 
-ghost use Rattle.std.specs.Prelude.{◌≡◌, ℕ, ◌≤◌, cond, false, Option, Some, None, IsSome, nat_eq, OnOk, OnErr, if◌then◌else◌};
+ghost use Rattle.std.specs.Prelude.{◌≡◌, ◌≤◌, false, Option, Some, None, IsSome, nat_eq, OnOk, OnErr, if◌then◌else◌};
 ghost use Rattle.std.specs.Option.{option_map_or};
 ghost use Rattle.moka_hist.specs.Telling.{does_take as takes_answer};
 ghost use Rattle.std.specs.HashMap.{get, spare, hash_map_len};
@@ -20,13 +20,11 @@ pub(crate) struct Asks<V> {
 
 impl<V: Drop> Asks<V> {
     ghost use Rattle.moka_hist.specs.Finite.{put_at};
-    ghost use Rattle.moka_hist.specs.declared.visits.Takes.{Takes as takes_of};
-    ghost use Rattle.moka_hist.specs.declared.events.Told.{Told as told_of};
-    ghost use Rattle.moka_desk.specs.Asks.{AsksAre};
+    ghost use Rattle.moka_desk.specs.Asks.{AsksAre, AsksBecome};
 
     /// No ask is open.
     pub(crate) fn new(alloc: Global) -> Self
-        ensures { AsksAre result (λ _. None) (λ _. None) }
+        ensures { AsksAre result (record { asks = λ _. None; told = λ _. None }) }
     {
         Asks {
             open_asks: HashMap::new(alloc),
@@ -36,8 +34,12 @@ impl<V: Drop> Asks<V> {
 
     /// Opens the call's ask, with the place of its answer. An answer that it was told before goes.
     pub(crate) fn open(&mut self, call: u64, takes: Takes) -> Result<(), AllocError>
-        ensures ok { OnOk result ((opened : ℕ → Option takes_of) (given : ℕ → Option (told_of V)) → AsksAre self.old opened given → AsksAre self.new (put_at opened call (Some takes)) (put_at given call None)) }
-        ensures err { OnErr result ((opened : ℕ → Option takes_of) (given : ℕ → Option (told_of V)) → AsksAre self.old opened given → AsksAre self.new opened given) }
+        ensures ok { OnOk result (AsksBecome self.old
+            (λ p. record {
+              asks = put_at p.asks call (Some takes);
+              told = put_at p.told call None;
+            }) self.new) }
+        ensures err { OnErr result (AsksBecome self.old (λ p. p) self.new) }
     {
         self.told.reserve(self.open_asks.len() + 1)?;
         self.open_asks.insert(call, takes)?;
@@ -48,8 +50,12 @@ impl<V: Drop> Asks<V> {
     /// Closes the call's ask by an answer that it takes. Answers false where none is open that
     /// takes it; nothing has changed then.
     pub(crate) fn tell(&mut self, call: u64, answer: Told<V>) -> bool
-        ensures finds { result ≡ option_map_or (λ t. takes_answer t answer) (get nat_eq self.old.open_asks call) false }
-        ensures makes { (opened : ℕ → Option takes_of) (given : ℕ → Option (told_of V)) → AsksAre self.old opened given → AsksAre self.new (if result then put_at opened call None else opened) (if result then put_at given call (Some answer) else given) }
+        ensures finds { result ≡ option_map_or
+            (λ t. takes_answer t answer) (get nat_eq self.old.open_asks call) false }
+        ensures makes { AsksBecome self.old (λ p. if result then record {
+          asks = put_at p.asks call None;
+          told = put_at p.told call (Some answer);
+        } else p) self.new }
     {
         let Some(takes) = self.open_asks.get(&call).copied() else {
             return false;
@@ -64,14 +70,17 @@ impl<V: Drop> Asks<V> {
     /// Takes what the call was told, if anything was.
     pub(crate) fn take(&mut self, call: u64) -> Option<Told<V>>
         ensures finds { result ≡ get nat_eq self.old.told call }
-        ensures makes { (opened : ℕ → Option takes_of) (given : ℕ → Option (told_of V)) → AsksAre self.old opened given → AsksAre self.new opened (put_at given call None) }
+        ensures makes { AsksBecome self.old (λ p. record p { told = put_at p.told call None }) self.new }
     {
         self.told.remove(&call)
     }
 
     /// The call asks nothing any more, and what it was told goes.
     pub(crate) fn leave(&mut self, call: u64)
-        ensures { (opened : ℕ → Option takes_of) (given : ℕ → Option (told_of V)) → AsksAre self.old opened given → AsksAre self.new (put_at opened call None) (put_at given call None) }
+        ensures { AsksBecome self.old (λ p. record {
+          asks = put_at p.asks call None;
+          told = put_at p.told call None;
+        }) self.new }
     {
         let _ = self.open_asks.remove(&call);
         let _ = self.told.remove(&call);
@@ -80,7 +89,10 @@ impl<V: Drop> Asks<V> {
     // Closes an open ask by the answer.
     fn close(&mut self, call: u64, answer: Told<V>)
         requires { IsSome (get nat_eq self.old.open_asks call) }
-        ensures { (opened : ℕ → Option takes_of) (given : ℕ → Option (told_of V)) → AsksAre self.old opened given → AsksAre self.new (put_at opened call None) (put_at given call (Some answer)) }
+        ensures { AsksBecome self.old (λ p. record {
+          asks = put_at p.asks call None;
+          told = put_at p.told call (Some answer);
+        }) self.new }
     {
         let _ = self.open_asks.remove(&call);
         match self.told.insert(call, answer) {

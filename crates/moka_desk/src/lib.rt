@@ -11,3 +11,6 @@ mod writes;
 mod writing;
 
 pub use state::Desk;
+
+#[cfg(test)]
+mod tests;

@@ -1,6 +1,6 @@
 //! The visits that see to loads and asks, and a call that leaves.
 
-ghost use Rattle.std.specs.Prelude.{◌≡◌, ℕ, ◌<◌, false, IsSome, IfOk, OnOk, OnErr, if◌then◌else◌};
+ghost use Rattle.std.specs.Prelude.{◌≡◌, ◌<◌, false, IsSome, IfOk, OnOk, OnErr, if◌then◌else◌};
 
 use crate::Desk;
 use moka_hist::{Claim, Load, Settled, Takes, Told, Write};
@@ -16,16 +16,17 @@ impl<K: Eq + Hash + Clone + Drop, V: Drop> Desk<K, V> {
     ghost use Rattle.moka_hist.specs.declared.visits.Visit.TheVariants as visit;
     ghost use Rattle.moka_hist.specs.declared.visits.Found.TheVariants as found;
     ghost use Rattle.moka_desk.specs.Exact.{IsExact};
-    ghost use Rattle.moka_desk.specs.StandsFor.{StandsFor};
+    ghost use Rattle.moka_desk.specs.StandsFor.{StandsFor, Finds, Becomes, Makes, Stays, HasPlace};
 
     /// Makes the call the owner of a load that nobody owns, or lets it wait for the owner. An owner
     /// gets the place of its settlement. A call owns one load at a time: want of memory is also the
     /// answer where it owns another already.
     pub fn wait_or_own(&mut self, call: u64, load: Load<K>) -> Result<Claim, AllocError>
         requires keys { IsExact K.is_clone }
-        ensures finds { IfOk result (λ claim. (w : DeskPart K V) → StandsFor K.eq self.old w → found.WaitOrOwn claim ≡ finds w (visit.WaitOrOwn call load.key load.kind)) }
-        ensures makes { OnOk result ((w : DeskPart K V) → StandsFor K.eq self.old w → StandsFor K.eq self.new (makes K.eq w (visit.WaitOrOwn call load.key load.kind))) }
-        ensures err { OnErr result ((w : DeskPart K V) → StandsFor K.eq self.old w → StandsFor K.eq self.new w) }
+        ensures finds { IfOk result (λ claim. Finds K.eq self.old (visit.WaitOrOwn call load.key load.kind)
+            (found.WaitOrOwn claim)) }
+        ensures makes { OnOk result (Makes K.eq self.old (visit.WaitOrOwn call load.key load.kind) self.new) }
+        ensures err { OnErr result (Stays K.eq self.old self.new) }
     {
         self.loads.claim(call, load)
     }
@@ -37,24 +38,25 @@ impl<K: Eq + Hash + Clone + Drop, V: Drop> Desk<K, V> {
     where
         V: Clone,
         requires values { IsExact V.is_clone }
-        ensures finds { IfOk result (λ settled. (w : DeskPart K V) → StandsFor K.eq self.old w → found.ReadSettled settled ≡ finds w (visit.ReadSettled call)) }
-        ensures makes { OnOk result ((w : DeskPart K V) → StandsFor K.eq self.old w → StandsFor K.eq self.new (makes K.eq w (visit.ReadSettled call))) }
-        ensures err { OnErr result ((w : DeskPart K V) → StandsFor K.eq self.old w → StandsFor K.eq self.new w) }
+        ensures finds { IfOk result (λ settled. Finds K.eq self.old (visit.ReadSettled call)
+            (found.ReadSettled settled)) }
+        ensures makes { OnOk result (Makes K.eq self.old (visit.ReadSettled call) self.new) }
+        ensures err { OnErr result (Stays K.eq self.old self.new) }
     {
         self.loads.read(call)
     }
 
     /// Ends the call's ownership, and keeps how it ended for those that wait for it.
     pub fn settle(&mut self, call: u64, with: Settled<V>)
-        ensures { (w : DeskPart K V) → StandsFor K.eq self.old w → StandsFor K.eq self.new (makes K.eq w (visit.Settle call with)) }
+        ensures { Makes K.eq self.old (visit.Settle call with) self.new }
     {
         self.loads.settle(call, with);
     }
 
     /// Opens the call's ask, with the place of its answer. What it was told before goes.
     pub fn open_ask(&mut self, call: u64, takes: Takes) -> Result<(), AllocError>
-        ensures makes { OnOk result ((w : DeskPart K V) → StandsFor K.eq self.old w → StandsFor K.eq self.new (makes K.eq w (visit.OpenAsk call takes))) }
-        ensures err { OnErr result ((w : DeskPart K V) → StandsFor K.eq self.old w → StandsFor K.eq self.new w) }
+        ensures makes { OnOk result (Makes K.eq self.old (visit.OpenAsk call takes) self.new) }
+        ensures err { OnErr result (Stays K.eq self.old self.new) }
     {
         self.asks.open(call, takes)
     }
@@ -63,15 +65,15 @@ impl<K: Eq + Hash + Clone + Drop, V: Drop> Desk<K, V> {
     /// open that takes it; nothing has changed then.
     pub fn tell(&mut self, call: u64, answer: Told<V>) -> bool
         ensures finds { (w : DeskPart K V) → StandsFor K.eq self.old w → result ≡ is_asked w call answer }
-        ensures makes { (w : DeskPart K V) → StandsFor K.eq self.old w → StandsFor K.eq self.new (if result then with_told w call answer else w) }
+        ensures makes { Becomes K.eq self.old (λ w. if result then with_told w call answer else w) self.new }
     {
         self.asks.tell(call, answer)
     }
 
     /// Takes what the call was told, if anything was.
     pub fn take_told(&mut self, call: u64) -> Option<Told<V>>
-        ensures finds { (w : DeskPart K V) → StandsFor K.eq self.old w → found.TakeTold result ≡ finds w (visit.TakeTold call) }
-        ensures makes { (w : DeskPart K V) → StandsFor K.eq self.old w → StandsFor K.eq self.new (makes K.eq w (visit.TakeTold call)) }
+        ensures finds { Finds K.eq self.old (visit.TakeTold call) (found.TakeTold result) }
+        ensures makes { Makes K.eq self.old (visit.TakeTold call) self.new }
     {
         self.asks.take(call)
     }
@@ -79,8 +81,10 @@ impl<K: Eq + Hash + Clone + Drop, V: Drop> Desk<K, V> {
     /// Lets a dropped call leave: the write that it held is owed, its ask is closed, it waits for
     /// nobody, and those that wait for it read that it was dropped.
     pub fn leave(&mut self, call: u64, held: Option<Write>)
-        requires { IsSome held → (w : DeskPart K V) × StandsFor K.eq self.old w × 0 < times call w.holders }
-        ensures { (w : DeskPart K V) → StandsFor K.eq self.old w → (IsSome held → 0 < times call w.holders) → StandsFor K.eq self.new (left w call held) }
+        requires { IsSome held → HasPlace K.eq self.old call }
+        ensures { (w : DeskPart K V) → StandsFor K.eq self.old w
+            → (IsSome held → 0 < times call w.holders)
+            → StandsFor K.eq self.new (left w call held) }
     {
         let stamped = self.pending.remove(&call).is_some();
         self.writes.leave(held, stamped);

@@ -1,10 +1,10 @@
 //! The loads that calls own and wait for.
 
-ghost use Rattle.std.specs.Prelude.{◌≡◌, ℕ, ◌+◌, ◌-◌, ◌≤◌, ◌<◌, ◌==◌, ◌&&◌, Bool, nat_lt, cond, Option, Some, None, is_some, IsSome, unwrap_or, nat_eq, OnOk, OnErr, IfOk, IfSome, if◌then◌else◌};
+ghost use Rattle.std.specs.Prelude.{◌≡◌, ℕ, ◌+◌, ◌-◌, ◌≤◌, ◌<◌, ◌==◌, ◌&&◌, cond, Option, Some, None, is_some, unwrap_or, nat_eq, OnOk, OnErr, IfOk, if◌then◌else◌};
 ghost use Rattle.moka_desk.specs.Exact.{IsExact};
 ghost use Rattle.std.specs.Bool.{OnTrue};
 ghost use Rattle.std.specs.Option.{option_and_then};
-ghost use Rattle.std.specs.HashMap.{get, spare, hash_map_len, Updates};
+ghost use Rattle.std.specs.HashMap.{get, spare, hash_map_len};
 
 use crate::maps::{put, replace};
 use moka_hist::{Claim, Load, Settled};
@@ -33,11 +33,17 @@ impl<K: Eq + Hash + Clone + Drop, V: Drop> Loads<K, V> {
     ghost use Rattle.moka_hist.specs.declared.writes.Write.{Write};
     ghost use Rattle.moka_hist.specs.Visits.{claim_of, claimed, read, readers_without, settled_without, settled_as, owners_without, settlement_for};
     ghost use Rattle.moka_hist.specs.Dropping.{left};
-    ghost use Rattle.moka_desk.specs.Loads.{LoadPart, load_part, LoadsAre};
+    ghost use Rattle.moka_desk.specs.Loads.{load_part, LoadsAre, LoadsBecome, LoadsStay, LoadsMake};
 
     /// Nothing is owned, and nobody waits.
     pub(crate) fn new(alloc: Global) -> Self
-        ensures { LoadsAre K.eq result (record { owners = λ _. None; owning = λ _. None; joined = λ _. None; readers = λ _. 0; settled = λ _. None }) }
+        ensures { LoadsAre K.eq result (record {
+          owners = λ _. None;
+          owning = λ _. None;
+          joined = λ _. None;
+          readers = λ _. 0;
+          settled = λ _. None;
+        }) }
     {
         Loads {
             owners: HashMap::new(alloc),
@@ -52,9 +58,11 @@ impl<K: Eq + Hash + Clone + Drop, V: Drop> Loads<K, V> {
     /// owns one load at a time: there is no place for a second.
     pub(crate) fn claim(&mut self, call: u64, load: Load<K>) -> Result<Claim, AllocError>
         requires { IsExact K.is_clone }
-        ensures finds { IfOk result (λ claim. (w : DeskPart K V) → LoadsAre K.eq self.old (load_part w) → claim ≡ claim_of (w.owners load)) }
-        ensures ok { OnOk result ((w : DeskPart K V) → LoadsAre K.eq self.old (load_part w) → LoadsAre K.eq self.new (load_part (claimed K.eq w call load (w.owners load)))) }
-        ensures err { OnErr result ((w : DeskPart K V) → LoadsAre K.eq self.old (load_part w) → LoadsAre K.eq self.new (load_part w)) }
+        ensures finds { IfOk result (λ claim. (w : DeskPart K V) → LoadsAre K.eq self.old (load_part w)
+            → claim ≡ claim_of (w.owners load)) }
+        ensures ok { OnOk result (LoadsMake K.eq self.old
+            (λ w. load_part (claimed K.eq w call load (w.owners load))) self.new) }
+        ensures err { OnErr result (LoadsStay K.eq self.old self.new) }
     {
         match self.owners.get(&load).copied() {
             Some(owner) => {
@@ -70,8 +78,12 @@ impl<K: Eq + Hash + Clone + Drop, V: Drop> Loads<K, V> {
 
     // Lets the call wait for the owner.
     fn join(&mut self, call: u64, owner: u64) -> Result<(), AllocError>
-        ensures ok { OnOk result ((p : LoadPart K V) → LoadsAre K.eq self.old p → LoadsAre K.eq self.new (record p { joined = put_at p.joined call (Some owner); readers = put_at p.readers owner (p.readers owner + 1) })) }
-        ensures err { OnErr result ((p : LoadPart K V) → LoadsAre K.eq self.old p → LoadsAre K.eq self.new p) }
+        ensures ok { OnOk result (LoadsBecome K.eq self.old
+            (λ p. record p {
+              joined = put_at p.joined call (Some owner);
+              readers = put_at p.readers owner (p.readers owner + 1);
+            }) self.new) }
+        ensures err { OnErr result (LoadsStay K.eq self.old self.new) }
     {
         let waiting = self.readers_of(owner).checked_add(1).ok_or(AllocError)?;
         self.joined.reserve(1)?;
@@ -86,8 +98,12 @@ impl<K: Eq + Hash + Clone + Drop, V: Drop> Loads<K, V> {
     fn own(&mut self, call: u64, load: Load<K>) -> Result<(), AllocError>
         requires exact { IsExact K.is_clone }
         requires free { get (load_eq K.eq) self.old.owners load ≡ None }
-        ensures ok { OnOk result ((p : LoadPart K V) → LoadsAre K.eq self.old p → LoadsAre K.eq self.new (record p { owners = put_key (load_eq K.eq) p.owners load (Some call); owning = put_at p.owning call (Some load) })) }
-        ensures err { OnErr result ((p : LoadPart K V) → LoadsAre K.eq self.old p → LoadsAre K.eq self.new p) }
+        ensures ok { OnOk result (LoadsBecome K.eq self.old
+            (λ p. record p {
+              owners = put_key (load_eq K.eq) p.owners load (Some call);
+              owning = put_at p.owning call (Some load);
+            }) self.new) }
+        ensures err { OnErr result (LoadsStay K.eq self.old self.new) }
     {
         if self.owning.contains_key(&call) {
             return Err(AllocError);
@@ -101,9 +117,11 @@ impl<K: Eq + Hash + Clone + Drop, V: Drop> Loads<K, V> {
 
     // Makes room for one more owner, with the place of its settlement.
     fn make_room(&mut self) -> Result<(), AllocError>
-        ensures same { (p : LoadPart K V) → LoadsAre K.eq self.old p → LoadsAre K.eq self.new p }
-        ensures room { OnOk result ((0 < spare self.new.owners) × (0 < spare self.new.owning) × (hash_map_len self.new.owning < spare self.new.settled)) }
-        ensures owners { (l : load_of K) → get (load_eq K.eq) self.new.owners l ≡ get (load_eq K.eq) self.old.owners l }
+        ensures same { LoadsStay K.eq self.old self.new }
+        ensures room { OnOk result ((0 < spare self.new.owners) × (0 < spare self.new.owning)
+            × (hash_map_len self.new.owning < spare self.new.settled)) }
+        ensures owners { (l : load_of K)
+            → get (load_eq K.eq) self.new.owners l ≡ get (load_eq K.eq) self.old.owners l }
         ensures owning { (n : ℕ) → get nat_eq self.new.owning n ≡ get nat_eq self.old.owning n }
     {
         self.settled.reserve(self.owning.len() + 1)?;
@@ -118,8 +136,9 @@ impl<K: Eq + Hash + Clone + Drop, V: Drop> Loads<K, V> {
     where
         V: Clone,
         requires { IsExact V.is_clone }
-        ensures finds { IfOk result (λ found. (w : DeskPart K V) → LoadsAre K.eq self.old (load_part w) → found ≡ unwrap_or (settlement_for w call) settled.NotYet) }
-        ensures ok { OnOk result ((w : DeskPart K V) → LoadsAre K.eq self.old (load_part w) → LoadsAre K.eq self.new (load_part (read w call))) }
+        ensures finds { IfOk result (λ found. (w : DeskPart K V) → LoadsAre K.eq self.old (load_part w)
+            → found ≡ unwrap_or (settlement_for w call) settled.NotYet) }
+        ensures ok { OnOk result (LoadsMake K.eq self.old (λ w. load_part (read w call)) self.new) }
         ensures err { OnErr result (self.new ≡ self.old) }
     {
         match self.settlement_for(call)? {
@@ -133,7 +152,7 @@ impl<K: Eq + Hash + Clone + Drop, V: Drop> Loads<K, V> {
 
     /// Ends what the call owns, and keeps how it ended for those that wait for it.
     pub(crate) fn settle(&mut self, call: u64, with: Settled<V>)
-        ensures { (w : DeskPart K V) → LoadsAre K.eq self.old (load_part w) → LoadsAre K.eq self.new (load_part (settled_as w call with)) }
+        ensures { LoadsMake K.eq self.old (λ w. load_part (settled_as w call with)) self.new }
     {
         let awaited = self.readers_of(call) > 0;
         self.end(call, with, awaited);
@@ -142,7 +161,8 @@ impl<K: Eq + Hash + Clone + Drop, V: Drop> Loads<K, V> {
     /// The call waits for nobody and owns nothing any more; those that wait for it read that it was
     /// dropped.
     pub(crate) fn leave(&mut self, call: u64)
-        ensures { (w : DeskPart K V) (held : Option Write) → LoadsAre K.eq self.old (load_part w) → LoadsAre K.eq self.new (load_part (left w call held)) }
+        ensures { (w : DeskPart K V) (held : Option Write) → LoadsAre K.eq self.old (load_part w)
+            → LoadsAre K.eq self.new (load_part (left w call held)) }
     {
         let awaited = self.readers_of(call) > 0;
         self.stop_waiting(call);
@@ -154,7 +174,8 @@ impl<K: Eq + Hash + Clone + Drop, V: Drop> Loads<K, V> {
     where
         V: Clone,
         requires { IsExact V.is_clone }
-        ensures { IfOk result (λ found. found ≡ option_and_then (get nat_eq self.now.settled) (get nat_eq self.now.joined call)) }
+        ensures { IfOk result (λ found. found ≡ option_and_then (get nat_eq self.now.settled)
+            (get nat_eq self.now.joined call)) }
     {
         let Some(owner) = self.joined.get(&call) else {
             return Ok(None);
@@ -170,7 +191,12 @@ impl<K: Eq + Hash + Clone + Drop, V: Drop> Loads<K, V> {
 
     // The call waits no longer.
     fn stop_waiting(&mut self, call: u64)
-        ensures { (w : DeskPart K V) → LoadsAre K.eq self.old (load_part w) → LoadsAre K.eq self.new (record (load_part w) { joined = put_at w.joined call None; readers = readers_without w call; settled = settled_without w call }) }
+        ensures { LoadsMake K.eq self.old
+            (λ w. record (load_part w) {
+              joined = put_at w.joined call None;
+              readers = readers_without w call;
+              settled = settled_without w call;
+            }) self.new }
     {
         if let Some(owner) = self.joined.remove(&call) {
             self.release(owner);
@@ -179,7 +205,12 @@ impl<K: Eq + Hash + Clone + Drop, V: Drop> Loads<K, V> {
 
     // One that waited for the owner is gone; the last takes away how it ended.
     fn release(&mut self, owner: u64)
-        ensures { (p : LoadPart K V) → LoadsAre K.eq self.old p → LoadsAre K.eq self.new (record p { readers = put_at p.readers owner (p.readers owner - 1); settled = cond (p.readers owner == 1) (put_at p.settled owner None) p.settled }) }
+        ensures { LoadsBecome K.eq self.old
+            (λ p. record p {
+              readers = put_at p.readers owner (p.readers owner - 1);
+              settled = cond (p.readers owner == 1)
+                  (put_at p.settled owner None) p.settled;
+            }) self.new }
     {
         match self.readers_of(owner) {
             0 => {}
@@ -193,7 +224,13 @@ impl<K: Eq + Hash + Clone + Drop, V: Drop> Loads<K, V> {
 
     // Ends what the call owns. Where somebody waits for it, that it ended so is kept.
     fn end(&mut self, call: u64, with: Settled<V>, awaited: bool)
-        ensures { (w : DeskPart K V) → LoadsAre K.eq self.old (load_part w) → LoadsAre K.eq self.new (record (load_part w) { owners = owners_without w call; owning = put_at w.owning call None; settled = λ owner. cond (is_some (w.owning call) && awaited && call == owner) (Some with) (w.settled owner) }) }
+        ensures { LoadsMake K.eq self.old
+            (λ w. record (load_part w) {
+              owners = owners_without w call;
+              owning = put_at w.owning call None;
+              settled = λ owner. cond (is_some (w.owning call) && awaited && call == owner)
+                  (Some with) (w.settled owner);
+            }) self.new }
     {
         let owned = self.disown(call);
         if owned && awaited {
@@ -206,7 +243,11 @@ impl<K: Eq + Hash + Clone + Drop, V: Drop> Loads<K, V> {
     fn disown(&mut self, call: u64) -> bool
         ensures owned { result ≡ is_some (get nat_eq self.old.owning call) }
         ensures room { OnTrue result (hash_map_len self.new.owning < spare self.new.settled) }
-        ensures makes { (w : DeskPart K V) → LoadsAre K.eq self.old (load_part w) → LoadsAre K.eq self.new (record (load_part w) { owners = owners_without w call; owning = put_at w.owning call None }) }
+        ensures makes { LoadsMake K.eq self.old
+            (λ w. record (load_part w) {
+              owners = owners_without w call;
+              owning = put_at w.owning call None;
+            }) self.new }
     {
         match self.owning.remove(&call) {
             Some(load) => {

@@ -11,7 +11,8 @@ pub(crate) fn put<Q: Eq + Hash + Drop, T: Drop>(map: &mut HashMap<Q, T>, key: Q,
     requires { 0 < spare map.old }
     ensures updates { Updates Q.eq map.old map.new key (Some value) }
     ensures spare { spare map.old ≤ spare map.new + 1 }
-    ensures len { hash_map_len map.new ≡ hash_map_len map.old + (if is_some (get Q.eq map.old key) then 0 else 1) }
+    ensures len { hash_map_len map.new ≡ hash_map_len map.old +
+        (if is_some (get Q.eq map.old key) then 0 else 1) }
 {
     match map.insert(key, value) {
         Ok(_) => {}

@@ -1,6 +1,6 @@
 //! The desk, its clock and its numbers.
 
-ghost use Rattle.std.specs.Prelude.{◌≡◌, ℕ, ◌+◌, ◌==◌, nat_lt, not, Option, Some, None, MatchOption, IfOk, if◌then◌else◌};
+ghost use Rattle.std.specs.Prelude.{◌≡◌, ◌+◌, ◌==◌, nat_lt, not, Option, Some, None, MatchOption, IfOk, if◌then◌else◌};
 
 use crate::asks::Asks;
 use crate::loads::Loads;
@@ -30,7 +30,7 @@ pub struct Desk<K: Eq + Hash, V> {
 impl<K: Eq + Hash + Clone + Drop, V: Drop> Desk<K, V> {
     ghost use Rattle.moka_hist.specs.State.{DeskPart, fresh_desk};
     ghost use Rattle.moka_hist.specs.Run.{last_call};
-    ghost use Rattle.moka_desk.specs.StandsFor.{StandsFor};
+    ghost use Rattle.moka_desk.specs.StandsFor.{StandsFor, Becomes};
 
     /// A desk where nothing has happened, with a log of this many writes.
     pub fn new(alloc: Global, log: usize) -> Result<Self, AllocError>
@@ -74,7 +74,8 @@ impl<K: Eq + Hash + Clone + Drop, V: Drop> Desk<K, V> {
     /// changed then.
     pub fn at(&mut self, moment: u64) -> bool
         ensures finds { (w : DeskPart K V) → StandsFor K.eq self.old w → result ≡ not (nat_lt moment w.clock) }
-        ensures makes { (w : DeskPart K V) → StandsFor K.eq self.old w → StandsFor K.eq self.new (if nat_lt moment w.clock then w else record w { clock = moment }) }
+        ensures makes { Becomes K.eq self.old
+            (λ w. if nat_lt moment w.clock then w else record w { clock = moment }) self.new }
     {
         if moment < self.clock {
             return false;
@@ -86,8 +87,11 @@ impl<K: Eq + Hash + Clone + Drop, V: Drop> Desk<K, V> {
     /// Gives the next call number out. Answers None where the greatest one was given out; nothing has
     /// changed then.
     pub fn enter(&mut self) -> Option<u64>
-        ensures finds { (w : DeskPart K V) → StandsFor K.eq self.old w → result ≡ (if w.last == last_call then None else Some (w.last + 1)) }
-        ensures makes { (w : DeskPart K V) → StandsFor K.eq self.old w → MatchOption result (StandsFor K.eq self.new w) (λ n. StandsFor K.eq self.new (record w { last = n })) }
+        ensures finds { (w : DeskPart K V) → StandsFor K.eq self.old w
+            → result ≡ (if w.last == last_call then None else Some (w.last + 1)) }
+        ensures makes { (w : DeskPart K V) → StandsFor K.eq self.old w
+            → MatchOption result (StandsFor K.eq self.new w)
+            (λ n. StandsFor K.eq self.new (record w { last = n })) }
     {
         let next = self.last.checked_add(1)?;
         self.last = next;

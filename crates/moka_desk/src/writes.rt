@@ -23,11 +23,12 @@ pub(crate) struct Writes {
 
 impl Writes {
     ghost use Rattle.moka_hist.specs.Finite.{times, without, without_one};
-    ghost use Rattle.moka_desk.specs.Writes.{WritePart, WritesAre};
+    ghost use Rattle.moka_desk.specs.Writes.{WritePart, WritesAre, WritesBecome};
 
     /// No write yet, and a log of this size.
     pub(crate) fn new(alloc: Global, size: usize) -> Result<Self, AllocError>
-        ensures { IfOk result (λ writes. WritesAre writes (record { holders = []; owed = []; log = []; applied = []; size = size })) }
+        ensures { IfOk result (λ writes. WritesAre writes
+            (record { holders = []; owed = []; log = []; applied = []; size = size })) }
     {
         Ok(Writes {
             owed: VecDeque::new(alloc),
@@ -39,8 +40,9 @@ impl Writes {
 
     /// Reserves the places of one more write: owed, logged where the log has room, and applied.
     pub(crate) fn reserve(&mut self) -> Result<(), AllocError>
-        ensures ok { OnOk result ((call : ℕ) (p : WritePart) → WritesAre self.old p → WritesAre self.new (record p { holders = call ∷ p.holders })) }
-        ensures err { OnErr result ((p : WritePart) → WritesAre self.old p → WritesAre self.new p) }
+        ensures ok { OnOk result ((call : ℕ)
+            → WritesBecome self.old (λ p. record p { holders = call ∷ p.holders }) self.new) }
+        ensures err { OnErr result (WritesBecome self.old (λ p. p) self.new) }
     {
         let room = self.applied.room.checked_add(1).ok_or(AllocError)?;
         self.owed.reserve(room)?;
@@ -51,7 +53,12 @@ impl Writes {
     pub(crate) fn take_owed(&mut self) -> Option<Write>
         ensures first { self.old.owed.items ≡ option_to_list result ++ self.new.owed.items }
         ensures variant { is_some result ≡ nat_lt 0 (length self.old.owed.items) }
-        ensures makes { (call : ℕ) (p : WritePart) → WritesAre self.old p → WritesAre self.new (record p { holders = cond (nat_lt 0 (length p.owed)) (call ∷ p.holders) p.holders; owed = drop 1 p.owed }) }
+        ensures makes { (call : ℕ) → WritesBecome self.old
+            (λ p. record p {
+              holders = cond (nat_lt 0 (length p.owed))
+                  (call ∷ p.holders) p.holders;
+              owed = drop 1 p.owed;
+            }) self.new }
     {
         self.owed.pop_front()
     }
@@ -60,7 +67,13 @@ impl Writes {
     pub(crate) fn post(&mut self, write: Write) -> bool
         requires { length self.old.owed.items + length self.old.log.items < self.old.applied.room }
         ensures room { result ≡ nat_lt (length self.old.log.items) self.old.size }
-        ensures makes { (call : ℕ) (p : WritePart) → WritesAre self.old p → 0 < times call p.holders → let room = nat_lt (length p.log) p.size in WritesAre self.new (record p { holders = cond room (without_one call p.holders) p.holders; log = cond room (p.log ++ write ∷ []) p.log }) }
+        ensures makes { (call : ℕ) (p : WritePart) → WritesAre self.old p → 0 < times call p.holders
+            → let room = nat_lt (length p.log) p.size in
+            WritesAre self.new (record p {
+              holders = cond room
+                  (without_one call p.holders) p.holders;
+              log = cond room (p.log ++ write ∷ []) p.log;
+            }) }
     {
         if self.log.len() >= self.size {
             return false;
@@ -72,7 +85,8 @@ impl Writes {
     /// Applies the front of the log, and answers whether there was one.
     pub(crate) fn apply_one(&mut self) -> bool
         ensures found { result ≡ nat_lt 0 (length self.old.log.items) }
-        ensures makes { (p : WritePart) → WritesAre self.old p → WritesAre self.new (record p { log = drop 1 p.log; applied = p.applied ++ take 1 p.log }) }
+        ensures makes { WritesBecome self.old
+            (λ p. record p { log = drop 1 p.log; applied = p.applied ++ take 1 p.log }) self.new }
     {
         let Some(write) = self.log.pop_front() else {
             return false;
@@ -85,7 +99,12 @@ impl Writes {
     /// write, and holds none yet, gives its places up.
     pub(crate) fn leave(&mut self, held: Option<Write>, stamped: bool)
         requires { IsSome held → length self.old.owed.items + length self.old.log.items < self.old.applied.room }
-        ensures makes { (call : ℕ) (p : WritePart) → WritesAre self.old p → ((is_some held || stamped) ≡ true → 0 < times call p.holders) → WritesAre self.new (record p { holders = without call p.holders; owed = p.owed ++ option_to_list held }) }
+        ensures makes { (call : ℕ) (p : WritePart) → WritesAre self.old p
+            → ((is_some held || stamped) ≡ true → 0 < times call p.holders)
+            → WritesAre self.new (record p {
+              holders = without call p.holders;
+              owed = p.owed ++ option_to_list held;
+            }) }
     {
         match held {
             Some(write) => self.owed.push_back_reserved(write),
@@ -96,7 +115,8 @@ impl Writes {
 
     // Gives the places of one write up, if nobody else has them.
     fn give_up(&mut self)
-        ensures { (call : ℕ) (p : WritePart) → WritesAre self.old p → 0 < times call p.holders → WritesAre self.new (record p { holders = without call p.holders }) }
+        ensures { (call : ℕ) (p : WritePart) → WritesAre self.old p → 0 < times call p.holders
+            → WritesAre self.new (record p { holders = without call p.holders }) }
     {
         if self.owed.len() + self.log.len() < self.applied.room {
             self.applied.give_up();

@@ -1,6 +1,6 @@
 //! The visits that see to writes: owed, logged and applied.
 
-ghost use Rattle.std.specs.Prelude.{◌≡◌, ℕ, ◌<◌, IsSome, IsTrue, IfOk, OnOk, OnErr};
+ghost use Rattle.std.specs.Prelude.{◌<◌, IsTrue, IfOk, OnOk, OnErr};
 
 use crate::Desk;
 use crate::maps::put;
@@ -14,21 +14,22 @@ impl<K: Eq + Hash + Clone + Drop, V: Drop> Desk<K, V> {
     ghost use Rattle.moka_hist.specs.Visits.{finds, makes, judged, decided as with_decided};
     ghost use Rattle.moka_hist.specs.declared.visits.Visit.TheVariants as visit;
     ghost use Rattle.moka_hist.specs.declared.visits.Found.TheVariants as found;
-    ghost use Rattle.moka_desk.specs.StandsFor.{StandsFor};
+    ghost use Rattle.moka_desk.specs.StandsFor.{StandsFor, Finds, Becomes, Makes, Stays, HasPlace};
 
     /// Takes the oldest owed write up, if there is one, together with its places.
     pub fn take_owed(&mut self, call: u64) -> Option<Write>
-        ensures finds { (w : DeskPart K V) → StandsFor K.eq self.old w → found.TakeOwed result ≡ finds w (visit.TakeOwed call) }
-        ensures makes { (w : DeskPart K V) → StandsFor K.eq self.old w → StandsFor K.eq self.new (makes K.eq w (visit.TakeOwed call)) }
+        ensures finds { Finds K.eq self.old (visit.TakeOwed call) (found.TakeOwed result) }
+        ensures makes { Makes K.eq self.old (visit.TakeOwed call) self.new }
     {
         self.writes.take_owed()
     }
 
     /// Takes the clock's moment for a write that follows, together with the places of that write.
     pub fn stamp_moment(&mut self, call: u64) -> Result<u64, AllocError>
-        ensures finds { IfOk result (λ moment. (w : DeskPart K V) → StandsFor K.eq self.old w → found.StampMoment moment ≡ finds w (visit.StampMoment call)) }
-        ensures makes { OnOk result ((w : DeskPart K V) → StandsFor K.eq self.old w → StandsFor K.eq self.new (makes K.eq w (visit.StampMoment call))) }
-        ensures err { OnErr result ((w : DeskPart K V) → StandsFor K.eq self.old w → StandsFor K.eq self.new w) }
+        ensures finds { IfOk result (λ moment. Finds K.eq self.old (visit.StampMoment call)
+            (found.StampMoment moment)) }
+        ensures makes { OnOk result (Makes K.eq self.old (visit.StampMoment call) self.new) }
+        ensures err { OnErr result (Stays K.eq self.old self.new) }
     {
         self.pending.reserve(1)?;
         self.writes.reserve()?;
@@ -38,7 +39,7 @@ impl<K: Eq + Hash + Clone + Drop, V: Drop> Desk<K, V> {
 
     /// Ends the pending moment of the call.
     pub fn decided(&mut self, call: u64)
-        ensures { (w : DeskPart K V) → StandsFor K.eq self.old w → StandsFor K.eq self.new (with_decided w call) }
+        ensures { Becomes K.eq self.old (λ w. with_decided w call) self.new }
     {
         let _ = self.pending.remove(&call);
     }
@@ -47,8 +48,8 @@ impl<K: Eq + Hash + Clone + Drop, V: Drop> Desk<K, V> {
     /// raises its access moment to the clock if so. Each record may be seen.
     pub fn judge(&mut self, stamp: u64, modified: u64) -> Result<bool, AllocError>
         ensures finds { IfOk result (λ seen. IsTrue seen) }
-        ensures makes { OnOk result ((w : DeskPart K V) → StandsFor K.eq self.old w → StandsFor K.eq self.new (judged w stamp modified)) }
-        ensures err { OnErr result ((w : DeskPart K V) → StandsFor K.eq self.old w → StandsFor K.eq self.new w) }
+        ensures makes { OnOk result (Becomes K.eq self.old (λ w. judged w stamp modified) self.new) }
+        ensures err { OnErr result (Stays K.eq self.old self.new) }
     {
         let seen = self.accessed.get(&stamp).copied().unwrap_or(modified);
         self.accessed.insert(stamp, seen.max(self.clock))?;
@@ -58,9 +59,10 @@ impl<K: Eq + Hash + Clone + Drop, V: Drop> Desk<K, V> {
     /// Appends the write, which the call holds, to the log. Answers false where the log is full; the
     /// call goes on holding it then. A pending moment of the call ends in either case.
     pub fn post_write(&mut self, call: u64, write: Write) -> bool
-        requires { (w : DeskPart K V) × StandsFor K.eq self.old w × 0 < times call w.holders }
-        ensures finds { (w : DeskPart K V) → StandsFor K.eq self.old w → found.PostWrite result ≡ finds w (visit.PostWrite call write) }
-        ensures makes { (w : DeskPart K V) → StandsFor K.eq self.old w → 0 < times call w.holders → StandsFor K.eq self.new (makes K.eq w (visit.PostWrite call write)) }
+        requires { HasPlace K.eq self.old call }
+        ensures finds { Finds K.eq self.old (visit.PostWrite call write) (found.PostWrite result) }
+        ensures makes { (w : DeskPart K V) → StandsFor K.eq self.old w → 0 < times call w.holders
+            → StandsFor K.eq self.new (makes K.eq w (visit.PostWrite call write)) }
     {
         self.decided(call);
         self.writes.post(write)
@@ -68,8 +70,8 @@ impl<K: Eq + Hash + Clone + Drop, V: Drop> Desk<K, V> {
 
     /// Takes the maintenance turn for the call. Answers false where another call has it.
     pub fn take_turn(&mut self, call: u64) -> bool
-        ensures finds { (w : DeskPart K V) → StandsFor K.eq self.old w → found.TakeTurn result ≡ finds w (visit.TakeTurn call) }
-        ensures makes { (w : DeskPart K V) → StandsFor K.eq self.old w → StandsFor K.eq self.new (makes K.eq w (visit.TakeTurn call)) }
+        ensures finds { Finds K.eq self.old (visit.TakeTurn call) (found.TakeTurn result) }
+        ensures makes { Makes K.eq self.old (visit.TakeTurn call) self.new }
     {
         match self.turn {
             Some(holder) if holder != call => false,
@@ -82,15 +84,15 @@ impl<K: Eq + Hash + Clone + Drop, V: Drop> Desk<K, V> {
 
     /// Applies the oldest write of the log. Answers whether there was one.
     pub fn apply_one(&mut self, call: u64) -> bool
-        ensures finds { (w : DeskPart K V) → StandsFor K.eq self.old w → found.ApplyOne result ≡ finds w (visit.ApplyOne call) }
-        ensures makes { (w : DeskPart K V) → StandsFor K.eq self.old w → StandsFor K.eq self.new (makes K.eq w (visit.ApplyOne call)) }
+        ensures finds { Finds K.eq self.old (visit.ApplyOne call) (found.ApplyOne result) }
+        ensures makes { Makes K.eq self.old (visit.ApplyOne call) self.new }
     {
         self.writes.apply_one()
     }
 
     /// Publishes how many applied upserts stand unreplaced, and gives the turn up.
     pub fn end_turn(&mut self, call: u64)
-        ensures { (w : DeskPart K V) → StandsFor K.eq self.old w → StandsFor K.eq self.new (makes K.eq w (visit.EndTurn call)) }
+        ensures { Makes K.eq self.old (visit.EndTurn call) self.new }
     {
         self.published = self.writes.applied.standing();
         self.turn = None;

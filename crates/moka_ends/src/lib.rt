@@ -3,6 +3,7 @@
 #![tactic(auto)]
 
 mod failed;
+mod front;
 mod lists;
 mod plain;
 mod reads;

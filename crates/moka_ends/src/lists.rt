@@ -2,7 +2,7 @@
 
 ghost use Rattle.std.specs.Prelude.{◌≡◌, ℕ, ◌<◌, ◌≤◌, Some, None, drop, vec_len, [], length, IfOk, OnErr, take};
 
-use crate::plain::copy_front;
+use crate::front::copy_front;
 use crate::{Failed, Sink, Source};
 use std::alloc::Global;
 

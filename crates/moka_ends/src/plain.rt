@@ -1,23 +1,13 @@
 //! Sources and sinks in memory that never fail.
 
-ghost use Rattle.std.specs.Prelude.{◌≡◌, ℕ, ◌<◌, ◌≤◌, Some, None, drop, take, min, length, vec_len, [], IsOk, IfOk};
+ghost use Rattle.std.specs.Prelude.{◌≡◌, ℕ, ◌<◌, ◌≤◌, Some, None, drop, take, length, vec_len, [], IsOk, IfOk};
 ghost use Rattle.std.specs.Option.{option_copied};
 ghost use Rattle.moka_ends.specs.Bytes.{Gives, IsSpent, Extends};
 ghost use Rattle.moka_ends.specs.Kept.{told_if};
 
+use crate::front::copy_front;
 use crate::{Failed, Sink, Source};
 use std::alloc::Global;
-
-/// Copies the first bytes of `from` to the front of `buf`: as many as both have, at most `most`.
-/// Answers how many.
-pub(crate) fn copy_front(from: &[u8], buf: &mut [u8], most: usize) -> usize
-    ensures count { result ≡ min (min (length from.now) (length buf.old)) most }
-    ensures copied { take result buf.new ≡ take result from.now }
-{
-    let count = from.len().min(buf.len()).min(most);
-    buf[..count].copy_from_slice(&from[..count]);
-    count
-}
 
 /// Gives the bytes of a list, and never fails.
 #[derive(Drop, Debug)]

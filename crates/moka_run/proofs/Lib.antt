@@ -1,9 +1,10 @@
-pub mod ByKey
-pub mod LiveCalls
-pub mod OneWord
-pub mod Places
-pub mod ReportPlaces
-pub mod Reported
 pub mod TableSteps
 pub mod Wanted
-pub mod Lifting
+pub mod Places
+pub mod Happening
+pub mod LiveCalls
+pub mod ReportPlaces
+pub mod Stopping
+pub mod ByKey
+pub mod OneWord
+pub mod Reported

@@ -1,4 +1,6 @@
 //! The schedule machine: the cache on one thread, its calls driven event by event.
+//!
+//! `run` carries a list of events out on a `Machine`, and `play` the text of a schedule.
 #![tactic(auto)]
 
 mod answers;
@@ -9,7 +11,8 @@ mod lists;
 mod machine;
 mod playing;
 mod report;
-mod running;
+mod runs;
+mod serving;
 mod status;
 mod steps;
 mod visits;
@@ -18,5 +21,5 @@ pub use laws::says_or_is_bad;
 pub use machine::Machine;
 pub use playing::play;
 pub use report::{Memory, PlaceList, ReplyList, Report};
-pub use running::run;
+pub use runs::run;
 pub use status::Status;

@@ -22,8 +22,42 @@ impl<K: Eq + Hash + Clone + Drop, V: Clone + Drop> Machine<K, V> {
     ghost use Rattle.moka_run.specs.declared.calls.Running.{Running};
     ghost use Rattle.moka_run.specs.Machine.{StandsFor, Without, TakenOut, IsValid, Serves, Keeps, Stops, StepOut, KeepsOut, PollOut, UnfinishedOut};
 
+    /// Makes one step of a call. After want of memory nothing has changed.
+    pub(crate) fn step(&mut self, call: u64) -> Result<Reply<V>, AllocError>
+        requires keys { IsExact K.is_clone }
+        requires values { IsExact V.is_clone }
+        requires valid { IsValid K.eq self.old }
+        ensures serves { IfOk result (λ r. Serves K.eq self.old (Event.Step call) r self.new) }
+        ensures err { OnErr result (Keeps K.eq self.old self.new) }
+    {
+        moka_laws::calls_are_safe::<K, V>();
+        moka_laws::move_is_step::<K, V>();
+        match self.take_out(call) {
+            None => Ok(Reply::Refused(Refusal::UnknownCall)),
+            Some(flow) => self.step_out(call, flow),
+        }
+    }
+
+    /// Makes steps of a call up to the first whose reply is not Going. After want of memory the steps
+    /// made so far stand.
+    pub(crate) fn poll(&mut self, call: u64) -> Result<Reply<V>, Unfinished>
+        requires keys { IsExact K.is_clone }
+        requires values { IsExact V.is_clone }
+        requires valid { IsValid K.eq self.old }
+        ensures serves { IfOk result (λ r. Serves K.eq self.old (Event.Poll call) r self.new) }
+        ensures stops { IfErr result (λ u. Stops K.eq self.old (Event.Poll call) u.steps self.new) }
+    {
+        moka_laws::calls_are_safe::<K, V>();
+        moka_laws::moves_are_steps::<K, V>();
+        moka_laws::polled_is_poll::<K, V>();
+        match self.take_out(call) {
+            None => Ok(Reply::Refused(Refusal::UnknownCall)),
+            Some(flow) => self.poll_out(call, flow),
+        }
+    }
+
     // Takes a live call out, with the table operation that it has begun.
-    fn take_out(&mut self, call: u64) -> Option<Flow<K, V>>
+    pub(crate) fn take_out(&mut self, call: u64) -> Option<Flow<K, V>>
         ensures none { IfNone result ((s : State K V) → StandsFor K.eq self.old s → (s.calls call ≡ None)) }
         ensures same { IfNone result (Keeps K.eq self.old self.new) }
         ensures some { IfSome result (λ flow. (s : State K V) → StandsFor K.eq self.old s → TakenOut K.eq self.new call flow s) }
@@ -46,7 +80,7 @@ impl<K: Eq + Hash + Clone + Drop, V: Clone + Drop> Machine<K, V> {
     }
 
     // Puts the call back that was taken out.
-    fn put_in(&mut self, call: u64, flow: Flow<K, V>)
+    pub(crate) fn put_in(&mut self, call: u64, flow: Flow<K, V>)
         requires { HasPlace self.old.calls call }
         ensures { (others : ℕ → Option (Call K V)) (w : World K V) → Without K.eq self.old call flow others w
             → StandsFor K.eq self.new (record { world = w; calls = put_at others call (Some (call_of flow)) }) }
@@ -56,7 +90,7 @@ impl<K: Eq + Hash + Clone + Drop, V: Clone + Drop> Machine<K, V> {
     }
 
     // The call has ended, and gives its place up.
-    fn end(&mut self, call: u64)
+    pub(crate) fn end(&mut self, call: u64)
         ensures { (flow : Flow K V) (others : ℕ → Option (Call K V)) (w : World K V) → Without K.eq self.old call flow others w
             → StandsFor K.eq self.new (record { world = w; calls = put_at others call None }) }
     {
@@ -106,6 +140,26 @@ impl<K: Eq + Hash + Clone + Drop, V: Clone + Drop> Machine<K, V> {
             Err(e) => {
                 self.put_in(call, flow);
                 Err(e)
+            }
+        }
+    }
+
+    // Makes steps of the call that was taken out, up to the first that doesn't leave it going, and
+    // puts it back unless it has ended.
+    fn poll_out(&mut self, call: u64, mut flow: Flow<K, V>) -> Result<Reply<V>, Unfinished>
+        requires keys { IsExact K.is_clone }
+        requires values { IsExact V.is_clone }
+        requires place { HasPlace self.old.calls call }
+        requires on { IsOn (operation_of self.old.layers.begun) flow }
+        requires safe { (w : World K V) × WorldIs K.eq self.old.layers w × IsSafe K.eq flow.call (call_of flow) w }
+        ensures polls { IfOk result (λ r. PollOut K.eq self.old call flow r self.new) }
+        ensures unfinished { IfErr result (λ u. UnfinishedOut K.eq self.old call flow u.steps self.new) }
+    {
+        match poll(&mut flow, &mut self.layers) {
+            Ok(turn) => Ok(self.after_step(call, flow, turn)),
+            Err(stopped) => {
+                self.put_in(call, flow);
+                Err(stopped)
             }
         }
     }

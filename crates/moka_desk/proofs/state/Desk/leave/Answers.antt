@@ -1,5 +1,6 @@
 use Rattle.std.proofs.Common.{◌<◌, ◌==◌, ◌||◌, true, cond, None, is_some, ap, ◌≡◌, ◌∙◌, sym}
 use Rattle.moka_hist.specs.Finite.{times}
+use Rattle.moka_desk.specs.Asks.{ask_part}
 use Rattle.moka_desk.specs.Writes.{write_part}
 use Rattle.moka_desk.proofs.Holders.{either_way, left_all}
 use Rattle.moka_desk.proofs.state.Desk.leave.Goals as goal
@@ -19,6 +20,6 @@ returns g c = λ w h held.
       last = h.last;
       writes = c.leave.ensures.makes call (write_part w) h.writes place;
       loads = c.leave-2.ensures w c.args.held h.loads;
-      asks = c.leave-3.ensures w.asks w.told h.asks;
+      asks = c.leave-3.ensures (ask_part w) h.asks;
       stamped = left_all w.pending call w.holders h.stamped;
     }

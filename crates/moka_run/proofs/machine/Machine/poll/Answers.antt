@@ -1,0 +1,29 @@
+-- A poll of a live call is the reference's, and without memory so far as it came.
+use Rattle.std.proofs.Common.{◌≡◌, sym, subst}
+use Rattle.std.proofs.lemmas.Result.{IfOk-weaker, IfErr-weaker}
+use Rattle.moka_hist.specs.Step.{state_after}
+use Rattle.moka_hist.specs.Run.{Any, Happens}
+use Rattle.moka_hist.specs.declared.events.Event.TheVariants as event
+use Rattle.moka_hist.specs.declared.replies.Reply.{Reply}
+use Rattle.moka_laws.specs.Moving.{gone_on}
+use Rattle.moka_init.specs.FlowPlan.{call_of}
+use Rattle.moka_run.proofs.machine.Machine.poll.Goals as goal
+
+pub returns-in-Some-clause-serves : goal.returns-in-Some-clause-serves
+returns-in-Some-clause-serves g c = IfOk-weaker c.poll_out.result _ _ (λ r polls s stands reached.
+    let n = c.args.call in
+    let d = call_of c.in-Some.flow in
+    let t = c.in-Some.ensures.some s stands in
+    let m = polls s.calls s.world t.rest (c.calls_are_safe.ensures.safe s n d reached t.live) in
+    let after = state_after s n m.1 m.0 in
+    (after, subst (λ (x : Reply g.row.V.Denot). Happens g.K.PartialEq.eq Any s (event.Poll n) x after) (sym m.3) (c.polled_is_poll.ensures.poll s n d m.0 m.1 t.live m.2), m.4))
+  c.poll_out.ensures.polls
+
+pub returns-in-Some-clause-stops : goal.returns-in-Some-clause-stops
+returns-in-Some-clause-stops g c = IfErr-weaker c.poll_out.result _ _ (λ u stops s stands reached.
+    let n = c.args.call in
+    let d = call_of c.in-Some.flow in
+    let t = c.in-Some.ensures.some s stands in
+    let m = stops s.calls s.world t.rest (c.calls_are_safe.ensures.safe s n d reached t.live) in
+    (gone_on s n m.0 m.1, c.moves_are_steps.ensures.steps s n u.steps d m.0 m.1 t.live m.2, m.3))
+  c.poll_out.ensures.unfinished

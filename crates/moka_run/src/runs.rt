@@ -1,0 +1,104 @@
+//! Runs of events on a machine.
+ghost use Rattle.std.specs.Prelude.{◌≡◌, ◌+◌, ◌<◌, ◌≤◌, ◌++◌, ◌∷◌, [], ℕ, IfOk, IfErr, length, vec_len};
+ghost use Rattle.std.specs.Vec.{vec_capacity};
+ghost use Rattle.moka_hist.specs.Finite.{IsExact};
+ghost use Rattle.moka_hist.specs.State.{State};
+ghost use Rattle.moka_hist.specs.Run.{IsReached};
+ghost use Rattle.moka_run.specs.Machine.{StandsFor, IsValid};
+ghost use Rattle.moka_run.specs.Running.{Answers, StopsAt};
+ghost use Rattle.moka_run.specs.Report.{Reports};
+
+use crate::lists::lists;
+use crate::machine::Machine;
+use crate::report::{Memory, ReplyList, Report};
+use moka_hist::{Event, Reply};
+use std::alloc::Global;
+use std::hash::Hash;
+
+/// Runs the events on the machine, one after the other.
+///
+/// On Ok the replies answer every event in order, and they are, with the state left behind, a run of
+/// the reference cache, in which no key and kind has two open initializers and each committed write
+/// stands in exactly one place. The report's lists are those of the last state. `Memory` tells how far
+/// it came; the machine stands in that state, and can be run on.
+pub fn run<K: Eq + Hash + Clone + Drop, V: Clone + Drop>(
+    alloc: Global,
+    cache: &mut Machine<K, V>,
+    events: &[Event<K, V>],
+) -> Result<Report<K, V>, Memory<V>>
+    requires keys { IsExact K.is_clone }
+    requires values { IsExact V.is_clone }
+    requires valid { IsValid K.eq cache.old }
+    ensures run { IfOk result (λ report. (s : State K V) → StandsFor K.eq cache.old s → IsReached K.eq s
+        → (a : Answers K.eq events.now report.replies cache.new s) × Reports K.eq report.entries report.places a.final) }
+    ensures answered { IfOk result (λ report. length report.replies ≡ length events.now) }
+    ensures memory { IfErr result (λ m. (s : State K V) → StandsFor K.eq cache.old s → IsReached K.eq s
+        → StopsAt K.eq events.now m.done m.steps m.replies cache.new s) }
+    ensures valid { IsValid K.eq cache.new }
+{
+    let replies = run_events(alloc, cache, events)?;
+    let replies = ReplyList::from_vec(replies);
+    match lists(alloc, cache) {
+        Ok((entries, places)) => Ok(Report { replies, entries, places }),
+        Err(_) => Err(Memory { done: events.len() as u64, steps: 0, replies }),
+    }
+}
+
+/// The replies to the events, in order.
+fn run_events<K: Eq + Hash + Clone + Drop, V: Clone + Drop>(
+    alloc: Global,
+    cache: &mut Machine<K, V>,
+    events: &[Event<K, V>],
+) -> Result<Vec<Reply<V>>, Memory<V>>
+    requires keys { IsExact K.is_clone }
+    requires values { IsExact V.is_clone }
+    requires valid { IsValid K.eq cache.old }
+    ensures run { IfOk result (λ replies. (s : State K V) → StandsFor K.eq cache.old s → IsReached K.eq s
+        → Answers K.eq events.now replies.items cache.new s) }
+    ensures answered { IfOk result (λ replies. length replies.items ≡ length events.now) }
+    ensures memory { IfErr result (λ m. (s : State K V) → StandsFor K.eq cache.old s → IsReached K.eq s
+        → StopsAt K.eq events.now m.done m.steps m.replies cache.new s) }
+    ensures valid { IsValid K.eq cache.new }
+{
+    moka_laws::reached_by_event::<K, V>();
+    moka_laws::reached_by_steps::<K, V>();
+    moka_laws::event_is_lawful::<K, V>();
+    moka_laws::steps_are_lawful::<K, V>();
+    moka_laws::reached_is_lawful::<K, V>();
+    moka_laws::lawful_run_goes_on::<K, V>();
+    let mut replies = match Vec::with_capacity(alloc, events.len()) {
+        Ok(replies) => replies,
+        Err(_) => return Err(stopped(Vec::new(alloc), 0)),
+    };
+    for event in events {
+        match cache.serve(event) {
+            Ok(reply) => push_reserved(&mut replies, reply),
+            Err(unfinished) => return Err(stopped(replies, unfinished.steps)),
+        }
+    }
+    Ok(replies)
+}
+
+/// Appends a reply that has its place. It takes no memory.
+fn push_reserved<V: Drop>(replies: &mut Vec<Reply<V>>, reply: Reply<V>)
+    requires { vec_len replies.old < vec_capacity replies.old }
+    ensures items { replies.new.items ≡ replies.old.items ++ reply ∷ [] }
+    ensures len { vec_len replies.new ≡ vec_len replies.old + 1 }
+    ensures capacity { vec_capacity replies.old ≤ vec_capacity replies.new }
+{
+    match replies.push(reply) {
+        Ok(()) => {}
+        Err(_) => unreachable!(),
+    }
+}
+
+/// Memory was wanting after these replies, and so many steps of a poll.
+fn stopped<V>(replies: Vec<Reply<V>>, steps: u64) -> Memory<V>
+    ensures { result ≡ record { done = vec_len replies; steps = steps; replies = replies.items } }
+{
+    Memory {
+        done: replies.len() as u64,
+        steps,
+        replies: ReplyList::from_vec(replies),
+    }
+}

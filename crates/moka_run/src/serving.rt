@@ -1,0 +1,188 @@
+//! The events of a schedule, one at a time.
+ghost use Rattle.std.specs.Prelude.{◌≡◌, ◌<◌, ℕ, Some, None, IsSome, IfOk, IfErr, is_ok, false, OnOk, OnErr, MatchResult};
+ghost use Rattle.std.specs.HashMap.{spare};
+ghost use Rattle.moka_hist.specs.Finite.{IsExact};
+
+use crate::calls::Running;
+use crate::machine::Machine;
+use moka_hist::{Event, Mode, Refusal, Reply, Start, Told};
+use moka_init::{Flow, Unfinished};
+use std::alloc::AllocError;
+use std::hash::Hash;
+
+impl<K: Eq + Hash + Clone + Drop, V: Clone + Drop> Machine<K, V> {
+    ghost use Rattle.moka_hist.specs.declared.events.Event.{Event};
+    ghost use Rattle.moka_hist.specs.Dropping.{dropped};
+    ghost use Rattle.moka_hist.specs.Places.{HoldersHavePlaces};
+    ghost use Rattle.moka_hist.specs.Run.{Drops};
+    ghost use Rattle.moka_hist.specs.State.{State};
+    ghost use Rattle.moka_init.specs.FlowPlan.{call_of};
+    ghost use Rattle.moka_run.specs.Calls.{HasPlace};
+    ghost use Rattle.moka_run.specs.Machine.{StandsFor, TakenOut, IsValid, Serves, Keeps, Stops};
+
+    /// Carries one event out, or refuses it. Want of memory tells how many steps of a poll were made;
+    /// of any other event nothing was done then.
+    pub fn serve(&mut self, event: &Event<K, V>) -> Result<Reply<V>, Unfinished>
+        requires keys { IsExact K.is_clone }
+        requires values { IsExact V.is_clone }
+        requires valid { IsValid K.eq self.old }
+        ensures serves { IfOk result (λ r. Serves K.eq self.old event.now r self.new) }
+        ensures stops { IfErr result (λ u. Stops K.eq self.old event.now u.steps self.new) }
+    {
+        match event {
+            Event::At { moment } => Ok(self.at(*moment)),
+            Event::Start { start } => unpolled(self.start(start)),
+            Event::Step { call } => unpolled(self.step(*call)),
+            Event::Poll { call } => self.poll(*call),
+            Event::Tell { call, answer } => unpolled(self.tell(*call, answer)),
+            Event::Drop { call } => Ok(self.drop_call(*call)),
+        }
+    }
+
+    /// Moves the clock on. It takes no memory.
+    fn at(&mut self, moment: u64) -> Reply<V>
+        ensures { Serves K.eq self.old (Event.At moment) result self.new }
+    {
+        if self.layers.desk.at(moment) {
+            Reply::At
+        } else {
+            Reply::Refused(Refusal::ClockBack)
+        }
+    }
+
+    /// Starts a call under the next number.
+    fn start(&mut self, start: &Start<K, V>) -> Result<Reply<V>, AllocError>
+        requires keys { IsExact K.is_clone }
+        requires values { IsExact V.is_clone }
+        ensures serves { IfOk result (λ r. Serves K.eq self.old (Event.Start start.now) r self.new) }
+        ensures err { OnErr result (Keeps K.eq self.old self.new) }
+    {
+        let start = cloned_start(start)?;
+        self.make_room()?;
+        Ok(self.enter(start))
+    }
+
+    // Makes room for one more call.
+    fn make_room(&mut self) -> Result<(), AllocError>
+        ensures room { OnOk result (0 < spare self.new.calls.places) }
+        ensures same { Keeps K.eq self.old self.new }
+    {
+        self.calls.reserve()
+    }
+
+    // Starts a call. There is room for it, so it takes no memory.
+    fn enter(&mut self, start: Start<K, V>) -> Reply<V>
+        requires { 0 < spare self.old.calls.places }
+        ensures { Serves K.eq self.old (Event.Start start) result self.new }
+    {
+        match self.layers.desk.enter() {
+            None => Reply::Refused(Refusal::CallsSpent),
+            Some(call) => {
+                let flow = Flow::new(start, call);
+                self.calls.add(call, Running { flow, begun: None });
+                Reply::Call(call)
+            }
+        }
+    }
+
+    /// Answers the open ask of a call.
+    fn tell(&mut self, call: u64, answer: &Told<V>) -> Result<Reply<V>, AllocError>
+        requires { IsExact V.is_clone }
+        ensures serves { IfOk result (λ r. Serves K.eq self.old (Event.Tell call answer.now) r self.new) }
+        ensures err { OnErr result (Keeps K.eq self.old self.new) }
+    {
+        let answer = cloned_told(answer)?;
+        if self.layers.desk.tell(call, answer) {
+            Ok(Reply::Told)
+        } else {
+            Ok(Reply::Refused(Refusal::NotAsked))
+        }
+    }
+
+    /// Drops a call where it stands, unless it is between two steps. It takes no memory.
+    fn drop_call(&mut self, call: u64) -> Reply<V>
+        requires { IsValid K.eq self.old }
+        ensures { Serves K.eq self.old (Event.Drop call) result self.new }
+    {
+        moka_laws::holders_have_places::<K, V>();
+        match self.take_out(call) {
+            None => Reply::Refused(Refusal::UnknownCall),
+            Some(flow) => self.drop_out(call, flow),
+        }
+    }
+
+    // Drops the call that was taken out, or puts it back.
+    fn drop_out(&mut self, call: u64, flow: Flow<K, V>) -> Reply<V>
+        requires place { HasPlace self.old.calls call }
+        requires taken { (s : State K V) × TakenOut K.eq self.old call flow s × HoldersHavePlaces s }
+        ensures { (s : State K V) → TakenOut K.eq self.old call flow s → HoldersHavePlaces s
+            → (t : State K V) × Drops s call (call_of flow) flow.mode result t × StandsFor K.eq self.new t }
+    {
+        match flow.mode() {
+            Mode::Mid => {
+                self.put_in(call, flow);
+                Reply::Refused(Refusal::NotParked)
+            }
+            Mode::Fresh => self.leave(call, flow),
+            Mode::Parked => self.leave(call, flow),
+        }
+    }
+
+    // Drops the call that was taken out: what it holds is left to others.
+    fn leave(&mut self, call: u64, flow: Flow<K, V>) -> Reply<V>
+        requires taken { (s : State K V) × TakenOut K.eq self.old call flow s × HoldersHavePlaces s }
+        ensures reply { result ≡ Reply.Dropped }
+        ensures leaves { (s : State K V) → TakenOut K.eq self.old call flow s → HoldersHavePlaces s
+            → StandsFor K.eq self.new (dropped s call (call_of flow)) }
+    {
+        let held = flow.held();
+        self.layers.desk.leave(call, held);
+        self.end(call);
+        Reply::Dropped
+    }
+}
+
+fn cloned_start<K: Clone + Drop, V: Clone + Drop>(start: &Start<K, V>) -> Result<Start<K, V>, AllocError>
+    requires keys { IsExact K.is_clone }
+    requires values { IsExact V.is_clone }
+    ensures { IfOk result (λ same. same ≡ start.now) }
+{
+    match start {
+        Start::Get { key } => {
+            let key = key.clone()?;
+            Ok(Start::Get { key })
+        }
+        Start::Insert { key, value } => {
+            let key = key.clone()?;
+            let value = value.clone()?;
+            Ok(Start::Insert { key, value })
+        }
+        Start::GetWith { key } => {
+            let key = key.clone()?;
+            Ok(Start::GetWith { key })
+        }
+    }
+}
+
+fn cloned_told<V: Clone + Drop>(answer: &Told<V>) -> Result<Told<V>, AllocError>
+    requires { IsExact V.is_clone }
+    ensures { IfOk result (λ same. same ≡ answer.now) }
+{
+    match answer {
+        Told::Value(value) => {
+            let value = value.clone()?;
+            Ok(Told::Value(value))
+        }
+        Told::Done => Ok(Told::Done),
+    }
+}
+
+// An event that isn't a poll makes no steps.
+fn unpolled<V>(reply: Result<Reply<V>, AllocError>) -> Result<Reply<V>, Unfinished>
+    ensures { MatchResult result (λ r. reply ≡ Ok r) (λ u. (u.steps ≡ 0) × (is_ok reply ≡ false)) }
+{
+    match reply {
+        Ok(reply) => Ok(reply),
+        Err(_) => Err(Unfinished { steps: 0 }),
+    }
+}

@@ -1,0 +1,5 @@
+pub mod Waiting
+pub mod Standing
+pub mod CallsLeft
+pub mod WaitView
+pub mod Holders

@@ -1,0 +1,18 @@
+//! Locks and events that calls poll: who holds one, who waits for it, and who is to be woken.
+#![tactic(auto)]
+
+mod call_list;
+mod event;
+mod mutex;
+mod places;
+mod rw_lock;
+mod wait_list;
+
+pub use call_list::{CallList, Calls};
+pub use event::Event;
+pub use mutex::PolledMutex;
+pub use rw_lock::PolledRwLock;
+pub use wait_list::WaitList;
+
+#[cfg(test)]
+mod tests;
