@@ -1,6 +1,7 @@
 pub mod Reached
 pub mod StepCases
 pub mod Kept
+pub mod OwnKeysKept
 pub mod Outcomes
 pub mod Counting
 pub mod Weights

@@ -4,3 +4,4 @@ pub mod Waiting
 pub mod Lawful
 pub mod Missing
 pub mod Moving
+pub mod OwnKeys

@@ -9,6 +9,7 @@ mod missing;
 mod moving;
 mod places;
 mod reaching;
+mod stored;
 mod waiting;
 
 pub use lawful::{
@@ -21,4 +22,5 @@ pub use reaching::{
     fresh_is_reached, reached_by_event, reached_by_run, reached_by_step, reached_by_steps,
     run_goes_on,
 };
+pub use stored::{reached_by_lawful_run, stored_under_own_keys};
 pub use waiting::{live_calls_go_on, waits_by_cause};

@@ -5,3 +5,6 @@ pub mod Happening
 pub mod LiveCalls
 pub mod ReportPlaces
 pub mod Stopping
+pub mod ByKey
+pub mod OneWord
+pub mod Reported

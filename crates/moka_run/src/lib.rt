@@ -1,16 +1,25 @@
 //! The schedule machine: the cache on one thread, its calls driven event by event.
+//!
+//! `run` carries a list of events out on a `Machine`, and `play` the text of a schedule.
 #![tactic(auto)]
 
+mod answers;
 mod calls;
+mod laws;
 mod layers;
 mod lists;
 mod machine;
+mod playing;
 mod report;
 mod runs;
 mod serving;
+mod status;
 mod steps;
 mod visits;
 
+pub use laws::says_or_is_bad;
 pub use machine::Machine;
-pub use runs::run;
+pub use playing::play;
 pub use report::{Memory, PlaceList, ReplyList, Report};
+pub use runs::run;
+pub use status::Status;

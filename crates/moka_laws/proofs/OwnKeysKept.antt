@@ -1,0 +1,60 @@
+-- Each step keeps stored pairs under their own keys.
+use Rattle.std.proofs.Common.{◌≡◌, ℕ, Bool, true, false, cond, Option, Some, refl, sym, ap, subst, ◌∙◌}
+use Rattle.moka_hist.specs.State.{State, World}
+use Rattle.moka_hist.specs.Step.{Access, Gets, Step, access_of}
+use Rattle.moka_hist.specs.Step as step
+use Rattle.moka_hist.specs.Tables.{table_after}
+use Rattle.moka_hist.specs.declared.records.Stored.{Stored}
+use Rattle.moka_hist.specs.declared.tables.TableOp.{TableOp}
+use Rattle.moka_hist.specs.declared.tables.TableOp.TheVariants as op
+use Rattle.moka_hist.specs.declared.tables.TableTurn.TheVariants as table
+use Rattle.moka_hist.specs.declared.accesses.Got.{Got}
+use Rattle.moka_hist.specs.declared.accesses.Got.TheVariants as got
+use Rattle.moka_hist.specs.declared.accesses.Turn.{Turn}
+use Rattle.moka_laws.specs.OwnKeys.{UnderOwnKeys, ReachedIsUnderOwnKeys}
+use Rattle.moka_laws.proofs.Kept.{IsKept, in_reached}
+
+module _ {K V : Type 0} (eq : K → K → Bool) where
+  -- the pair, where it is stored at q, has the key q
+  abbrev IsUnder : (K → Option (K × Stored V)) → Type 0
+  IsUnder stored = (q : K) (p : K × Stored V) → stored q ≡ Some p → eq p.0 q ≡ true
+
+  some_same : (x y : K × Stored V) → Some x ≡ Some y → x ≡ y
+  some_same x y e = cc
+
+  put_under : (key q : K) (new p : K × Stored V) (old : Option (K × Stored V)) (b : Bool) → new.0 ≡ key → eq key q ≡ b
+      → cond b (Some new) old ≡ Some p → (old ≡ Some p → eq p.0 q ≡ true) → eq p.0 q ≡ true
+  put_under key q new p old true own e is kept =
+      subst (λ (k : K). eq k q ≡ true) (sym own ∙ ap (λ (x : K × Stored V). x.0) (some_same new p is)) e
+  put_under key q new p old false own e is kept = kept is
+
+  operation_keeps : (w : World K V) (o : TableOp K V) → IsUnder w.table.stored → IsUnder (table_after eq w.table o).stored
+  operation_keeps w (op.Get key) under = under
+  operation_keeps w (op.InsertOrModify key stored) under =
+      λ q p is. put_under key q (key, stored) p (w.table.stored q) (eq key q) refl refl is (under q p)
+
+  access_keeps : (w new : World K V) (a : Access K V) (g : Got K V) → Gets eq w a g new → IsUnder w.table.stored → IsUnder new.table.stored
+  access_keeps w new (step.On_table o) (got.Table table.Going) gets under = subst (λ (v : World K V). IsUnder v.table.stored) (sym gets) under
+  access_keeps w new (step.On_table o) (got.Table (table.Decided answer)) gets under =
+      subst (λ (v : World K V). IsUnder v.table.stored) (sym gets.1) (operation_keeps w o under)
+  access_keeps w new (step.On_desk made) (got.Desk found) gets under = subst (λ (v : World K V). IsUnder v.table.stored) (sym gets.1) under
+  access_keeps w new (step.On_table o) (got.Desk found) gets under = absurd gets
+  access_keeps w new (step.On_desk made) (got.Table turn) gets under = absurd gets
+
+  step_keeps : (s t : State K V) (n : ℕ) (turn : Turn V) → UnderOwnKeys eq s → Step eq s n turn t → UnderOwnKeys eq t
+  step_keeps s t n turn under h =
+      subst (λ (v : State K V). IsUnder v.world.table.stored) (sym h.after)
+      (access_keeps s.world h.world (access_of n h.call) h.given h.gets under)
+
+  kept : IsKept {K = K} {V = V} eq (UnderOwnKeys {K = K} {V = V} eq)
+  kept = record {
+    fresh = λ size q p is. cc;
+    at = λ s moment under. under;
+    start = λ s start under. under;
+    step = step_keeps;
+    tell = λ s n answer asked under. under;
+    drop = λ s n c live parked under. under;
+  }
+
+  pub under_own_keys : ReachedIsUnderOwnKeys K V eq
+  under_own_keys s reached = in_reached eq (UnderOwnKeys {K = K} {V = V} eq) kept s reached

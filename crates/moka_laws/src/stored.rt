@@ -1,0 +1,13 @@
+//! What is stored.
+
+ghost use Rattle.moka_laws.specs.OwnKeys.{ReachedByLawfulRun, ReachedIsUnderOwnKeys};
+
+/// Cites the law that in every reached state each stored pair stands under its own key.
+pub fn stored_under_own_keys<K: Eq, V>()
+    ensures stored { ReachedIsUnderOwnKeys K V K.eq }
+{}
+
+/// Cites the law that a run through lawful states on a reached state leaves a reached state.
+pub fn reached_by_lawful_run<K: Eq, V>()
+    ensures reached { ReachedByLawfulRun K V K.eq }
+{}

@@ -1,0 +1,31 @@
+-- The text of a report, of what was run.
+use Rattle.std.proofs.Common.{◌≡◌, ℕ, true, List, Some, IsPermutation, nat_eq, refl}
+use Rattle.std.specs.List.Sorted.{IsSortedByKey}
+use Rattle.std.specs.Ordering.{nat_cmp}
+use Rattle.moka_hist.specs.declared.events.Event.{Event}
+use Rattle.moka_hist.specs.declared.records.Stored.{Stored}
+use Rattle.moka_hist.specs.declared.replies.Reply.{Reply}
+use Rattle.moka_hist.specs.declared.writes.Place.{Place}
+use Rattle.moka_laws.specs.OwnKeys.{ReachedIsUnderOwnKeys}
+use Rattle.moka_text.specs.ReportText.{report_text}
+use Rattle.moka_run.specs.Playing.{RunsFresh, ReportsRun}
+use Rattle.moka_run.specs.declared.report.Report.{Report}
+use Rattle.moka_run.proofs.ByKey.{sorted_list}
+
+-- a text of the replies, of the stored pairs sorted by key, and of the places reports the run
+pub reported : (log : ℕ) (events : List (Event ℕ ℕ)) (report : Report ℕ ℕ) (sorted entries : List (ℕ × Stored ℕ)) (replies : List (Reply ℕ)) (places : List (ℕ × Place)) (text : List ℕ)
+    → RunsFresh log events report → ReachedIsUnderOwnKeys ℕ ℕ nat_eq
+    → IsPermutation report.entries sorted → IsSortedByKey (λ e. e.0) nat_cmp sorted
+    → replies ≡ report.replies → entries ≡ sorted → places ≡ report.places
+    → text ≡ report_text replies entries places → ReportsRun log events text
+reported log events report sorted entries replies places text ran own all ascending same_replies same_entries same_places is =
+    record {
+      replies = report.replies;
+      final = ran.final;
+      run = ran.run;
+      entries = sorted;
+      stored = sorted_list report.entries sorted ran.final.world.table.stored ran.reports.entries (own ran.final ran.reached) all ascending;
+      places = report.places;
+      stand = ran.reports.places;
+      is = rw (is, same_replies, same_entries, same_places) refl;
+    }

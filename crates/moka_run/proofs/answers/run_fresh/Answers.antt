@@ -1,0 +1,16 @@
+-- The run begins with a fresh cache, which no event has to reach.
+use Rattle.std.proofs.Common.{ℕ, [], nat_eq, refl}
+use Rattle.moka_hist.specs.State.{fresh}
+use Rattle.moka_hist.specs.Run.{IsReached}
+use Rattle.moka_run.proofs.answers.run_fresh.Goals as goal
+
+pub returns-in-Ok : goal.returns-in-Ok
+returns-in-Ok c =
+    let reached : IsReached nat_eq (fresh ℕ ℕ c.args.log) = record { size = c.args.log; events = []; replies = []; run = refl } in
+    let ran = c.in-Ok.ensures.run (fresh ℕ ℕ c.args.log) c.in_ok-machine.ensures.fresh reached in
+    record {
+      final = ran.0.final;
+      run = ran.0.run;
+      reports = ran.1;
+      reached = c.reached_by_lawful_run.ensures.reached (fresh ℕ ℕ c.args.log) ran.0.final _ _ reached ran.0.run;
+    }

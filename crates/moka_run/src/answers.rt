@@ -1,0 +1,74 @@
+//! The report of a schedule, from its text to its text.
+ghost use Rattle.std.specs.Prelude.{◌≡◌, ◌≤◌, ℕ, nat_eq, IfOk, IsErrOf, IsPermutation, IsSortedByKey};
+ghost use Rattle.std.specs.Ordering.{nat_cmp};
+ghost use Rattle.std.specs.String.{string_bytes};
+ghost use Rattle.moka_text.specs.ScheduleText.{IsFirstBad};
+ghost use Rattle.moka_run.specs.Playing.{Answers, ReportsRun, RunsFresh};
+
+use crate::machine::Machine;
+use crate::report::Report;
+use crate::run;
+use moka_hist::{Event, Stored};
+use moka_table::EntryList;
+use moka_text::{ScheduleError, read_schedule, write_report};
+use std::alloc::{AllocError, Global};
+
+/// The entries, ascending by key.
+fn sorted(entries: EntryList<u32, u32>) -> Vec<(u32, Stored<u32>)>
+    ensures all { IsPermutation entries result.items }
+    ensures ascending { IsSortedByKey (λ e. e.0) nat_cmp result.items }
+{
+    let mut pairs = entries.into_vec();
+    pairs.sort_unstable_by_key(|pair| pair.0);
+    pairs
+}
+
+/// Runs the events on a fresh cache, and answers what is to be reported.
+fn run_fresh(
+    alloc: Global,
+    log: usize,
+    events: &[Event<u32, u32>],
+) -> Result<Report<u32, u32>, AllocError>
+    requires least { 1 ≤ log }
+    requires most { log ≤ 65536 }
+    ensures { IfOk result (λ report. RunsFresh log events.now report) }
+{
+    moka_laws::reached_by_lawful_run::<u32, u32>();
+    let mut machine = Machine::build(alloc, log)?;
+    match run(alloc, &mut machine, events) {
+        Ok(report) => Ok(report),
+        Err(_) => Err(AllocError),
+    }
+}
+
+/// Runs the events on a fresh cache with a log of this many writes, and answers the report's text.
+fn report_on(alloc: Global, log: usize, events: &[Event<u32, u32>]) -> Result<String, AllocError>
+    requires least { 1 ≤ log }
+    requires most { log ≤ 65536 }
+    ensures { IfOk result (λ text. ReportsRun log events.now (string_bytes text)) }
+{
+    moka_laws::stored_under_own_keys::<u32, u32>();
+    let report = run_fresh(alloc, log, events)?;
+    let Report {
+        replies,
+        entries,
+        places,
+    } = report;
+    let entries = sorted(entries);
+    write_report(alloc, replies.as_slice(), &entries, places.as_slice())
+}
+
+/// Answers the text of the report of the schedule that the bytes say.
+///
+/// `BadLine` comes with the first line that is not in the grammar, `Memory` where memory runs out.
+pub(crate) fn answer(alloc: Global, bytes: &[u8]) -> Result<String, ScheduleError>
+    ensures answers { IfOk result (λ text. Answers bytes.now (string_bytes text)) }
+    ensures bad_line { (line : ℕ) → IsErrOf result (ScheduleError.BadLine line)
+        → IsFirstBad bytes.now line }
+{
+    let schedule = read_schedule(alloc, bytes)?;
+    match report_on(alloc, schedule.log, &schedule.events) {
+        Ok(text) => Ok(text),
+        Err(_) => Err(ScheduleError::Memory),
+    }
+}

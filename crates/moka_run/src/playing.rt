@@ -1,0 +1,114 @@
+//! Playing a schedule: from the words of a command line, a source and a sink to a status.
+ghost use Rattle.std.specs.Prelude.{◌≡◌, ◌≢◌, ◌↔◌, ℕ, ◌≤◌, IsTrue, length};
+ghost use Rattle.moka_ends.specs.Bytes.{GivesSome, HasMoreThan};
+ghost use Rattle.moka_ends.specs.Faults.{HasRisen};
+ghost use Rattle.moka_run.specs.Playing.{IsPlay, IsAfterReading, WritesReport, WritesFront, Plays, BreaksOff, FindsBadLine, most_bytes, status_of_read, status_of_schedule};
+ghost use Rattle.moka_text.specs.ScheduleText.{IsFirstBad};
+
+use crate::answers::answer;
+use crate::status::Status;
+use moka_ends::{ReadError, Sink, Source, read_all, write_all};
+use moka_text::ScheduleError;
+use std::alloc::Global;
+
+/// The most bytes that a schedule may have.
+const MOST: usize = 16_777_216;
+
+/// Whether the words are those of a play.
+fn is_play(words: &[String]) -> bool
+    ensures { IsTrue result ↔ IsPlay words.now }
+{
+    match words {
+        [word] => word.as_str() == "play",
+        _ => false,
+    }
+}
+
+/// The status after a read failed so.
+fn read_status(e: ReadError) -> Status
+    ensures { result ≡ status_of_read e }
+{
+    match e {
+        ReadError::TooLong => Status::TooLong,
+        ReadError::Fault => Status::ReadFault,
+        ReadError::Memory => Status::Memory,
+    }
+}
+
+/// The status where a schedule can't be answered for this reason.
+fn schedule_status(e: ScheduleError) -> Status
+    ensures { result ≡ status_of_schedule e }
+{
+    match e {
+        ScheduleError::BadLine { line } => Status::BadLine { line },
+        ScheduleError::Memory => Status::Memory,
+    }
+}
+
+/// Answers the schedule that the bytes say, on the sink.
+fn respond<Snk: Sink>(alloc: Global, bytes: &[u8], sink: &mut Snk) -> Status
+    ensures done { result ≡ Status.Done
+        → WritesReport bytes.now (Snk.written sink.old) (Snk.written sink.new) }
+    ensures bad_line { (line : ℕ) → result ≡ Status.BadLine line → IsFirstBad bytes.now line }
+    ensures broken_off { result ≡ Status.WriteFault
+        → WritesFront bytes.now (Snk.written sink.old) (Snk.written sink.new) }
+    ensures read { IsAfterReading result }
+    ensures unwritten { result ≢ Status.Done → result ≢ Status.WriteFault → sink.new ≡ sink.old }
+    ensures fault { result ≡ Status.WriteFault → HasRisen (Snk.faults sink.old) (Snk.faults sink.new) }
+{
+    let text = match answer(alloc, bytes) {
+        Ok(text) => text,
+        Err(e) => return schedule_status(e),
+    };
+    match write_all(sink, text.as_bytes()) {
+        Ok(()) => Status::Done,
+        Err(_) => Status::WriteFault,
+    }
+}
+
+/// Plays the schedule that the source gives, and writes its report to the sink.
+///
+/// The words are those of a command line after the program's name. `play` alone reads the source to
+/// its end, runs the schedule that its bytes say on a fresh cache, and writes the report, whose text
+/// is made whole before any of it is written. The status tells how it ended:
+///
+/// - `BadWords`: the words are not the one word `play`; nothing was read.
+/// - `BadLine`: the first line that is not in the grammar.
+/// - `TooLong`: the source gives more than 16,777,216 bytes.
+/// - `ReadFault`, `WriteFault`: a call of the source or of the sink failed.
+/// - `Memory`: memory ran out.
+///
+/// But after `Done` and `WriteFault` the sink was not called, and after `WriteFault` it was written
+/// the beginning of the report.
+pub fn play<Src: Source, Snk: Sink>(
+    alloc: Global,
+    words: &[String],
+    source: &mut Src,
+    sink: &mut Snk,
+) -> Status
+    ensures done { result ≡ Status.Done → Plays (Src.left source.old) (Src.left source.new)
+        (Snk.written sink.old) (Snk.written sink.new) }
+    // causes
+    ensures bad_words { (result ≡ Status.BadWords) ↔ (¬ IsPlay words.now) }
+    ensures bad_line { (line : ℕ) → result ≡ Status.BadLine line
+        → FindsBadLine (Src.left source.old) (Src.left source.new) line }
+    ensures too_long { result ≡ Status.TooLong → HasMoreThan most_bytes (Src.left source.old) }
+    ensures read_fault { result ≡ Status.ReadFault
+        → HasRisen (Src.faults source.old) (Src.faults source.new) }
+    ensures write_fault { result ≡ Status.WriteFault
+        → HasRisen (Snk.faults sink.old) (Snk.faults sink.new) }
+    ensures broken_off { result ≡ Status.WriteFault
+        → BreaksOff (Src.left source.old) (Src.left source.new) (Snk.written sink.old) (Snk.written sink.new) }
+    // what stays
+    ensures unread { result ≡ Status.BadWords → source.new ≡ source.old }
+    ensures unwritten { result ≢ Status.Done → result ≢ Status.WriteFault → sink.new ≡ sink.old }
+    ensures front { GivesSome (Src.left source.old) (Src.left source.new) }
+{
+    if !is_play(words) {
+        return Status::BadWords;
+    }
+    match read_all(alloc, source, MOST) {
+        Ok(bytes) => respond(alloc, &bytes, sink),
+        Err(e) => read_status(e),
+    }
+}

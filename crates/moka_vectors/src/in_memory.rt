@@ -1,0 +1,51 @@
+//! Playing a text in memory.
+
+use moka_ends::{ListSink, ListSource};
+use moka_run::{Status, play};
+use std::alloc::{AllocError, Global};
+
+/// How a play ended, and what it wrote.
+#[derive(Drop)]
+pub struct Played {
+    pub status: Status,
+    pub bytes: Vec<u8>,
+}
+
+/// The text whose lines the row has, parted by ` / `, each with a line end. An empty row has none.
+pub fn text_of(alloc: Global, row: &str) -> Result<String, AllocError> {
+    let mut text = String::new(alloc);
+    if row.is_empty() {
+        return Ok(text);
+    }
+    for line in row.split(" / ") {
+        text.push_str(line)?;
+        text.push('\n')?;
+    }
+    Ok(text)
+}
+
+/// The words as they stand on a command line.
+pub fn words_of(alloc: Global, row: &[&str]) -> Result<Vec<String>, AllocError> {
+    let mut words = Vec::new(alloc);
+    for word in row {
+        words.push(String::from_str(alloc, word)?)?;
+    }
+    Ok(words)
+}
+
+/// Plays the bytes, which come 7 a read and go 5 a write. The calls of the numbers in `reads` and in
+/// `writes` fail.
+pub fn play_bytes(
+    alloc: Global,
+    words: &[&str],
+    bytes: &[u8],
+    reads: &[u64],
+    writes: &[u64],
+) -> Result<Played, AllocError> {
+    let words = words_of(alloc, words)?;
+    let mut source = ListSource::new(bytes.to_vec(alloc)?, 7, reads.to_vec(alloc)?);
+    let mut sink = ListSink::new(alloc, 5, writes.to_vec(alloc)?);
+    let status = play(alloc, &words, &mut source, &mut sink);
+    let bytes = sink.bytes().to_vec(alloc)?;
+    Ok(Played { status, bytes })
+}
