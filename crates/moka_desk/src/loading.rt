@@ -8,14 +8,13 @@ use std::alloc::AllocError;
 use std::hash::Hash;
 
 impl<K: Eq + Hash + Clone + Drop, V: Drop> Desk<K, V> {
-    ghost use Rattle.moka_hist.specs.Finite.{times};
+    ghost use Rattle.moka_hist.specs.Finite.{IsExact, times};
     ghost use Rattle.moka_hist.specs.State.{DeskPart};
     ghost use Rattle.moka_hist.specs.Visits.{finds, makes};
     ghost use Rattle.moka_hist.specs.Telling.{is_asked, told as with_told};
     ghost use Rattle.moka_hist.specs.Dropping.{left};
     ghost use Rattle.moka_hist.specs.declared.visits.Visit.TheVariants as visit;
     ghost use Rattle.moka_hist.specs.declared.visits.Found.TheVariants as found;
-    ghost use Rattle.moka_desk.specs.Exact.{IsExact};
     ghost use Rattle.moka_desk.specs.StandsFor.{StandsFor, Finds, Becomes, Makes, Stays, HasPlace};
 
     /// Makes the call the owner of a load that nobody owns, or lets it wait for the owner. An owner

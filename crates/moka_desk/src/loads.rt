@@ -1,7 +1,7 @@
 //! The loads that calls own and wait for.
 
 ghost use Rattle.std.specs.Prelude.{◌≡◌, ℕ, ◌+◌, ◌-◌, ◌≤◌, ◌<◌, ◌==◌, ◌&&◌, cond, Option, Some, None, is_some, unwrap_or, nat_eq, OnOk, OnErr, IfOk, if◌then◌else◌};
-ghost use Rattle.moka_desk.specs.Exact.{IsExact};
+ghost use Rattle.moka_hist.specs.Finite.{IsExact};
 ghost use Rattle.std.specs.Bool.{OnTrue};
 ghost use Rattle.std.specs.Option.{option_and_then};
 ghost use Rattle.std.specs.HashMap.{get, spare, hash_map_len};

@@ -61,37 +61,37 @@ module _ {K V : Type 0} where
   -- a flow that stands at a visit
   on_desk : (after : Option (TableOp K V)) (new : Flow K V) (v : Visit K V) → access_at new ≡ step.On_desk v → IsOn after new
   on_desk after new v here =
-    subst (λ (a : Access K V). wanted after (want_for new.begun a) ≡ Some a) (sym here) (any_visit after new.begun v)
+      subst (λ (a : Access K V). wanted after (want_for new.begun a) ≡ Some a) (sym here) (any_visit after new.begun v)
 
   left_going : (t : Turn V) (new : Flow K V) (d : Call K V) → next_in t new ≡ record { left = Some d; turn = turn.Going } → call_of new ≡ d
   left_going t new d e =
-    some_same (call_of new) d (subst (λ (u : Turn V). left_in u new ≡ Some d) (ap (λ n. n.turn) e) (ap (λ n. n.left) e))
+      some_same (call_of new) d (subst (λ (u : Turn V). left_in u new ≡ Some d) (ap (λ n. n.turn) e) (ap (λ n. n.left) e))
 
   left_waiting : (t : Turn V) (new : Flow K V) (d : Call K V) → next_in t new ≡ record { left = Some d; turn = turn.Wait } → call_of new ≡ d
   left_waiting t new d e =
-    some_same (call_of new) d (subst (λ (u : Turn V). left_in u new ≡ Some d) (ap (λ n. n.turn) e) (ap (λ n. n.left) e))
+      some_same (call_of new) d (subst (λ (u : Turn V). left_in u new ≡ Some d) (ap (λ n. n.turn) e) (ap (λ n. n.left) e))
 
   -- where the flow stands after the step that left its operation undecided
   after_going : (after : Option (TableOp K V)) (old new : Flow K V) (t : Turn V) → new.call ≡ old.call → new.begun ≡ true
-    → after ≡ still_begun (access_at old) (got.Table table.Going) → next_in t new ≡ next_of old.call (call_of old) (got.Table table.Going)
-    → Stays old.call (call_of old) ⊎ Parks old.call (call_of old) → IsOn after new
+      → after ≡ still_begun (access_at old) (got.Table table.Going) → next_in t new ≡ next_of old.call (call_of old) (got.Table table.Going)
+      → Stays old.call (call_of old) ⊎ Parks old.call (call_of old) → IsOn after new
   after_going after old new t number began is_after next (inl stays) =
-    let is_call : call_of new ≡ record (call_of old) { mode = mode.Mid } = left_going t new (record (call_of old) { mode = mode.Mid }) (next ∙ stays.next) in
-    on_table after new stays.operation
+      let is_call : call_of new ≡ record (call_of old) { mode = mode.Mid } = left_going t new (record (call_of old) { mode = mode.Mid }) (next ∙ stays.next) in
+      on_table after new stays.operation
       (ap (λ n. access_of n (call_of new)) number ∙ ap (λ d. access_of old.call d) is_call ∙ stays.access)
       (is_after ∙ ap (λ a. still_begun a (got.Table table.Going)) stays.access) began
   after_going after old new t number began is_after next (inr parks) =
-    let is_call : call_of new ≡ record (call_of old) { mode = mode.Parked } = left_waiting t new (record (call_of old) { mode = mode.Parked }) (next ∙ parks.next) in
-    on_desk after new parks.made
+      let is_call : call_of new ≡ record (call_of old) { mode = mode.Parked } = left_waiting t new (record (call_of old) { mode = mode.Parked }) (next ∙ parks.next) in
+      on_desk after new parks.made
       (ap (λ n. access_of n (call_of new)) number ∙ ap (λ d. access_of old.call d) is_call ∙ parks.access)
 
   -- after a step a flow is on its ground, as before
   pub still_on : (after : Option (TableOp K V)) (old new : Flow K V) (given : Got K V) (t : Turn V)
-    → new.call ≡ old.call → new.begun ≡ is_begun given → after ≡ still_begun (access_at old) given
-    → next_in t new ≡ next_of old.call (call_of old) given → IsOn after new
+      → new.call ≡ old.call → new.begun ≡ is_begun given → after ≡ still_begun (access_at old) given
+      → next_in t new ≡ next_of old.call (call_of old) given → IsOn after new
   still_on after old new (got.Desk found) t number began is_after next =
-    subst (λ (b : Bool). wanted after (want_for b (access_at new)) ≡ Some (access_at new)) (sym began) (not_begun after (access_at new))
+      subst (λ (b : Bool). wanted after (want_for b (access_at new)) ≡ Some (access_at new)) (sym began) (not_begun after (access_at new))
   still_on after old new (got.Table (table.Decided answer)) t number began is_after next =
-    subst (λ (b : Bool). wanted after (want_for b (access_at new)) ≡ Some (access_at new)) (sym began) (not_begun after (access_at new))
+      subst (λ (b : Bool). wanted after (want_for b (access_at new)) ≡ Some (access_at new)) (sym began) (not_begun after (access_at new))
   still_on after old new (got.Table table.Going) t number began is_after next =
-    after_going after old new t number began is_after next (stays_or_parks old.call old.mode (call_of old).plan old.aborts)
+      after_going after old new t number began is_after next (stays_or_parks old.call old.mode (call_of old).plan old.aborts)

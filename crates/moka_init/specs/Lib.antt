@@ -1,2 +1,3 @@
 pub mod FlowPlan
 pub mod Grounds
+pub mod Telling

@@ -6,6 +6,7 @@ ghost use Rattle.moka_hist.specs.Step.{Access, Moves, MovesOn, Polled, IsSafe, M
 ghost use Rattle.moka_hist.specs.declared.accesses.Got.{Got};
 ghost use Rattle.moka_init.specs.FlowPlan.{call_of, next_in};
 ghost use Rattle.moka_init.specs.Grounds.{IsOn, access_at};
+ghost use Rattle.moka_init.specs.Telling.{TellsPoll, TellsSteps};
 
 use crate::flow::Flow;
 use crate::ground::{Alone, Ground};
@@ -59,6 +60,10 @@ pub fn poll<K: Eq + Clone + Drop, V: Clone + Drop, G: Alone<K, V>>(
         → (new : World K V) × Polled K.eq flow.old.call (call_of flow.old) w (next_in turn flow.new) new × G.stands ground.new new) }
     ensures unfinished { IfErr result (λ u. (w : World K V) → G.stands ground.old w → IsSafe K.eq flow.old.call (call_of flow.old) w
         → (new : World K V) × MovesOn K.eq u.steps flow.old.call (call_of flow.old) w (call_of flow.new) new × G.stands ground.new new) }
+    ensures tells { IfOk result (λ turn. (before : List (Access K V × Got K V)) → G.made ground.old ≡ Some before
+        → TellsPoll flow.old.call (call_of flow.old) (next_in turn flow.new) before (G.made ground.new)) }
+    ensures unfinished_tells { IfErr result (λ u. (before : List (Access K V × Got K V)) → G.made ground.old ≡ Some before
+        → TellsSteps u.steps flow.old.call (call_of flow.old) (call_of flow.new) before (G.made ground.new)) }
     ensures on { IsOn (G.begun ground.new) flow.new }
     ensures number { flow.new.call ≡ flow.old.call }
 {

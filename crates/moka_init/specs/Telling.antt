@@ -1,0 +1,37 @@
+-- What a ground that tells its accesses has told after a poll.
+use Rattle.std.specs.Prelude.{◌≡◌, ℕ, List, [], ◌∷◌, ◌++◌, length, Option, Some}
+use Rattle.moka_hist.specs.State.{Call}
+use Rattle.moka_hist.specs.Next.{Next}
+use Rattle.moka_hist.specs.Step.{Access, Leads, access_of, next_of}
+use Rattle.moka_hist.specs.declared.accesses.Got.{Got}
+
+-- an access with what it gave
+abbrev pub Made : (K V : Type 0) → Type 0
+Made K V = Access K V × Got K V
+
+module _ {K V : Type 0} where
+  -- beside what was told before, the accesses of k steps by which the call goes on from c to d
+  pub record TellsSteps (k n : ℕ) (c d : Call K V) (before : List (Made K V)) (after : Option (List (Made K V))) : Type 0 where
+    -- the accesses of the steps, in order
+    pub path : List (Made K V)
+    -- one for each step
+    pub steps : length path ≡ k
+    -- each is the access that the call stood at, and it left the call going
+    pub leads : Leads n c path d
+    -- they are told after what was told before, and nothing else is
+    pub told : after ≡ Some (before ++ path)
+
+  -- beside what was told before, the accesses of the steps that left the call going, and that of the last step
+  pub record TellsPoll (n : ℕ) (c : Call K V) (next : Next K V) (before : List (Made K V)) (after : Option (List (Made K V))) : Type 0 where
+    -- the accesses of the steps that left the call going, in order
+    pub path : List (Made K V)
+    -- the call at its last step
+    pub call : Call K V
+    -- each access is the one that the call stood at, and it left the call going
+    pub leads : Leads n c path call
+    -- what the last access gave
+    pub given : Got K V
+    -- the turn and the call that is left follow from it
+    pub turns : next ≡ next_of n call given
+    -- all are told after what was told before, and nothing else is
+    pub told : after ≡ Some ((before ++ path) ++ (access_of n call, given) ∷ [])
