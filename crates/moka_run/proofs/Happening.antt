@@ -26,22 +26,22 @@ module _ {K V : Type 0} (eq : K → K → Bool) where
   -- a step of a live call
   pub happens_step : (s : State K V) (n : ℕ) (c : Call K V) (r : Reply V) (t : State K V) → s.calls n ≡ Some c → Steps eq s n r t → Happens eq Any s (event.Step n) r t
   happens_step s n c r t live steps =
-    subst (λ (o : Option (Call K V)). MatchOption o (Refuses s refusal.UnknownCall r t) (λ _. Steps eq s n r t)) (sym live) steps
+      subst (λ (o : Option (Call K V)). MatchOption o (Refuses s refusal.UnknownCall r t) (λ _. Steps eq s n r t)) (sym live) steps
 
   -- a drop of a live call
   pub happens_drop : (s : State K V) (n : ℕ) (c : Call K V) (r : Reply V) (t : State K V) → s.calls n ≡ Some c → Drops s n c c.mode r t → Happens eq Any s (event.Drop n) r t
   happens_drop s n c r t live drops =
-    subst (λ (o : Option (Call K V)). MatchOption o (Refuses s refusal.UnknownCall r t) (λ d. Drops s n d d.mode r t)) (sym live) drops
+      subst (λ (o : Option (Call K V)). MatchOption o (Refuses s refusal.UnknownCall r t) (λ d. Drops s n d d.mode r t)) (sym live) drops
 
 module _ {R E : Type 0} where
   -- what holds of a reply, where no steps of a poll were made
   pub unpolled_ok : (reply : Result R E) (result : Result R Unfinished) (P : R → Type 0)
-    → MatchResult result (λ r. reply ≡ Ok r) (λ u. (u.steps ≡ 0) × (is_ok reply ≡ false)) → IfOk reply P → IfOk result P
+      → MatchResult result (λ r. reply ≡ Ok r) (λ u. (u.steps ≡ 0) × (is_ok reply ≡ false)) → IfOk reply P → IfOk result P
   unpolled_ok reply (Ok r) P e p = subst (λ (x : Result R E). IfOk x P) e p
   unpolled_ok reply (Err u) P e p = tt
 
   pub unpolled_err : (reply : Result R E) (result : Result R Unfinished) (P : Type 0)
-    → MatchResult result (λ r. reply ≡ Ok r) (λ u. (u.steps ≡ 0) × (is_ok reply ≡ false)) → OnErr reply P → IfErr result (λ u. (u.steps ≡ 0) × P)
+      → MatchResult result (λ r. reply ≡ Ok r) (λ u. (u.steps ≡ 0) × (is_ok reply ≡ false)) → OnErr reply P → IfErr result (λ u. (u.steps ≡ 0) × P)
   unpolled_err reply (Ok r) P e p = tt
   unpolled_err (Ok r) (Err u) P e p = let f : true ≡ false = e.1 in absurd (cc)
   unpolled_err (Err x) (Err u) P e p = (e.0, p)

@@ -10,46 +10,52 @@ use Rattle.moka_run.specs.Machine.{call_in, IsOf}
 -- what is at the place that was set, or at another
 pub set_or_other : {A : Type 0} (f : ℕ → A) (n : ℕ) (a : A) (k : ℕ) → ((n ≡ k) × (put_at f n a k ≡ a)) ⊎ ((n ≢ k) × (put_at f n a k ≡ f k))
 set_or_other {A} f n a k = by (eqb_tells n k)
-  where by : (((n == k) ≡ true) × (n ≡ k)) ⊎ (((n == k) ≡ false) × (n ≢ k)) → ((n ≡ k) × (put_at f n a k ≡ a)) ⊎ ((n ≢ k) × (put_at f n a k ≡ f k))
-        by (inl e) = inl (e.1, ap (λ b. cond b a (f k)) e.0)
-        by (inr e) = inr (e.1, ap (λ b. cond b a (f k)) e.0)
+  where
+    by : (((n == k) ≡ true) × (n ≡ k)) ⊎ (((n == k) ≡ false) × (n ≢ k)) → ((n ≡ k) × (put_at f n a k ≡ a)) ⊎ ((n ≢ k) × (put_at f n a k ≡ f k))
+    by (inl e) = inl (e.1, ap (λ b. cond b a (f k)) e.0)
+    by (inr e) = inr (e.1, ap (λ b. cond b a (f k)) e.0)
 
 -- what is at a place that was not set
 pub other_at : {A : Type 0} (f : ℕ → A) (n : ℕ) (a : A) (k : ℕ) → n ≢ k → put_at f n a k ≡ f k
 other_at f n a k ne = by (set_or_other f n a k)
-  where by : ((n ≡ k) × (put_at f n a k ≡ a)) ⊎ ((n ≢ k) × (put_at f n a k ≡ f k)) → put_at f n a k ≡ f k
-        by (inl e) = absurd (ne e.0)
-        by (inr e) = e.1
+  where
+    by : ((n ≡ k) × (put_at f n a k ≡ a)) ⊎ ((n ≢ k) × (put_at f n a k ≡ f k)) → put_at f n a k ≡ f k
+    by (inl e) = absurd (ne e.0)
+    by (inr e) = e.1
 
 -- a place that was set is set
 pub set_at : {A : Type 0} (f : ℕ → A) (n : ℕ) (a : A) → put_at f n a n ≡ a
 set_at f n a = by (set_or_other f n a n)
-  where by : ((n ≡ n) × (put_at f n a n ≡ a)) ⊎ ((n ≢ n) × (put_at f n a n ≡ f n)) → put_at f n a n ≡ a
-        by (inl e) = e.1
-        by (inr e) = absurd (e.0 refl)
+  where
+    by : ((n ≡ n) × (put_at f n a n ≡ a)) ⊎ ((n ≢ n) × (put_at f n a n ≡ f n)) → put_at f n a n ≡ a
+    by (inl e) = e.1
+    by (inr e) = absurd (e.0 refl)
 
 module _ {K V : Type 0} where
   -- the calls in the places, where one place was set
   pub set_calls : (old new : ℕ → Option (Running K V)) (others : ℕ → Option (Call K V)) (n : ℕ) (o : Option (Running K V)) (out : Option (Call K V))
-    → option_map call_in o ≡ out → ((k : ℕ) → new k ≡ put_at old n o k) → ((k : ℕ) → n ≢ k → option_map call_in (old k) ≡ others k)
-    → (k : ℕ) → option_map call_in (new k) ≡ put_at others n out k
+      → option_map call_in o ≡ out → ((k : ℕ) → new k ≡ put_at old n o k) → ((k : ℕ) → n ≢ k → option_map call_in (old k) ≡ others k)
+      → (k : ℕ) → option_map call_in (new k) ≡ put_at others n out k
   set_calls old new others n o out is news olds k = by (eqb_tells n k)
-    where by : (((n == k) ≡ true) × (n ≡ k)) ⊎ (((n == k) ≡ false) × (n ≢ k)) → option_map call_in (new k) ≡ put_at others n out k
-          by (inl e) = ap (option_map call_in) (news k ∙ ap (λ b. cond b o (old k)) e.0) ∙ is ∙ sym (ap (λ b. cond b out (others k)) e.0)
-          by (inr e) = ap (option_map call_in) (news k ∙ ap (λ b. cond b o (old k)) e.0) ∙ olds k e.1 ∙ sym (ap (λ b. cond b out (others k)) e.0)
+    where
+      by : (((n == k) ≡ true) × (n ≡ k)) ⊎ (((n == k) ≡ false) × (n ≢ k)) → option_map call_in (new k) ≡ put_at others n out k
+      by (inl e) = ap (option_map call_in) (news k ∙ ap (λ b. cond b o (old k)) e.0) ∙ is ∙ sym (ap (λ b. cond b out (others k)) e.0)
+      by (inr e) = ap (option_map call_in) (news k ∙ ap (λ b. cond b o (old k)) e.0) ∙ olds k e.1 ∙ sym (ap (λ b. cond b out (others k)) e.0)
 
   -- each running call is of its number, where one place was set
   pub set_each : (old new : ℕ → Option (Running K V)) (n : ℕ) (o : Option (Running K V)) → ((x : Running K V) → o ≡ Some x → IsOf n x)
-    → ((k : ℕ) → new k ≡ put_at old n o k) → ((k : ℕ) (x : Running K V) → old k ≡ Some x → IsOf k x)
-    → (k : ℕ) (x : Running K V) → new k ≡ Some x → IsOf k x
+      → ((k : ℕ) → new k ≡ put_at old n o k) → ((k : ℕ) (x : Running K V) → old k ≡ Some x → IsOf k x)
+      → (k : ℕ) (x : Running K V) → new k ≡ Some x → IsOf k x
   set_each old new n o is news olds k x e = by (set_or_other old n o k)
-    where by : ((n ≡ k) × (put_at old n o k ≡ o)) ⊎ ((n ≢ k) × (put_at old n o k ≡ old k)) → IsOf k x
-          by (inl f) = subst (λ (m : ℕ). IsOf m x) f.0 (is x (sym f.1 ∙ sym (news k) ∙ e))
-          by (inr f) = olds k x (sym f.1 ∙ sym (news k) ∙ e)
+    where
+      by : ((n ≡ k) × (put_at old n o k ≡ o)) ⊎ ((n ≢ k) × (put_at old n o k ≡ old k)) → IsOf k x
+      by (inl f) = subst (λ (m : ℕ). IsOf m x) f.0 (is x (sym f.1 ∙ sym (news k) ∙ e))
+      by (inr f) = olds k x (sym f.1 ∙ sym (news k) ∙ e)
 
   -- taking what isn't there changes nothing
   pub unset_same : (old new : ℕ → Option (Running K V)) (n : ℕ) → old n ≡ None → ((k : ℕ) → new k ≡ put_at old n None k) → (k : ℕ) → new k ≡ old k
   unset_same old new n none news k = by (set_or_other old n None k)
-    where by : ((n ≡ k) × (put_at old n None k ≡ None)) ⊎ ((n ≢ k) × (put_at old n None k ≡ old k)) → new k ≡ old k
-          by (inl e) = news k ∙ e.1 ∙ sym none ∙ ap old e.0
-          by (inr e) = news k ∙ e.1
+    where
+      by : ((n ≡ k) × (put_at old n None k ≡ None)) ⊎ ((n ≢ k) × (put_at old n None k ≡ old k)) → new k ≡ old k
+      by (inl e) = news k ∙ e.1 ∙ sym none ∙ ap old e.0
+      by (inr e) = news k ∙ e.1

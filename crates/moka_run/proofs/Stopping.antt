@@ -29,7 +29,7 @@ module _ {K V : Type 0} (eq : K → K → Bool) where
 
   -- the steps of an event that was begun go through lawful states
   begins_lawful : (s t : State K V) (e : Event K V) (steps : ℕ) → ((n : ℕ) → Goings eq Any steps s n t → Goings eq (IsLawful eq) steps s n t)
-    → machine.Begins eq s e steps t → Begins eq s (Some e) steps t
+      → machine.Begins eq s e steps t → Begins eq s (Some e) steps t
   begins_lawful s t (event.Poll n) steps lawful begins = lawful n begins
   begins_lawful s t (event.At moment) steps lawful begins = begins
   begins_lawful s t (event.Start start) steps lawful begins = begins
@@ -39,7 +39,7 @@ module _ {K V : Type 0} (eq : K → K → Bool) where
 
   -- what an event that was begun has left is reached
   pub begins_reached : (s t : State K V) (e : Event K V) (steps : ℕ) → IsReached eq s → ((n : ℕ) → Goings eq Any steps s n t → IsReached eq t)
-    → machine.Begins eq s e steps t → IsReached eq t
+      → machine.Begins eq s e steps t → IsReached eq t
   begins_reached s t (event.Poll n) steps reached reaches begins = reaches n begins
   begins_reached s t (event.At moment) steps reached reaches begins = subst (λ (u : State K V). IsReached eq u) (sym begins.1) reached
   begins_reached s t (event.Start start) steps reached reaches begins = subst (λ (u : State K V). IsReached eq u) (sym begins.1) reached
@@ -50,22 +50,24 @@ module _ {K V : Type 0} (eq : K → K → Bool) where
 module _ {K V : Type 0} {same : PartialEq.Ghosts K} {hash : Hash.Ghosts K} (eq : K → K → Bool) where
   -- memory was wanting between two events, or after the last
   pub stops_between : (m : Machine K V same hash) (events : List (Event K V)) (stop : Memory V) (done : ℕ) (replies : List (Reply V)) (s mid : State K V)
-    → stop ≡ record { done = done; steps = 0; replies = replies } → Run eq (IsLawful eq) s (take done events) replies mid → StandsFor eq m mid
-    → (done ≡ 0) ⊎ IfSome (slice_get events done) TakesMemory
-    → StopsAt eq events stop.done stop.steps stop.replies m s
+      → stop ≡ record { done = done; steps = 0; replies = replies } → Run eq (IsLawful eq) s (take done events) replies mid → StandsFor eq m mid
+      → (done ≡ 0) ⊎ IfSome (slice_get events done) TakesMemory
+      → StopsAt eq events stop.done stop.steps stop.replies m s
   stops_between m events stop done replies s mid is run stands cause =
-    subst (λ (x : Memory V). StopsAt eq events x.done x.steps x.replies m s) (sym is)
+      subst (λ (x : Memory V). StopsAt eq events x.done x.steps x.replies m s) (sym is)
       (record { mid = mid; run = run; final = mid; begins = begins_none eq mid (slice_get events done); stands = stands; cause = cause })
 
   -- memory was wanting in an event
   pub stops_in : (m : Machine K V same hash) (events : List (Event K V)) (stop : Memory V) (done steps : ℕ) (replies : List (Reply V)) (s mid t : State K V) (e : Event K V)
-    → stop ≡ record { done = done; steps = steps; replies = replies } → Run eq (IsLawful eq) s (take done events) replies mid → slice_get events done ≡ Some e
-    → ((n : ℕ) → Goings eq Any steps mid n t → Goings eq (IsLawful eq) steps mid n t) → machine.Begins eq mid e steps t → StandsFor eq m t → TakesMemory e
-    → StopsAt eq events stop.done stop.steps stop.replies m s
+      → stop ≡ record { done = done; steps = steps; replies = replies } → Run eq (IsLawful eq) s (take done events) replies mid → slice_get events done ≡ Some e
+      → ((n : ℕ) → Goings eq Any steps mid n t → Goings eq (IsLawful eq) steps mid n t) → machine.Begins eq mid e steps t → StandsFor eq m t → TakesMemory e
+      → StopsAt eq events stop.done stop.steps stop.replies m s
   stops_in m events stop done steps replies s mid t e is run next lawful begins stands takes =
-    subst (λ (x : Memory V). StopsAt eq events x.done x.steps x.replies m s) (sym is)
+      subst (λ (x : Memory V). StopsAt eq events x.done x.steps x.replies m s) (sym is)
       (record {
-        mid = mid; run = run; final = t;
+        mid = mid;
+        run = run;
+        final = t;
         begins = subst (λ (o : Option (Event K V)). Begins eq mid o steps t) (sym next) (begins_lawful eq mid t e steps lawful begins);
         stands = stands;
         cause = inr (subst (λ (o : Option (Event K V)). IfSome o TakesMemory) (sym next) takes);

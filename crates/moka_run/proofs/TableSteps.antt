@@ -20,15 +20,15 @@ use Rattle.moka_run.specs.Layers.{TableIs}
 
 module _ {K V : Type 0} (eq : K → K → Bool) where
   stored_after : (table : PlainTable K V) (t : TablePart K V) → TableIs eq table t → (o : TableOp K V) (q : K)
-    → stored_with eq (map_of eq table) o q ≡ (table_after eq t o).stored q
+      → stored_with eq (map_of eq table) o q ≡ (table_after eq t o).stored q
   stored_after table t is (op.Get key) q = is.map q
   stored_after table t is (op.InsertOrModify key stored) q = ap (λ x. cond (eq key q) (Some (key, stored)) x) (is.map q)
 
   count_after : (table : PlainTable K V) (t : TablePart K V) → TableIs eq table t → (o : TableOp K V)
-    → keys_after (map_of eq table) (hash_map_len table.pairs) o ≡ (table_after eq t o).keys
+      → keys_after (map_of eq table) (hash_map_len table.pairs) o ≡ (table_after eq t o).keys
   count_after table t is (op.Get key) = is.keys
   count_after table t is (op.InsertOrModify key stored) =
-    ap (λ x. cond (is_some x) (hash_map_len table.pairs) (hash_map_len table.pairs + 1)) (is.map key)
+      ap (λ x. cond (is_some x) (hash_map_len table.pairs) (hash_map_len table.pairs + 1)) (is.map key)
       ∙ ap (λ n. cond (is_some (t.stored key)) n (n + 1)) is.keys
 
   -- The world after a step of the table: the table's part has moved as the table did, and the desk's is as it was.
@@ -39,13 +39,13 @@ module _ {K V : Type 0} (eq : K → K → Bool) where
     pub desk : after.desk ≡ w.desk
 
   pub table_moves : (table new : PlainTable K V) (o : TableOp K V) (t : TableTurn K V) (w : World K V)
-    → Moves eq o (map_of eq table) (hash_map_len table.pairs) t (map_of eq new) (hash_map_len new.pairs) → TableIs eq table w.table → Moved w o new t
+      → Moves eq o (map_of eq table) (hash_map_len table.pairs) t (map_of eq new) (hash_map_len new.pairs) → TableIs eq table w.table → Moved w o new t
   table_moves table new o turn.Going w moves is =
-    record { after = w; gets = refl; table = record { map = λ q. moves.0 q ∙ is.map q; keys = moves.1 ∙ is.keys }; desk = refl }
+      record { after = w; gets = refl; table = record { map = λ q. moves.0 q ∙ is.map q; keys = moves.1 ∙ is.keys }; desk = refl }
   table_moves table new o (turn.Decided answer) w moves is =
-    record {
-      after = record w { table = table_after eq w.table o };
-      gets = (moves.0 ∙ ap answer_of (is.map (key_of o)), refl);
-      table = record { map = λ q. moves.1 q ∙ stored_after table w.table is o q; keys = moves.2 ∙ count_after table w.table is o };
-      desk = refl;
-    }
+      record {
+        after = record w { table = table_after eq w.table o };
+        gets = (moves.0 ∙ ap answer_of (is.map (key_of o)), refl);
+        table = record { map = λ q. moves.1 q ∙ stored_after table w.table is o q; keys = moves.2 ∙ count_after table w.table is o };
+        desk = refl;
+      }

@@ -37,7 +37,7 @@ module _ {K V : Type 0} {same : PartialEq.Ghosts K} {hash : Hash.Ghosts K} where
   -- the access gave this, and made its change to each world that the layers stood for and that allows it
   abbrev pub Accesses : (K → K → Bool) → Layers K V same hash → Access K V → Got K V → Layers K V same hash → Type 0
   Accesses eq old access given new =
-    (w : World K V) → WorldIs eq old w → May w access → (after : World K V) × Gets eq w access given after × WorldIs eq new after
+      (w : World K V) → WorldIs eq old w → May w access → (after : World K V) × Gets eq w access given after × WorldIs eq new after
 
   -- the layers stand for what they stood for
   abbrev pub Keeps : (K → K → Bool) → Layers K V same hash → Layers K V same hash → Type 0

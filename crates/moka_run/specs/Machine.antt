@@ -64,7 +64,7 @@ module _ {K V : Type 0} {same : PartialEq.Ghosts K} {hash : Hash.Ghosts K} where
   -- the event was carried out or refused with this reply, from whatever state the machine stood for
   abbrev pub Serves : (K → K → Bool) → Machine K V same hash → Event K V → Reply V → Machine K V same hash → Type 0
   Serves eq old e r new =
-    (s : State K V) → StandsFor eq old s → IsReached eq s → (t : State K V) × Happens eq Any s e r t × StandsFor eq new t
+      (s : State K V) → StandsFor eq old s → IsReached eq s → (t : State K V) × Happens eq Any s e r t × StandsFor eq new t
 
   -- nothing has changed
   abbrev pub Keeps : (K → K → Bool) → Machine K V same hash → Machine K V same hash → Type 0
@@ -73,31 +73,31 @@ module _ {K V : Type 0} {same : PartialEq.Ghosts K} {hash : Hash.Ghosts K} where
   -- want of memory came with the event, and this much of it was done
   abbrev pub Stops : (K → K → Bool) → Machine K V same hash → Event K V → ℕ → Machine K V same hash → Type 0
   Stops eq old e steps new =
-    (s : State K V) → StandsFor eq old s → IsReached eq s → (t : State K V) × Begins eq s e steps t × StandsFor eq new t
+      (s : State K V) → StandsFor eq old s → IsReached eq s → (t : State K V) × Begins eq s e steps t × StandsFor eq new t
 
   -- a step of a call that was taken out: the call made it, and was put back or has ended
   abbrev pub StepOut : (K → K → Bool) → Machine K V same hash → ℕ → Flow K V → Reply V → Machine K V same hash → Type 0
   StepOut eq old n flow r new =
-    (others : ℕ → Option (Call K V)) (w : World K V) → Without eq old n flow others w → May w (access_at flow)
+      (others : ℕ → Option (Call K V)) (w : World K V) → Without eq old n flow others w → May w (access_at flow)
       → (next : Next K V) × (after : World K V) × Moves eq n (call_of flow) w next after × (r ≡ reply_of next.turn)
       × StandsFor eq new (record { world = after; calls = put_at others n next.left })
 
   -- the call that was taken out was put back as it was
   abbrev pub KeepsOut : (K → K → Bool) → Machine K V same hash → ℕ → Flow K V → Machine K V same hash → Type 0
   KeepsOut eq old n flow new =
-    (others : ℕ → Option (Call K V)) (w : World K V) → Without eq old n flow others w
+      (others : ℕ → Option (Call K V)) (w : World K V) → Without eq old n flow others w
       → StandsFor eq new (record { world = w; calls = put_at others n (Some (call_of flow)) })
 
   -- a poll of a call that was taken out
   abbrev pub PollOut : (K → K → Bool) → Machine K V same hash → ℕ → Flow K V → Reply V → Machine K V same hash → Type 0
   PollOut eq old n flow r new =
-    (others : ℕ → Option (Call K V)) (w : World K V) → Without eq old n flow others w → IsSafe eq n (call_of flow) w
+      (others : ℕ → Option (Call K V)) (w : World K V) → Without eq old n flow others w → IsSafe eq n (call_of flow) w
       → (next : Next K V) × (after : World K V) × Polled eq n (call_of flow) w next after × (r ≡ reply_of next.turn)
       × StandsFor eq new (record { world = after; calls = put_at others n next.left })
 
   -- so many steps of a call that was taken out, each of which left it going
   abbrev pub UnfinishedOut : (K → K → Bool) → Machine K V same hash → ℕ → Flow K V → ℕ → Machine K V same hash → Type 0
   UnfinishedOut eq old n flow steps new =
-    (others : ℕ → Option (Call K V)) (w : World K V) → Without eq old n flow others w → IsSafe eq n (call_of flow) w
+      (others : ℕ → Option (Call K V)) (w : World K V) → Without eq old n flow others w → IsSafe eq n (call_of flow) w
       → (d : Call K V) × (after : World K V) × MovesOn eq steps n (call_of flow) w d after
       × StandsFor eq new (record { world = after; calls = put_at others n (Some d) })

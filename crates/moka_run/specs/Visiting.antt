@@ -14,12 +14,12 @@ module _ {K V : Type 0} {same : PartialEq.Ghosts K} {hash : Hash.Ghosts K} where
   -- the visit found what the reference's finds and made what it makes, on each desk that this one stood for and that allows it
   abbrev pub VisitIs : (K → K → Bool) → Desk K V same hash → Visit K V → Found V → Desk K V same hash → Type 0
   VisitIs eq old visit found new =
-    (w : DeskPart K V) → StandsFor eq old w → MayVisit w visit → (found ≡ finds w visit) × StandsFor eq new (makes eq w visit)
+      (w : DeskPart K V) → StandsFor eq old w → MayVisit w visit → (found ≡ finds w visit) × StandsFor eq new (makes eq w visit)
 
   -- the same of the visit that judges a record of this stamp and moment
   abbrev pub JudgeIs : (K → K → Bool) → Desk K V same hash → ℕ → ℕ → Found V → Desk K V same hash → Type 0
   JudgeIs eq old stamp modified f new =
-    (w : DeskPart K V) → StandsFor eq old w → (f ≡ found.Judge true) × StandsFor eq new (judged w stamp modified)
+      (w : DeskPart K V) → StandsFor eq old w → (f ≡ found.Judge true) × StandsFor eq new (judged w stamp modified)
 
   -- the desk stands for what it stood for
   abbrev pub Keeps : (K → K → Bool) → Desk K V same hash → Desk K V same hash → Type 0

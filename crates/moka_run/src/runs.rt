@@ -43,8 +43,16 @@ pub fn run<K: Eq + Hash + Clone + Drop, V: Clone + Drop>(
     let replies = run_events(alloc, cache, events)?;
     let replies = ReplyList::from_vec(replies);
     match lists(alloc, cache) {
-        Ok((entries, places)) => Ok(Report { replies, entries, places }),
-        Err(_) => Err(Memory { done: events.len() as u64, steps: 0, replies }),
+        Ok((entries, places)) => Ok(Report {
+            replies,
+            entries,
+            places,
+        }),
+        Err(_) => Err(Memory {
+            done: events.len() as u64,
+            steps: 0,
+            replies,
+        }),
     }
 }
 

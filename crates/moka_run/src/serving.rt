@@ -144,7 +144,9 @@ impl<K: Eq + Hash + Clone + Drop, V: Clone + Drop> Machine<K, V> {
     }
 }
 
-fn cloned_start<K: Clone + Drop, V: Clone + Drop>(start: &Start<K, V>) -> Result<Start<K, V>, AllocError>
+fn cloned_start<K: Clone + Drop, V: Clone + Drop>(
+    start: &Start<K, V>,
+) -> Result<Start<K, V>, AllocError>
     requires keys { IsExact K.is_clone }
     requires values { IsExact V.is_clone }
     ensures { IfOk result (λ same. same ≡ start.now) }

@@ -99,14 +99,21 @@ fn open_ask<K: Eq + Hash + Clone + Drop, V: Clone + Drop>(
     Ok(Found::OpenAsk)
 }
 
-fn settle<K: Eq + Hash + Clone + Drop, V: Clone + Drop>(desk: &mut Desk<K, V>, call: u64, with: Settled<V>) -> Found<V>
+fn settle<K: Eq + Hash + Clone + Drop, V: Clone + Drop>(
+    desk: &mut Desk<K, V>,
+    call: u64,
+    with: Settled<V>,
+) -> Found<V>
     ensures { VisitIs K.eq desk.old (Visit.Settle call with) result desk.new }
 {
     desk.settle(call, with);
     Found::Settle
 }
 
-fn end_turn<K: Eq + Hash + Clone + Drop, V: Clone + Drop>(desk: &mut Desk<K, V>, call: u64) -> Found<V>
+fn end_turn<K: Eq + Hash + Clone + Drop, V: Clone + Drop>(
+    desk: &mut Desk<K, V>,
+    call: u64,
+) -> Found<V>
     ensures { VisitIs K.eq desk.old (Visit.EndTurn call) result desk.new }
 {
     desk.end_turn(call);

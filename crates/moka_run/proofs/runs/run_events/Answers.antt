@@ -16,7 +16,7 @@ returns-in-Err-clause-memory g c = λ s h reached.
     let at_done : ℕ → Memory g.row.V.Denot = λ n. record { done = n; steps = 0; replies = c.new.result.items } in
     let with_replies : List (Reply g.row.V.Denot) → Memory g.row.V.Denot = λ rs. record { done = 0; steps = 0; replies = rs } in
     stops_between g.K.PartialEq.eq c.args.cache.now c.args.events.now c.stopped.result 0 [] s s
-      (c.stopped.ensures ∙ ap at_done c.new.ensures.len ∙ ap with_replies c.new.ensures.items) refl h (inl refl)
+    (c.stopped.ensures ∙ ap at_done c.new.ensures.len ∙ ap with_replies c.new.ensures.items) refl h (inl refl)
 
 pub loop-event-init : goal.loop-event-init
 loop-event-init g c = record {
@@ -33,9 +33,9 @@ returns-in-Err-serve-clause-memory g c = λ s h reached.
     let k = c.in-Err-serve.ensures.stops m.0 m.2 m.3 in
     let at_done : ℕ → Memory g.row.V.Denot = λ n. record { done = n; steps = c.in-Err-serve.unfinished.steps; replies = c.loop-event.replies.items } in
     let next : slice_get c.args.events.now i ≡ Some c.event-item.result =
-      slice_get_read c.args.events.now (length c.args.events.now) i c.event-item.result refl c.loop-event-test.true c.event-item.is in
+    slice_get_read c.args.events.now (length c.args.events.now) i c.event-item.result refl c.loop-event-test.true c.event-item.is in
     stops_in g.K.PartialEq.eq c.serve.new.self c.args.events.now c.stopped-in-Err-serve.result i c.in-Err-serve.unfinished.steps c.loop-event.replies.items s m.0 k.0 c.event-item.result
-      (c.stopped-in-Err-serve.ensures ∙ ap at_done c.loop-event.invariant.told) m.1 next (λ n going. (c.steps_are_lawful.ensures.lawful c.in-Err-serve.unfinished.steps m.0 k.0 n m.3).0 going) k.1 k.2 c.in-Err-serve.ensures.cause
+    (c.stopped-in-Err-serve.ensures ∙ ap at_done c.loop-event.invariant.told) m.1 next (λ n going. (c.steps_are_lawful.ensures.lawful c.in-Err-serve.unfinished.steps m.0 k.0 n m.3).0 going) k.1 k.2 c.in-Err-serve.ensures.cause
 
 pub returns-in-Err-serve-clause-valid : goal.returns-in-Err-serve-clause-valid
 returns-in-Err-serve-clause-valid g c =
@@ -43,7 +43,8 @@ returns-in-Err-serve-clause-valid g c =
     let k = c.in-Err-serve.ensures.stops v.state v.stands v.reached in
     let steps = c.in-Err-serve.unfinished.steps in
     record {
-      state = k.0; stands = k.2;
+      state = k.0;
+      stands = k.2;
       reached = begins_reached g.K.PartialEq.eq v.state k.0 c.event-item.result steps v.reached (λ n going. c.reached_by_steps.ensures.reached steps v.state k.0 n v.reached going) k.1;
     }
 
@@ -59,17 +60,19 @@ loop-event-preserved g c =
       room = omega (arith, c.push_reserved.ensures.capacity, c.loop-event.invariant.room);
       valid = record { state = p.0; stands = p.2; reached = c.reached_by_event.ensures.reached v.state p.0 e r v.reached p.1 };
       ran = λ s h reached.
-        let m = c.loop-event.invariant.ran s h reached in
-        let k = c.in-Ok-serve.ensures.serves m.0 m.2 m.3 in
-        let there = c.reached_by_event.ensures.reached m.0 k.0 e r m.3 k.1 in
-        let more = c.lawful_run_goes_on.ensures.goes_on s m.0 k.0 (take i c.args.events.now) c.loop-event.replies.items e r m.1
+          let m = c.loop-event.invariant.ran s h reached in
+          let k = c.in-Ok-serve.ensures.serves m.0 m.2 m.3 in
+          let there = c.reached_by_event.ensures.reached m.0 k.0 e r m.3 k.1 in
+          let more = c.lawful_run_goes_on.ensures.goes_on s m.0 k.0 (take i c.args.events.now) c.loop-event.replies.items e r m.1
           ((c.event_is_lawful.ensures.lawful m.0 k.0 e r m.3).0 k.1) (c.reached_is_lawful.ensures.lawful k.0 there) in
-        let events : take (i + 1) c.args.events.now ≡ take i c.args.events.now ++ e ∷ [] =
-          take_more c.args.events.now i e c.loop-event-test.true ∙ ap (λ x. take i c.args.events.now ++ x ∷ []) (sym c.event-item.is) in
-        (k.0,
-          subst (λ (rs : List (Reply g.row.V.Denot)). Run g.K.PartialEq.eq (IsLawful g.K.PartialEq.eq) s (take (i + 1) c.args.events.now) rs k.0) (sym c.push_reserved.ensures.items)
-            (subst (λ (es : List (Event g.row.K.Denot g.row.V.Denot)). Run g.K.PartialEq.eq (IsLawful g.K.PartialEq.eq) s es (c.loop-event.replies.items ++ r ∷ []) k.0) (sym events) more),
-          k.2, there);
+          let events : take (i + 1) c.args.events.now ≡ take i c.args.events.now ++ e ∷ [] =
+          take_more c.args.events.now i e c.loop-event-test.true ∙ ap (λ x. take i c.args.events.now ++ x ∷ []) (sym c.event-item.is) in (
+            k.0,
+            subst (λ (rs : List (Reply g.row.V.Denot)). Run g.K.PartialEq.eq (IsLawful g.K.PartialEq.eq) s (take (i + 1) c.args.events.now) rs k.0) (sym c.push_reserved.ensures.items)
+                (subst (λ (es : List (Event g.row.K.Denot g.row.V.Denot)). Run g.K.PartialEq.eq (IsLawful g.K.PartialEq.eq) s es (c.loop-event.replies.items ++ r ∷ []) k.0) (sym events) more),
+            k.2,
+            there,
+          );
     }
 
 pub returns-clause-run : goal.returns-clause-run

@@ -14,6 +14,6 @@ invariant-loop-event g l =
       room : length l.events ≤ vec_capacity l.replies;
       valid : IsValid g.K.PartialEq.eq l.cache;
       ran : (s : State _ _) → StandsFor g.K.PartialEq.eq l.fn.cache s → IsReached g.K.PartialEq.eq s
-        → (m : State _ _) × Run g.K.PartialEq.eq (IsLawful g.K.PartialEq.eq) s (take l.event-index l.events) l.replies.items m
+          → (m : State _ _) × Run g.K.PartialEq.eq (IsLawful g.K.PartialEq.eq) s (take l.event-index l.events) l.replies.items m
           × StandsFor g.K.PartialEq.eq l.cache m × IsReached g.K.PartialEq.eq m;
     }

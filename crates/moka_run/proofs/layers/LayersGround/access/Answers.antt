@@ -12,13 +12,13 @@ resume-requires-clause-begun g c = begun_by_may c.requires.may.0 (operation_of c
 pub returns-in-Table-clause-gives : goal.returns-in-Table-clause-gives
 returns-in-Table-clause-gives g c =
     IfOk-weaker c.resume.result _ _ (λ given gives access is.
-      let o = wanted_table (operation_of c.args.self.now.begun) c.args.want access c.in-Table.is is in
-      subst (λ (a : Access g.row.K.Denot g.row.V.Denot). Accesses g.K.PartialEq.eq c.args.self.now a given c.resume.new.self) o.2 (gives o.0 o.1))
+    let o = wanted_table (operation_of c.args.self.now.begun) c.args.want access c.in-Table.is is in
+    subst (λ (a : Access g.row.K.Denot g.row.V.Denot). Accesses g.K.PartialEq.eq c.args.self.now a given c.resume.new.self) o.2 (gives o.0 o.1))
     c.resume.ensures.gives
 
 pub returns-in-Desk-clause-gives : goal.returns-in-Desk-clause-gives
 returns-in-Desk-clause-gives g c =
     IfOk-weaker c.visit.result _ _ (λ given gives access is.
-      subst (λ (a : Access g.row.K.Denot g.row.V.Denot). Accesses g.K.PartialEq.eq c.args.self.now a given c.visit.new.self)
-        (wanted_visit (operation_of c.args.self.now.begun) c.args.want access c.in-Desk.visit c.in-Desk.is is) gives)
+    subst (λ (a : Access g.row.K.Denot g.row.V.Denot). Accesses g.K.PartialEq.eq c.args.self.now a given c.visit.new.self)
+    (wanted_visit (operation_of c.args.self.now.begun) c.args.want access c.in-Desk.visit c.in-Desk.is is) gives)
     c.visit.ensures.gives

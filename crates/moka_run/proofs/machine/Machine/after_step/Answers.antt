@@ -10,19 +10,19 @@ use Rattle.moka_run.proofs.machine.Machine.after_step.Goals as goal
 pub returns-in-Answer-clause-stands : goal.returns-in-Answer-clause-stands
 returns-in-Answer-clause-stands g c = λ others w h.
     subst (λ (t : Turn g.row.V.Denot). StandsFor g.K.PartialEq.eq c.end.new.self (record { world = w; calls = put_at others c.args.call (left_in t c.args.flow) })) (sym c.in-Answer.is)
-      (c.end.ensures c.args.flow others w h)
+    (c.end.ensures c.args.flow others w h)
 
 pub returns-in-Going-clause-stands : goal.returns-in-Going-clause-stands
 returns-in-Going-clause-stands g c = λ others w h.
     subst (λ (t : Turn g.row.V.Denot). StandsFor g.K.PartialEq.eq c.put_in.new.self (record { world = w; calls = put_at others c.args.call (left_in t c.args.flow) })) (sym c.in-Going.is)
-      (c.put_in.ensures others w h)
+    (c.put_in.ensures others w h)
 
 pub returns-in-Wait-clause-stands : goal.returns-in-Wait-clause-stands
 returns-in-Wait-clause-stands g c = λ others w h.
     subst (λ (t : Turn g.row.V.Denot). StandsFor g.K.PartialEq.eq c.put_in-in-Wait.new.self (record { world = w; calls = put_at others c.args.call (left_in t c.args.flow) })) (sym c.in-Wait.is)
-      (c.put_in-in-Wait.ensures others w h)
+    (c.put_in-in-Wait.ensures others w h)
 
 pub returns-in-Ask-clause-stands : goal.returns-in-Ask-clause-stands
 returns-in-Ask-clause-stands g c = λ others w h.
     subst (λ (t : Turn g.row.V.Denot). StandsFor g.K.PartialEq.eq c.put_in-in-Ask.new.self (record { world = w; calls = put_at others c.args.call (left_in t c.args.flow) })) (sym c.in-Ask.is)
-      (c.put_in-in-Ask.ensures others w h)
+    (c.put_in-in-Ask.ensures others w h)

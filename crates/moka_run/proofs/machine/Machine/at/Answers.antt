@@ -8,12 +8,15 @@ use Rattle.moka_run.proofs.machine.Machine.at.Goals as goal
 pub returns-then-at : goal.returns-then-at
 returns-then-at g c = λ s h reached.
     let w = s.world.desk in
-    let e : nat_lt c.args.moment w.clock ≡ false = not_true (nat_lt c.args.moment w.clock) (sym (c.at.ensures.finds w h.world.desk) ∙ c.if-at.true) in
-    (at_moment s c.args.moment, match_false _ _ _ e (record { reply = refl; after = refl }),
+    let e : nat_lt c.args.moment w.clock ≡ false = not_true (nat_lt c.args.moment w.clock) (sym (c.at.ensures.finds w h.world.desk) ∙ c.if-at.true) in (
+      at_moment s c.args.moment,
+      match_false _ _ _ e (record { reply = refl; after = refl }),
       record {
         world = record {
           table = h.world.table;
           desk = subst (λ (b : Bool). desk.StandsFor g.K.PartialEq.eq c.at.new.self (cond b w (record w { clock = c.args.moment }))) e (c.at.ensures.makes w h.world.desk);
         };
-        calls = h.calls; each = h.each;
-      })
+        calls = h.calls;
+        each = h.each;
+      },
+    )

@@ -21,15 +21,17 @@ returns-in-Some g c = λ s h reached.
     let flow = c.new-flow.result in
     let next = given_out _ n (w.last + 1) (c.in-Some.ensures.finds w h.world.desk) in
     let on : IsOn None flow =
-      subst (λ (b : Bool). wanted None (want_for b (access_at flow)) ≡ Some (access_at flow)) (sym c.new-flow.ensures.begun) (not_begun None (access_at flow)) in
+    subst (λ (b : Bool). wanted None (want_for b (access_at flow)) ≡ Some (access_at flow)) (sym c.new-flow.ensures.begun) (not_begun None (access_at flow)) in
     let runs : Running g.row.K.Denot g.row.V.Denot = record { flow = flow; begun = None } in
-    let numbered : ℕ → State g.row.K.Denot g.row.V.Denot = λ m. record { world = record s.world { desk = record w { last = m } }; calls = put_at s.calls m (Some (fresh_call c.args.start)) } in
-    (started s c.args.start, match_false _ _ _ next.0 (record { reply = ap reply.Call next.1; after = refl }),
+    let numbered : ℕ → State g.row.K.Denot g.row.V.Denot = λ m. record { world = record s.world { desk = record w { last = m } }; calls = put_at s.calls m (Some (fresh_call c.args.start)) } in (
+      started s c.args.start,
+      match_false _ _ _ next.0 (record { reply = ap reply.Call next.1; after = refl }),
       subst (λ (m : ℕ). StandsFor g.K.PartialEq.eq (record { layers = record c.args.self.now.layers { desk = c.enter.new.self }; calls = c.add.new.self }) (numbered m)) next.1
-        (record {
-          world = record { table = h.world.table; desk = c.in-Some.ensures.makes w h.world.desk };
-          calls = set_calls (running_at c.args.self.now.calls) (running_at c.add.new.self) s.calls n (Some runs) (Some (fresh_call c.args.start))
-            (ap Some c.new-flow.ensures.call) c.add.ensures (λ k ne. h.calls k);
-          each = set_each (running_at c.args.self.now.calls) (running_at c.add.new.self) n (Some runs)
-            (λ x e. let f : runs ≡ x = cc in subst (λ (r : Running g.row.K.Denot g.row.V.Denot). IsOf n r) f (record { number = c.new-flow.ensures.number; on = on })) c.add.ensures h.each;
-        }))
+          (record {
+            world = record { table = h.world.table; desk = c.in-Some.ensures.makes w h.world.desk };
+            calls = set_calls (running_at c.args.self.now.calls) (running_at c.add.new.self) s.calls n (Some runs) (Some (fresh_call c.args.start))
+                (ap Some c.new-flow.ensures.call) c.add.ensures (λ k ne. h.calls k);
+            each = set_each (running_at c.args.self.now.calls) (running_at c.add.new.self) n (Some runs)
+                (λ x e. let f : runs ≡ x = cc in subst (λ (r : Running g.row.K.Denot g.row.V.Denot). IsOf n r) f (record { number = c.new-flow.ensures.number; on = on })) c.add.ensures h.each;
+          }),
+    )

@@ -18,10 +18,13 @@ returns-clause-leaves g c = λ s t places.
     let has = λ (some : IsSome c.held-held.result). places c.args.call d t.live (subst (λ (o : Option Write). IsSome o) c.held-held.ensures some) in
     let stands = c.leave.ensures s.world.desk t.rest.world.desk has in
     c.end.ensures c.args.flow s.calls (record s.world { desk = left s.world.desk c.args.call (held_by d.plan) })
-      (record {
-        world = record {
-          table = t.rest.world.table;
-          desk = subst (λ (o : Option Write). desk.StandsFor g.K.PartialEq.eq c.leave.new.self (left s.world.desk c.args.call o)) c.held-held.ensures stands;
-        };
-        calls = t.rest.calls; each = t.rest.each; number = t.rest.number; on = t.rest.on;
-      })
+    (record {
+      world = record {
+        table = t.rest.world.table;
+        desk = subst (λ (o : Option Write). desk.StandsFor g.K.PartialEq.eq c.leave.new.self (left s.world.desk c.args.call o)) c.held-held.ensures stands;
+      };
+      calls = t.rest.calls;
+      each = t.rest.each;
+      number = t.rest.number;
+      on = t.rest.on;
+    })

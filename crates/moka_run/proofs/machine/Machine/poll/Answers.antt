@@ -17,7 +17,7 @@ returns-in-Some-clause-serves g c = IfOk-weaker c.poll_out.result _ _ (λ r poll
     let m = polls s.calls s.world t.rest (c.calls_are_safe.ensures.safe s n d reached t.live) in
     let after = state_after s n m.1 m.0 in
     (after, subst (λ (x : Reply g.row.V.Denot). Happens g.K.PartialEq.eq Any s (event.Poll n) x after) (sym m.3) (c.polled_is_poll.ensures.poll s n d m.0 m.1 t.live m.2), m.4))
-  c.poll_out.ensures.polls
+    c.poll_out.ensures.polls
 
 pub returns-in-Some-clause-stops : goal.returns-in-Some-clause-stops
 returns-in-Some-clause-stops g c = IfErr-weaker c.poll_out.result _ _ (λ u stops s stands reached.
@@ -26,4 +26,4 @@ returns-in-Some-clause-stops g c = IfErr-weaker c.poll_out.result _ _ (λ u stop
     let t = c.in-Some.ensures.some s stands in
     let m = stops s.calls s.world t.rest (c.calls_are_safe.ensures.safe s n d reached t.live) in
     (gone_on s n m.0 m.1, c.moves_are_steps.ensures.steps s n u.steps d m.0 m.1 t.live m.2, m.3))
-  c.poll_out.ensures.unfinished
+    c.poll_out.ensures.unfinished

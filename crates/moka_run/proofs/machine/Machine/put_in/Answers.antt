@@ -13,10 +13,10 @@ pub returns : goal.returns
 returns g c = λ others w h.
     let back : Running g.row.K.Denot g.row.V.Denot = record { flow = c.args.flow; begun = c.take-begun.result } in
     let on : IsOn (operation_of c.take-begun.result) c.args.flow =
-      subst (λ (b : Option (PlainCall g.row.K.Denot g.row.V.Denot)). IsOn (operation_of b) c.args.flow) (sym c.take-begun.ensures.value) h.on in
+    subst (λ (b : Option (PlainCall g.row.K.Denot g.row.V.Denot)). IsOn (operation_of b) c.args.flow) (sym c.take-begun.ensures.value) h.on in
     record {
       world = record { table = h.world.table; desk = h.world.desk };
       calls = set_calls (running_at c.args.self.now.calls) (running_at c.put_back.new.self) others c.args.call (Some back) _ refl c.put_back.ensures h.calls;
       each = set_each (running_at c.args.self.now.calls) (running_at c.put_back.new.self) c.args.call (Some back)
-        (λ x e. let f : back ≡ x = cc in subst (λ (r : Running g.row.K.Denot g.row.V.Denot). IsOf c.args.call r) f (record { number = h.number; on = on })) c.put_back.ensures h.each;
+          (λ x e. let f : back ≡ x = cc in subst (λ (r : Running g.row.K.Denot g.row.V.Denot). IsOf c.args.call r) f (record { number = h.number; on = on })) c.put_back.ensures h.each;
     }

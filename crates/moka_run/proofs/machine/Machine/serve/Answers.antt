@@ -8,12 +8,12 @@ use Rattle.moka_run.proofs.machine.Machine.serve.Goals as goal
 pub returns-in-Step-clause-serves : goal.returns-in-Step-clause-serves
 returns-in-Step-clause-serves g c =
     subst (λ (e : Event g.row.K.Denot g.row.V.Denot). IfOk c.unpolled-in-Step.result (λ r. Serves g.K.PartialEq.eq c.args.self.now e r c.step.new.self)) (sym c.in-Step.is)
-      (unpolled_ok c.step.result c.unpolled-in-Step.result _ c.unpolled-in-Step.ensures c.step.ensures.serves)
+    (unpolled_ok c.step.result c.unpolled-in-Step.result _ c.unpolled-in-Step.ensures c.step.ensures.serves)
 
 pub returns-in-Tell-clause-serves : goal.returns-in-Tell-clause-serves
 returns-in-Tell-clause-serves g c =
     subst (λ (e : Event g.row.K.Denot g.row.V.Denot). IfOk c.unpolled-in-Tell.result (λ r. Serves g.K.PartialEq.eq c.args.self.now e r c.tell.new.self)) (sym c.in-Tell.is)
-      (unpolled_ok c.tell.result c.unpolled-in-Tell.result _ c.unpolled-in-Tell.ensures c.tell.ensures.serves)
+    (unpolled_ok c.tell.result c.unpolled-in-Tell.result _ c.unpolled-in-Tell.ensures c.tell.ensures.serves)
 
 pub returns-in-Poll-clause-serves : goal.returns-in-Poll-clause-serves
 returns-in-Poll-clause-serves g c =

@@ -15,10 +15,12 @@ pub step_out-requires-clause-may : goal.step_out-requires-clause-may
 step_out-requires-clause-may g c =
     let v = c.requires.valid in
     let t = c.in-Some.ensures.some v.state v.stands in
-    let safe = c.calls_are_safe.ensures.safe v.state c.args.call (call_of c.in-Some.flow) v.reached t.live in
-    (v.state.world, t.rest.world,
+    let safe = c.calls_are_safe.ensures.safe v.state c.args.call (call_of c.in-Some.flow) v.reached t.live in (
+      v.state.world,
+      t.rest.world,
       subst (λ (n : ℕ). May v.state.world (access_of n (call_of c.in-Some.flow))) (sym t.rest.number)
-        (safe 0 (call_of c.in-Some.flow) v.state.world (moves_none g.K.PartialEq.eq c.args.call (call_of c.in-Some.flow) v.state.world)))
+          (safe 0 (call_of c.in-Some.flow) v.state.world (moves_none g.K.PartialEq.eq c.args.call (call_of c.in-Some.flow) v.state.world)),
+    )
 
 pub returns-in-Some-clause-serves : goal.returns-in-Some-clause-serves
 returns-in-Some-clause-serves g c = IfOk-weaker c.step_out.result _ _ (λ r steps s stands reached.
@@ -27,16 +29,16 @@ returns-in-Some-clause-serves g c = IfOk-weaker c.step_out.result _ _ (λ r step
     let t = c.in-Some.ensures.some s stands in
     let safe = c.calls_are_safe.ensures.safe s n d reached t.live in
     let may : May s.world (access_at c.in-Some.flow) =
-      subst (λ (m : ℕ). May s.world (access_of m d)) (sym t.rest.number) (safe 0 d s.world (moves_none g.K.PartialEq.eq n d s.world)) in
+    subst (λ (m : ℕ). May s.world (access_of m d)) (sym t.rest.number) (safe 0 d s.world (moves_none g.K.PartialEq.eq n d s.world)) in
     let m = steps s.calls s.world t.rest may in
     let after = state_after s n m.1 m.0 in
     (after, happens_step g.K.PartialEq.eq s n d r after t.live (record { turn = m.0.turn; step = c.move_is_step.ensures.step s n d m.0 m.1 t.live m.2; reply = m.3 }), m.4))
-  c.step_out.ensures.steps
+    c.step_out.ensures.steps
 
 pub returns-in-Some-clause-err : goal.returns-in-Some-clause-err
 returns-in-Some-clause-err g c = on_err_weaker c.step_out.result (λ keeps s stands.
     let t = c.in-Some.ensures.some s stands in
     subst (λ (u : State g.row.K.Denot g.row.V.Denot). StandsFor g.K.PartialEq.eq c.step_out.new.self u)
-      (ap (λ f. record s { calls = f }) (put_same s.calls c.args.call (Some (call_of c.in-Some.flow)) t.live))
-      (keeps s.calls s.world t.rest))
-  c.step_out.ensures.err
+    (ap (λ f. record s { calls = f }) (put_same s.calls c.args.call (Some (call_of c.in-Some.flow)) t.live))
+    (keeps s.calls s.world t.rest))
+    c.step_out.ensures.err

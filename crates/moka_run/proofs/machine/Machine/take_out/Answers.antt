@@ -17,18 +17,18 @@ returns-in-Some-clause-some g c = λ s h.
     let there : old n ≡ Some r = sym c.in-Some.ensures.taken in
     let is : IsOf n r = h.each n r there in
     let taken : TakenOut g.K.PartialEq.eq (record { layers = record c.args.self.now.layers { begun = r.begun }; calls = c.take.new.self }) n r.flow s =
-      record {
-        live = sym (h.calls n) ∙ ap (option_map call_in) there;
-        rest = record {
-          world = record { table = h.world.table; desk = h.world.desk };
-          calls = λ k ne. ap (option_map call_in) (c.take.ensures.rest k ∙ other_at old n None k ne) ∙ h.calls k;
-          each = set_each old (running_at c.take.new.self) n None (λ x e. absurd (cc)) c.take.ensures.rest h.each;
-          number = is.number;
-          on = is.on;
-        };
-      } in
+    record {
+      live = sym (h.calls n) ∙ ap (option_map call_in) there;
+      rest = record {
+        world = record { table = h.world.table; desk = h.world.desk };
+        calls = λ k ne. ap (option_map call_in) (c.take.ensures.rest k ∙ other_at old n None k ne) ∙ h.calls k;
+        each = set_each old (running_at c.take.new.self) n None (λ x e. absurd (cc)) c.take.ensures.rest h.each;
+        number = is.number;
+        on = is.on;
+      };
+    } in
     subst (λ (m : Machine g.row.K.Denot g.row.V.Denot g.K.PartialEq g.K.Hash). TakenOut g.K.PartialEq.eq m n c.lend.result s) (sym c.lend.ensures.machine)
-      (subst (λ (f : Flow g.row.K.Denot g.row.V.Denot). TakenOut g.K.PartialEq.eq (record { layers = record c.args.self.now.layers { begun = r.begun }; calls = c.take.new.self }) n f s) (sym c.lend.ensures.flow) taken)
+    (subst (λ (f : Flow g.row.K.Denot g.row.V.Denot). TakenOut g.K.PartialEq.eq (record { layers = record c.args.self.now.layers { begun = r.begun }; calls = c.take.new.self }) n f s) (sym c.lend.ensures.flow) taken)
 
 pub returns-in-None-clause-same : goal.returns-in-None-clause-same
 returns-in-None-clause-same g c = λ s h.

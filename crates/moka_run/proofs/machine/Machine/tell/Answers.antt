@@ -12,12 +12,15 @@ returns-then-tell-clause-serves g c = λ s h reached.
     let w = s.world.desk in
     let same : c.in_ok-answer.answer ≡ c.args.answer.now = c.in_ok-answer.ensures in
     let e : is_asked w c.args.call c.args.answer.now ≡ true =
-      subst (λ (a : Told g.row.V.Denot). is_asked w c.args.call a ≡ true) same (sym (c.tell.ensures.finds w h.world.desk) ∙ c.if-tell.true) in
-    (with_desk s (told w c.args.call c.args.answer.now), match_true _ _ _ e (record { reply = refl; after = refl }),
+    subst (λ (a : Told g.row.V.Denot). is_asked w c.args.call a ≡ true) same (sym (c.tell.ensures.finds w h.world.desk) ∙ c.if-tell.true) in (
+      with_desk s (told w c.args.call c.args.answer.now),
+      match_true _ _ _ e (record { reply = refl; after = refl }),
       record {
         world = record {
           table = h.world.table;
           desk = subst (λ (a : Told g.row.V.Denot). desk.StandsFor g.K.PartialEq.eq c.tell.new.self (told w c.args.call a)) same (c.if-tell.ensures.makes w h.world.desk);
         };
-        calls = h.calls; each = h.each;
-      })
+        calls = h.calls;
+        each = h.each;
+      },
+    )
