@@ -1,5 +1,5 @@
 -- The text of a report, of what was run.
-use Rattle.std.proofs.Common.{◌≡◌, ℕ, true, List, Some, IsPermutation, nat_eq, refl}
+use Rattle.std.proofs.Common.{◌≡◌, ℕ, List, IsPermutation, nat_eq, refl}
 use Rattle.std.specs.List.Sorted.{IsSortedByKey}
 use Rattle.std.specs.Ordering.{nat_cmp}
 use Rattle.moka_hist.specs.declared.events.Event.{Event}

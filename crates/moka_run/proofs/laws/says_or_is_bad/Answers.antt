@@ -1,5 +1,4 @@
 -- The text is read both ways, which can't be.
-use Rattle.std.proofs.Common.{sym, ◌∙◌}
 use Rattle.moka_run.proofs.laws.says_or_is_bad.Goals as goal
 
 pub returns : goal.returns
