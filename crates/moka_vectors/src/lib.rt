@@ -10,3 +10,5 @@ mod faults;
 mod in_memory;
 #[cfg(test)]
 mod rows;
+#[cfg(test)]
+mod stepping;
