@@ -10,6 +10,8 @@ mod goings;
 mod ground;
 mod points;
 mod takes;
+#[cfg(test)]
+mod tests;
 mod wants;
 
 pub use flow::Flow;

@@ -6,6 +6,8 @@
 mod entries;
 mod plain;
 mod table;
+#[cfg(test)]
+mod tests;
 
 pub use entries::EntryList;
 pub use moka_hist::{Stored, TableAnswer, TableOp, TableTurn};

@@ -1,0 +1,224 @@
+//! What no clause says: how whole calls read, access by access, and that each step succeeds with
+//! ample memory.
+
+use crate::{Flow, Got, Turn, Want};
+use moka_hist::{
+    Answer, Claim, Found, Settled, Start, Stored, TableAnswer, TableOp, TableTurn, Told, Visit,
+    Write,
+};
+use std::process::Abort;
+use std::test::Fail;
+
+// An access, what it gives, and the turn then.
+type Row = (&'static str, Got<u32, u32>, &'static str);
+
+const KEY: u32 = 3;
+
+// A record of the call 2 under the key.
+fn found() -> TableAnswer<u32, u32> {
+    TableAnswer::Some {
+        key: KEY,
+        stored: Stored {
+            value: 9,
+            stamp: 2,
+            modified: 1,
+        },
+    }
+}
+
+fn decided(answer: TableAnswer<u32, u32>) -> Got<u32, u32> {
+    Got::Table(TableTurn::Decided(answer))
+}
+
+fn undecided() -> Got<u32, u32> {
+    Got::Table(TableTurn::Going)
+}
+
+fn want_name(want: &Want<u32, u32>) -> &'static str {
+    match want {
+        Want::Begin(TableOp::Get { .. }) => "get",
+        Want::Begin(TableOp::InsertOrModify { .. }) => "insert",
+        Want::Table => "table",
+        Want::Desk(visit) => visit_name(visit),
+    }
+}
+
+fn visit_name(visit: &Visit<u32, u32>) -> &'static str {
+    match visit {
+        Visit::Clock { .. } => "clock",
+        Visit::TakeOwed { .. } => "take owed",
+        Visit::StampMoment { .. } => "stamp moment",
+        Visit::Judge { .. } => "judge",
+        Visit::WaitOrOwn { .. } => "wait or own",
+        Visit::ReadSettled { .. } => "read settled",
+        Visit::Settle { .. } => "settle",
+        Visit::OpenAsk { .. } => "open ask",
+        Visit::TakeTold { .. } => "take told",
+        Visit::PostWrite { .. } => "post write",
+        Visit::TakeTurn { .. } => "take turn",
+        Visit::ApplyOne { .. } => "apply one",
+        Visit::EndTurn { .. } => "end turn",
+    }
+}
+
+fn turn_name(turn: &Turn<u32>) -> &'static str {
+    match turn {
+        Turn::Going => "going",
+        Turn::Wait => "wait",
+        Turn::Ask(_) => "ask",
+        Turn::Answer(answer) => answer_name(answer),
+    }
+}
+
+fn answer_name(answer: &Answer<u32>) -> &'static str {
+    match answer {
+        Answer::Done => "done",
+        Answer::Found(None) => "nothing",
+        Answer::Found(Some(_)) => "found",
+        Answer::Loaded { fresh: true, .. } => "fresh",
+        Answer::Loaded { fresh: false, .. } => "loaded",
+        Answer::RetriesExhausted => "exhausted",
+    }
+}
+
+// One step of the flow: the access that it wants, what that gives, and the turn then.
+fn goes(rt: &impl Abort, flow: &mut Flow<u32, u32>, row: Row) -> Result<(), Fail> {
+    let (access, given, turn) = row;
+    let want = flow.want()?;
+    assert_eq!(rt; want_name(&want), access);
+    let left = flow.take(given);
+    assert_eq!(rt; turn_name(&left), turn, "after {access}");
+    Ok(())
+}
+
+#[test]
+fn a_get_posts_what_is_owed_and_answers_what_is_found(rt: HostRuntime) -> Result<(), Fail> {
+    let mut flow = Flow::new(Start::Get { key: KEY }, 7);
+    let owed = Write::Upsert {
+        number: 2,
+        old: None,
+    };
+    let rows = [
+        ("take owed", Got::Desk(Found::TakeOwed(Some(owed))), "going"),
+        ("post write", Got::Desk(Found::PostWrite(true)), "going"),
+        ("take owed", Got::Desk(Found::TakeOwed(None)), "going"),
+        ("get", undecided(), "going"),
+        ("table", decided(found()), "going"),
+        ("judge", Got::Desk(Found::Judge(true)), "found"),
+    ];
+    for row in rows {
+        goes(&rt, &mut flow, row)?;
+    }
+    let mut flow = Flow::new(Start::Get { key: KEY }, 8);
+    let rows = [
+        ("take owed", Got::Desk(Found::TakeOwed(None)), "going"),
+        ("get", decided(TableAnswer::None), "nothing"),
+    ];
+    for row in rows {
+        goes(&rt, &mut flow, row)?;
+    }
+    Ok(())
+}
+
+#[test]
+fn an_insert_waits_for_the_turn_and_empties_a_full_log(rt: HostRuntime) -> Result<(), Fail> {
+    let mut flow = Flow::new(Start::Insert { key: KEY, value: 5 }, 7);
+    let rows = [
+        ("take owed", Got::Desk(Found::TakeOwed(None)), "going"),
+        ("stamp moment", Got::Desk(Found::StampMoment(4)), "going"),
+        ("insert", undecided(), "going"),
+        ("table", decided(found()), "going"),
+        ("post write", Got::Desk(Found::PostWrite(false)), "going"),
+        ("take turn", Got::Desk(Found::TakeTurn(false)), "wait"),
+        ("take turn", Got::Desk(Found::TakeTurn(true)), "going"),
+        ("apply one", Got::Desk(Found::ApplyOne(true)), "going"),
+        ("apply one", Got::Desk(Found::ApplyOne(false)), "going"),
+        ("end turn", Got::Desk(Found::EndTurn), "going"),
+        ("post write", Got::Desk(Found::PostWrite(true)), "done"),
+    ];
+    for row in rows {
+        goes(&rt, &mut flow, row)?;
+    }
+    Ok(())
+}
+
+#[test]
+fn an_owner_looks_again_then_asks_stores_and_settles(rt: HostRuntime) -> Result<(), Fail> {
+    let mut flow = Flow::new(Start::GetWith { key: KEY }, 7);
+    let rows = [
+        ("take owed", Got::Desk(Found::TakeOwed(None)), "going"),
+        ("get", decided(TableAnswer::None), "going"),
+        (
+            "wait or own",
+            Got::Desk(Found::WaitOrOwn(Claim::Owner)),
+            "going",
+        ),
+        ("get", decided(found()), "going"),
+        ("judge", Got::Desk(Found::Judge(false)), "going"),
+        ("open ask", Got::Desk(Found::OpenAsk), "ask"),
+        ("take told", Got::Desk(Found::TakeTold(None)), "wait"),
+        (
+            "take told",
+            Got::Desk(Found::TakeTold(Some(Told::Value(9)))),
+            "going",
+        ),
+        ("take owed", Got::Desk(Found::TakeOwed(None)), "going"),
+        ("stamp moment", Got::Desk(Found::StampMoment(4)), "going"),
+        ("insert", decided(TableAnswer::None), "going"),
+        ("post write", Got::Desk(Found::PostWrite(true)), "going"),
+        ("settle", Got::Desk(Found::Settle), "fresh"),
+    ];
+    for row in rows {
+        goes(&rt, &mut flow, row)?;
+    }
+    Ok(())
+}
+
+#[test]
+fn a_waiter_owns_after_an_abort_and_settles_what_it_finds(rt: HostRuntime) -> Result<(), Fail> {
+    let mut flow = Flow::new(Start::GetWith { key: KEY }, 7);
+    let waits = Claim::Waits { owner: 2 };
+    let rows = [
+        ("take owed", Got::Desk(Found::TakeOwed(None)), "going"),
+        ("get", decided(TableAnswer::None), "going"),
+        ("wait or own", Got::Desk(Found::WaitOrOwn(waits)), "going"),
+        (
+            "read settled",
+            Got::Desk(Found::ReadSettled(Settled::NotYet)),
+            "wait",
+        ),
+        (
+            "read settled",
+            Got::Desk(Found::ReadSettled(Settled::Aborted)),
+            "going",
+        ),
+        (
+            "wait or own",
+            Got::Desk(Found::WaitOrOwn(Claim::Owner)),
+            "going",
+        ),
+        ("get", decided(found()), "going"),
+        ("judge", Got::Desk(Found::Judge(true)), "going"),
+        ("settle", Got::Desk(Found::Settle), "loaded"),
+    ];
+    for row in rows {
+        goes(&rt, &mut flow, row)?;
+    }
+    Ok(())
+}
+
+#[test]
+fn a_load_gives_up_at_the_200th_dropped_owner(rt: HostRuntime) -> Result<(), Fail> {
+    let mut flow: Flow<u32, u32> = Flow::new(Start::GetWith { key: KEY }, 7);
+    let _ = flow.take(Got::Desk(Found::TakeOwed(None)));
+    let _ = flow.take(decided(TableAnswer::None));
+    for abort in 1..200 {
+        let _ = flow.take(Got::Desk(Found::WaitOrOwn(Claim::Waits { owner: 2 })));
+        let left = flow.take(Got::Desk(Found::ReadSettled(Settled::Aborted)));
+        assert_eq!(rt; turn_name(&left), "going", "at {abort}");
+    }
+    let _ = flow.take(Got::Desk(Found::WaitOrOwn(Claim::Waits { owner: 2 })));
+    let left = flow.take(Got::Desk(Found::ReadSettled(Settled::Aborted)));
+    assert_eq!(rt; turn_name(&left), "exhausted");
+    Ok(())
+}
