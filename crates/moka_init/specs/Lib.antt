@@ -1,3 +1,4 @@
 pub mod FlowPlan
 pub mod Grounds
 pub mod Telling
+pub mod EmptyCache

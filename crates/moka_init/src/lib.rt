@@ -5,6 +5,8 @@
 //! The schedule machine drives them; the polls of a cache are to drive the same.
 #![tactic(auto)]
 
+#[cfg(test)]
+mod bare;
 mod flow;
 mod goings;
 mod ground;
