@@ -1,5 +1,5 @@
 //! A list of stored pairs.
-ghost use Rattle.std.specs.Prelude.{◌≡◌, List, length};
+ghost use Rattle.std.specs.Prelude.{◌≡◌, ◌↔◌, IsTrue, List, [], length};
 ghost use Rattle.std.specs.Prelude.{slice_get};
 ghost use Rattle.std.specs.Option.{option_copied};
 ghost use Rattle.moka_hist.specs.declared.records.Stored.{Stored};
@@ -49,7 +49,9 @@ impl<K, V> EntryList<K, V> {
         self.items.len()
     }
 
-    pub fn is_empty(&self) -> bool {
+    pub fn is_empty(&self) -> bool
+        ensures { IsTrue result ↔ (self.now ≡ []) }
+    {
         self.items.is_empty()
     }
 }

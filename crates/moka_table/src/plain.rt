@@ -138,7 +138,10 @@ impl<K: Eq + Hash + Clone + Drop, V: Clone + Drop> Table<K, V> for PlainTable<K,
 
     ghost left = { λ t c. 1 };
 
-    fn segments(&self) -> usize {
+    fn segments(&self) -> usize
+        ensures some { 0 < result }
+        ensures one { result ≡ 1 }
+    {
         1
     }
 

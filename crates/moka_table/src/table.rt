@@ -31,8 +31,9 @@ pub trait Table<K: Eq + Hash + Clone, V: Clone> {
     /// How many steps the call may still make by itself before it decides.
     ghost left: { Self → Self.Call → ℕ };
 
-    /// How many segments the keys are spread over.
-    fn segments(&self) -> usize;
+    /// How many segments the keys are spread over: at least one.
+    fn segments(&self) -> usize
+        ensures { 0 < result };
 
     /// Begins an operation. It touches nothing, and takes no memory.
     fn begin(&self, operation: TableOp<K, V>) -> Self::Call
