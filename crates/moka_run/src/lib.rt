@@ -5,6 +5,8 @@
 
 mod answers;
 mod calls;
+#[cfg(test)]
+mod counting;
 mod laws;
 mod layers;
 mod lists;

@@ -99,7 +99,7 @@ impl<K: Eq + Hash + Clone + Drop, V: Clone + Drop> Machine<K, V> {
     }
 
     // The call after a step: it is put back, or has ended.
-    fn after_step(&mut self, call: u64, flow: Flow<K, V>, turn: Turn<V>) -> Reply<V>
+    pub(crate) fn after_step(&mut self, call: u64, flow: Flow<K, V>, turn: Turn<V>) -> Reply<V>
         requires { HasPlace self.old.calls call }
         ensures reply { result ≡ reply_of turn }
         ensures stands { (others : ℕ → Option (Call K V)) (w : World K V) → Without K.eq self.old call flow others w

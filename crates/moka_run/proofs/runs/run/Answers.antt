@@ -7,7 +7,7 @@ use Rattle.moka_hist.specs.Run.{Run}
 use Rattle.moka_hist.specs.declared.events.Event.{Event}
 use Rattle.moka_hist.specs.declared.replies.Reply.{Reply}
 use Rattle.moka_run.specs.declared.report.Memory.{Memory}
-use Rattle.moka_run.specs.Running.{Answers, TakesMemory}
+use Rattle.moka_run.specs.Running.{TakesMemory}
 use Rattle.moka_run.proofs.Stopping.{stops_between}
 use Rattle.moka_run.proofs.runs.run.Goals as goal
 

@@ -1,5 +1,5 @@
 -- The events so far were answered, by a run through lawful states.
-use Rattle.std.proofs.Common.{◌≡◌, ◌≤◌, ℕ, take, length, vec_len}
+use Rattle.std.proofs.Common.{◌≡◌, ◌≤◌, take, length, vec_len}
 use Rattle.std.specs.Vec.{vec_capacity}
 use Rattle.moka_hist.specs.State.{State}
 use Rattle.moka_hist.specs.Places.{IsLawful}

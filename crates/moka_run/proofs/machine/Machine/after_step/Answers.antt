@@ -1,7 +1,6 @@
 -- The call after its step.
-use Rattle.std.proofs.Common.{◌≡◌, ℕ, Option, Some, None, sym, subst}
+use Rattle.std.proofs.Common.{sym, subst}
 use Rattle.moka_hist.specs.Finite.{put_at}
-use Rattle.moka_hist.specs.State.{Call}
 use Rattle.moka_hist.specs.declared.accesses.Turn.{Turn}
 use Rattle.moka_init.specs.FlowPlan.{left_in}
 use Rattle.moka_run.specs.Machine.{StandsFor}

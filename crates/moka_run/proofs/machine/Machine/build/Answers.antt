@@ -2,7 +2,7 @@
 use Rattle.std.proofs.Common.{◌≡◌, Some, None, [], refl, sym, ap, ◌∙◌}
 use Rattle.std.specs.Option.{option_map}
 use Rattle.moka_hist.specs.State.{fresh}
-use Rattle.moka_run.specs.Machine.{StandsFor, call_in}
+use Rattle.moka_run.specs.Machine.{call_in}
 use Rattle.moka_run.proofs.machine.Machine.build.Goals as goal
 
 pub returns-clause-fresh : goal.returns-clause-fresh

@@ -1,5 +1,5 @@
 -- The call is dropped, or it is between two steps and put back as it was.
-use Rattle.std.proofs.Common.{◌≡◌, Some, refl, ap, subst}
+use Rattle.std.proofs.Common.{Some, refl, ap, subst}
 use Rattle.moka_hist.specs.State.{State}
 use Rattle.moka_hist.specs.Dropping.{dropped}
 use Rattle.moka_hist.specs.Run.{Drops}

@@ -1,5 +1,5 @@
 -- The call's place is given up.
-use Rattle.std.proofs.Common.{◌≡◌, Some, None, refl}
+use Rattle.std.proofs.Common.{None, refl}
 use Rattle.moka_run.specs.Calls.{running_at}
 use Rattle.moka_run.proofs.Places.{set_calls, set_each}
 use Rattle.moka_run.proofs.machine.Machine.end.Goals as goal

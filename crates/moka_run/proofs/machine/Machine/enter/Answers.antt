@@ -1,8 +1,8 @@
 -- The call runs under its number.
-use Rattle.std.proofs.Common.{◌≡◌, ℕ, ◌+◌, Bool, false, Some, None, refl, sym, ap, subst, ◌∙◌}
+use Rattle.std.proofs.Common.{◌≡◌, ℕ, ◌+◌, Bool, Some, None, refl, sym, ap, subst}
 use Rattle.moka_hist.specs.Finite.{put_at}
 use Rattle.moka_hist.specs.State.{State}
-use Rattle.moka_hist.specs.Run.{fresh_call, started, last_call}
+use Rattle.moka_hist.specs.Run.{fresh_call, started}
 use Rattle.moka_hist.specs.Step.{want_for}
 use Rattle.moka_hist.specs.declared.replies.Reply.TheVariants as reply
 use Rattle.moka_init.specs.Grounds.{IsOn, wanted, access_at}

@@ -1,5 +1,5 @@
 -- A poll of a live call is the reference's, and without memory so far as it came.
-use Rattle.std.proofs.Common.{◌≡◌, sym, subst}
+use Rattle.std.proofs.Common.{sym, subst}
 use Rattle.std.proofs.lemmas.Result.{IfOk-weaker, IfErr-weaker}
 use Rattle.moka_hist.specs.Step.{state_after}
 use Rattle.moka_hist.specs.Run.{Any, Happens}

@@ -1,5 +1,5 @@
 -- The steps are the call's, and the call is put back or has ended.
-use Rattle.std.proofs.Common.{◌≡◌, ℕ, sym, subst, ◌∙◌}
+use Rattle.std.proofs.Common.{ℕ, sym, subst, ◌∙◌}
 use Rattle.moka_hist.specs.Step.{MovesOn, Polled, IsSafe}
 use Rattle.moka_init.specs.FlowPlan.{call_of, next_in}
 use Rattle.moka_run.proofs.machine.Machine.poll_out.Goals as goal

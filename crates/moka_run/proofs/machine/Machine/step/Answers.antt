@@ -1,5 +1,5 @@
 -- A step of a live call is the reference's, and without memory the call is back as it was.
-use Rattle.std.proofs.Common.{◌≡◌, ℕ, Some, sym, ap, subst}
+use Rattle.std.proofs.Common.{ℕ, Some, sym, ap, subst}
 use Rattle.std.proofs.lemmas.Result.{IfOk-weaker, on_err_weaker}
 use Rattle.moka_hist.specs.State.{State}
 use Rattle.moka_hist.specs.Step.{May, access_of, state_after}

@@ -1,7 +1,6 @@
 -- The call is out of its place, and its operation with the layers.
-use Rattle.std.proofs.Common.{◌≡◌, ℕ, Option, Some, None, refl, sym, ap, subst, ◌∙◌}
+use Rattle.std.proofs.Common.{◌≡◌, Some, None, sym, ap, subst, ◌∙◌}
 use Rattle.std.specs.Option.{option_map}
-use Rattle.moka_hist.specs.State.{State}
 use Rattle.moka_init.specs.declared.flow.Flow.{Flow}
 use Rattle.moka_run.specs.declared.machine.Machine.{Machine}
 use Rattle.moka_run.specs.Calls.{running_at}

@@ -1,5 +1,5 @@
 -- The ask is answered.
-use Rattle.std.proofs.Common.{◌≡◌, Bool, true, refl, sym, subst, ◌∙◌}
+use Rattle.std.proofs.Common.{◌≡◌, true, refl, sym, subst, ◌∙◌}
 use Rattle.moka_hist.specs.Run.{with_desk}
 use Rattle.moka_hist.specs.Telling.{is_asked, told}
 use Rattle.moka_hist.specs.declared.events.Told.{Told}

@@ -1,0 +1,252 @@
+//! How many accesses a step makes, on a ground that counts them.
+ghost use Rattle.std.specs.Prelude.{◌≡◌, ◌∷◌, ◌++◌, [], List, Some, IfOk, OnErr, nat_eq};
+ghost use Rattle.moka_hist.specs.Finite.{IsExact};
+ghost use Rattle.moka_hist.specs.State.{State};
+ghost use Rattle.moka_hist.specs.Step.{May};
+ghost use Rattle.moka_hist.specs.Run.{IsReached};
+ghost use Rattle.moka_init.specs.Grounds.{access_at};
+ghost use Rattle.moka_run.specs.Calls.{HasPlace};
+ghost use Rattle.moka_run.specs.Machine.{IsValid, TakenOut};
+
+use crate::layers::Layers;
+use crate::machine::Machine;
+use crate::runs::run;
+use moka_hist::{Event, Got, Refusal, Reply, Want};
+use moka_init::{Alone, Flow, Ground, step};
+use moka_text::read_schedule;
+use std::alloc::{AllocError, Global};
+use std::hash::Hash;
+use std::slice;
+use std::test::Fail;
+
+// The layers of a machine, and how many accesses were made on them.
+#[derive(Drop)]
+struct Counting<K: Eq + Hash, V> {
+    layers: Layers<K, V>,
+    accesses: u64,
+}
+
+impl<K: Eq + Hash + Clone + Drop, V: Clone + Drop> Ground<K, V> for Counting<K, V> {
+    ghost use Rattle.moka_hist.specs.State.{World};
+    ghost use Rattle.moka_hist.specs.Step.{Access, Gets, May};
+    ghost use Rattle.moka_hist.specs.declared.accesses.Got.{Got};
+    ghost use Rattle.moka_init.specs.Grounds.{wanted, still_begun, MayWant};
+    ghost use Rattle.moka_run.specs.Layers.{WorldIs, operation_of, nothing_told, Keeps};
+
+    ghost stands = { λ c w. WorldIs K.eq c.layers w };
+
+    ghost begun = { λ c. operation_of c.layers.begun };
+
+    ghost made = { λ c. nothing_told K V };
+
+    fn access(&mut self, want: Want<K, V>) -> Result<Got<K, V>, AllocError>
+        requires keys { IsExact K.is_clone }
+        requires values { IsExact V.is_clone }
+        requires may { (w : World K V) × WorldIs K.eq self.old.layers w × MayWant w (operation_of self.old.layers.begun) want }
+        ensures gives { IfOk result (λ given. (access : Access K V) → wanted (operation_of self.old.layers.begun) want ≡ Some access
+            → (w : World K V) → WorldIs K.eq self.old.layers w → May w access → (new : World K V) × Gets K.eq w access given new × WorldIs K.eq self.new.layers new) }
+        ensures begins { IfOk result (λ given. (access : Access K V) → wanted (operation_of self.old.layers.begun) want ≡ Some access
+            → operation_of self.new.layers.begun ≡ still_begun access given) }
+        ensures tells { IfOk result (λ given. (access : Access K V) → wanted (operation_of self.old.layers.begun) want ≡ Some access
+            → (before : List (Access K V × Got K V)) → nothing_told K V ≡ Some before → nothing_told K V ≡ Some (before ++ (access, given) ∷ [])) }
+        ensures err { OnErr result (Keeps K.eq self.old.layers self.new.layers) }
+        ensures err_begun { OnErr result (operation_of self.new.layers.begun ≡ operation_of self.old.layers.begun) }
+        ensures err_made { OnErr result (nothing_told K V ≡ nothing_told K V) }
+    {
+        self.accesses = self.accesses.saturating_add(1);
+        self.layers.access(want)
+    }
+}
+
+impl<K: Eq + Hash + Clone + Drop, V: Clone + Drop> Alone<K, V> for Counting<K, V> {}
+
+// A machine after a step, with the reply, or None where memory was wanting, and the accesses made.
+#[derive(Drop)]
+struct Counted<K: Eq + Hash, V> {
+    machine: Machine<K, V>,
+    reply: Option<Reply<V>>,
+    accesses: u64,
+}
+
+// Makes a step of the call that was taken out, on a ground that counts.
+fn step_out<K: Eq + Hash + Clone + Drop, V: Clone + Drop>(
+    machine: Machine<K, V>,
+    call: u64,
+    mut flow: Flow<K, V>,
+) -> Counted<K, V>
+    requires keys { IsExact K.is_clone }
+    requires values { IsExact V.is_clone }
+    requires place { HasPlace machine.calls call }
+    requires taken { (s : State K V) × TakenOut K.eq machine call flow s × IsReached K.eq s × May s.world (access_at flow) }
+    ensures { IsValid K.eq result.machine }
+{
+    moka_laws::move_is_step::<K, V>();
+    moka_laws::reached_by_step::<K, V>();
+    let Machine { layers, calls } = machine;
+    let mut counting = Counting {
+        layers,
+        accesses: 0,
+    };
+    let stepped = step(&mut flow, &mut counting);
+    let Counting { layers, accesses } = counting;
+    let mut machine = Machine { layers, calls };
+    match stepped {
+        Ok(turn) => {
+            let reply = Some(machine.after_step(call, flow, turn));
+            Counted {
+                machine,
+                reply,
+                accesses,
+            }
+        }
+        Err(_) => {
+            machine.put_in(call, flow);
+            Counted {
+                machine,
+                reply: None,
+                accesses,
+            }
+        }
+    }
+}
+
+// Makes a step of a call, on a ground that counts.
+fn counted_step<K: Eq + Hash + Clone + Drop, V: Clone + Drop>(
+    mut machine: Machine<K, V>,
+    call: u64,
+) -> Counted<K, V>
+    requires keys { IsExact K.is_clone }
+    requires values { IsExact V.is_clone }
+    requires valid { IsValid K.eq machine }
+    ensures { IsValid K.eq result.machine }
+{
+    moka_laws::calls_are_safe::<K, V>();
+    match machine.take_out(call) {
+        None => Counted {
+            machine,
+            reply: Some(Reply::Refused(Refusal::UnknownCall)),
+            accesses: 0,
+        },
+        Some(flow) => step_out(machine, call, flow),
+    }
+}
+
+// A machine after some steps, and how many accesses these made: None where one of them made more than
+// one, or none, or memory was wanting.
+#[derive(Drop)]
+struct Driven {
+    machine: Machine<u32, u32>,
+    accesses: Option<u64>,
+}
+
+// Makes a step of a call that lives.
+fn drive_step(machine: Machine<u32, u32>, call: u64) -> (Driven, bool)
+    requires { IsValid nat_eq machine }
+    ensures { IsValid nat_eq result.0.machine }
+{
+    let Counted {
+        machine,
+        reply,
+        accesses,
+    } = counted_step(machine, call);
+    let accesses = (accesses == 1 && reply.is_some()).then_some(1);
+    (Driven { machine, accesses }, reply == Some(Reply::Going))
+}
+
+// Makes steps of a call, at most a hundred, up to the first that doesn't leave it going.
+fn drive_poll(mut machine: Machine<u32, u32>, call: u64) -> Driven
+    requires { IsValid nat_eq machine }
+    ensures { IsValid nat_eq result.machine }
+{
+    for made in 0..100_u64 {
+        let (driven, going) = drive_step(machine, call);
+        match driven.accesses {
+            Some(_) if going => machine = driven.machine,
+            Some(_) => {
+                return Driven {
+                    machine: driven.machine,
+                    accesses: Some(made + 1),
+                };
+            }
+            None => return driven,
+        }
+    }
+    Driven {
+        machine,
+        accesses: None,
+    }
+}
+
+// Carries an event out, and tells how many accesses its steps made.
+fn drive(alloc: Global, mut machine: Machine<u32, u32>, event: &Event<u32, u32>) -> Driven
+    requires { IsValid nat_eq machine }
+    ensures { IsValid nat_eq result.machine }
+{
+    match event {
+        Event::Step { call } => drive_step(machine, *call).0,
+        Event::Poll { call } => drive_poll(machine, *call),
+        _ => {
+            let accesses = match run(alloc, &mut machine, slice::from_ref(event)) {
+                Ok(_) => Some(0),
+                Err(_) => None,
+            };
+            Driven { machine, accesses }
+        }
+    }
+}
+
+// How many accesses the steps of the schedule make, each one. Its lines are parted by ` / `.
+fn accesses_of(alloc: Global, row: &str) -> Result<Option<u64>, AllocError> {
+    let mut text = String::new(alloc);
+    for line in row.split(" / ") {
+        text.push_str(line)?;
+        text.push('\n')?;
+    }
+    let schedule = read_schedule(alloc, text.as_bytes()).map_err(|_| AllocError)?;
+    if schedule.log < 1 || schedule.log > 65536 {
+        return Err(AllocError);
+    }
+    let mut machine = Machine::build(alloc, schedule.log)?;
+    let mut total: u64 = 0;
+    for event in &schedule.events {
+        let driven = drive(alloc, machine, event);
+        machine = driven.machine;
+        match driven.accesses {
+            Some(accesses) => total = total.saturating_add(accesses),
+            None => return Ok(None),
+        }
+    }
+    Ok(Some(total))
+}
+
+#[test]
+fn each_step_makes_one_access_at_every_point_of_every_flow(rt: HostRuntime) -> Result<(), Fail> {
+    let schedules = [
+        ("cache / start get 1 / poll 1", 2),
+        (
+            "cache log=8 / start insert 1 5 / poll 1 / start get 1 / poll 2",
+            4 + 3,
+        ),
+        (
+            "cache log=1 / start insert 1 5 / poll 1 / start insert 2 6 / poll 2",
+            4 + 9,
+        ),
+        // Call 3 waits for the turn of call 2, and is dropped; call 4 posts its write.
+        (
+            "cache log=1 / start insert 1 5 / poll 1 / start insert 2 6 / step 2 / step 2 / step 2 / step 2 / step 2 / start insert 3 7 / poll 3 / drop 3 / poll 2 / start get 3 / poll 4",
+            4 + 5 + 5 + 4 + 10,
+        ),
+        (
+            "cache log=8 / start get_with 1 / start get_with 1 / poll 1 / poll 1 / poll 2 / tell 1 value 7 / poll 2 / poll 1 / poll 2",
+            5 + 1 + 4 + 1 + 6 + 1,
+        ),
+        (
+            "cache log=8 / start get_with 1 / start get_with 1 / poll 1 / poll 2 / drop 1 / poll 2 / tell 2 value 9 / poll 2",
+            5 + 4 + 4 + 6,
+        ),
+    ];
+    for (row, accesses) in schedules {
+        assert_eq!(rt; accesses_of(rt.alloc(), row)?, Some(accesses), "{row}");
+    }
+    Ok(())
+}
