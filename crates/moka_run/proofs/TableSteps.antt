@@ -1,13 +1,10 @@
 -- A step of the table is the reference's.
-use Rattle.std.proofs.Common.{◌≡◌, ℕ, ◌+◌, Bool, cond, Option, Some, None, is_some, refl, ap, ◌∙◌}
+use Rattle.std.proofs.Common.{◌≡◌, ◌+◌, Bool, cond, Some, is_some, refl, ap, ◌∙◌}
 use Rattle.std.specs.HashMap.{hash_map_len}
-use Rattle.std.specs.declared.cmp.PartialEq as PartialEq
-use Rattle.std.specs.declared.hash.Hash as Hash
 use Rattle.moka_hist.specs.State.{TablePart, World}
 use Rattle.moka_hist.specs.Step.{Gets}
 use Rattle.moka_hist.specs.Step as step
 use Rattle.moka_hist.specs.Tables.{answer_of, key_of, stored_with, table_after}
-use Rattle.moka_hist.specs.declared.records.Stored.{Stored}
 use Rattle.moka_hist.specs.declared.tables.TableOp.{TableOp}
 use Rattle.moka_hist.specs.declared.tables.TableOp.TheVariants as op
 use Rattle.moka_hist.specs.declared.tables.TableTurn.{TableTurn}

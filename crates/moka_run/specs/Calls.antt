@@ -1,10 +1,9 @@
 -- The live calls of a machine, by number.
-use Rattle.std.specs.Prelude.{◌≡◌, ℕ, Bool, true, Option, Some, None, IsSome, nat_eq}
+use Rattle.std.specs.Prelude.{ℕ, Option, IsSome, nat_eq}
 use Rattle.std.specs.Option.{option_and_then, option_map}
 use Rattle.std.specs.HashMap.{get}
 use Rattle.moka_init.specs.FlowPlan.{call_of}
 use Rattle.moka_hist.specs.Plan.{held_by}
-use Rattle.moka_hist.specs.State.{Call}
 use Rattle.moka_hist.specs.Visits.{number_of}
 use Rattle.moka_run.specs.declared.calls.Calls.{Calls}
 use Rattle.moka_run.specs.declared.calls.Running.{Running}

@@ -1,5 +1,5 @@
 -- What the layers of a machine stand for.
-use Rattle.std.specs.Prelude.{◌≡◌, ℕ, Bool, List, Option, Some, None}
+use Rattle.std.specs.Prelude.{◌≡◌, Bool, List, Option, None}
 use Rattle.std.specs.Option.{option_and_then}
 use Rattle.std.specs.HashMap.{hash_map_len}
 use Rattle.std.specs.declared.cmp.PartialEq as PartialEq

@@ -1,5 +1,5 @@
 -- What a machine stands for, and what its calls do.
-use Rattle.std.specs.Prelude.{◌≡◌, ◌≢◌, ℕ, Bool, Option, Some, None}
+use Rattle.std.specs.Prelude.{◌≡◌, ◌≢◌, ℕ, Bool, Option, Some}
 use Rattle.std.specs.Option.{option_map}
 use Rattle.std.specs.declared.cmp.PartialEq as PartialEq
 use Rattle.std.specs.declared.hash.Hash as Hash
@@ -14,7 +14,7 @@ use Rattle.moka_hist.specs.declared.replies.Reply.{Reply}
 use Rattle.moka_init.specs.declared.flow.Flow.{Flow}
 use Rattle.moka_init.specs.FlowPlan.{call_of}
 use Rattle.moka_init.specs.Grounds.{IsOn, access_at}
-use Rattle.moka_run.specs.Calls.{running_at, HasPlace}
+use Rattle.moka_run.specs.Calls.{running_at}
 use Rattle.moka_run.specs.Layers.{WorldIs, operation_of}
 use Rattle.moka_run.specs.declared.calls.Running.{Running}
 use Rattle.moka_run.specs.declared.machine.Machine.{Machine}

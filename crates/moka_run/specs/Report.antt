@@ -1,5 +1,5 @@
 -- What a report tells of a state.
-use Rattle.std.specs.Prelude.{◌≡◌, ℕ, Bool, List, [], ◌∷◌, ◌++◌, map, Option, Some, None, nat_eq, IsPermutation, IsSortedByKey}
+use Rattle.std.specs.Prelude.{◌≡◌, ℕ, Bool, List, ◌++◌, map, Option, nat_eq, IsPermutation, IsSortedByKey}
 use Rattle.std.specs.Option.{option_map}
 use Rattle.std.specs.Ordering.{nat_cmp}
 use Rattle.std.specs.List.{filter_map}
@@ -8,7 +8,6 @@ use Rattle.moka_hist.specs.State.{Call, State}
 use Rattle.moka_hist.specs.Plan.{held_by}
 use Rattle.moka_hist.specs.Visits.{number_of}
 use Rattle.moka_hist.specs.declared.records.Stored.{Stored}
-use Rattle.moka_hist.specs.declared.replies.Reply.{Reply}
 use Rattle.moka_hist.specs.declared.writes.Place.{Place}
 use Rattle.moka_hist.specs.declared.writes.Place.TheVariants as place
 use Rattle.moka_table.specs.Map.{ListsPairs}

@@ -1,10 +1,10 @@
 -- What a run of events on a machine answers.
-use Rattle.std.specs.Prelude.{◌≡◌, ◌⊎◌, IfSome, ℕ, ◌<◌, Bool, List, [], ◌∷◌, take, slice_get, Option, Some, length}
+use Rattle.std.specs.Prelude.{◌≡◌, ◌⊎◌, IfSome, ℕ, Bool, List, take, slice_get, Option, Some}
 use Rattle.std.specs.declared.cmp.PartialEq as PartialEq
 use Rattle.std.specs.declared.hash.Hash as Hash
 use Rattle.moka_hist.specs.State.{State}
 use Rattle.moka_hist.specs.Places.{IsLawful}
-use Rattle.moka_hist.specs.Run.{Goings, Run, IsReached}
+use Rattle.moka_hist.specs.Run.{Goings, Run}
 use Rattle.moka_hist.specs.declared.events.Event.{Event}
 use Rattle.moka_hist.specs.declared.events.Event.TheVariants as event
 use Rattle.moka_hist.specs.declared.replies.Reply.{Reply}

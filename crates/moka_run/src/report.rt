@@ -1,5 +1,5 @@
 //! What `run` answers.
-ghost use Rattle.std.specs.Prelude.{◌≡◌, length};
+ghost use Rattle.std.specs.Prelude.{◌≡◌, ◌↔◌, [], IsTrue, length};
 
 use moka_hist::{Place, Reply};
 use moka_table::EntryList;
@@ -40,7 +40,9 @@ impl<V> ReplyList<V> {
         self.items.len()
     }
 
-    pub fn is_empty(&self) -> bool {
+    pub fn is_empty(&self) -> bool
+        ensures { IsTrue result ↔ (self.now ≡ []) }
+    {
         self.items.is_empty()
     }
 }
@@ -80,7 +82,9 @@ impl PlaceList {
         self.items.len()
     }
 
-    pub fn is_empty(&self) -> bool {
+    pub fn is_empty(&self) -> bool
+        ensures { IsTrue result ↔ (self.now ≡ []) }
+    {
         self.items.is_empty()
     }
 }
