@@ -28,18 +28,21 @@ impl<V> ReplyList<V> {
         ReplyList { items }
     }
 
+    /// The replies, in the order of their events.
     pub fn as_slice(&self) -> &[Reply<V>]
         ensures { result.now ≡ self.now }
     {
         self.items.as_slice()
     }
 
+    /// How many replies there are.
     pub fn len(&self) -> usize
         ensures { result ≡ length self.now }
     {
         self.items.len()
     }
 
+    /// Whether there is no reply.
     pub fn is_empty(&self) -> bool
         ensures { IsTrue result ↔ (self.now ≡ []) }
     {
@@ -70,18 +73,21 @@ impl PlaceList {
         PlaceList { items }
     }
 
+    /// The numbers with their places, in the list's order.
     pub fn as_slice(&self) -> &[(u64, Place)]
         ensures { result.now ≡ self.now }
     {
         self.items.as_slice()
     }
 
+    /// How many places there are.
     pub fn len(&self) -> usize
         ensures { result ≡ length self.now }
     {
         self.items.len()
     }
 
+    /// Whether there is no place.
     pub fn is_empty(&self) -> bool
         ensures { IsTrue result ↔ (self.now ≡ []) }
     {

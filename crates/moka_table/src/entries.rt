@@ -37,18 +37,21 @@ impl<K, V> EntryList<K, V> {
         self.items
     }
 
+    /// The pairs, in the list's order.
     pub fn as_slice(&self) -> &[(K, Stored<V>)]
         ensures { result.now ≡ self.now }
     {
         self.items.as_slice()
     }
 
+    /// How many pairs there are.
     pub fn len(&self) -> usize
         ensures { result ≡ length self.now }
     {
         self.items.len()
     }
 
+    /// Whether there is no pair.
     pub fn is_empty(&self) -> bool
         ensures { IsTrue result ↔ (self.now ≡ []) }
     {
