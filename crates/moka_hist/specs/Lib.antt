@@ -3,6 +3,7 @@ pub mod State
 pub mod Plan
 pub mod Visits
 pub mod Tables
+pub mod Bound
 pub mod Next
 pub mod Posting
 pub mod Looking

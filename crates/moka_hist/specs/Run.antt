@@ -1,5 +1,5 @@
 -- Runs of the reference cache on events.
-use Rattle.std.specs.Prelude.{◌≡◌, ◌≢◌, ℕ, zero, suc, ◌+◌, ◌^◌, ◌-◌, ◌==◌, nat_lt, Bool, MatchBool, List, [], ◌∷◌, Some, MatchOption}
+use Rattle.std.specs.Prelude.{◌<◌, ◌≡◌, ◌≢◌, ℕ, zero, suc, ◌+◌, ◌^◌, ◌-◌, ◌==◌, nat_lt, Bool, MatchBool, List, [], ◌∷◌, Some, MatchOption}
 use Rattle.moka_hist.specs.Finite.{put_at}
 use Rattle.moka_hist.specs.State.{Call, DeskPart, State, fresh}
 use Rattle.moka_hist.specs.Plan.{plan_of}
@@ -120,9 +120,10 @@ module _ {K V : Type 0} where
   abbrev pub Any : State K V → Type 0
   Any s = Unit {0}
 
-  -- the state comes after some events on a fresh cache with a log of some size
+  -- the state comes after some events on a fresh cache with a log of some size, at least of one write
   pub record IsReached (eq : K → K → Bool) (s : State K V) : Type 0 where
     pub size : ℕ
+    pub has_log : 0 < size
     pub events : List (Event K V)
     pub replies : List (Reply V)
     pub run : Run eq Any (fresh K V size) events replies s

@@ -59,9 +59,17 @@ pub record Call (K V : Type 0) : Type 0 where
   pub plan : List (Item K V)
   pub aborts : ℕ
 
+-- How often in a row the table operation of one call has stayed undecided.
+pub record Stay : Type 0 where
+  -- the call that made the last step on the table
+  pub call : ℕ
+  -- how many of its steps there in a row, up to that one, left its operation undecided
+  pub times : ℕ
+
 pub record World (K V : Type 0) : Type 0 where
   pub table : TablePart K V
   pub desk : DeskPart K V
+  pub stay : Stay
 
 pub record State (K V : Type 0) : Type 0 where
   pub world : World K V
@@ -96,4 +104,8 @@ fresh_desk K V size =
 
 -- nothing is stored, no call was started, and the clock is 0
 abbrev pub fresh : (K V : Type 0) → ℕ → State K V
-fresh K V size = record { world = record { table = empty_table K V; desk = fresh_desk K V size }; calls = λ _. None }
+fresh K V size =
+    record {
+      world = record { table = empty_table K V; desk = fresh_desk K V size; stay = record { call = 0; times = 0 } };
+      calls = λ _. None;
+    }

@@ -1,11 +1,12 @@
 -- One step of a call: one access, and what follows from its answer.
-use Rattle.std.specs.Prelude.{◌≢◌, suc, zero, ◌≡◌, ℕ, Bool, true, false, List, [], ◌∷◌, Some}
+use Rattle.std.specs.Prelude.{◌<◌, ◌≢◌, suc, zero, ◌≡◌, ℕ, Bool, true, false, List, [], ◌∷◌, Some}
 use Rattle.moka_hist.specs.Finite.{put_at}
 use Rattle.moka_hist.specs.State.{Call, World, State}
 use Rattle.moka_hist.specs.Plan.{Item}
 use Rattle.moka_hist.specs.Plan as plan
 use Rattle.moka_hist.specs.Visits.{finds, makes, MayVisit}
 use Rattle.moka_hist.specs.Tables.{table_answer, table_after}
+use Rattle.moka_hist.specs.Bound.{times_of, stayed, decided_by, most_undecided}
 use Rattle.moka_hist.specs.Next.{Next, goes, waits}
 use Rattle.moka_hist.specs.Posting.{after_drain, after_post, after_turn, after_apply, after_end}
 use Rattle.moka_hist.specs.Looking.{after_get, after_judge}
@@ -105,14 +106,16 @@ module _ {K V : Type 0} where
       by_plan (item ∷ rest) (got.Table turn) = after_table n c item rest turn
       by_plan (item ∷ rest) (got.Desk f) = after_visit c item rest f
 
-  -- what the world may give for an access, and become by it. A table operation may stay undecided, which changes nothing
-  abbrev pub Gets : (K → K → Bool) → World K V → Access K V → Got K V → World K V → Type 0
-  Gets eq w (On_table operation) (got.Table table.Going) new = new ≡ w
-  Gets eq w (On_table operation) (got.Table (table.Decided answer)) new =
-      (answer ≡ table_answer w.table operation) × (new ≡ record w { table = table_after eq w.table operation })
-  Gets eq w (On_desk made) (got.Desk f) new = (f ≡ finds w.desk made) × (new ≡ record w { desk = makes eq w.desk made })
-  Gets eq w (On_table operation) (got.Desk f) new = ⊥
-  Gets eq w (On_desk made) (got.Table turn) new = ⊥
+  -- What the world may give the call of this number for an access, and become by it. A table operation may stay
+  -- undecided, which leaves the map, but not for more steps in a row than its table may need.
+  abbrev pub Gets : (K → K → Bool) → ℕ → World K V → Access K V → Got K V → World K V → Type 0
+  Gets eq n w (On_table operation) (got.Table table.Going) new =
+      (times_of w.stay n < most_undecided w.table) × (new ≡ record w { stay = stayed w.stay n })
+  Gets eq n w (On_table operation) (got.Table (table.Decided answer)) new =
+      (answer ≡ table_answer w.table operation) × (new ≡ record w { table = table_after eq w.table operation; stay = decided_by n })
+  Gets eq n w (On_desk made) (got.Desk f) new = (f ≡ finds w.desk made) × (new ≡ record w { desk = makes eq w.desk made })
+  Gets eq n w (On_table operation) (got.Desk f) new = ⊥
+  Gets eq n w (On_desk made) (got.Table turn) new = ⊥
 
   -- the call's place after the step, in a world that the access made
   abbrev pub state_after : State K V → ℕ → World K V → Next K V → State K V
@@ -124,7 +127,7 @@ module _ {K V : Type 0} where
     pub live : s.calls n ≡ Some call
     pub given : Got K V
     pub world : World K V
-    pub gets : Gets eq s.world (access_of n call) given world
+    pub gets : Gets eq n s.world (access_of n call) given world
     pub turns : turn ≡ (next_of n call given).turn
     pub after : new ≡ state_after s n world (next_of n call given)
 
@@ -137,7 +140,7 @@ module _ {K V : Type 0} where
   -- one step of a call by itself: how it goes on, and the world then
   pub record Moves (eq : K → K → Bool) (n : ℕ) (c : Call K V) (w : World K V) (next : Next K V) (new : World K V) : Type 0 where
     pub given : Got K V
-    pub gets : Gets eq w (access_of n c) given new
+    pub gets : Gets eq n w (access_of n c) given new
     pub goes : next ≡ next_of n c given
 
   -- the call is still live, and goes on as d

@@ -151,7 +151,7 @@ module _ {K V : Type 0} where
     on_item plan.Turn rest h p = (λ e. ((goes_well c rest h), d), λ e. (p, d))
     on_item plan.Apply rest h p = (λ e. ((goes_well c rest h), d), λ x xs e. (h, d))
     on_item plan.End rest h p = ((goes_well c rest h), d)
-    on_item (plan.Get aim key) rest h p = ((p, d), ((misses_well c aim), d), λ k stored. (tt, d))
+    on_item (plan.Get aim key) rest h p = ((λ more. (p, d)), ((misses_well c aim), d), λ k stored. (tt, d))
     on_item (plan.Judge aim key stored) rest h p = ((hits_well c aim stored.value), d)
     on_item (plan.Own load) rest h p = (λ e. (tt, d), λ owner e. (tt, d))
     on_item (plan.Read load) rest h p = (
@@ -167,7 +167,7 @@ module _ {K V : Type 0} where
       λ given e. (told_well c load given p, record { settled = d.settled; told = λ x. none_told x w.desk.told n (d.told x) }),
     )
     on_item (plan.Moment key value) rest h p = (h, d)
-    on_item (plan.Write key value moment) rest h p = ((p, d), (h, d))
+    on_item (plan.Write key value moment) rest h p = ((λ more. (p, d)), (h, d))
     on_item (plan.Reply answer) rest h p = (tt, d)
 
     on_plan : (plan : List (Item K V)) → c.plan ≡ plan → EndsWell c.plan → OnStep eq Leaves w n c plan
@@ -190,7 +190,7 @@ module _ {K V : Type 0} (eq : K → K → Bool) where
 
   pub answering_kept : IsKept eq (IsAnswering {K = K} {V = V})
   answering_kept = record {
-    fresh = λ size. record { calls = λ n c live. absurd (none_some live); desk = record { settled = λ x. none_some; told = λ x. none_some } };
+    fresh = λ size has_log. record { calls = λ n c live. absurd (none_some live); desk = record { settled = λ x. none_some; told = λ x. none_some } };
     at = λ s moment i. record { calls = i.calls; desk = i.desk };
     start = λ s start i. record {
       calls = λ n c live.

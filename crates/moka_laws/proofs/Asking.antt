@@ -111,7 +111,7 @@ module _ {K V : Type 0} where
     on_item plan.Turn rest q = (λ e. goes_on rest (λ l. q (omega arith)), λ e. takes_still w.desk n was)
     on_item plan.Apply rest q = (λ e. goes_on rest (λ l. q (omega arith)), λ x xs e. takes_still w.desk n (λ l. q (omega arith)))
     on_item plan.End rest q = goes_on rest (λ l. q (omega arith))
-    on_item (plan.Get aim key) rest q = (takes_still w.desk n was, takes_none w.desk n (misses_takes c aim), λ k stored. takes_none w.desk n refl)
+    on_item (plan.Get aim key) rest q = ((λ more. takes_still w.desk n was), takes_none w.desk n (misses_takes c aim), λ k stored. takes_none w.desk n refl)
     on_item (plan.Judge aim key stored) rest q = takes_none w.desk n (hits_takes c aim stored.value)
     on_item (plan.Own load) rest q = (λ e. takes_none w.desk n refl, λ owner e. takes_none w.desk n refl)
     on_item (plan.Read load) rest q = (λ e. takes_still w.desk n was, λ with e. reads load with)
@@ -125,7 +125,7 @@ module _ {K V : Type 0} where
       λ given e. takes load given (λ h. ready.told n (e ∙ h)),
     )
     on_item (plan.Moment key value) rest q = takes_still w.desk n (λ l. q (omega arith))
-    on_item (plan.Write key value moment) rest q = (takes_still w.desk n was, takes_still w.desk n (λ l. q (omega arith)))
+    on_item (plan.Write key value moment) rest q = ((λ more. takes_still w.desk n was), takes_still w.desk n (λ l. q (omega arith)))
     on_item (plan.Reply answer) rest q = takes_none w.desk n refl
 
     on_plan : (plan : List (Item K V)) → c.plan ≡ plan → OnStep eq Leaves w n c plan
@@ -172,7 +172,7 @@ module _ {K V : Type 0} (eq : K → K → Bool) where
 
   asking_kept : IsKept eq (IsAsking {K = K} {V = V})
   asking_kept = record {
-    fresh = λ size. record { answering = (answering_kept eq).fresh size; asked = λ n l. absurd (omega arith) };
+    fresh = λ size has_log. record { answering = (answering_kept eq).fresh size has_log; asked = λ n l. absurd (omega arith) };
     at = λ s moment i. record { answering = (answering_kept eq).at s moment i.answering; asked = i.asked };
     start = λ s start i. asking s (s.world.desk.last + 1) _ (Some (fresh_call start)) i
         (takes_none s.world.desk (s.world.desk.last + 1) (fresh_takes start)) ((answering_kept eq).start s start i.answering);

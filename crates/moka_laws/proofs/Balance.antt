@@ -2,7 +2,7 @@
 use Rattle.std.proofs.Common.{◌≡◌, ℕ, ◌+◌, ◌<◌, ◌≤◌, ◌==◌, Bool, true, false, cond, List, [], ◌∷◌, ◌++◌, map, Some, refl, ap, ◌∙◌, arith}
 use Rattle.std.proofs.lemmas.List.{map-append}
 use Rattle.moka_hist.specs.Finite.{times}
-use Rattle.moka_hist.specs.State.{State, World, Call, DeskPart}
+use Rattle.moka_hist.specs.State.{Stay, State, World, Call, DeskPart}
 use Rattle.moka_hist.specs.Plan.{Item, Aim, held_by, plan_of}
 use Rattle.moka_hist.specs.Plan as plan
 use Rattle.moka_hist.specs.Visits.{number_of}
@@ -67,10 +67,10 @@ module _ {K V : Type 0} where
         (post_of x) plan + on_desk x w.desk + times x new.table.committed
 
   module _ (w : World K V) (n : ℕ) (plan : List (Item K V)) where
-    -- the world and the call's plan are as they were
-    stays_put : (c : Call K V) → c.plan ≡ plan → late plan ≡ 0 → times n w.table.committed + weigh may_write plan ≤ 1 →
-        (mode : Mode) (turn : Turn V) → Balances w n plan w (record { left = Some (record c { mode = mode }); turn = turn })
-    stays_put c e t spent mode turn = record {
+    -- the world and the call's plan are as they were, but for how long an operation has stayed undecided
+    stays_put : (stay : Stay) (c : Call K V) → c.plan ≡ plan → late plan ≡ 0 → times n w.table.committed + weigh may_write plan ≤ 1 →
+        (mode : Mode) (turn : Turn V) → Balances w n plan (record w { stay = stay }) (record { left = Some (record c { mode = mode }); turn = turn })
+    stays_put stay c e t spent mode turn = record {
       last = refl;
       tidy = ap late e ∙ t;
       spent = omega (arith, ap (weigh may_write) e);
@@ -144,7 +144,7 @@ module _ {K V : Type 0} where
     )
     on_item plan.Turn rest e t sp = (
       λ free. goes_on w n c plan.Turn rest refl refl (λ x. refl) t (λ x. refl) (omega arith),
-      λ taken. stays_put w n (plan.Turn ∷ rest) c e t sp mode.Parked turn.Wait,
+      λ taken. stays_put w n (plan.Turn ∷ rest) w.stay c e t sp mode.Parked turn.Wait,
     )
     on_item plan.Apply rest e t sp = (
       λ none. goes_on w n c plan.Apply rest refl refl (λ x. refl) t (λ x. refl) (omega arith),
@@ -158,7 +158,7 @@ module _ {K V : Type 0} where
     )
     on_item plan.End rest e t sp = goes_on w n c plan.End rest refl refl (λ x. refl) t (λ x. refl) (omega arith)
     on_item (plan.Get aim key) rest e t sp = (
-      stays_put w n (plan.Get aim key ∷ rest) c e t sp mode.Mid turn.Going,
+      λ more. stays_put w n (plan.Get aim key ∷ rest) _ c e t sp mode.Mid turn.Going,
       clears w n (plan.Get aim key ∷ rest) refl refl (λ x. refl) (misses_clear c aim) (λ x. omega (arith, posts_none x rest t)) (omega arith),
       λ k stored. clears w n (plan.Get aim key ∷ rest) refl refl (λ x. refl) (record { late = refl; posts = λ x. refl; may = omega arith })
           (λ x. omega (arith, posts_none x rest t)) (omega arith),
@@ -173,7 +173,7 @@ module _ {K V : Type 0} where
           (λ x. omega (arith, posts_none x rest t)) (omega arith),
     )
     on_item (plan.Read load) rest e t sp = (
-      λ none. stays_put w n (plan.Read load ∷ rest) c e t sp mode.Parked turn.Wait,
+      λ none. stays_put w n (plan.Read load ∷ rest) w.stay c e t sp mode.Parked turn.Wait,
       λ with some. clears w n (plan.Read load ∷ rest) refl refl (λ x. refl)
           (read_clear c load with (was_clear w n (plan.Read load ∷ rest) c e t sp (λ x. omega (arith, posts_none x rest t))))
           (λ x. omega (arith, posts_none x rest t)) (omega arith),
@@ -183,7 +183,7 @@ module _ {K V : Type 0} where
         clears w n (plan.Ask load ∷ rest) refl refl (λ x. refl) (record { late = refl; posts = λ x. refl; may = omega arith })
         (λ x. omega (arith, posts_none x rest t)) (omega arith)
     on_item (plan.Told load) rest e t sp = (
-      λ none. stays_put w n (plan.Told load ∷ rest) c e t sp mode.Parked turn.Wait,
+      λ none. stays_put w n (plan.Told load ∷ rest) w.stay c e t sp mode.Parked turn.Wait,
       λ given some. clears w n (plan.Told load ∷ rest) refl refl (λ x. refl)
           (told_clear c load given (was_clear w n (plan.Told load ∷ rest) c e t sp (λ x. omega (arith, posts_none x rest t))))
           (λ x. omega (arith, posts_none x rest t)) (omega arith),
@@ -196,7 +196,7 @@ module _ {K V : Type 0} where
       balance = λ x. omega arith;
     }
     on_item (plan.Write key value moment) rest e t sp = (
-      stays_put w n (plan.Write key value moment ∷ rest) c e t sp mode.Mid turn.Going,
+      λ more. stays_put w n (plan.Write key value moment ∷ rest) _ c e t sp mode.Mid turn.Going,
       record {
         last = refl;
         tidy = t;
@@ -215,5 +215,5 @@ module _ {K V : Type 0} where
 
     pub on_plan : (plan : List (Item K V)) → c.plan ≡ plan → late plan ≡ 0 → times n w.table.committed + weigh may_write plan ≤ 1 →
         OnStep eq (Balances w n plan) w n c plan
-    on_plan [] e t sp = stays_put w n [] c e t sp mode.Parked turn.Wait
+    on_plan [] e t sp = stays_put w n [] w.stay c e t sp mode.Parked turn.Wait
     on_plan (item ∷ rest) e t sp = outcomes eq (Balances w n (item ∷ rest)) w n c item rest (on_item item rest e t sp)

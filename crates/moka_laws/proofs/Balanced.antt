@@ -117,7 +117,7 @@ module _ {K V : Type 0} (eq : K → K → Bool) where
 
   pub balanced_kept : IsKept eq (IsBalanced {K = K} {V = V})
   balanced_kept = record {
-    fresh = λ size. record {
+    fresh = λ size has_log. record {
       numbered = λ n c live. absurd (none_some live);
       tidy = λ n c live. absurd (none_some live);
       unspent = λ n c live. absurd (none_some live);

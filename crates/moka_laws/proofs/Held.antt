@@ -100,7 +100,7 @@ module _ {K V : Type 0} where
     on_item plan.Turn rest h = (λ e. (omega (arith, weigh_goes held c rest (λ a. refl)), λ m d. refl), λ e. (has, λ m d. refl))
     on_item plan.Apply rest h = (λ e. (omega (arith, weigh_goes held c rest (λ a. refl)), λ m d. refl), λ x xs e. (omega arith, λ m d. refl))
     on_item plan.End rest h = (omega (arith, weigh_goes held c rest (λ a. refl)), λ m d. refl)
-    on_item (plan.Get aim key) rest h = ((has, λ m d. refl), (omega (arith, misses_weigh c aim), λ m d. refl), λ k stored. (omega arith, λ m d. refl))
+    on_item (plan.Get aim key) rest h = ((λ more. (has, λ m d. refl)), (omega (arith, misses_weigh c aim), λ m d. refl), λ k stored. (omega arith, λ m d. refl))
     on_item (plan.Judge aim key stored) rest h = (omega (arith, hits_weigh c aim stored.value), λ m d. refl)
     on_item (plan.Own load) rest h = (λ e. (omega arith, λ m d. refl), λ owner e. (omega arith, λ m d. refl))
     on_item (plan.Read load) rest h = (λ e. (has, λ m d. refl), λ with e. (omega (arith, read_weighs c load with), λ m d. refl))
@@ -108,7 +108,7 @@ module _ {K V : Type 0} where
     on_item (plan.Ask load) rest h = (omega arith, λ m d. refl)
     on_item (plan.Told load) rest h = (λ e. (has, λ m d. refl), λ given e. (omega (arith, told_weighs c load given), λ m d. refl))
     on_item (plan.Moment key value) rest h = (omega (arith, times_same n w.desk.holders), λ m d. times_other n m w.desk.holders d)
-    on_item (plan.Write key value moment) rest h = ((has, λ m d. refl), (omega arith, λ m d. refl))
+    on_item (plan.Write key value moment) rest h = ((λ more. (has, λ m d. refl)), (omega arith, λ m d. refl))
     on_item (plan.Reply answer) rest h = (omega arith, λ m d. refl)
 
     on_plan : (plan : List (Item K V)) → c.plan ≡ plan → OnStep eq (Suffices w n) w n c plan
@@ -123,7 +123,7 @@ module _ {K V : Type 0} (eq : K → K → Bool) where
 
   places_kept : IsKept eq (HavePlaces {K = K} {V = V})
   places_kept = record {
-    fresh = λ size n c live. absurd (none_some live);
+    fresh = λ size has_log n c live. absurd (none_some live);
     at = λ s moment all. all;
     start = λ s start all n c live.
         put_cases s.calls (s.world.desk.last + 1) (Some (fresh_call start)) n (Some c) (weigh held c.plan ≤ times n s.world.desk.holders) live

@@ -1,5 +1,5 @@
 -- What holds of a fresh cache and is kept by each event holds of every reached state.
-use Rattle.std.proofs.Common.{◌≢◌, ◌≡◌, ℕ, zero, suc, Bool, true, false, List, [], ◌∷◌, Option, Some, None, MatchOption, MatchBool, nat_lt, ◌==◌, refl, sym, subst}
+use Rattle.std.proofs.Common.{◌<◌, ◌≢◌, ◌≡◌, ℕ, zero, suc, Bool, true, false, List, [], ◌∷◌, Option, Some, None, MatchOption, MatchBool, nat_lt, ◌==◌, refl, sym, subst}
 use Rattle.moka_hist.specs.State.{State, Call, fresh}
 use Rattle.moka_hist.specs.Dropping.{dropped}
 use Rattle.moka_hist.specs.Telling.{is_asked, told}
@@ -18,7 +18,7 @@ use Rattle.moka_hist.specs.declared.accesses.Turn.{Turn}
 module _ {K V : Type 0} (eq : K → K → Bool) where
   -- a fresh cache has it, and each event keeps it
   pub record IsKept (I : State K V → Type 0) : Type 0 where
-    pub fresh : (size : ℕ) → I (fresh K V size)
+    pub fresh : (size : ℕ) → 0 < size → I (fresh K V size)
     pub at : (s : State K V) (moment : ℕ) → I s → I (at_moment s moment)
     pub start : (s : State K V) (start : Start K V) → I s → I (started s start)
     pub step : (s t : State K V) (n : ℕ) (turn : Turn V) → I s → Step eq s n turn t → I t
@@ -78,4 +78,4 @@ module _ {K V : Type 0} (eq : K → K → Bool) where
     runs s t (e ∷ es) [] i run = absurd run
 
     pub in_reached : (s : State K V) → IsReached eq s → I s
-    in_reached s h = runs (fresh K V h.size) s h.events h.replies (kept.fresh h.size) h.run
+    in_reached s h = runs (fresh K V h.size) s h.events h.replies (kept.fresh h.size h.has_log) h.run

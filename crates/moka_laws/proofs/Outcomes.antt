@@ -1,5 +1,5 @@
 -- What a step may make, item by item.
-use Rattle.std.proofs.Common.{append-nil, ◌≡◌, ℕ, suc, Bool, true, false, cond, nat_lt, ◌==◌, List, [], ◌∷◌, ◌++◌, length, drop, take, Option, Some, None, is_some, unwrap_or, refl, sym, ap, ◌∙◌, subst, arith}
+use Rattle.std.proofs.Common.{append-nil, ◌<◌, ◌≡◌, ℕ, suc, Bool, true, false, cond, nat_lt, ◌==◌, List, [], ◌∷◌, ◌++◌, length, drop, take, Option, Some, None, is_some, unwrap_or, refl, sym, ap, ◌∙◌, subst, arith}
 use Rattle.std.proofs.lemmas.Bool.{eqb-true}
 use Rattle.std.proofs.lemmas.Bool.Decides.{nat_tests}
 use Rattle.moka_hist.specs.Finite.{put_at, without_one}
@@ -8,6 +8,7 @@ use Rattle.moka_hist.specs.Plan.{Item, Aim, look}
 use Rattle.moka_hist.specs.Plan as plan
 use Rattle.moka_hist.specs.Visits.{decided, claimed, claim_of, finds, has_room, is_free_for, settlement_for, readers_without, settled_without, stamped, judged, settled_as, opened, took_told, ended_turn}
 use Rattle.moka_hist.specs.Tables.{table_answer, table_after, answer_of}
+use Rattle.moka_hist.specs.Bound.{times_of, stayed, decided_by, most_undecided}
 use Rattle.moka_hist.specs.Next.{Next, goes, stays, waits, asks, answers}
 use Rattle.moka_hist.specs.Posting.{after_drain, after_post, after_turn, after_apply}
 use Rattle.moka_hist.specs.Looking.{misses, hits, after_get}
@@ -61,6 +62,14 @@ module _ {K V : Type 0} (eq : K → K → Bool) where
   abbrev pub was_read : DeskPart K V → ℕ → DeskPart K V
   was_read d n = record d { joined = put_at d.joined n None; readers = readers_without d n; settled = settled_without d n }
 
+  -- the world once a look of this call has decided
+  abbrev pub done : World K V → ℕ → World K V
+  done w n = record w { stay = decided_by n }
+
+  -- M holds where the operation stays undecided once more
+  abbrev pub Undecided : (World K V → Next K V → Type 0) → World K V → ℕ → Call K V → Type 0
+  Undecided M w n c = times_of w.stay n < most_undecided w.table → M (record w { stay = stayed w.stay n }) (stays c)
+
   -- M holds of each outcome of the item, with what is known there
   abbrev pub Outcomes : (World K V → Next K V → Type 0) → World K V → ℕ → Call K V → Item K V → List (Item K V) → Type 0
   Outcomes M w n c plan.Drain rest =
@@ -79,7 +88,7 @@ module _ {K V : Type 0} (eq : K → K → Bool) where
       ((x : Write) (xs : List Write) → w.desk.log ≡ x ∷ xs → M (on_desk w (was_applied w.desk x xs)) (goes c (plan.Apply ∷ rest)))
   Outcomes M w n c plan.End rest = M (on_desk w (ended_turn w.desk)) (goes c rest)
   Outcomes M w n c (plan.Get aim key) rest =
-      M w (stays c) × M w (misses c aim) × ((k : K) (stored : Stored V) → M w (goes c (plan.Judge aim k stored ∷ [])))
+      Undecided M w n c × M (done w n) (misses c aim) × ((k : K) (stored : Stored V) → M (done w n) (goes c (plan.Judge aim k stored ∷ [])))
   Outcomes M w n c (plan.Judge aim key stored) rest = M (on_desk w (judged w.desk stored.stamp stored.modified)) (hits c aim stored.value)
   Outcomes M w n c (plan.Own load) rest =
       (w.desk.owners load ≡ None → M (on_desk w (claimed eq w.desk n load None)) (goes c (look (plan.To_own load) load.key))) ×
@@ -95,8 +104,8 @@ module _ {K V : Type 0} (eq : K → K → Bool) where
   Outcomes M w n c (plan.Moment key value) rest = M (on_desk w (stamped w.desk n)) (goes c (plan.Write key value w.desk.clock ∷ rest))
   Outcomes M w n c (plan.Write key value moment) rest =
       let write : TableOp K V = op.InsertOrModify key (record { value = value; stamp = n; modified = moment }) in
-      M w (stays c) ×
-      M (record w { table = table_after eq w.table write }) (goes c (plan.Post (Upsert n (old_stamp (table_answer w.table write))) ∷ rest))
+      Undecided M w n c ×
+      M (record w { table = table_after eq w.table write; stay = decided_by n }) (goes c (plan.Post (Upsert n (old_stamp (table_answer w.table write))) ∷ rest))
   Outcomes M w n c (plan.Reply answer) rest = M w (answers answer)
 
   -- the desk once the call has tried to post its write
@@ -137,7 +146,7 @@ module _ {K V : Type 0} (eq : K → K → Bool) where
         (sym (some_left (length xs))) (o.1 x xs e)
 
     got : (aim : Aim K) (key : K) (rest : List (Item K V)) (pair : Option (K × Stored V)) → Outcomes M w n c (plan.Get aim key) rest →
-        M w (after_get c aim (table.Decided (answer_of pair)))
+        M (done w n) (after_get c aim (table.Decided (answer_of pair)))
     got aim key rest None o = o.1
     got aim key rest (Some pair) o = o.2 pair.0 pair.1
 

@@ -33,22 +33,22 @@ module _ {K V : Type 0} (eq : K → K → Bool) where
   operation_keeps w (op.InsertOrModify key stored) under =
       λ q p is. put_under key q (key, stored) p (w.table.stored q) (eq key q) refl refl is (under q p)
 
-  access_keeps : (w new : World K V) (a : Access K V) (g : Got K V) → Gets eq w a g new → IsUnder w.table.stored → IsUnder new.table.stored
-  access_keeps w new (step.On_table o) (got.Table table.Going) gets under = subst (λ (v : World K V). IsUnder v.table.stored) (sym gets) under
-  access_keeps w new (step.On_table o) (got.Table (table.Decided answer)) gets under =
+  access_keeps : (n : ℕ) (w new : World K V) (a : Access K V) (g : Got K V) → Gets eq n w a g new → IsUnder w.table.stored → IsUnder new.table.stored
+  access_keeps n w new (step.On_table o) (got.Table table.Going) gets under = subst (λ (v : World K V). IsUnder v.table.stored) (sym gets.1) under
+  access_keeps n w new (step.On_table o) (got.Table (table.Decided answer)) gets under =
       subst (λ (v : World K V). IsUnder v.table.stored) (sym gets.1) (operation_keeps w o under)
-  access_keeps w new (step.On_desk made) (got.Desk found) gets under = subst (λ (v : World K V). IsUnder v.table.stored) (sym gets.1) under
-  access_keeps w new (step.On_table o) (got.Desk found) gets under = absurd gets
-  access_keeps w new (step.On_desk made) (got.Table turn) gets under = absurd gets
+  access_keeps n w new (step.On_desk made) (got.Desk found) gets under = subst (λ (v : World K V). IsUnder v.table.stored) (sym gets.1) under
+  access_keeps n w new (step.On_table o) (got.Desk found) gets under = absurd gets
+  access_keeps n w new (step.On_desk made) (got.Table turn) gets under = absurd gets
 
   step_keeps : (s t : State K V) (n : ℕ) (turn : Turn V) → UnderOwnKeys eq s → Step eq s n turn t → UnderOwnKeys eq t
   step_keeps s t n turn under h =
       subst (λ (v : State K V). IsUnder v.world.table.stored) (sym h.after)
-      (access_keeps s.world h.world (access_of n h.call) h.given h.gets under)
+      (access_keeps n s.world h.world (access_of n h.call) h.given h.gets under)
 
   kept : IsKept {K = K} {V = V} eq (UnderOwnKeys {K = K} {V = V} eq)
   kept = record {
-    fresh = λ size q p is. cc;
+    fresh = λ size has_log q p is. cc;
     at = λ s moment under. under;
     start = λ s start under. under;
     step = step_keeps;

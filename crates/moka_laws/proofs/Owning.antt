@@ -212,7 +212,7 @@ module _ {K V : Type 0} (eq : K → K → Bool) where
     )
     on_item plan.End rest p o = keeps refl (goes_owns _ n c rest o.later)
     on_item (plan.Get aim key) rest p o =
-        (keeps refl p, keeps refl (misses_owns _ n c aim key rest o), λ k stored. keeps refl (judge_owns _ n aim key k stored rest o))
+        ((λ more. keeps refl p), keeps refl (misses_owns _ n c aim key rest o), λ k stored. keeps refl (judge_owns _ n aim key k stored rest o))
     on_item (plan.Judge aim key stored) rest p o = keeps refl (hits_owns _ n c aim stored.value)
     on_item (plan.Own load) rest p o = (
       λ none. record {
@@ -232,7 +232,7 @@ module _ {K V : Type 0} (eq : K → K → Bool) where
     on_item (plan.Ask load) rest p o = keeps refl (record { first = o.first; later = refl })
     on_item (plan.Told load) rest p o = (λ none. keeps refl p, λ given some. keeps refl (told_owns _ n c load given p))
     on_item (plan.Moment key value) rest p o = keeps refl (owns_none _ n (plan.Write key value w.desk.clock ∷ rest) (omega (arith, o.later)))
-    on_item (plan.Write key value moment) rest p o = (keeps refl p, keeps refl (owns_none _ n (plan.Post _ ∷ rest) (omega (arith, o.later))))
+    on_item (plan.Write key value moment) rest p o = ((λ more. keeps refl p), keeps refl (owns_none _ n (plan.Post _ ∷ rest) (omega (arith, o.later))))
     on_item (plan.Reply answer) rest p o = keeps refl (owns_none _ n [] refl)
 
     on_plan : (plan : List (Item K V)) → c.plan ≡ plan → Owns w.desk.owners n c.plan → OnStep eq (Leaves w n) w n c plan
@@ -263,7 +263,7 @@ module _ {K V : Type 0} (eq : K → K → Bool) (laws : IsEquivalence eq) where
 
   owned_kept : IsKept eq (IsOwned {K = K} {V = V} eq)
   owned_kept = record {
-    fresh = λ size. record { one_owner = λ a b e. refl; calls = λ n c live. absurd (none_some live) };
+    fresh = λ size has_log. record { one_owner = λ a b e. refl; calls = λ n c live. absurd (none_some live) };
     at = λ s moment i. record { one_owner = i.one_owner; calls = i.calls };
     start = λ s start i. record {
       one_owner = i.one_owner;

@@ -1,5 +1,5 @@
 -- Which states a run can reach, and how a run goes on.
-use Rattle.std.proofs.Common.{ℕ, zero, suc, Bool, List, [], ◌∷◌, ◌++◌, refl, sym, subst}
+use Rattle.std.proofs.Common.{◌<◌, ℕ, zero, suc, Bool, List, [], ◌∷◌, ◌++◌, refl, sym, subst}
 use Rattle.moka_hist.specs.State.{State, fresh}
 use Rattle.moka_hist.specs.Step.{Step}
 use Rattle.moka_hist.specs.Run.{Goings, Steps, Happens, Run, Any, IsReached, reply_of}
@@ -9,8 +9,8 @@ use Rattle.moka_hist.specs.declared.replies.Reply.{Reply}
 use Rattle.moka_hist.specs.declared.accesses.Turn.{Turn}
 
 module _ {K V : Type 0} (eq : K → K → Bool) where
-  pub fresh_reached : (size : ℕ) → IsReached {K = K} {V = V} eq (fresh K V size)
-  fresh_reached size = record { size = size; events = []; replies = []; run = refl }
+  pub fresh_reached : (size : ℕ) → 0 < size → IsReached {K = K} {V = V} eq (fresh K V size)
+  fresh_reached size has_log = record { size = size; has_log = has_log; events = []; replies = []; run = refl }
 
   -- a run goes on by one event at its end, through states that meet P
   pub go_on : (P : State K V → Type 0) (s m t : State K V) (es : List (Event K V)) (rs : List (Reply V)) (e : Event K V) (r : Reply V) →
@@ -23,6 +23,7 @@ module _ {K V : Type 0} (eq : K → K → Bool) where
   pub event_reached : (s t : State K V) (e : Event K V) (r : Reply V) → IsReached eq s → Happens eq Any s e r t → IsReached eq t
   event_reached s t e r h step = record {
     size = h.size;
+    has_log = h.has_log;
     events = h.events ++ e ∷ [];
     replies = h.replies ++ r ∷ [];
     run = go_on Any (fresh K V h.size) s t h.events h.replies e r h.run step tt;

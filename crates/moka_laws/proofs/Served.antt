@@ -149,9 +149,9 @@ module _ {K V : Type 0} (eq : K → K → Bool) where
 
   served_kept : IsKept eq IsServed
   served_kept = record {
-    fresh = λ size. record {
-      balanced = (balanced_kept eq).fresh size;
-      answering = (answering_kept eq).fresh size;
+    fresh = λ size has_log. record {
+      balanced = (balanced_kept eq).fresh size has_log;
+      answering = (answering_kept eq).fresh size has_log;
       fits = λ n. record { last = tt; owning = refl; waiting = refl };
       owner = λ load o e. absurd (none_some e);
       counted = λ o. sym (sum_zero (λ m. 0));

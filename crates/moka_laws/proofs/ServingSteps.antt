@@ -77,7 +77,7 @@ module _ {K V : Type 0} (eq : K → K → Bool) (w : World K V) (n : ℕ) (c : C
   on_item plan.End rest p q = goes_rest rest (like rest _ q q.fits.last (omega arith) refl)
   on_item (plan.Get aim key) rest p q =
       let f = alone (plan.Get aim key) rest q.fits.last q in (
-        goes_with _ p,
+        λ more. goes_with _ p,
         goes_free (misses_fits _ _ c aim key f) (misses_awaits c aim),
         λ k stored. goes_free (judge_fits _ _ aim key k stored f) refl,
       )
@@ -111,7 +111,7 @@ module _ {K V : Type 0} (eq : K → K → Bool) (w : World K V) (n : ℕ) (c : C
   on_item (plan.Moment key value) rest p q =
       goes_with _ (like (plan.Write key value w.desk.clock ∷ rest) _ q q.fits.last refl refl)
   on_item (plan.Write key value moment) rest p q = (
-    goes_with _ p,
+    λ more. goes_with _ p,
     goes_with _ (like (plan.Post _ ∷ rest) _ q q.fits.last refl refl),
   )
   on_item (plan.Reply answer) rest p q =

@@ -1,9 +1,10 @@
 -- One step, taken apart by the first item of the call's plan.
-use Rattle.std.proofs.Common.{ℕ, Bool, List, [], ◌∷◌, sym, subst}
+use Rattle.std.proofs.Common.{ℕ, ◌<◌, Bool, List, [], ◌∷◌, sym, subst}
 use Rattle.moka_hist.specs.State.{State, Call, World}
 use Rattle.moka_hist.specs.Plan.{Item}
 use Rattle.moka_hist.specs.Visits.{finds, makes}
 use Rattle.moka_hist.specs.Tables.{table_answer, table_after}
+use Rattle.moka_hist.specs.Bound.{times_of, stayed, decided_by, most_undecided}
 use Rattle.moka_hist.specs.Next.{Next, waits}
 use Rattle.moka_hist.specs.Step.{Access, On_table, On_desk, access_for, access_of, after_table, after_visit, next_of, Gets, state_after, Step}
 use Rattle.moka_hist.specs.declared.records.Mode.{Mode}
@@ -16,7 +17,8 @@ module _ {K V : Type 0} (eq : K → K → Bool) where
   -- M holds of all that the access may make of the world and of the call
   abbrev pub OnAccess : (World K V → Next K V → Type 0) → World K V → ℕ → Call K V → Item K V → List (Item K V) → Access K V → Type 0
   OnAccess M w n c item rest (On_table op) =
-      M w (after_table n c item rest table.Going) × M (record w { table = table_after eq w.table op })
+      (times_of w.stay n < most_undecided w.table → M (record w { stay = stayed w.stay n }) (after_table n c item rest table.Going)) ×
+      M (record w { table = table_after eq w.table op; stay = decided_by n })
       (after_table n c item rest (table.Decided (table_answer w.table op)))
   OnAccess M w n c item rest (On_desk made) =
       M (record w { desk = makes eq w.desk made }) (after_visit c item rest (finds w.desk made))
@@ -32,9 +34,9 @@ module _ {K V : Type 0} (eq : K → K → Bool) where
   after n c item rest (got.Desk f) = after_visit c item rest f
 
   by_access : (M : World K V → Next K V → Type 0) (w : World K V) (n : ℕ) (c : Call K V) (item : Item K V) (rest : List (Item K V))
-      (a : Access K V) (given : Got K V) (new : World K V) → Gets eq w a given new → OnAccess M w n c item rest a → M new
+      (a : Access K V) (given : Got K V) (new : World K V) → Gets eq n w a given new → OnAccess M w n c item rest a → M new
       (after n c item rest given)
-  by_access M w n c item rest (On_table op) (got.Table table.Going) new h m = subst (λ v. M v (after_table n c item rest table.Going)) (sym h) m.0
+  by_access M w n c item rest (On_table op) (got.Table table.Going) new h m = subst (λ v. M v (after_table n c item rest table.Going)) (sym h.1) (m.0 h.0)
   by_access M w n c item rest (On_table op) (got.Table (table.Decided answer)) new h m = rw (h.1, h.0) m.1
   by_access M w n c item rest (On_desk made) (got.Desk f) new h m = rw (h.1, h.0) m
   by_access M w n c item rest (On_table op) (got.Desk f) new h m = absurd h
@@ -43,7 +45,7 @@ module _ {K V : Type 0} (eq : K → K → Bool) where
   by_plan : (M : World K V → Next K V → Type 0) (w : World K V) (n : ℕ) (mode : Mode) (plan : List (Item K V)) (aborts : ℕ)
       (given : Got K V) (new : World K V) →
       let c : Call K V = record { mode = mode; plan = plan; aborts = aborts } in
-      Gets eq w (access_of n c) given new → OnStep M w n c plan → M new (next_of n c given)
+      Gets eq n w (access_of n c) given new → OnStep M w n c plan → M new (next_of n c given)
   by_plan M w n mode [] aborts (got.Desk f) new h m = rw h.1 m
   by_plan M w n mode [] aborts (got.Table turn) new h m = absurd h
   by_plan M w n mode (item ∷ rest) aborts (got.Table turn) new h m = by_access M w n
@@ -54,7 +56,7 @@ module _ {K V : Type 0} (eq : K → K → Bool) where
   more_access : (M N : World K V → Next K V → Type 0) → ((w : World K V) (next : Next K V) → M w next → N w next) →
       (w : World K V) (n : ℕ) (c : Call K V) (item : Item K V) (rest : List (Item K V)) (a : Access K V) → OnAccess M w n c item rest a →
       OnAccess N w n c item rest a
-  more_access M N f w n c item rest (On_table op) m = (f _ _ m.0, f _ _ m.1)
+  more_access M N f w n c item rest (On_table op) m = (λ h. f _ _ (m.0 h), f _ _ m.1)
   more_access M N f w n c item rest (On_desk made) m = f _ _ m
 
   more_step : (M N : World K V → Next K V → Type 0) → ((w : World K V) (next : Next K V) → M w next → N w next) →

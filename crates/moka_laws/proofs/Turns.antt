@@ -198,7 +198,7 @@ module _ {K V : Type 0} where
     }
     on_item (plan.Get aim key) rest e q =
         let c_calm : weigh of_turn c.plan ≡ 0 = omega (arith, ap (weigh of_turn) e, q.first) in
-        (calm _ n c_calm q.has, calm _ n (misses_calm c aim) q.has, λ k stored. calm _ n refl q.has)
+        ((λ more. calm _ n c_calm q.has), calm _ n (misses_calm c aim) q.has, λ k stored. calm _ n refl q.has)
     on_item (plan.Judge aim key stored) rest e q = calm _ n (hits_calm c aim stored.value) q.has
     on_item (plan.Own load) rest e q = (λ none. calm _ n refl q.has, λ owner some. calm _ n refl q.has)
     on_item (plan.Read load) rest e q =
@@ -212,7 +212,7 @@ module _ {K V : Type 0} where
     on_item (plan.Moment key value) rest e q = calm _ n (omega (arith, q.first)) q.has
     on_item (plan.Write key value moment) rest e q =
         let c_calm : weigh of_turn c.plan ≡ 0 = omega (arith, ap (weigh of_turn) e, q.first) in
-        (calm _ n c_calm q.has, calm _ n (omega (arith, q.first)) q.has)
+        ((λ more. calm _ n c_calm q.has), calm _ n (omega (arith, q.first)) q.has)
     on_item (plan.Reply answer) rest e q = calm _ n refl q.has
 
     on_plan : (plan : List (Item K V)) → c.plan ≡ plan → TurnFits w.desk.turn n c.plan → OnStep eq Leaves w n c plan
@@ -259,8 +259,8 @@ module _ {K V : Type 0} (eq : K → K → Bool) where
 
   turning_kept : IsKept eq (IsTurning {K = K} {V = V})
   turning_kept = record {
-    fresh = λ size. record {
-      balanced = (balanced_kept eq).fresh size;
+    fresh = λ size has_log. record {
+      balanced = (balanced_kept eq).fresh size has_log;
       fits = λ n. record { first = tt; has = λ e. absurd (none_some e); applies = λ t. absurd t };
       mid = λ n t. t;
     };

@@ -82,7 +82,7 @@ module _ {K V : Type 0} where
     on_item plan.Turn rest = (λ e. never w c (λ q. false≢true (sym q ∙ e)) (goes_on c rest), λ e. always w c e)
     on_item plan.Apply rest = (λ e. never w c (λ q. q) (goes_on c rest), λ x xs e. never w c (λ q. q) (λ e. cc))
     on_item plan.End rest = never w c (λ q. q) (goes_on c rest)
-    on_item (plan.Get aim key) rest = (never w c (λ q. q) (λ e. cc), never w c (λ q. q) (misses_on c aim), λ k stored. never w c (λ q. q) (λ e. cc))
+    on_item (plan.Get aim key) rest = ((λ more. never w c (λ q. q) (λ e. cc)), never w c (λ q. q) (misses_on c aim), λ k stored. never w c (λ q. q) (λ e. cc))
     on_item (plan.Judge aim key stored) rest = never w c (λ q. q) (hits_on c aim stored.value)
     on_item (plan.Own load) rest = (λ e. never w c (λ q. q) (λ e. cc), λ owner e. never w c (λ q. q) (λ e. cc))
     on_item (plan.Read load) rest = (
@@ -96,7 +96,7 @@ module _ {K V : Type 0} where
       λ given e. never w c (not_none _ e) (told_on c load given (λ h. has.told n (e ∙ h))),
     )
     on_item (plan.Moment key value) rest = never w c (λ q. q) (λ e. cc)
-    on_item (plan.Write key value moment) rest = (never w c (λ q. q) (λ e. cc), never w c (λ q. q) (λ e. cc))
+    on_item (plan.Write key value moment) rest = ((λ more. never w c (λ q. q) (λ e. cc)), never w c (λ q. q) (λ e. cc))
     on_item (plan.Reply answer) rest = never w c (λ q. q) (λ e. cc)
 
 module _ {K V : Type 0} (eq : K → K → Bool) where

@@ -1,5 +1,5 @@
 -- Which states a run can reach, and how a run goes on.
-use Rattle.std.specs.Prelude.{ℕ, Bool, List, [], ◌∷◌, ◌++◌}
+use Rattle.std.specs.Prelude.{ℕ, ◌<◌, Bool, List, [], ◌∷◌, ◌++◌}
 use Rattle.moka_hist.specs.State.{State, fresh}
 use Rattle.moka_hist.specs.Step.{Step}
 use Rattle.moka_hist.specs.Run.{Goings, Happens, Run, Any, IsReached}
@@ -7,9 +7,9 @@ use Rattle.moka_hist.specs.declared.events.Event.{Event}
 use Rattle.moka_hist.specs.declared.replies.Reply.{Reply}
 use Rattle.moka_hist.specs.declared.accesses.Turn.{Turn}
 
--- a fresh cache is reached, with a log of any size
+-- a fresh cache is reached, with a log of any size but none
 abbrev pub FreshIsReached : (K V : Type 0) → (K → K → Bool) → Type 0
-FreshIsReached K V eq = (size : ℕ) → IsReached eq (fresh K V size)
+FreshIsReached K V eq = (size : ℕ) → 0 < size → IsReached eq (fresh K V size)
 
 -- what an event leaves of a reached state is reached
 abbrev pub ReachedByEvent : (K V : Type 0) → (K → K → Bool) → Type 0
