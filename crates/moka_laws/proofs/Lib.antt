@@ -25,3 +25,5 @@ pub mod Coming
 pub mod Moved
 pub mod Between
 pub mod Lawfully
+pub mod Plans
+pub mod Ways

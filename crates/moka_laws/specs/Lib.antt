@@ -5,3 +5,4 @@ pub mod Lawful
 pub mod Missing
 pub mod Moving
 pub mod OwnKeys
+pub mod Bounded

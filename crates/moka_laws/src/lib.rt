@@ -4,6 +4,7 @@
 //! Each law is the contract of a function that does nothing. To call it is to cite the law.
 #![tactic(auto)]
 
+mod bounded;
 mod lawful;
 mod missing;
 mod moving;
@@ -12,6 +13,7 @@ mod reaching;
 mod stored;
 mod waiting;
 
+pub use bounded::{logs_have_room, step_events_are_bounded, steps_are_bounded};
 pub use lawful::{
     event_is_lawful, lawful_run_goes_on, reached_is_lawful, run_is_lawful, steps_are_lawful,
 };

@@ -1,0 +1,346 @@
+-- Each step that leaves a call going lowers how many it may still make.
+use Rattle.std.proofs.Common.{◌≡◌, ◌≢◌, ℕ, suc, ◌+◌, ◌<◌, ◌≤◌, ◌==◌, nat_lt, Bool, true, false, cond, List, [], ◌∷◌, ◌++◌, length, drop, Option, Some, None, is_some, unwrap_or, refl, sym, ap, ◌∙◌, subst, arith}
+use Rattle.std.proofs.lemmas.List.{length-append}
+use Rattle.std.proofs.lemmas.Bool.Decides.{nat_tests}
+use Rattle.moka_hist.specs.State.{Call, DeskPart, World}
+use Rattle.moka_hist.specs.Plan.{Item, Aim, look, loaded}
+use Rattle.moka_hist.specs.Plan as plan
+use Rattle.moka_hist.specs.Next.{Next, goes, stays, waits, asks, answers}
+use Rattle.moka_hist.specs.Visits.{claimed, settlement_for, is_free_for, finds, claim_of, has_room}
+use Rattle.moka_hist.specs.Posting.{after_drain, after_post, after_turn, after_apply}
+use Rattle.moka_hist.specs.Looking.{hits, misses, after_get}
+use Rattle.moka_hist.specs.Loading.{retries, after_own, after_read, after_told}
+use Rattle.moka_hist.specs.Writing.{old_stamp}
+use Rattle.moka_hist.specs.Step.{Gets, access_of, access_for, next_of, after_table, after_visit, going_as}
+use Rattle.moka_hist.specs.declared.records.Mode.{Mode}
+use Rattle.moka_hist.specs.declared.records.Mode.TheVariants as mode
+use Rattle.moka_hist.specs.declared.loads.Load.{Load}
+use Rattle.moka_hist.specs.declared.events.Told.{Told}
+use Rattle.moka_hist.specs.declared.events.Told.TheVariants as told
+use Rattle.moka_hist.specs.declared.writes.Write.{Write}
+use Rattle.moka_hist.specs.declared.writes.Write.TheVariants.{Upsert}
+use Rattle.moka_hist.specs.declared.replies.Ask.TheVariants as ask
+use Rattle.moka_hist.specs.declared.visits.Claim.{Claim}
+use Rattle.moka_hist.specs.declared.visits.Claim.TheVariants as claim
+use Rattle.moka_hist.specs.declared.visits.Settled.{Settled}
+use Rattle.moka_hist.specs.declared.visits.Settled.TheVariants as settled
+use Rattle.moka_hist.specs.declared.visits.Visit.TheVariants as visit
+use Rattle.moka_hist.specs.declared.visits.Found.TheVariants as found
+use Rattle.moka_hist.specs.declared.replies.Answer.TheVariants as answer
+use Rattle.moka_hist.specs.declared.tables.TableAnswer.{TableAnswer}
+use Rattle.moka_hist.specs.declared.tables.TableAnswer.TheVariants as table_answer
+use Rattle.moka_hist.specs.declared.tables.TableTurn.TheVariants as table
+use Rattle.moka_hist.specs.declared.accesses.Got.{Got}
+use Rattle.moka_hist.specs.declared.accesses.Got.TheVariants as got
+use Rattle.moka_hist.specs.declared.accesses.Turn.TheVariants as turn
+use Rattle.moka_bound.specs.Ahead.{Work, growth, post_steps, judge_steps, steps_of, ahead}
+use Rattle.moka_bound.specs.Falling.{Counts, Shortens, GoingFalls}
+use Rattle.moka_bound.proofs.More.{more, judge_more, post_worst}
+
+-- whether the log has room for a write
+abbrev room_in : Work → Bool
+room_in work = nat_lt work.logged work.size
+
+-- no more is owed than before, and operations stay undecided for no longer
+record Eases (old new : Work) : Type 0 where
+  owed : new.owed ≤ old.owed
+  most : new.most ≤ old.most
+  within : new.left ≤ new.most
+
+-- nothing else has changed either
+record Same (old new : Work) : Type 0 where
+  eases : Eases old new
+  logged : new.logged ≡ old.logged
+  size : new.size ≡ old.size
+
+same_rooms : (old new : Work) → Same old new → post_steps (room_in new) ≤ post_steps (room_in old)
+same_rooms old new s = rw (s.logged, s.size) (omega arith)
+
+some_left : (k : ℕ) → nat_lt 0 (suc k) ≡ true
+some_left k = grind (arith, nat_tests)
+
+some_room : (size : ℕ) → 0 < size → nat_lt 0 size ≡ true
+some_room size h = grind (arith, nat_tests)
+
+module _ {K V : Type 0} where
+  -- the call, if it goes on, has fewer steps ahead than so many
+  abbrev Falls : Work → ℕ → Next K V → Type 0
+  Falls new bound next = next.turn ≡ turn.Going → (d : Call K V) × (next ≡ going_as d) × (ahead new d < bound)
+
+  never : (new : Work) (bound : ℕ) (next : Next K V) → next.turn ≢ turn.Going → Falls new bound next
+  never new bound next h e = absurd (h e)
+
+  falls_on : (new : Work) (bound : ℕ) (c : Call K V) → ahead new c < bound → Falls new bound (record { left = Some c; turn = turn.Going })
+  falls_on new bound c h e = (c, refl, h)
+
+  falls_goes : (new : Work) (bound : ℕ) (c : Call K V) (rest : List (Item K V)) →
+      new.logged + steps_of new.owed new.most c.aborts (room_in new) new.left rest < bound → Falls new bound (goes c rest)
+  falls_goes new bound c [] h = falls_on new bound (record c { mode = mode.Mid; plan = [] }) h
+  falls_goes new bound c (plan.Reply a ∷ []) h = never new bound (answers a) (λ e. cc)
+  falls_goes new bound c (plan.Reply a ∷ x ∷ rest) h = falls_on new bound (record c { mode = mode.Mid; plan = plan.Reply a ∷ x ∷ rest }) h
+  falls_goes new bound c (item ∷ rest) h = falls_on new bound (record c { mode = mode.Mid; plan = item ∷ rest }) h
+
+  -- the plan takes no more steps than before, with this room in the log
+  eased : (old new : Work) (aborts : ℕ) (room : Bool) (p : List (Item K V)) → Eases old new → post_steps (room_in new) ≤ post_steps room →
+      steps_of new.owed new.most aborts (room_in new) new.left p ≤ steps_of old.owed old.most aborts room old.most p
+  eased old new aborts room p e r = more p new.owed old.owed new.most old.most aborts new.left old.most (room_in new) room e.owed e.most (omega (arith, e.most, e.within)) r
+
+  -- where nothing has changed, the call goes on with a plan that takes fewer steps
+  same_falls : (old new : Work) (bound : ℕ) (c : Call K V) (rest : List (Item K V)) → Same old new →
+      old.logged + steps_of old.owed old.most c.aborts (room_in old) old.most rest < bound → Falls new bound (goes c rest)
+  same_falls old new bound c rest s h =
+      let e = eased old new c.aborts (room_in old) rest s.eases (same_rooms old new s) in
+      falls_goes new bound c rest (omega (arith, e, h, s.logged))
+
+  -- ---- the items that may leave the call going
+
+  module _ (old new : Work) (c : Call K V) (young : c.aborts < retries) where
+    -- what a plan takes, where the call stands at its first item
+    abbrev bound_of : List (Item K V) → ℕ
+    bound_of p = old.logged + steps_of old.owed old.most c.aborts (room_in old) old.left p
+
+    drains : (rest : List (Item K V)) → Same old new → Falls new (bound_of (plan.Drain ∷ rest)) (goes c rest)
+    drains rest s =
+        let e = eased old new c.aborts false rest s.eases (post_worst (room_in new)) in
+        falls_goes new _ c rest (omega (arith, e, s.logged))
+
+    takes_up : (x : Write) (rest : List (Item K V)) → Eases old new → new.logged ≡ old.logged → new.owed + 1 ≡ old.owed →
+        Falls new (bound_of (plan.Drain ∷ rest)) (goes c (plan.Post x ∷ plan.Drain ∷ rest))
+    takes_up x rest e l o =
+        let h = more rest new.owed old.owed new.most old.most c.aborts new.most old.most false false e.owed e.most e.most (post_worst false) in
+        let r = post_worst (room_in new) in
+        falls_goes new _ c (plan.Post x ∷ plan.Drain ∷ rest) (omega (arith, h, r, l, o))
+
+    posts : (x : Write) (rest : List (Item K V)) → Eases old new → new.logged ≡ old.logged + 1 → room_in old ≡ true →
+        Falls new (bound_of (plan.Post x ∷ rest)) (goes c rest)
+    posts x rest e l room =
+        let h = eased old new c.aborts false rest e (post_worst (room_in new)) in
+        falls_goes new _ c rest (omega (arith, h, l, ap post_steps room))
+
+    applies_first : (x : Write) (rest : List (Item K V)) → Same old new → room_in old ≡ false →
+        Falls new (bound_of (plan.Post x ∷ rest)) (goes c (plan.Turn ∷ plan.Apply ∷ plan.End ∷ plan.Post x ∷ rest))
+    applies_first x rest s room =
+        same_falls old new _ c (plan.Turn ∷ plan.Apply ∷ plan.End ∷ plan.Post x ∷ rest) s (omega (arith, ap post_steps room))
+
+    applied_all : (rest : List (Item K V)) → Same old new → room_in new ≡ true → Falls new (bound_of (plan.Apply ∷ rest)) (goes c rest)
+    applied_all rest s room =
+        let h = eased old new c.aborts true rest s.eases (omega (arith, ap post_steps room)) in
+        falls_goes new _ c rest (omega (arith, h, s.logged))
+
+    applies_one : (rest : List (Item K V)) → Eases old new → new.logged + 1 ≡ old.logged → Falls new (bound_of (plan.Apply ∷ rest)) (goes c (plan.Apply ∷ rest))
+    applies_one rest e l =
+        let h = more rest new.owed old.owed new.most old.most c.aborts new.most old.most true true e.owed e.most e.most (omega arith) in
+        falls_goes new _ c (plan.Apply ∷ rest) (omega (arith, h, l))
+
+    turns : (rest : List (Item K V)) → Same old new → Falls new (bound_of (plan.Turn ∷ rest)) (goes c rest)
+    turns rest s = same_falls old new _ c rest s (omega arith)
+
+    ends : (rest : List (Item K V)) → Same old new → Falls new (bound_of (plan.End ∷ rest)) (goes c rest)
+    ends rest s = same_falls old new _ c rest s (omega arith)
+
+    settles : (with : Settled V) (rest : List (Item K V)) → Same old new → Falls new (bound_of (plan.Settle with ∷ rest)) (goes c rest)
+    settles with rest s =
+        let e = eased old new c.aborts false rest s.eases (post_worst (room_in new)) in
+        falls_goes new _ c rest (omega (arith, e, s.logged))
+
+    stamps : (key : K) (value : V) (moment : ℕ) (rest : List (Item K V)) → Same old new →
+        Falls new (bound_of (plan.Moment key value ∷ rest)) (goes c (plan.Write key value moment ∷ rest))
+    stamps key value moment rest s = same_falls old new _ c (plan.Write key value moment ∷ rest) s (omega arith)
+
+    misses_falls : (bound : ℕ) (aim : Aim K) → Same old new → old.logged + judge_steps old.most c.aborts aim ≤ bound → Falls new bound (misses c aim)
+    misses_falls bound plan.To_answer s h = never new bound (misses c plan.To_answer) (λ e. cc)
+    misses_falls bound (plan.To_load load) s h = same_falls old new bound c (plan.Own load ∷ []) s (omega (arith, h))
+    misses_falls bound (plan.To_own load) s h = same_falls old new bound c (plan.Ask load ∷ []) s (omega (arith, h))
+
+    hits_falls : (bound : ℕ) (aim : Aim K) (value : V) → Same old new → old.logged + judge_steps old.most c.aborts aim ≤ bound → Falls new bound (hits c aim value)
+    hits_falls bound plan.To_answer value s h = never new bound (hits c plan.To_answer value) (λ e. cc)
+    hits_falls bound (plan.To_load load) value s h = never new bound (hits c (plan.To_load load) value) (λ e. cc)
+    hits_falls bound (plan.To_own load) value s h =
+        same_falls old new bound c (plan.Settle (settled.Ready value) ∷ plan.Reply (answer.Loaded value false) ∷ []) s (omega (arith, h))
+
+    owns : (load : Load K) (k : Claim) → Same old new → Falls new (bound_of (plan.Own load ∷ [])) (after_own c load (found.WaitOrOwn k))
+    owns load claim.Owner s = same_falls old new _ c (look (plan.To_own load) load.key) s (omega (arith, young))
+    owns load (claim.Waits owner) s = same_falls old new _ c (plan.Read load ∷ []) s (omega arith)
+
+    starts_anew : (load : Load K) (spent : Bool) → Same old new → Falls new (bound_of (plan.Read load ∷ []))
+        (cond spent (answers answer.RetriesExhausted) (goes (record c { aborts = c.aborts + 1 }) (plan.Own load ∷ [])))
+    starts_anew load true s = never new _ (answers answer.RetriesExhausted) (λ e. cc)
+    starts_anew load false s = same_falls old new _ (record c { aborts = c.aborts + 1 }) (plan.Own load ∷ []) s (omega (arith, young))
+
+    reads : (load : Load K) (with : Settled V) → Same old new → Falls new (bound_of (plan.Read load ∷ [])) (after_read c load (found.ReadSettled with))
+    reads load settled.NotYet s = never new _ (waits c) (λ e. cc)
+    reads load (settled.Ready value) s = never new _ (answers (answer.Loaded value false)) (λ e. cc)
+    reads load settled.Aborted s = starts_anew load (c.aborts + 1 == retries) s
+
+    is_told : (load : Load K) (given : Option (Told V)) → Same old new → Falls new (bound_of (plan.Told load ∷ [])) (after_told c load (found.TakeTold given))
+    is_told load None s = never new _ (waits c) (λ e. cc)
+    is_told load (Some told.Done) s = never new _ (waits c) (λ e. cc)
+    is_told load (Some (told.Value value)) s = same_falls old new _ c (loaded load value) s (omega arith)
+
+    -- an operation that stays undecided
+    stays_on : Eases old new → new.logged ≡ old.logged → new.left < old.left → (aim : Aim K) (key : K) (rest : List (Item K V)) → c.plan ≡ plan.Get aim key ∷ rest → Falls new (bound_of (plan.Get aim key ∷ rest)) (stays c)
+    stays_on e l less aim key rest is = falls_on new _ (record c { mode = mode.Mid }) (rw is (omega (arith, judge_more new.most old.most c.aborts aim e.most, l, less)))
+
+  -- ---- what a visit leaves of the desk's lists
+
+  -- the lists of writes are as long as they were, and the log has the room that it had
+  record Lists (w new : DeskPart K V) : Type 0 where
+    owed : length new.owed ≡ length w.owed
+    log : length new.log ≡ length w.log
+    size : new.size ≡ w.size
+
+  same_lists : (w : DeskPart K V) → Lists w w
+  same_lists w = record { owed = refl; log = refl; size = refl }
+
+  either_lists : (b : Bool) (w x y : DeskPart K V) → Lists w x → Lists w y → Lists w (cond b x y)
+  either_lists true w x y h k = h
+  either_lists false w x y h k = k
+
+  claimed_lists : (eq : K → K → Bool) (w : DeskPart K V) (n : ℕ) (load : Load K) (owner : Option ℕ) → Lists w (claimed eq w n load owner)
+  claimed_lists eq w n load None = record { owed = refl; log = refl; size = refl }
+  claimed_lists eq w n load (Some owner) = record { owed = refl; log = refl; size = refl }
+
+  -- the work is what it was, where the lists are and operations stay undecided for no longer
+  same_work : (w new : World K V) (old young : Work) → Counts w old → Counts new young → Lists w.desk new.desk →
+      young.left ≤ young.most → young.most ≤ old.most → Same old young
+  same_work w new old young c d l within most = record {
+    eases = record { owed = omega (arith, c.owed, d.owed, l.owed); most = most; within = within };
+    logged = d.logged ∙ l.log ∙ sym c.logged;
+    size = d.size ∙ l.size ∙ sym c.size;
+  }
+
+  module _ (eq : K → K → Bool) (n : ℕ) (c : Call K V) (w next : World K V) (old new : Work) (young : c.aborts < retries)
+      (has_log : 0 < old.size) (was : Counts w old) (is : Counts next new) where
+    -- how the call goes on after what its access gave
+    abbrev after : Item K V → List (Item K V) → Got K V → Next K V
+    after item rest (got.Table t) = after_table n c item rest t
+    after item rest (got.Desk f) = after_visit c item rest f
+
+    -- after an access that leaves the lists
+    leaves : (desk : DeskPart K V) → next.desk ≡ desk → Lists w.desk desk → new.left ≤ new.most → new.most ≤ old.most + 0 → Same old new
+    leaves desk e l within most = same_work w next old new was is (subst (λ v. Lists w.desk v) (sym e) l) within (omega (arith, most))
+
+    drain_falls : (rest : List (Item K V)) (owed : List Write) → w.desk.owed ≡ owed → length next.desk.owed ≡ length (drop 1 owed) →
+        next.desk.log ≡ w.desk.log → next.desk.size ≡ w.desk.size → new.left ≤ new.most → new.most ≤ old.most →
+        Falls new (bound_of old new c young (plan.Drain ∷ rest)) (after_drain c rest (finds (record w.desk { owed = owed }) (visit.TakeOwed n)))
+    drain_falls rest [] e o l z within most = drains old new c young rest (record {
+      eases = record { owed = omega (arith, was.owed, is.owed, o, ap length e); most = most; within = within };
+      logged = is.logged ∙ ap length l ∙ sym was.logged;
+      size = is.size ∙ z ∙ sym was.size;
+    })
+    drain_falls rest (x ∷ xs) e o l z within most = takes_up old new c young x rest
+        (record { owed = omega (arith, was.owed, is.owed, o, ap length e); most = most; within = within })
+        (is.logged ∙ ap length l ∙ sym was.logged) (omega (arith, was.owed, is.owed, o, ap length e))
+
+    post_falls : (x : Write) (rest : List (Item K V)) (b : Bool) → has_room w.desk ≡ b →
+        length next.desk.log ≡ length (cond b (w.desk.log ++ x ∷ []) w.desk.log) → length next.desk.owed ≡ length w.desk.owed →
+        next.desk.size ≡ w.desk.size → new.left ≤ new.most → new.most ≤ old.most →
+        Falls new (bound_of old new c young (plan.Post x ∷ rest)) (after_post c x rest (found.PostWrite b))
+    post_falls x rest true e l o z within most = posts old new c young x rest
+        (record { owed = omega (arith, was.owed, is.owed, o); most = most; within = within })
+        (omega (arith, is.logged, was.logged, l, length-append w.desk.log (x ∷ []))) (rw (was.logged, was.size) e)
+    post_falls x rest false e l o z within most = applies_first old new c young x rest (record {
+      eases = record { owed = omega (arith, was.owed, is.owed, o); most = most; within = within };
+      logged = is.logged ∙ l ∙ sym was.logged;
+      size = is.size ∙ z ∙ sym was.size;
+    }) (rw (was.logged, was.size) e)
+
+    apply_falls : (rest : List (Item K V)) (log : List Write) → w.desk.log ≡ log → length next.desk.log ≡ length (drop 1 log) →
+        length next.desk.owed ≡ length w.desk.owed → next.desk.size ≡ w.desk.size → new.left ≤ new.most → new.most ≤ old.most →
+        Falls new (bound_of old new c young (plan.Apply ∷ rest)) (after_apply c rest (found.ApplyOne (nat_lt 0 (length log))))
+    apply_falls rest [] e l o z within most =
+        let size : new.size ≡ old.size = is.size ∙ z ∙ sym was.size in
+        let empty : new.logged ≡ 0 = is.logged ∙ l in
+        applied_all old new c young rest (record {
+          eases = record { owed = omega (arith, was.owed, is.owed, o); most = most; within = within };
+          logged = empty ∙ sym (was.logged ∙ ap length e);
+          size = size;
+        }) (rw (empty, size) (some_room old.size has_log))
+    apply_falls rest (x ∷ xs) e l o z within most =
+        subst (λ b. Falls new (bound_of old new c young (plan.Apply ∷ rest)) (after_apply c rest (found.ApplyOne b))) (sym (some_left (length xs)))
+        (applies_one old new c young rest (record { owed = omega (arith, was.owed, is.owed, o); most = most; within = within })
+        (omega (arith, was.logged, is.logged, l, ap length e)))
+
+    get_falls : (aim : Aim K) (rest : List (Item K V)) (answer : TableAnswer K V) → (key : K) → Same old new →
+        Falls new (bound_of old new c young (plan.Get aim key ∷ rest)) (after_get c aim (table.Decided answer))
+    get_falls aim rest table_answer.None key s = misses_falls old new c young _ aim s (omega arith)
+    get_falls aim rest (table_answer.Some k stored) key s = same_falls old new _ c (plan.Judge aim k stored ∷ []) s (omega arith)
+
+    -- a look or a write that stays undecided
+    get_stays : (aim : Aim K) (key : K) (rest : List (Item K V)) → c.plan ≡ plan.Get aim key ∷ rest → Same old new → new.left < old.left →
+        Falls new (bound_of old new c young (plan.Get aim key ∷ rest)) (stays c)
+    get_stays aim key rest e s less = falls_on new _ (record c { mode = mode.Mid })
+        (rw e (omega (arith, judge_more new.most old.most c.aborts aim s.eases.most, s.logged, less)))
+
+    write_stays : (key : K) (value : V) (moment : ℕ) (rest : List (Item K V)) → c.plan ≡ plan.Write key value moment ∷ rest → Same old new →
+        new.left < old.left → Falls new (bound_of old new c young (plan.Write key value moment ∷ rest)) (stays c)
+    write_stays key value moment rest e s less =
+        let h = more rest new.owed old.owed (new.most + growth) (old.most + growth) c.aborts (new.most + growth) (old.most + growth) false false
+        s.eases.owed (omega (arith, s.eases.most)) (omega (arith, s.eases.most)) (post_worst false) in
+        falls_on new _ (record c { mode = mode.Mid }) (rw e (omega (arith, h, s.logged, less)))
+
+    wrote : (key : K) (value : V) (moment : ℕ) (rest : List (Item K V)) (x : Write) → new.owed ≡ old.owed → new.logged ≡ old.logged →
+        new.most ≤ old.most + growth →
+        Falls new (bound_of old new c young (plan.Write key value moment ∷ rest)) (goes c (plan.Post x ∷ rest))
+    wrote key value moment rest x o l most =
+        let h = more rest new.owed old.owed new.most (old.most + growth) c.aborts new.most (old.most + growth) false false
+        (omega (arith, o)) most most (post_worst false) in
+        falls_goes new _ c (plan.Post x ∷ rest) (omega (arith, h, l, post_worst (room_in new)))
+
+    waits_falls : (bound : ℕ) → Falls new bound (waits c)
+    waits_falls bound = never new bound (waits c) (λ e. cc)
+
+    on_item : (item : Item K V) (rest : List (Item K V)) (given : Got K V) → c.plan ≡ item ∷ rest → Gets eq n w (access_for n item) given next →
+        Shortens old new (access_for n item) given → Falls new (bound_of old new c young (item ∷ rest)) (after item rest given)
+    on_item plan.Drain rest (got.Desk f) e g h = rw g.0
+        (drain_falls rest w.desk.owed refl (ap (λ v. length v.desk.owed) g.1) (ap (λ v. v.desk.log) g.1) (ap (λ v. v.desk.size) g.1) h.within (omega (arith, h.raises)))
+    on_item (plan.Post x) rest (got.Desk f) e g h = rw g.0
+        (post_falls x rest (has_room w.desk) refl (ap (λ v. length v.desk.log) g.1) (ap (λ v. length v.desk.owed) g.1) (ap (λ v. v.desk.size) g.1) h.within (omega (arith, h.raises)))
+    on_item plan.Apply rest (got.Desk f) e g h = rw g.0
+        (apply_falls rest w.desk.log refl (ap (λ v. length v.desk.log) g.1) (ap (λ v. length v.desk.owed) g.1) (ap (λ v. v.desk.size) g.1) h.within (omega (arith, h.raises)))
+    on_item plan.Turn rest (got.Desk f) e g h = rw g.0 (turn_falls (is_free_for w.desk n))
+      where
+        turn_falls : (b : Bool) → Falls new (bound_of old new c young (plan.Turn ∷ rest)) (after_turn c rest (found.TakeTurn b))
+        turn_falls true = turns old new c young rest (leaves _ (ap (λ v. v.desk) g.1) (record { owed = refl; log = refl; size = refl }) h.within h.raises)
+        turn_falls false = waits_falls _
+    on_item plan.End rest (got.Desk f) e g h = rw g.0
+        (ends old new c young rest (leaves _ (ap (λ v. v.desk) g.1) (record { owed = refl; log = refl; size = refl }) h.within h.raises))
+    on_item (plan.Judge aim key stored) rest (got.Desk f) e g h = rw g.0
+        (hits_falls old new c young _ aim stored.value (leaves _ (ap (λ v. v.desk) g.1) (record { owed = refl; log = refl; size = refl }) h.within h.raises) (omega arith))
+    on_item (plan.Own load) rest (got.Desk f) e g h = rw g.0
+        (owns old new c young load (claim_of (w.desk.owners load)) (leaves _ (ap (λ v. v.desk) g.1) (claimed_lists eq w.desk n load (w.desk.owners load)) h.within h.raises))
+    on_item (plan.Read load) rest (got.Desk f) e g h = rw g.0
+        (reads old new c young load (unwrap_or (settlement_for w.desk n) settled.NotYet)
+        (leaves _ (ap (λ v. v.desk) g.1) (either_lists (is_some (settlement_for w.desk n)) w.desk _ w.desk (record { owed = refl; log = refl; size = refl }) (same_lists w.desk)) h.within h.raises))
+    on_item (plan.Settle with) rest (got.Desk f) e g h = rw g.0
+        (settles old new c young with rest (leaves _ (ap (λ v. v.desk) g.1) (record { owed = refl; log = refl; size = refl }) h.within h.raises))
+    on_item (plan.Ask load) rest (got.Desk f) e g h = rw g.0 (never new _ (asks c ask.Init (plan.Told load ∷ [])) (λ d. cc))
+    on_item (plan.Told load) rest (got.Desk f) e g h = rw g.0
+        (is_told old new c young load (w.desk.told n) (leaves _ (ap (λ v. v.desk) g.1) (record { owed = refl; log = refl; size = refl }) h.within h.raises))
+    on_item (plan.Moment key value) rest (got.Desk f) e g h = rw g.0
+        (stamps old new c young key value w.desk.clock rest (leaves _ (ap (λ v. v.desk) g.1) (record { owed = refl; log = refl; size = refl }) h.within h.raises))
+    on_item (plan.Reply a) rest (got.Desk f) e g h = never new _ (answers a) (λ d. cc)
+    on_item (plan.Get aim key) rest (got.Table table.Going) e g h = get_stays aim key rest e (leaves w.desk (ap (λ v. v.desk) g.1) (same_lists w.desk) h.within h.raises) (h.going refl)
+    on_item (plan.Get aim key) rest (got.Table (table.Decided answer)) e g h =
+        get_falls aim rest answer key (leaves w.desk (ap (λ v. v.desk) g.1) (same_lists w.desk) h.within h.raises)
+    on_item (plan.Write key value moment) rest (got.Table table.Going) e g h = write_stays key value moment rest e (leaves w.desk (ap (λ v. v.desk) g.1) (same_lists w.desk) h.within h.raises) (h.going refl)
+    on_item (plan.Write key value moment) rest (got.Table (table.Decided answer)) e g h =
+        let d : next.desk ≡ w.desk = ap (λ v. v.desk) g.1 in
+        wrote key value moment rest (Upsert n (old_stamp answer)) (is.owed ∙ ap (λ v. length v.owed) d ∙ sym was.owed)
+        (is.logged ∙ ap (λ v. length v.log) d ∙ sym was.logged) h.raises
+    -- no other answer is one of the item's access
+    on_item _ rest _ e g h = absurd g
+
+  by_plan : (eq : K → K → Bool) (n : ℕ) (how : Mode) (p : List (Item K V)) (aborts : ℕ) (w next : World K V) (given : Got K V) (old new : Work) →
+      let c : Call K V = record { mode = how; plan = p; aborts = aborts } in
+      aborts < retries → 0 < old.size → Gets eq n w (access_of n c) given next → Counts w old → Counts next new →
+      Shortens old new (access_of n c) given → Falls new (ahead old c) (next_of n c given)
+  by_plan eq n how [] aborts w next given old new young has_log g was is h = waits_falls eq n (record { mode = how; plan = []; aborts = aborts }) w next old new young has_log was is _
+  by_plan eq n how (item ∷ rest) aborts w next (got.Table t) old new young has_log g was is h =
+      on_item eq n (record { mode = how; plan = item ∷ rest; aborts = aborts }) w next old new young has_log was is item rest (got.Table t) refl g h
+  by_plan eq n how (item ∷ rest) aborts w next (got.Desk f) old new young has_log g was is h =
+      on_item eq n (record { mode = how; plan = item ∷ rest; aborts = aborts }) w next old new young has_log was is item rest (got.Desk f) refl g h
+
+  pub going_falls : (eq : K → K → Bool) → GoingFalls K V eq
+  going_falls eq n c w next given old new young has_log g was is h going =
+      by_plan eq n c.mode c.plan c.aborts w next given old new young has_log g was is h going

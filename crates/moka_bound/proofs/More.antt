@@ -1,0 +1,49 @@
+-- A plan takes no fewer steps where more is owed, where operations may stay undecided for longer, or where the log is full.
+use Rattle.std.proofs.Common.{ℕ, ◌+◌, ◌≤◌, Bool, true, false, List, [], ◌∷◌, arith}
+use Rattle.moka_hist.specs.Plan.{Item, Aim}
+use Rattle.moka_hist.specs.Plan as plan
+use Rattle.moka_bound.specs.Ahead.{growth, post_steps, judge_steps, steps_of}
+
+-- a full log costs most
+pub post_worst : (room : Bool) → post_steps room ≤ post_steps false
+post_worst true = omega arith
+post_worst false = omega arith
+
+pub judge_more : {K : Type 0} (m m' aborts : ℕ) (aim : Aim K) → m ≤ m' → judge_steps m aborts aim ≤ judge_steps m' aborts aim
+judge_more m m' aborts plan.To_answer h = omega arith
+judge_more m m' aborts (plan.To_load load) h = omega arith
+judge_more m m' aborts (plan.To_own load) h = omega arith
+
+same_room : (room : Bool) → post_steps room ≤ post_steps room
+same_room room = omega arith
+
+module _ {K V : Type 0} where
+  pub more : (p : List (Item K V)) (o o' m m' aborts l l' : ℕ) (r r' : Bool) → o ≤ o' → m ≤ m' → l ≤ l' → post_steps r ≤ post_steps r' →
+      steps_of o m aborts r l p ≤ steps_of o' m' aborts r' l' p
+  more [] o o' m m' aborts l l' r r' ho hm hl hr = omega arith
+  more (plan.Drain ∷ rest) o o' m m' aborts l l' r r' ho hm hl hr =
+      let h = more rest o o' m m' aborts m m' false false ho hm hm (same_room false) in omega (arith, h, ho)
+  more (plan.Post write ∷ rest) o o' m m' aborts l l' r r' ho hm hl hr =
+      let h = more rest o o' m m' aborts m m' false false ho hm hm (same_room false) in omega (arith, h, hr)
+  more (plan.Turn ∷ rest) o o' m m' aborts l l' r r' ho hm hl hr =
+      let h = more rest o o' m m' aborts m m' r r' ho hm hm hr in omega (arith, h)
+  more (plan.Apply ∷ rest) o o' m m' aborts l l' r r' ho hm hl hr =
+      let h = more rest o o' m m' aborts m m' true true ho hm hm (same_room true) in omega (arith, h)
+  more (plan.End ∷ rest) o o' m m' aborts l l' r r' ho hm hl hr =
+      let h = more rest o o' m m' aborts m m' r r' ho hm hm hr in omega (arith, h)
+  more (plan.Get aim key ∷ rest) o o' m m' aborts l l' r r' ho hm hl hr =
+      let h = judge_more m m' aborts aim hm in omega (arith, h, hl)
+  more (plan.Judge aim key stored ∷ rest) o o' m m' aborts l l' r r' ho hm hl hr = judge_more m m' aborts aim hm
+  more (plan.Own load ∷ rest) o o' m m' aborts l l' r r' ho hm hl hr = omega (arith, hm)
+  more (plan.Read load ∷ rest) o o' m m' aborts l l' r r' ho hm hl hr = omega (arith, hm)
+  more (plan.Settle with ∷ rest) o o' m m' aborts l l' r r' ho hm hl hr =
+      let h = more rest o o' m m' aborts m m' false false ho hm hm (same_room false) in omega (arith, h)
+  more (plan.Ask load ∷ rest) o o' m m' aborts l l' r r' ho hm hl hr = omega arith
+  more (plan.Told load ∷ rest) o o' m m' aborts l l' r r' ho hm hl hr = omega (arith, ho, hm)
+  more (plan.Moment key value ∷ rest) o o' m m' aborts l l' r r' ho hm hl hr =
+      let h = more rest o o' (m + growth) (m' + growth) aborts (m + growth) (m' + growth) false false ho (omega (arith, hm)) (omega (arith, hm)) (same_room false)
+      in omega (arith, h, hm)
+  more (plan.Write key value moment ∷ rest) o o' m m' aborts l l' r r' ho hm hl hr =
+      let h = more rest o o' (m + growth) (m' + growth) aborts (m + growth) (m' + growth) false false ho (omega (arith, hm)) (omega (arith, hm)) (same_room false)
+      in omega (arith, h, hl)
+  more (plan.Reply answer ∷ rest) o o' m m' aborts l l' r r' ho hm hl hr = omega arith

@@ -1,0 +1,9 @@
+//! What each step of a call leaves of its way.
+
+ghost use Rattle.moka_bound.specs.Falling.{GoingFalls};
+
+/// Cites the law that each step which leaves a call going lowers how many steps it may still make by
+/// itself before it waits, asks or answers.
+pub fn going_falls<K: Eq, V>()
+    ensures falls { GoingFalls K V K.eq }
+{}

@@ -1,0 +1,176 @@
+-- The forms that the plan of a live call has.
+use Rattle.std.proofs.Common.{◌≡◌, ℕ, ◌+◌, ◌<◌, ◌==◌, Bool, true, false, List, [], ◌∷◌, Option, Some, None, refl, subst, arith}
+use Rattle.std.proofs.lemmas.Bool.Decides.{nat_tests}
+use Rattle.moka_hist.specs.State.{State, Call, World}
+use Rattle.moka_hist.specs.Plan.{Item, Aim, plan_of}
+use Rattle.moka_hist.specs.Plan as plan
+use Rattle.moka_hist.specs.Next.{Next, goes}
+use Rattle.moka_hist.specs.Looking.{hits, misses}
+use Rattle.moka_hist.specs.Loading.{after_read, after_abort, after_told, retries}
+use Rattle.moka_hist.specs.Run.{IsReached, fresh_call}
+use Rattle.moka_hist.specs.Step.{Step, state_after}
+use Rattle.moka_hist.specs.declared.events.Start.{Start}
+use Rattle.moka_hist.specs.declared.events.Start.TheVariants as start
+use Rattle.moka_hist.specs.declared.events.Told.{Told}
+use Rattle.moka_hist.specs.declared.events.Told.TheVariants as told
+use Rattle.moka_hist.specs.declared.loads.Load.{Load}
+use Rattle.moka_hist.specs.declared.records.Stored.{Stored}
+use Rattle.moka_hist.specs.declared.replies.Answer.{Answer}
+use Rattle.moka_hist.specs.declared.accesses.Turn.{Turn}
+use Rattle.moka_hist.specs.declared.visits.Settled.{Settled}
+use Rattle.moka_hist.specs.declared.visits.Settled.TheVariants as settled
+use Rattle.moka_hist.specs.declared.visits.Found.TheVariants as found
+use Rattle.moka_hist.specs.declared.writes.Write as write
+use Rattle.moka_laws.proofs.StepCases.{OnStep, step_cases}
+use Rattle.moka_laws.proofs.Outcomes.{outcomes}
+use Rattle.moka_laws.proofs.Kept.{IsKept, in_reached}
+use Rattle.moka_laws.proofs.Counting.{none_some, put_cases}
+
+module _ {K V : Type 0} where
+  -- what is left once a call has written and posted its write: it settles, and answers
+  pub data IsTail : List (Item K V) → Type 0 where
+    Answering : (answer : Answer V) → IsTail (plan.Reply answer ∷ [])
+    Settling : (with : Settled V) (answer : Answer V) → IsTail (plan.Settle with ∷ plan.Reply answer ∷ [])
+
+  -- what is left once it has taken up what was owed: it looks, or writes
+  pub data IsDrained : List (Item K V) → Type 0 where
+    Looking : (aim : Aim K) (key : K) → IsDrained (plan.Get aim key ∷ [])
+    Putting : (key : K) (value : V) (rest : List (Item K V)) → IsTail rest → IsDrained (plan.Moment key value ∷ rest)
+
+  -- what is left once a write is posted: more may be owed, or it was the call's own
+  pub data IsPosted : List (Item K V) → Type 0 where
+    Draining : (rest : List (Item K V)) → IsDrained rest → IsPosted (plan.Drain ∷ rest)
+    Ended : (rest : List (Item K V)) → IsTail rest → IsPosted rest
+
+  pub data IsPlan : List (Item K V) → Type 0 where
+    Posted : (rest : List (Item K V)) → IsPosted rest → IsPlan rest
+    Drained : (rest : List (Item K V)) → IsDrained rest → IsPlan rest
+    Posting : (held : write.Write) (rest : List (Item K V)) → IsPosted rest → IsPlan (plan.Post held ∷ rest)
+    Turning : (held : write.Write) (rest : List (Item K V)) → IsPosted rest → IsPlan (plan.Turn ∷ plan.Apply ∷ plan.End ∷ plan.Post held ∷ rest)
+    Applying : (held : write.Write) (rest : List (Item K V)) → IsPosted rest → IsPlan (plan.Apply ∷ plan.End ∷ plan.Post held ∷ rest)
+    Ending : (held : write.Write) (rest : List (Item K V)) → IsPosted rest → IsPlan (plan.End ∷ plan.Post held ∷ rest)
+    Judging : (aim : Aim K) (key : K) (stored : Stored V) → IsPlan (plan.Judge aim key stored ∷ [])
+    Owning : (load : Load K) → IsPlan (plan.Own load ∷ [])
+    Reading : (load : Load K) → IsPlan (plan.Read load ∷ [])
+    Asking : (load : Load K) → IsPlan (plan.Ask load ∷ [])
+    Telling : (load : Load K) → IsPlan (plan.Told load ∷ [])
+    Writing : (key : K) (value : V) (moment : ℕ) (rest : List (Item K V)) → IsTail rest → IsPlan (plan.Write key value moment ∷ rest)
+
+  -- the call's plan has one of these forms, and it has not given up yet
+  pub record IsKnown (c : Call K V) : Type 0 where
+    pub plan : IsPlan c.plan
+    pub young : c.aborts < retries
+
+  -- so is a call that may have ended
+  abbrev KnownIf : Option (Call K V) → Type 0
+  KnownIf None = Unit {0}
+  KnownIf (Some c) = IsKnown c
+
+  goes_known : (c : Call K V) (rest : List (Item K V)) → c.aborts < retries → IsPlan rest → KnownIf (goes c rest).left
+  goes_known c [] y p = record { plan = p; young = y }
+  goes_known c (plan.Reply a ∷ []) y p = tt
+  goes_known c (plan.Reply a ∷ x ∷ rest) y p = record { plan = p; young = y }
+  goes_known c (item ∷ rest) y p = record { plan = p; young = y }
+
+  misses_known : (c : Call K V) (aim : Aim K) → c.aborts < retries → KnownIf (misses c aim).left
+  misses_known c plan.To_answer y = tt
+  misses_known c (plan.To_load load) y = record { plan = Owning load; young = y }
+  misses_known c (plan.To_own load) y = record { plan = Asking load; young = y }
+
+  hits_known : (c : Call K V) (aim : Aim K) (value : V) → c.aborts < retries → KnownIf (hits c aim value).left
+  hits_known c plan.To_answer value y = tt
+  hits_known c (plan.To_load load) value y = tt
+  hits_known c (plan.To_own load) value y = record { plan = Posted _ (Ended _ (Settling _ _)); young = y }
+
+  read_known : (c : Call K V) (load : Load K) (with : Settled V) → IsKnown c → KnownIf (after_read c load (found.ReadSettled with)).left
+  read_known c load (settled.Ready value) h = tt
+  read_known c load settled.NotYet h = record { plan = h.plan; young = h.young }
+  read_known c load settled.Aborted h = by (c.aborts + 1 == retries) refl
+    where
+      by : (b : Bool) → (c.aborts + 1 == retries) ≡ b → KnownIf (after_abort c load).left
+      by true e = rw e tt
+      by false e = rw e (record { plan = Owning load; young = grind (arith, nat_tests, e, h.young) })
+
+  told_known : (c : Call K V) (load : Load K) (given : Told V) → IsKnown c → KnownIf (after_told c load (found.TakeTold (Some given))).left
+  told_known c load (told.Value value) h = record { plan = Posted _ (Draining _ (Putting _ _ _ (Settling _ _))); young = h.young }
+  told_known c load told.Done h = record { plan = h.plan; young = h.young }
+
+  fresh_known : (s : Start K V) → IsKnown (fresh_call s)
+  fresh_known (start.Get key) = record { plan = Posted _ (Draining _ (Looking _ _)); young = omega arith }
+  fresh_known (start.Insert key value) = record { plan = Posted _ (Draining _ (Putting _ _ _ (Answering _))); young = omega arith }
+  fresh_known (start.GetWith key) = record { plan = Posted _ (Draining _ (Looking _ _)); young = omega arith }
+
+  module _ (eq : K → K → Bool) (w : World K V) (n : ℕ) (c : Call K V) (h : IsKnown c) where
+    abbrev Leaves : World K V → Next K V → Type 0
+    Leaves new next = KnownIf next.left
+
+    -- the call goes on with its plan
+    still : KnownIf (Some c)
+    still = record { plan = h.plan; young = h.young }
+
+    on_tail : (p : List (Item K V)) → IsTail p → OnStep eq Leaves w n c p
+    on_tail p (Answering a) = outcomes eq Leaves w n c (plan.Reply a) [] tt
+    on_tail p (Settling with a) = outcomes eq Leaves w n c (plan.Settle with) (plan.Reply a ∷ []) tt
+
+    on_drained : (p : List (Item K V)) → IsDrained p → OnStep eq Leaves w n c p
+    on_drained p (Looking aim key) = outcomes eq Leaves w n c (plan.Get aim key) []
+        ((λ more. record { plan = h.plan; young = h.young }), misses_known c aim h.young, λ k stored. record { plan = Judging aim k stored; young = h.young })
+    on_drained p (Putting key value rest t) = outcomes eq Leaves w n c (plan.Moment key value) rest
+        (record { plan = Writing key value _ rest t; young = h.young })
+
+    on_posted : (p : List (Item K V)) → IsPosted p → OnStep eq Leaves w n c p
+    on_posted p (Draining rest d) = outcomes eq Leaves w n c plan.Drain rest
+        ((λ e. goes_known c rest h.young (Drained rest d)), λ x xs e. record { plan = Posting x (plan.Drain ∷ rest) (Draining rest d); young = h.young })
+    on_posted p (Ended rest t) = on_tail rest t
+
+    on_plan : (p : List (Item K V)) → IsPlan p → OnStep eq Leaves w n c p
+    on_plan p (Posted rest d) = on_posted rest d
+    on_plan p (Drained rest d) = on_drained rest d
+    on_plan p (Posting x rest d) = outcomes eq Leaves w n c (plan.Post x) rest
+        ((λ e. goes_known c rest h.young (Posted rest d)), λ e. record { plan = Turning x rest d; young = h.young })
+    on_plan p (Turning x rest d) = outcomes eq Leaves w n c plan.Turn (plan.Apply ∷ plan.End ∷ plan.Post x ∷ rest)
+        ((λ e. record { plan = Applying x rest d; young = h.young }), λ e. record { plan = h.plan; young = h.young })
+    on_plan p (Applying x rest d) = outcomes eq Leaves w n c plan.Apply (plan.End ∷ plan.Post x ∷ rest)
+        ((λ e. record { plan = Ending x rest d; young = h.young }), λ y ys e. record { plan = Applying x rest d; young = h.young })
+    on_plan p (Ending x rest d) = outcomes eq Leaves w n c plan.End (plan.Post x ∷ rest) (record { plan = Posting x rest d; young = h.young })
+    on_plan p (Judging aim key stored) = outcomes eq Leaves w n c (plan.Judge aim key stored) [] (hits_known c aim stored.value h.young)
+    on_plan p (Owning load) = outcomes eq Leaves w n c (plan.Own load) []
+        ((λ e. record { plan = Drained _ (Looking _ _); young = h.young }), λ owner e. record { plan = Reading load; young = h.young })
+    on_plan p (Reading load) = outcomes eq Leaves w n c (plan.Read load) []
+        ((λ e. record { plan = h.plan; young = h.young }), λ with e. read_known c load with h)
+    on_plan p (Asking load) = outcomes eq Leaves w n c (plan.Ask load) [] (record { plan = Telling load; young = h.young })
+    on_plan p (Telling load) = outcomes eq Leaves w n c (plan.Told load) []
+        ((λ e. record { plan = h.plan; young = h.young }), λ given e. told_known c load given h)
+    on_plan p (Writing key value moment rest t) = outcomes eq Leaves w n c (plan.Write key value moment) rest
+        ((λ more. record { plan = h.plan; young = h.young }), record { plan = Posting _ rest (Ended rest t); young = h.young })
+
+module _ {K V : Type 0} (eq : K → K → Bool) where
+  -- each live call is known
+  abbrev AllKnown : State K V → Type 0
+  AllKnown s = (n : ℕ) (c : Call K V) → s.calls n ≡ Some c → IsKnown c
+
+  goes_on : (s : State K V) (n : ℕ) (w : World K V) (next : Next K V) → AllKnown s → KnownIf next.left → AllKnown (state_after s n w next)
+  goes_on s n w next all h m c live =
+      put_cases s.calls n next.left m (Some c) (IsKnown c) live (λ here is. subst KnownIf is h) (λ there is. all m c is)
+
+  known_step : (s t : State K V) (n : ℕ) (turn : Turn V) → AllKnown s → Step eq s n turn t → AllKnown t
+  known_step s t n turn all step =
+      let h : IsKnown step.call = all n step.call step.live in
+      step_cases eq (λ _ next. KnownIf next.left) (λ v _. AllKnown v) s t n turn step
+      (on_plan eq s.world n step.call h step.call.plan h.plan) (λ w next. goes_on s n w next all)
+
+  known_kept : IsKept eq AllKnown
+  known_kept = record {
+    fresh = λ size has_log n c live. absurd (none_some live);
+    at = λ s moment all. all;
+    start = λ s start all n c live.
+        put_cases s.calls (s.world.desk.last + 1) (Some (fresh_call start)) n (Some c) (IsKnown c) live
+        (λ here is. subst KnownIf is (fresh_known start)) (λ there is. all n c is);
+    step = known_step;
+    tell = λ s n answer asked all. all;
+    drop = λ s n c live between all m b lives.
+        put_cases s.calls n None m (Some b) (IsKnown b) lives (λ here is. absurd (none_some is)) (λ there is. all m b is);
+  }
+
+  pub calls_known : (s : State K V) → IsReached eq s → AllKnown s
+  calls_known s h = in_reached eq AllKnown known_kept s h

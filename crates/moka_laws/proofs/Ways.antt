@@ -1,0 +1,267 @@
+-- How long a call goes on by itself.
+use Rattle.std.proofs.Common.{◌≡◌, ℕ, zero, suc, ◌+◌, ◌-◌, ◌*◌, ◌<◌, ◌≤◌, max, nat_lt, Bool, true, false, cond, List, length, replicate, Option, Some, None, is_some, MatchOption, refl, sym, ap, ◌∙◌, subst, arith}
+use Rattle.moka_hist.specs.Bound.{decided_by, most_undecided, times_of, stayed, step_bound}
+use Rattle.moka_hist.specs.Places.{IsLawful}
+use Rattle.moka_hist.specs.Plan.{Item, Aim}
+use Rattle.moka_hist.specs.Plan as plan
+use Rattle.moka_hist.specs.Run.{Goings, Happens, Refuses, Run, Steps, Any, IsReached, reply_of}
+use Rattle.moka_hist.specs.State.{Call, State, TablePart, World}
+use Rattle.moka_hist.specs.Step.{Access, Gets, Step, access_of, going_as, next_of, state_after}
+use Rattle.moka_hist.specs.Step as step
+use Rattle.moka_hist.specs.Finite.{put_at}
+use Rattle.moka_hist.specs.Tables.{table_after}
+use Rattle.moka_hist.specs.Visits.{makes, claimed, settlement_for, readers_without, settled_without}
+use Rattle.moka_hist.specs.declared.visits.Visit.{Visit}
+use Rattle.moka_hist.specs.declared.visits.Visit.TheVariants as visit
+use Rattle.moka_hist.specs.declared.accesses.Got.{Got}
+use Rattle.moka_hist.specs.declared.accesses.Got.TheVariants as got
+use Rattle.moka_hist.specs.declared.accesses.Turn.{Turn}
+use Rattle.moka_hist.specs.declared.accesses.Turn.TheVariants as turn
+use Rattle.moka_hist.specs.declared.events.Event.TheVariants as event
+use Rattle.moka_hist.specs.declared.replies.Refusal.TheVariants as refusal
+use Rattle.moka_hist.specs.declared.replies.Reply.TheVariants as reply
+use Rattle.moka_hist.specs.declared.records.Stored.{Stored}
+use Rattle.moka_hist.specs.declared.visits.Found.{Found}
+use Rattle.moka_hist.specs.declared.tables.TableAnswer.{TableAnswer}
+use Rattle.moka_hist.specs.declared.tables.TableOp.{TableOp}
+use Rattle.moka_hist.specs.declared.tables.TableOp.TheVariants as op
+use Rattle.moka_hist.specs.declared.tables.TableTurn.TheVariants as table
+use Rattle.moka_bound.specs.Ahead.{growth, ahead, judge_steps, steps_of, work_in}
+use Rattle.moka_bound.specs.Falling.{Shortens}
+use Rattle.moka_bound.proofs.Falls.{going_falls}
+use Rattle.moka_bound.proofs.More.{post_worst}
+use Rattle.moka_laws.specs.Bounded.{LogsHaveRoom, StepsAreBounded, StepEventsAreBounded}
+use Rattle.moka_laws.proofs.Counting.{none_some, put_here, same_number}
+use Rattle.moka_laws.proofs.Kept.{IsKept, in_reached}
+use Rattle.moka_laws.proofs.Plans.{IsTail, Answering, Settling, IsDrained, Looking, Putting, IsPosted, Draining, Ended, IsPlan, Posted, Drained, Posting, Turning, Applying, Ending, Judging, Owning, Reading, Asking, Telling, Writing, calls_known}
+use Rattle.moka_laws.proofs.Reached.{step_reached, steps_reached}
+
+-- ---- what a plan takes at most
+
+judge_few : {K : Type 0} (most aborts : ℕ) (aim : Aim K) → judge_steps most aborts aim ≤ most + 406
+judge_few most aborts plan.To_answer = omega arith
+judge_few most aborts (plan.To_load load) = omega arith
+judge_few most aborts (plan.To_own load) = omega arith
+
+module _ {K V : Type 0} (owed most aborts left : ℕ) (within : left ≤ most) where
+  tail_steps : (room : Bool) (l : ℕ) (p : List (Item K V)) → IsTail p → steps_of owed most aborts room l p ≤ 2
+  tail_steps room l p (Answering a) = omega arith
+  tail_steps room l p (Settling with a) = omega arith
+
+  -- a put's tail, after which a key more may be stored
+  put_steps : (m l : ℕ) (p : List (Item K V)) → IsTail p → steps_of owed m aborts false l p ≤ 2
+  put_steps m l p (Answering a) = omega arith
+  put_steps m l p (Settling with a) = omega arith
+
+  drained_steps : (room : Bool) (l : ℕ) (p : List (Item K V)) → l ≤ most → IsDrained p → steps_of owed most aborts room l p ≤ 2 * most + 408
+  drained_steps room l p h (Looking aim key) = omega (arith, h, judge_few most aborts aim)
+  drained_steps room l p h (Putting key value rest t) = omega (arith, put_steps (most + growth) (most + growth) rest t)
+
+  posted_steps : (room : Bool) (l : ℕ) (p : List (Item K V)) → IsPosted p → steps_of owed most aborts room l p ≤ 7 * owed + 2 * most + 409
+  posted_steps room l p (Draining rest d) = omega (arith, drained_steps false most rest (omega arith) d)
+  posted_steps room l p (Ended rest t) = omega (arith, tail_steps room l rest t)
+
+  few_steps : (room : Bool) (p : List (Item K V)) → IsPlan p → steps_of owed most aborts room left p ≤ 7 * owed + 2 * most + 416
+  few_steps room p (Posted rest d) = omega (arith, posted_steps room left rest d)
+  few_steps room p (Drained rest d) = omega (arith, drained_steps room left rest within d)
+  few_steps room p (Posting x rest d) = omega (arith, post_worst room, posted_steps false most rest d)
+  few_steps room p (Turning x rest d) = omega (arith, posted_steps false most rest d)
+  few_steps room p (Applying x rest d) = omega (arith, posted_steps false most rest d)
+  few_steps room p (Ending x rest d) = omega (arith, post_worst room, posted_steps false most rest d)
+  few_steps room p (Judging aim key stored) = omega (arith, judge_few most aborts aim)
+  few_steps room p (Owning load) = omega arith
+  few_steps room p (Reading load) = omega arith
+  few_steps room p (Asking load) = omega arith
+  few_steps room p (Telling load) = omega arith
+  few_steps room p (Writing key value moment rest t) = omega (arith, within, put_steps (most + growth) (most + growth) rest t)
+
+-- ---- what each access does to it
+
+module _ {K V : Type 0} (eq : K → K → Bool) where
+  -- no more keys are stored than ever were
+  abbrev KeysWerePeak : State K V → Type 0
+  KeysWerePeak s = s.world.table.keys ≤ s.world.table.peak
+
+  operation_peak : (w : TablePart K V) (o : TableOp K V) → w.keys ≤ w.peak → (table_after eq w o).keys ≤ (table_after eq w o).peak
+  operation_peak w (op.Get key) h = h
+  operation_peak w (op.InsertOrModify key stored) h = omega arith
+
+  access_peak : (n : ℕ) (w new : World K V) (a : Access K V) (g : Got K V) → Gets eq n w a g new → w.table.keys ≤ w.table.peak → new.table.keys ≤ new.table.peak
+  access_peak n w new (step.On_table o) (got.Table table.Going) gets h = subst (λ (v : World K V). v.table.keys ≤ v.table.peak) (sym gets.1) h
+  access_peak n w new (step.On_table o) (got.Table (table.Decided answer)) gets h =
+      subst (λ (v : World K V). v.table.keys ≤ v.table.peak) (sym gets.1) (operation_peak w.table o h)
+  access_peak n w new (step.On_desk made) (got.Desk found) gets h = subst (λ (v : World K V). v.table.keys ≤ v.table.peak) (sym gets.1) h
+  access_peak n w new _ _ gets h = absurd gets
+
+  peak_step : (s t : State K V) (n : ℕ) (turn : Turn V) → KeysWerePeak s → Step eq s n turn t → KeysWerePeak t
+  peak_step s t n turn h st =
+      subst KeysWerePeak (sym st.after) (access_peak n s.world st.world (access_of n st.call) st.given st.gets h)
+
+  peak_kept : IsKept {K = K} {V = V} eq KeysWerePeak
+  peak_kept = record {
+    fresh = λ size has_log. omega arith;
+    at = λ s moment h. h;
+    start = λ s start h. h;
+    step = peak_step;
+    tell = λ s n answer asked h. h;
+    drop = λ s n c live between h. h;
+  }
+
+  -- how long operations stay undecided, after an access that is not the first of a write
+  written : (w : TablePart K V) (key : K) (stored : Stored V) → w.keys ≤ w.peak → most_undecided (table_after eq w (op.InsertOrModify key stored)) ≤ most_undecided w + 48
+  written w key stored h = by (is_some (w.stored key))
+    where
+      by : (b : Bool) → 16 * (128 + 3 * max w.peak (cond b w.keys (w.keys + 1))) + 32 ≤ 16 * (128 + 3 * w.peak) + 32 + 48
+      by true = omega (arith, h)
+      by false = omega (arith, h)
+
+  desk_not : (f : Found V) → ◌≡◌ {A = Got K V} (got.Desk f) (got.Table table.Going) → ⊥
+  desk_not f e = cc
+
+  decided_not : (g : TableAnswer K V) → ◌≡◌ {A = Got K V} (got.Table (table.Decided g)) (got.Table table.Going) → ⊥
+  decided_not g e = cc
+
+  decided_shortens : (n : ℕ) (w : World K V) (o : TableOp K V) (g : TableAnswer K V) → w.table.keys ≤ w.table.peak →
+      Shortens (work_in n w) (work_in n (record w { table = table_after eq w.table o; stay = decided_by n })) (step.On_table o) (got.Table (table.Decided g))
+  decided_shortens n w (op.Get key) g h = record { within = omega arith; raises = omega arith; going = λ e. absurd (decided_not g e) }
+  decided_shortens n w (op.InsertOrModify key stored) g h =
+      record { within = omega arith; raises = written w.table key stored h; going = λ e. absurd (decided_not g e) }
+
+  shortens_in : (n : ℕ) (w new : World K V) (a : Access K V) (g : Got K V) → Gets eq n w a g new → w.table.keys ≤ w.table.peak →
+      Shortens (work_in n w) (work_in n new) a g
+  shortens_in n w new (step.On_table o) (got.Table table.Going) gets h =
+      let once : times_of (stayed w.stay n) n ≡ times_of w.stay n + 1 = ap (λ b. cond b (times_of w.stay n + 1) 0) (same_number n) in
+      subst (λ v. Shortens (work_in n w) (work_in n v) (step.On_table o) (got.Table table.Going)) (sym gets.1)
+      (record { within = omega arith; raises = omega arith; going = λ e. omega (arith, once, gets.0) })
+  shortens_in n w new (step.On_table o) (got.Table (table.Decided answer)) gets h =
+      subst (λ v. Shortens (work_in n w) (work_in n v) (step.On_table o) (got.Table (table.Decided answer))) (sym gets.1) (decided_shortens n w o answer h)
+  shortens_in n w new (step.On_desk made) (got.Desk found) gets h =
+      subst (λ v. Shortens (work_in n w) (work_in n v) (step.On_desk made) (got.Desk found)) (sym gets.1)
+      (record { within = omega arith; raises = omega arith; going = λ e. absurd (desk_not found e) })
+  shortens_in n w new _ _ gets h = absurd gets
+
+  -- ---- the log's room
+
+  size_same : (w : World K V) (made : Visit K V) → (makes eq w.desk made).size ≡ w.desk.size
+  size_same w (visit.WaitOrOwn n key kind) = claimed_same (w.desk.owners (record { key = key; kind = kind }))
+    where
+      claimed_same : (o : Option ℕ) → (claimed eq w.desk n (record { key = key; kind = kind }) o).size ≡ w.desk.size
+      claimed_same None = refl
+      claimed_same (Some owner) = refl
+  size_same w (visit.ReadSettled n) = either (is_some (settlement_for w.desk n))
+    where
+      either : (b : Bool) → (cond b (record w.desk { joined = put_at w.desk.joined n None; readers = readers_without w.desk n; settled = settled_without w.desk n }) w.desk).size ≡ w.desk.size
+      either true = refl
+      either false = refl
+  size_same w _ = refl
+
+  access_size : (n : ℕ) (w new : World K V) (a : Access K V) (g : Got K V) → Gets eq n w a g new → new.desk.size ≡ w.desk.size
+  access_size n w new (step.On_table o) (got.Table table.Going) gets = ap (λ v. v.desk.size) gets.1
+  access_size n w new (step.On_table o) (got.Table (table.Decided answer)) gets = ap (λ v. v.desk.size) gets.1
+  access_size n w new (step.On_desk made) (got.Desk found) gets = ap (λ v. v.desk.size) gets.1 ∙ size_same w made
+  access_size n w new _ _ gets = absurd gets
+
+  abbrev HasLog : State K V → Type 0
+  HasLog s = 0 < s.world.desk.size
+
+  log_step : (s t : State K V) (n : ℕ) (turn : Turn V) → HasLog s → Step eq s n turn t → HasLog t
+  log_step s t n turn h st = subst HasLog (sym st.after) (omega (arith, h, access_size n s.world st.world (access_of n st.call) st.given st.gets))
+
+  log_kept : IsKept {K = K} {V = V} eq HasLog
+  log_kept = record {
+    fresh = λ size has_log. has_log;
+    at = λ s moment h. h;
+    start = λ s start h. h;
+    step = log_step;
+    tell = λ s n answer asked h. h;
+    drop = λ s n c live between h. h;
+  }
+
+  pub logs_have_room : LogsHaveRoom K V eq
+  logs_have_room s h = in_reached eq HasLog log_kept s h
+
+  -- ---- a step, and steps one after the other
+
+  same_call : (c d : Call K V) → Some c ≡ Some d → c ≡ d
+  same_call c d e = cc
+
+  -- a step that leaves the call going leaves it live, with fewer steps ahead
+  pub step_falls : (s t : State K V) (n : ℕ) (c : Call K V) → IsReached eq s → s.calls n ≡ Some c → Step eq s n turn.Going t →
+      (d : Call K V) × (t.calls n ≡ Some d) × (ahead (work_in n t.world) d < ahead (work_in n s.world) c)
+  step_falls s t n c h live st =
+      let is : c ≡ st.call = same_call c st.call (sym live ∙ st.live) in
+      let f = going_falls eq n st.call s.world st.world st.given (work_in n s.world) (work_in n st.world)
+      (calls_known eq s h n st.call st.live).young (logs_have_room s h) st.gets
+      (record { owed = refl; logged = refl; size = refl }) (record { owed = refl; logged = refl; size = refl })
+      (shortens_in n s.world st.world (access_of n st.call) st.given st.gets (in_reached eq KeysWerePeak peak_kept s h)) (sym st.turns) in (
+        f.0,
+        ap (λ (v : State K V). v.calls n) st.after ∙ put_here s.calls n (next_of n st.call st.given).left ∙ ap (λ v. v.left) f.1,
+        rw (is, st.after) f.2,
+      )
+
+  ahead_bounded : (s : State K V) (n : ℕ) (c : Call K V) → IsReached eq s → s.calls n ≡ Some c → ahead (work_in n s.world) c < step_bound s
+  ahead_bounded s n c h live =
+      let most = most_undecided s.world.table in
+      let few = few_steps (length s.world.desk.owed) most c.aborts (most - times_of s.world.stay n) (omega arith)
+      (nat_lt (length s.world.desk.log) s.world.desk.size) c.plan (calls_known eq s h n c live).plan in
+      omega (arith, few)
+
+  going_falls_by : (k : ℕ) (s t : State K V) (n : ℕ) (c : Call K V) → IsReached eq s → s.calls n ≡ Some c → Goings eq Any k s n t →
+      (d : Call K V) × (t.calls n ≡ Some d) × (k + ahead (work_in n t.world) d ≤ ahead (work_in n s.world) c)
+  unfolding Goings
+  going_falls_by zero s t n c h live going = rw going (c, live, omega arith)
+  going_falls_by (suc k) s t n c h live going =
+      let before = going_falls_by k s going.0 n c h live going.1 in
+      let last = step_falls going.0 t n before.0 (steps_reached eq Any k s going.0 n h going.1) before.1 going.2 in
+      (last.0, last.1, omega (arith, before.2, last.2))
+
+  none_left : (k : ℕ) (s t : State K V) (n : ℕ) → s.calls n ≡ None → Goings eq Any k s n t → k ≡ 0
+  unfolding Goings
+  none_left zero s t n none going = refl
+  none_left (suc k) s t n none going = by k going.1 (none_left k s going.0 n none going.1)
+    where
+      by : (j : ℕ) → Goings eq Any j s n going.0 → j ≡ 0 → suc k ≡ 0
+      by zero g e = absurd (none_some (sym none ∙ ap (λ (v : State K V). v.calls n) (sym g) ∙ going.2.live))
+      by (suc j) g e = absurd (omega (arith, e))
+
+  pub steps_bounded : StepsAreBounded K V eq
+  steps_bounded k s t n h going = by (s.calls n) refl
+    where
+      by : (o : Option (Call K V)) → s.calls n ≡ o → k < step_bound s
+      by None e = omega (arith, none_left k s t n e going)
+      by (Some c) e = omega (arith, (going_falls_by k s t n c h e going).2, ahead_bounded s n c h e)
+
+  -- ---- events
+
+  is_going : (t : Turn V) → reply.Going ≡ reply_of t → t ≡ turn.Going
+  is_going turn.Going e = refl
+  is_going turn.Wait e = cc
+  is_going (turn.Ask a) e = cc
+  is_going (turn.Answer a) e = cc
+
+  -- the event was a step of the live call, which leaves it going
+  going_event : (s t : State K V) (n : ℕ) → Happens eq (IsLawful eq) s (event.Step n) reply.Going t →
+      (c : Call K V) × (s.calls n ≡ Some c) × Step eq s n turn.Going t
+  going_event s t n h = by (s.calls n) refl h
+    where
+      refused : Refuses s refusal.UnknownCall reply.Going t → ⊥
+      refused r = let e = r.reply in cc
+      by : (o : Option (Call K V)) → s.calls n ≡ o → MatchOption o (Refuses s refusal.UnknownCall reply.Going t) (λ _. Steps eq s n reply.Going t) →
+          (c : Call K V) × (s.calls n ≡ Some c) × Step eq s n turn.Going t
+      by None e r = absurd (refused r)
+      by (Some c) e steps = (c, e, subst (λ v. Step eq s n v t) (is_going steps.turn steps.reply) steps.step)
+
+  pub step_events_bounded : StepEventsAreBounded K V eq
+  step_events_bounded zero s t n h run = omega arith
+  step_events_bounded (suc k) s t n h run =
+      let first = going_event s run.0 n run.1 in
+      omega (arith, events_fall (suc k) s t n first.0 h first.1 run, ahead_bounded s n first.0 h first.1)
+    where
+      events_fall : (k : ℕ) (s t : State K V) (n : ℕ) (c : Call K V) → IsReached eq s → s.calls n ≡ Some c →
+          Run eq (IsLawful eq) s (replicate k (event.Step n)) (replicate k reply.Going) t → k ≤ ahead (work_in n s.world) c
+      events_fall zero s t n c h live run = omega arith
+      events_fall (suc k) s t n c h live run =
+          let first = going_event s run.0 n run.1 in
+          let falls = step_falls s run.0 n c h live first.2 in
+          let more = events_fall k run.0 t n falls.0 (step_reached eq s run.0 n turn.Going h first.2) falls.1 run.3 in
+          omega (arith, more, falls.2)
