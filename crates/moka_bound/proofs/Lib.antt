@@ -1,2 +1,3 @@
 pub mod More
 pub mod Falls
+pub mod Size

@@ -1,5 +1,5 @@
 -- How long a call may go on by itself.
-use Rattle.std.specs.Prelude.{ℕ, ◌+◌, ◌*◌, ◌==◌, cond, length}
+use Rattle.std.specs.Prelude.{ℕ, ◌+◌, ◌-◌, ◌*◌, ◌^◌, ◌==◌, min, cond, length}
 use Rattle.moka_hist.specs.State.{State, Stay, TablePart}
 
 -- how many steps in a row the operation of this call has stayed undecided, where no other call stepped on the table since
@@ -13,6 +13,10 @@ stayed stay n = record { call = n; times = times_of stay n + 1 }
 -- the operation of this call decided
 abbrev pub decided_by : ℕ → Stay
 decided_by n = record { call = n; times = 0 }
+
+-- a number of steps as it is told: 64 bits hold it, and the greatest such number stands for all that are greater
+abbrev pub as_told : ℕ → ℕ
+as_told steps = min steps (2 ^ 64 - 1)
 
 module _ {K V : Type 0} where
   -- how long an array of the table may be: 128 at least, and three times the most keys that were ever stored

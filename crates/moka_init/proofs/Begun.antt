@@ -63,7 +63,7 @@ module _ {K V : Type 0} where
   on_desk after new v here =
       subst (λ (a : Access K V). wanted after (want_for new.begun a) ≡ Some a) (sym here) (any_visit after new.begun v)
 
-  left_going : (t : Turn V) (new : Flow K V) (d : Call K V) → next_in t new ≡ record { left = Some d; turn = turn.Going } → call_of new ≡ d
+  pub left_going : (t : Turn V) (new : Flow K V) (d : Call K V) → next_in t new ≡ record { left = Some d; turn = turn.Going } → call_of new ≡ d
   left_going t new d e =
       some_same (call_of new) d (subst (λ (u : Turn V). left_in u new ≡ Some d) (ap (λ n. n.turn) e) (ap (λ n. n.left) e))
 

@@ -1,9 +1,10 @@
 -- Steps of a call by itself, one after the other.
-use Rattle.std.proofs.Common.{◌≡◌, ◌≢◌, ℕ, Bool, ◌+◌, refl, sym, subst, add-one}
+use Rattle.std.proofs.Common.{◌≡◌, ◌≢◌, ℕ, zero, suc, ◌<◌, Bool, ◌+◌, refl, sym, ap, ◌∙◌, subst, add-one}
 use Rattle.moka_hist.specs.State.{Call, World}
 use Rattle.moka_hist.specs.Step.{Moves, MovesOn, Polled, IsSafe, May, access_of, going_as}
 use Rattle.moka_hist.specs.declared.accesses.Turn.{Turn}
 use Rattle.moka_hist.specs.declared.accesses.Turn.TheVariants as turn
+use Rattle.moka_bound.proofs.Size.{access_size}
 use Rattle.moka_init.specs.declared.flow.Flow.{Flow}
 use Rattle.moka_init.specs.FlowPlan.{call_of, next_in}
 use Rattle.moka_init.specs.Grounds.{access_at}
@@ -47,3 +48,12 @@ module _ {K V : Type 0} (eq : K → K → Bool) where
         last = subst (λ (n : ℕ). Moves eq n (call_of flow) mid (next_in t new) after) number more;
         ends = ends;
       }
+
+  -- the log has room for as many writes as before
+  size_still : (k n : ℕ) (c : Call K V) (w : World K V) (d : Call K V) (mid : World K V) → MovesOn eq k n c w d mid → mid.desk.size ≡ w.desk.size
+  unfolding MovesOn
+  size_still zero n c w d mid on = ap (λ v. v.desk.size) on.1
+  size_still (suc k) n c w d mid on = access_size eq n on.1 mid (access_of n on.0) on.3.given on.3.gets ∙ size_still k n c w on.0 on.1 on.2
+
+  pub has_log_still : (k n : ℕ) (c : Call K V) (w : World K V) (d : Call K V) (mid : World K V) → MovesOn eq k n c w d mid → 0 < w.desk.size → 0 < mid.desk.size
+  has_log_still k n c w d mid on has_log = rw (size_still k n c w d mid on) has_log

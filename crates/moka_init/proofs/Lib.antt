@@ -2,3 +2,4 @@ pub mod Begun
 pub mod Going
 pub mod Told
 pub mod EmptyCache
+pub mod Near

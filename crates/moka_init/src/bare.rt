@@ -1,7 +1,7 @@
 //! Polls on a ground that is simple enough to be true: nothing is stored, and no write is owed. They
 //! show that the conditions of a poll can be met, that a step makes one access, and that a poll ends at
 //! the first turn that isn't Going.
-ghost use Rattle.std.specs.Prelude.{◌≡◌, ◌++◌, ◌∷◌, [], List, Option, Some, None, IfOk, OnErr};
+ghost use Rattle.std.specs.Prelude.{◌≡◌, ◌≤◌, ℕ, ◌++◌, ◌∷◌, [], List, Option, Some, None, IfOk, OnErr};
 ghost use Rattle.moka_hist.specs.Finite.{IsExact};
 
 use crate::{Alone, Flow, Got, Ground, Turn, Unfinished, Want, poll};
@@ -13,23 +13,26 @@ use std::test::Fail;
 #[derive(Drop)]
 struct Bare<K, V> {
     // How many steps of a look stay undecided.
-    undecided: u64,
+    undecided: u8,
     // How many accesses find memory.
     memory: u64,
     begun: Option<TableOp<K, V>>,
+    ghost few: { undecided ≤ 255 },
 }
 
 impl<K: Eq + Clone + Drop, V: Clone + Drop> Bare<K, V> {
     ghost use Rattle.moka_hist.specs.State.{World};
     ghost use Rattle.moka_hist.specs.Step.{Access, Gets, On_table};
     ghost use Rattle.moka_hist.specs.declared.tables.TableOp.{TableOp};
-    ghost use Rattle.moka_init.specs.EmptyCache.{IsBare};
+    ghost use Rattle.moka_bound.specs.Falling.{Shortens};
+    ghost use Rattle.moka_init.specs.EmptyCache.{BareGives, bare_work};
     ghost use Rattle.moka_init.specs.Grounds.{wanted, still_begun};
 
     // A step of the look for the key.
     fn look(&mut self, key: K) -> Got<K, V>
-        ensures gives { (w : World K V) → IsBare w → Gets K.eq w (On_table (TableOp.Get key)) result w }
+        ensures gives { BareGives K.eq self.old.undecided (On_table (TableOp.Get key)) result self.new.undecided }
         ensures begins { self.new.begun ≡ still_begun (On_table (TableOp.Get key)) result }
+        ensures shortens { Shortens (bare_work self.old.undecided) (bare_work self.new.undecided) (On_table (TableOp.Get key)) result }
     {
         if self.undecided == 0 {
             self.begun = None;
@@ -41,9 +44,13 @@ impl<K: Eq + Clone + Drop, V: Clone + Drop> Bare<K, V> {
     }
 
     fn resume(&mut self) -> Result<Got<K, V>, AllocError>
-        ensures gives { IfOk result (λ given. (o : TableOp K V) → self.old.begun ≡ Some o → (w : World K V) → IsBare w → Gets K.eq w (On_table o) given w) }
+        ensures gives { IfOk result (λ given. (o : TableOp K V) → self.old.begun ≡ Some o
+            → BareGives K.eq self.old.undecided (On_table o) given self.new.undecided) }
         ensures begins { IfOk result (λ given. (o : TableOp K V) → self.old.begun ≡ Some o → self.new.begun ≡ still_begun (On_table o) given) }
+        ensures shortens { IfOk result (λ given. (o : TableOp K V) → self.old.begun ≡ Some o
+            → Shortens (bare_work self.old.undecided) (bare_work self.new.undecided) (On_table o) given) }
         ensures err { OnErr result (self.new.begun ≡ self.old.begun) }
+        ensures err_undecided { OnErr result (self.new.undecided ≡ self.old.undecided) }
     {
         match self.begun.take() {
             Some(TableOp::Get { key }) => Ok(self.look(key)),
@@ -57,6 +64,7 @@ impl<K: Eq + Clone + Drop, V: Clone + Drop> Bare<K, V> {
     fn take_owed(&mut self) -> Got<K, V>
         ensures given { result ≡ Got.Desk (Found.TakeOwed None) }
         ensures begun { self.new.begun ≡ None }
+        ensures undecided { self.new.undecided ≡ self.old.undecided }
     {
         self.begun = None;
         Got::Desk(Found::TakeOwed(None))
@@ -64,10 +72,13 @@ impl<K: Eq + Clone + Drop, V: Clone + Drop> Bare<K, V> {
 
     fn give(&mut self, want: Want<K, V>) -> Result<Got<K, V>, AllocError>
         ensures gives { IfOk result (λ given. (access : Access K V) → wanted self.old.begun want ≡ Some access
-            → (w : World K V) → IsBare w → (new : World K V) × Gets K.eq w access given new × IsBare new) }
+            → BareGives K.eq self.old.undecided access given self.new.undecided) }
         ensures begins { IfOk result (λ given. (access : Access K V) → wanted self.old.begun want ≡ Some access
             → self.new.begun ≡ still_begun access given) }
+        ensures shortens { IfOk result (λ given. (access : Access K V) → wanted self.old.begun want ≡ Some access
+            → Shortens (bare_work self.old.undecided) (bare_work self.new.undecided) access given) }
         ensures err { OnErr result (self.new.begun ≡ self.old.begun) }
+        ensures err_undecided { OnErr result (self.new.undecided ≡ self.old.undecided) }
     {
         match want {
             Want::Begin(TableOp::Get { key }) => Ok(self.look(key)),
@@ -82,28 +93,37 @@ impl<K: Eq + Clone + Drop, V: Clone + Drop> Ground<K, V> for Bare<K, V> {
     ghost use Rattle.moka_hist.specs.State.{World};
     ghost use Rattle.moka_hist.specs.Step.{Access, Gets, May};
     ghost use Rattle.moka_hist.specs.declared.accesses.Got.{Got};
-    ghost use Rattle.moka_init.specs.EmptyCache.{IsBare, nothing_told};
+    ghost use Rattle.moka_bound.specs.Falling.{Counts, Shortens};
+    ghost use Rattle.moka_init.specs.EmptyCache.{IsBare, bare_work, nothing_told};
     ghost use Rattle.moka_init.specs.Grounds.{wanted, still_begun, MayWant};
 
-    ghost stands = { λ g w. IsBare w };
+    ghost stands = { λ g w. IsBare g.undecided w };
 
     ghost begun = { λ g. g.begun };
 
     ghost made = { λ g. nothing_told K V };
 
+    ghost work = { λ g. bare_work g.undecided };
+
     fn access(&mut self, want: Want<K, V>) -> Result<Got<K, V>, AllocError>
         requires keys { IsExact K.is_clone }
         requires values { IsExact V.is_clone }
-        requires may { (w : World K V) × IsBare w × MayWant w self.old.begun want }
+        requires may { (w : World K V) × IsBare self.old.undecided w × MayWant w self.old.begun want }
         ensures gives { IfOk result (λ given. (access : Access K V) → wanted self.old.begun want ≡ Some access
-            → (w : World K V) → IsBare w → May w access → (new : World K V) × Gets K.eq w access given new × IsBare new) }
+            → (call : ℕ) (w : World K V) → IsBare self.old.undecided w → May w access
+            → (new : World K V) × Gets K.eq call w access given new × IsBare self.new.undecided new) }
         ensures begins { IfOk result (λ given. (access : Access K V) → wanted self.old.begun want ≡ Some access
             → self.new.begun ≡ still_begun access given) }
         ensures tells { IfOk result (λ given. (access : Access K V) → wanted self.old.begun want ≡ Some access
             → (before : List (Access K V × Got K V)) → nothing_told K V ≡ Some before → nothing_told K V ≡ Some (before ++ (access, given) ∷ [])) }
-        ensures err { OnErr result ((w : World K V) → IsBare w → IsBare w) }
+        ensures shortens { IfOk result (λ given. (access : Access K V) → wanted self.old.begun want ≡ Some access
+            → Shortens (bare_work self.old.undecided) (bare_work self.new.undecided) access given) }
+        ensures counted { (w : World K V) → IsBare self.old.undecided w → Counts w (bare_work self.old.undecided) }
+        ensures counts { (w : World K V) → IsBare self.new.undecided w → Counts w (bare_work self.new.undecided) }
+        ensures err { OnErr result ((w : World K V) → IsBare self.old.undecided w → IsBare self.new.undecided w) }
         ensures err_begun { OnErr result (self.new.begun ≡ self.old.begun) }
         ensures err_made { OnErr result (nothing_told K V ≡ nothing_told K V) }
+        ensures err_work { OnErr result (bare_work self.new.undecided ≡ bare_work self.old.undecided) }
     {
         if self.memory == 0 {
             return Err(AllocError);

@@ -30,6 +30,7 @@ use Rattle.moka_bound.specs.Ahead.{growth, ahead, judge_steps, steps_of, work_in
 use Rattle.moka_bound.specs.Falling.{Shortens}
 use Rattle.moka_bound.proofs.Falls.{going_falls}
 use Rattle.moka_bound.proofs.More.{post_worst}
+use Rattle.moka_bound.proofs.Size.{access_size}
 use Rattle.moka_laws.specs.Bounded.{LogsHaveRoom, StepsAreBounded, StepEventsAreBounded}
 use Rattle.moka_laws.proofs.Counting.{none_some, put_here, same_number}
 use Rattle.moka_laws.proofs.Kept.{IsKept, in_reached}
@@ -142,30 +143,11 @@ module _ {K V : Type 0} (eq : K → K → Bool) where
 
   -- ---- the log's room
 
-  size_same : (w : World K V) (made : Visit K V) → (makes eq w.desk made).size ≡ w.desk.size
-  size_same w (visit.WaitOrOwn n key kind) = claimed_same (w.desk.owners (record { key = key; kind = kind }))
-    where
-      claimed_same : (o : Option ℕ) → (claimed eq w.desk n (record { key = key; kind = kind }) o).size ≡ w.desk.size
-      claimed_same None = refl
-      claimed_same (Some owner) = refl
-  size_same w (visit.ReadSettled n) = either (is_some (settlement_for w.desk n))
-    where
-      either : (b : Bool) → (cond b (record w.desk { joined = put_at w.desk.joined n None; readers = readers_without w.desk n; settled = settled_without w.desk n }) w.desk).size ≡ w.desk.size
-      either true = refl
-      either false = refl
-  size_same w _ = refl
-
-  access_size : (n : ℕ) (w new : World K V) (a : Access K V) (g : Got K V) → Gets eq n w a g new → new.desk.size ≡ w.desk.size
-  access_size n w new (step.On_table o) (got.Table table.Going) gets = ap (λ v. v.desk.size) gets.1
-  access_size n w new (step.On_table o) (got.Table (table.Decided answer)) gets = ap (λ v. v.desk.size) gets.1
-  access_size n w new (step.On_desk made) (got.Desk found) gets = ap (λ v. v.desk.size) gets.1 ∙ size_same w made
-  access_size n w new _ _ gets = absurd gets
-
   abbrev HasLog : State K V → Type 0
   HasLog s = 0 < s.world.desk.size
 
   log_step : (s t : State K V) (n : ℕ) (turn : Turn V) → HasLog s → Step eq s n turn t → HasLog t
-  log_step s t n turn h st = subst HasLog (sym st.after) (omega (arith, h, access_size n s.world st.world (access_of n st.call) st.given st.gets))
+  log_step s t n turn h st = subst HasLog (sym st.after) (omega (arith, h, access_size eq n s.world st.world (access_of n st.call) st.given st.gets))
 
   log_kept : IsKept {K = K} {V = V} eq HasLog
   log_kept = record {
