@@ -1,5 +1,5 @@
 -- The worlds of an empty cache, on which tests poll.
-use Rattle.std.specs.Prelude.{◌≡◌, ℕ, ◌+◌, ◌≤◌, Bool, List, [], Option, None}
+use Rattle.std.specs.Prelude.{◌≡◌, ℕ, ◌+◌, ◌≤◌, Bool, [], None}
 use Rattle.moka_hist.specs.Bound.{most_undecided}
 use Rattle.moka_hist.specs.State.{World}
 use Rattle.moka_hist.specs.Step.{Access, Gets}
@@ -27,7 +27,3 @@ module _ {K V : Type 0} where
   abbrev pub BareGives : (K → K → Bool) → ℕ → Access K V → Got K V → ℕ → Type 0
   BareGives eq left access given after =
       (call : ℕ) (w : World K V) → IsBare left w → (new : World K V) × Gets eq call w access given new × IsBare after new
-
--- a ground that keeps no list of the accesses that were made
-abbrev pub nothing_told : (K V : Type 0) → Option (List (Access K V × Got K V))
-nothing_told K V = None

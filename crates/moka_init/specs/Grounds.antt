@@ -1,5 +1,5 @@
 -- What a flow stands on.
-use Rattle.std.specs.Prelude.{◌≡◌, Option, Some, None, MatchOption}
+use Rattle.std.specs.Prelude.{◌≡◌, List, Option, Some, None, MatchOption}
 use Rattle.std.specs.Option.{option_map}
 use Rattle.moka_hist.specs.State.{World}
 use Rattle.moka_hist.specs.Step.{Access, access_of, want_for, May}
@@ -12,6 +12,10 @@ use Rattle.moka_hist.specs.declared.accesses.Got.{Got}
 use Rattle.moka_hist.specs.declared.accesses.Got.TheVariants as got
 use Rattle.moka_init.specs.FlowPlan.{call_of}
 use Rattle.moka_init.specs.declared.flow.Flow.{Flow}
+
+-- what a ground has told that keeps no list of the accesses that were made
+abbrev pub nothing_told : (K V : Type 0) → Option (List (Access K V × Got K V))
+nothing_told K V = None
 
 module _ {K V : Type 0} where
   -- the access that is wanted, where this operation was begun

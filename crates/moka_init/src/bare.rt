@@ -94,8 +94,8 @@ impl<K: Eq + Clone + Drop, V: Clone + Drop> Ground<K, V> for Bare<K, V> {
     ghost use Rattle.moka_hist.specs.Step.{Access, Gets, May};
     ghost use Rattle.moka_hist.specs.declared.accesses.Got.{Got};
     ghost use Rattle.moka_bound.specs.Falling.{Counts, Shortens};
-    ghost use Rattle.moka_init.specs.EmptyCache.{IsBare, bare_work, nothing_told};
-    ghost use Rattle.moka_init.specs.Grounds.{wanted, still_begun, MayWant};
+    ghost use Rattle.moka_init.specs.EmptyCache.{IsBare, bare_work};
+    ghost use Rattle.moka_init.specs.Grounds.{wanted, still_begun, MayWant, nothing_told};
 
     ghost stands = { λ g w. IsBare g.undecided w };
 

@@ -1,5 +1,5 @@
 -- Where a run stops for want of memory.
-use Rattle.std.proofs.Common.{◌≡◌, ℕ, Bool, List, take, Option, Some, None, IfSome, refl, sym, subst, ◌⊎◌, inr}
+use Rattle.std.proofs.Common.{◌≡◌, ℕ, Bool, List, take, Option, Some, None, IfSome, refl, sym, subst, ◌⊎◌, inr, arith}
 use Rattle.std.specs.Prelude.{slice_get}
 use Rattle.std.specs.declared.cmp.PartialEq as PartialEq
 use Rattle.std.specs.declared.hash.Hash as Hash
@@ -9,18 +9,17 @@ use Rattle.moka_hist.specs.Run.{Any, Goings, Run, IsReached}
 use Rattle.moka_hist.specs.declared.events.Event.{Event}
 use Rattle.moka_hist.specs.declared.events.Event.TheVariants as event
 use Rattle.moka_hist.specs.declared.replies.Reply.{Reply}
-use Rattle.moka_run.specs.Machine.{StandsFor}
-use Rattle.moka_run.specs.Machine as machine
-use Rattle.moka_run.specs.Running.{Begins, StopsAt, TakesMemory}
+use Rattle.moka_run.specs.Machine.{Begins, StandsFor}
+use Rattle.moka_run.specs.Running.{StopsAt, TakesMemory}
 use Rattle.moka_run.specs.declared.machine.Machine.{Machine}
 use Rattle.moka_run.specs.declared.report.Memory.{Memory}
 
 module _ {K V : Type 0} (eq : K → K → Bool) where
   -- nothing of the next event was done
-  begins_none : (s : State K V) (next : Option (Event K V)) → Begins eq s next 0 s
+  begins_none : (s : State K V) (next : Option (Event K V)) → Begins eq (IsLawful eq) s next 0 s
   unfolding Goings
   begins_none s None = (refl, refl)
-  begins_none s (Some (event.Poll n)) = refl
+  begins_none s (Some (event.Poll n)) = (0, omega arith, refl)
   begins_none s (Some (event.At moment)) = (refl, refl)
   begins_none s (Some (event.Start start)) = (refl, refl)
   begins_none s (Some (event.Step n)) = (refl, refl)
@@ -28,9 +27,9 @@ module _ {K V : Type 0} (eq : K → K → Bool) where
   begins_none s (Some (event.Drop n)) = (refl, refl)
 
   -- the steps of an event that was begun go through lawful states
-  begins_lawful : (s t : State K V) (e : Event K V) (steps : ℕ) → ((n : ℕ) → Goings eq Any steps s n t → Goings eq (IsLawful eq) steps s n t)
-      → machine.Begins eq s e steps t → Begins eq s (Some e) steps t
-  begins_lawful s t (event.Poll n) steps lawful begins = lawful n begins
+  begins_lawful : (s t : State K V) (e : Event K V) (steps : ℕ) → ((k n : ℕ) → Goings eq Any k s n t → Goings eq (IsLawful eq) k s n t)
+      → Begins eq Any s (Some e) steps t → Begins eq (IsLawful eq) s (Some e) steps t
+  begins_lawful s t (event.Poll n) steps lawful begins = (begins.0, begins.1, lawful begins.0 n begins.2)
   begins_lawful s t (event.At moment) steps lawful begins = begins
   begins_lawful s t (event.Start start) steps lawful begins = begins
   begins_lawful s t (event.Step n) steps lawful begins = begins
@@ -38,9 +37,9 @@ module _ {K V : Type 0} (eq : K → K → Bool) where
   begins_lawful s t (event.Drop n) steps lawful begins = begins
 
   -- what an event that was begun has left is reached
-  pub begins_reached : (s t : State K V) (e : Event K V) (steps : ℕ) → IsReached eq s → ((n : ℕ) → Goings eq Any steps s n t → IsReached eq t)
-      → machine.Begins eq s e steps t → IsReached eq t
-  begins_reached s t (event.Poll n) steps reached reaches begins = reaches n begins
+  pub begins_reached : (s t : State K V) (e : Event K V) (steps : ℕ) → IsReached eq s → ((k n : ℕ) → Goings eq Any k s n t → IsReached eq t)
+      → Begins eq Any s (Some e) steps t → IsReached eq t
+  begins_reached s t (event.Poll n) steps reached reaches begins = reaches begins.0 n begins.2
   begins_reached s t (event.At moment) steps reached reaches begins = subst (λ (u : State K V). IsReached eq u) (sym begins.1) reached
   begins_reached s t (event.Start start) steps reached reaches begins = subst (λ (u : State K V). IsReached eq u) (sym begins.1) reached
   begins_reached s t (event.Step n) steps reached reaches begins = subst (λ (u : State K V). IsReached eq u) (sym begins.1) reached
@@ -60,7 +59,7 @@ module _ {K V : Type 0} {same : PartialEq.Ghosts K} {hash : Hash.Ghosts K} (eq :
   -- memory was wanting in an event
   pub stops_in : (m : Machine K V same hash) (events : List (Event K V)) (stop : Memory V) (done steps : ℕ) (replies : List (Reply V)) (s mid t : State K V) (e : Event K V)
       → stop ≡ record { done = done; steps = steps; replies = replies } → Run eq (IsLawful eq) s (take done events) replies mid → slice_get events done ≡ Some e
-      → ((n : ℕ) → Goings eq Any steps mid n t → Goings eq (IsLawful eq) steps mid n t) → machine.Begins eq mid e steps t → StandsFor eq m t → TakesMemory e
+      → ((k n : ℕ) → Goings eq Any k mid n t → Goings eq (IsLawful eq) k mid n t) → Begins eq Any mid (Some e) steps t → StandsFor eq m t → TakesMemory e
       → StopsAt eq events stop.done stop.steps stop.replies m s
   stops_in m events stop done steps replies s mid t e is run next lawful begins stands takes =
       subst (λ (x : Memory V). StopsAt eq events x.done x.steps x.replies m s) (sym is)
@@ -68,7 +67,7 @@ module _ {K V : Type 0} {same : PartialEq.Ghosts K} {hash : Hash.Ghosts K} (eq :
         mid = mid;
         run = run;
         final = t;
-        begins = subst (λ (o : Option (Event K V)). Begins eq mid o steps t) (sym next) (begins_lawful eq mid t e steps lawful begins);
+        begins = subst (λ (o : Option (Event K V)). Begins eq (IsLawful eq) mid o steps t) (sym next) (begins_lawful eq mid t e steps lawful begins);
         stands = stands;
         cause = inr (subst (λ (o : Option (Event K V)). IfSome o TakesMemory) (sym next) takes);
       })

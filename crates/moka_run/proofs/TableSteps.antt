@@ -1,6 +1,7 @@
 -- A step of the table is the reference's.
-use Rattle.std.proofs.Common.{◌≡◌, ◌+◌, Bool, cond, Some, is_some, refl, ap, ◌∙◌}
+use Rattle.std.proofs.Common.{◌≡◌, ◌≢◌, ℕ, ◌+◌, Bool, cond, Some, is_some, refl, ap, ◌∙◌}
 use Rattle.std.specs.HashMap.{hash_map_len}
+use Rattle.moka_hist.specs.Bound.{decided_by}
 use Rattle.moka_hist.specs.State.{TablePart, World}
 use Rattle.moka_hist.specs.Step.{Gets}
 use Rattle.moka_hist.specs.Step as step
@@ -29,19 +30,20 @@ module _ {K V : Type 0} (eq : K → K → Bool) where
       ∙ ap (λ n. cond (is_some (t.stored key)) n (n + 1)) is.keys
 
   -- The world after a step of the table: the table's part has moved as the table did, and the desk's is as it was.
-  pub record Moved (w : World K V) (o : TableOp K V) (new : PlainTable K V) (t : TableTurn K V) : Type 0 where
+  pub record Moved (n : ℕ) (w : World K V) (o : TableOp K V) (new : PlainTable K V) (t : TableTurn K V) : Type 0 where
     pub after : World K V
-    pub gets : Gets eq w (step.On_table o) (got.Table t) after
+    pub gets : Gets eq n w (step.On_table o) (got.Table t) after
     pub table : TableIs eq new after.table
     pub desk : after.desk ≡ w.desk
 
-  pub table_moves : (table new : PlainTable K V) (o : TableOp K V) (t : TableTurn K V) (w : World K V)
-      → Moves eq o (map_of eq table) (hash_map_len table.pairs) t (map_of eq new) (hash_map_len new.pairs) → TableIs eq table w.table → Moved w o new t
-  table_moves table new o turn.Going w moves is =
-      record { after = w; gets = refl; table = record { map = λ q. moves.0 q ∙ is.map q; keys = moves.1 ∙ is.keys }; desk = refl }
-  table_moves table new o (turn.Decided answer) w moves is =
+  -- it decides at its one step
+  pub table_moves : (n : ℕ) (table new : PlainTable K V) (o : TableOp K V) (t : TableTurn K V) (w : World K V)
+      → Moves eq o (map_of eq table) (hash_map_len table.pairs) t (map_of eq new) (hash_map_len new.pairs) → t ≢ turn.Going
+      → TableIs eq table w.table → Moved n w o new t
+  table_moves n table new o turn.Going w moves decides is = absurd (decides refl)
+  table_moves n table new o (turn.Decided answer) w moves decides is =
       record {
-        after = record w { table = table_after eq w.table o };
+        after = record w { table = table_after eq w.table o; stay = decided_by n };
         gets = (moves.0 ∙ ap answer_of (is.map (key_of o)), refl);
         table = record { map = λ q. moves.1 q ∙ stored_after table w.table is o q; keys = moves.2 ∙ count_after table w.table is o };
         desk = refl;

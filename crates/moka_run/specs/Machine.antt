@@ -4,6 +4,7 @@ use Rattle.std.specs.Option.{option_map}
 use Rattle.std.specs.declared.cmp.PartialEq as PartialEq
 use Rattle.std.specs.declared.hash.Hash as Hash
 use Rattle.moka_hist.specs.State.{Call, State, World}
+use Rattle.moka_hist.specs.Bound.{as_told}
 use Rattle.moka_hist.specs.Finite.{put_at}
 use Rattle.moka_hist.specs.Next.{Next}
 use Rattle.moka_hist.specs.Step.{May, Moves, MovesOn, Polled, IsSafe}
@@ -24,10 +25,11 @@ module _ {K V : Type 0} where
   abbrev pub call_in : Running K V → Call K V
   call_in r = call_of r.flow
 
-  -- of a poll so many steps were made, each of which left the call going; nothing of any other event
-  abbrev pub Begins : (K → K → Bool) → State K V → Event K V → ℕ → State K V → Type 0
-  Begins eq s (event.Poll n) steps t = Goings eq Any steps s n t
-  Begins eq s _ steps t = (steps ≡ 0) × (t ≡ s)
+  -- so many steps were made of the event, which is a poll, each of which left its call going, through states that meet P;
+  -- nothing of any other event, or where there is none
+  abbrev pub Begins : (K → K → Bool) → (State K V → Type 0) → State K V → Option (Event K V) → ℕ → State K V → Type 0
+  Begins eq P s (Some (event.Poll n)) steps t = (made : ℕ) × (steps ≡ as_told made) × Goings eq P made s n t
+  Begins eq P s _ steps t = (steps ≡ 0) × (t ≡ s)
 
   -- the running call is of this number, and its flow on its ground
   pub record IsOf (n : ℕ) (r : Running K V) : Type 0 where
@@ -73,7 +75,7 @@ module _ {K V : Type 0} {same : PartialEq.Ghosts K} {hash : Hash.Ghosts K} where
   -- want of memory came with the event, and this much of it was done
   abbrev pub Stops : (K → K → Bool) → Machine K V same hash → Event K V → ℕ → Machine K V same hash → Type 0
   Stops eq old e steps new =
-      (s : State K V) → StandsFor eq old s → IsReached eq s → (t : State K V) × Begins eq s e steps t × StandsFor eq new t
+      (s : State K V) → StandsFor eq old s → IsReached eq s → (t : State K V) × Begins eq Any s (Some e) steps t × StandsFor eq new t
 
   -- a step of a call that was taken out: the call made it, and was put back or has ended
   abbrev pub StepOut : (K → K → Bool) → Machine K V same hash → ℕ → Flow K V → Reply V → Machine K V same hash → Type 0
@@ -98,6 +100,7 @@ module _ {K V : Type 0} {same : PartialEq.Ghosts K} {hash : Hash.Ghosts K} where
   -- so many steps of a call that was taken out, each of which left it going
   abbrev pub UnfinishedOut : (K → K → Bool) → Machine K V same hash → ℕ → Flow K V → ℕ → Machine K V same hash → Type 0
   UnfinishedOut eq old n flow steps new =
-      (others : ℕ → Option (Call K V)) (w : World K V) → Without eq old n flow others w → IsSafe eq n (call_of flow) w
-      → (d : Call K V) × (after : World K V) × MovesOn eq steps n (call_of flow) w d after
-      × StandsFor eq new (record { world = after; calls = put_at others n (Some d) })
+      (made : ℕ) × (steps ≡ as_told made)
+      × ((others : ℕ → Option (Call K V)) (w : World K V) → Without eq old n flow others w → IsSafe eq n (call_of flow) w
+      → (d : Call K V) × (after : World K V) × MovesOn eq made n (call_of flow) w d after
+      × StandsFor eq new (record { world = after; calls = put_at others n (Some d) }))

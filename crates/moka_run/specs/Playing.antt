@@ -55,7 +55,7 @@ pub record ReportsRun (log : ℕ) (events : List (Event ℕ ℕ)) (text : List �
   pub is : text ≡ report_text replies entries places
 
 -- the text is the report of the schedule that the bytes say
-pub record Answers (bytes text : List ℕ) : Type 0 where
+pub record IsReport (bytes text : List ℕ) : Type 0 where
   pub log : ℕ
   pub events : List (Event ℕ ℕ)
   pub says : Says bytes log events
@@ -73,13 +73,13 @@ pub record ReadsAll (old : Option (List ℕ)) (bytes : List ℕ) (new : Option (
 -- the report of the schedule that the bytes say was written, the whole of it
 pub record WritesReport (bytes : List ℕ) (old new : Option (List ℕ)) : Type 0 where
   pub text : List ℕ
-  pub answers : Answers bytes text
+  pub answers : IsReport bytes text
   pub writes : Extends old text new
 
 -- some bytes off the front of that report were written, or none
 pub record WritesFront (bytes : List ℕ) (old new : Option (List ℕ)) : Type 0 where
   pub text : List ℕ
-  pub answers : Answers bytes text
+  pub answers : IsReport bytes text
   pub count : ℕ
   pub within : count ≤ length text
   pub writes : Extends old (take count text) new

@@ -1,22 +1,17 @@
 -- What a run of events on a machine answers.
-use Rattle.std.specs.Prelude.{◌≡◌, ◌⊎◌, IfSome, ℕ, Bool, List, take, slice_get, Option, Some}
+use Rattle.std.specs.Prelude.{◌≡◌, ◌⊎◌, IfSome, ℕ, Bool, List, take, slice_get,}
 use Rattle.std.specs.declared.cmp.PartialEq as PartialEq
 use Rattle.std.specs.declared.hash.Hash as Hash
 use Rattle.moka_hist.specs.State.{State}
 use Rattle.moka_hist.specs.Places.{IsLawful}
-use Rattle.moka_hist.specs.Run.{Goings, Run}
+use Rattle.moka_hist.specs.Run.{Run}
 use Rattle.moka_hist.specs.declared.events.Event.{Event}
 use Rattle.moka_hist.specs.declared.events.Event.TheVariants as event
 use Rattle.moka_hist.specs.declared.replies.Reply.{Reply}
-use Rattle.moka_run.specs.Machine.{StandsFor}
+use Rattle.moka_run.specs.Machine.{StandsFor, Begins}
 use Rattle.moka_run.specs.declared.machine.Machine.{Machine}
 
 module _ {K V : Type 0} where
-  -- so many steps were made of the event, which is a poll, each through a lawful state and leaving its call going; nothing of any other event
-  abbrev pub Begins : (K → K → Bool) → State K V → Option (Event K V) → ℕ → State K V → Type 0
-  Begins eq s (Some (event.Poll n)) steps t = Goings eq (IsLawful eq) steps s n t
-  Begins eq s _ steps t = (steps ≡ 0) × (t ≡ s)
-
   -- memory may be wanting in such an event. Moving the clock and dropping a call take none
   abbrev pub TakesMemory : Event K V → Type 0
   TakesMemory (event.At moment) = ⊥
@@ -39,7 +34,7 @@ pub record StopsAt {K V : Type 0} {same : PartialEq.Ghosts K} {hash : Hash.Ghost
   pub mid : State K V
   pub run : Run eq (IsLawful eq) s (take done events) replies mid
   pub final : State K V
-  pub begins : Begins eq mid (slice_get events done) steps final
+  pub begins : Begins eq (IsLawful eq) mid (slice_get events done) steps final
   pub stands : StandsFor eq new final
   -- at the very beginning, for the room of the replies; in an event that takes memory; or after the last one, for the lists
   pub cause : (done ≡ 0) ⊎ IfSome (slice_get events done) TakesMemory

@@ -3,7 +3,7 @@ ghost use Rattle.std.specs.Prelude.{◌≡◌, ◌≤◌, ℕ, nat_eq, IfOk, IsE
 ghost use Rattle.std.specs.Ordering.{nat_cmp};
 ghost use Rattle.std.specs.String.{string_bytes};
 ghost use Rattle.moka_text.specs.ScheduleText.{IsFirstBad};
-ghost use Rattle.moka_run.specs.Playing.{Answers, ReportsRun, RunsFresh};
+ghost use Rattle.moka_run.specs.Playing.{IsReport, ReportsRun, RunsFresh};
 
 use crate::machine::Machine;
 use crate::report::Report;
@@ -62,7 +62,7 @@ fn report_on(alloc: Global, log: usize, events: &[Event<u32, u32>]) -> Result<St
 ///
 /// `BadLine` comes with the first line that is not in the grammar, `Memory` where memory runs out.
 pub(crate) fn answer(alloc: Global, bytes: &[u8]) -> Result<String, ScheduleError>
-    ensures answers { IfOk result (λ text. Answers bytes.now (string_bytes text)) }
+    ensures answers { IfOk result (λ text. IsReport bytes.now (string_bytes text)) }
     ensures bad_line { (line : ℕ) → IsErrOf result (ScheduleError.BadLine line)
         → IsFirstBad bytes.now line }
 {

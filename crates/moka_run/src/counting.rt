@@ -28,10 +28,11 @@ struct Counting<K: Eq + Hash, V> {
 
 impl<K: Eq + Hash + Clone + Drop, V: Clone + Drop> Ground<K, V> for Counting<K, V> {
     ghost use Rattle.moka_hist.specs.State.{World};
-    ghost use Rattle.moka_hist.specs.Step.{Access, Gets, May};
+    ghost use Rattle.moka_hist.specs.Step.{Access};
     ghost use Rattle.moka_hist.specs.declared.accesses.Got.{Got};
-    ghost use Rattle.moka_init.specs.Grounds.{wanted, still_begun, MayWant};
-    ghost use Rattle.moka_run.specs.Layers.{WorldIs, operation_of, nothing_told, Keeps};
+    ghost use Rattle.moka_bound.specs.Falling.{Counts, Shortens};
+    ghost use Rattle.moka_init.specs.Grounds.{wanted, still_begun, nothing_told, MayWant};
+    ghost use Rattle.moka_run.specs.Layers.{WorldIs, operation_of, work_of, Accesses, Keeps};
 
     ghost stands = { λ c w. WorldIs K.eq c.layers w };
 
@@ -39,19 +40,26 @@ impl<K: Eq + Hash + Clone + Drop, V: Clone + Drop> Ground<K, V> for Counting<K, 
 
     ghost made = { λ c. nothing_told K V };
 
+    ghost work = { λ c. work_of c.layers };
+
     fn access(&mut self, want: Want<K, V>) -> Result<Got<K, V>, AllocError>
         requires keys { IsExact K.is_clone }
         requires values { IsExact V.is_clone }
         requires may { (w : World K V) × WorldIs K.eq self.old.layers w × MayWant w (operation_of self.old.layers.begun) want }
         ensures gives { IfOk result (λ given. (access : Access K V) → wanted (operation_of self.old.layers.begun) want ≡ Some access
-            → (w : World K V) → WorldIs K.eq self.old.layers w → May w access → (new : World K V) × Gets K.eq w access given new × WorldIs K.eq self.new.layers new) }
+            → Accesses K.eq self.old.layers access given self.new.layers) }
         ensures begins { IfOk result (λ given. (access : Access K V) → wanted (operation_of self.old.layers.begun) want ≡ Some access
             → operation_of self.new.layers.begun ≡ still_begun access given) }
         ensures tells { IfOk result (λ given. (access : Access K V) → wanted (operation_of self.old.layers.begun) want ≡ Some access
             → (before : List (Access K V × Got K V)) → nothing_told K V ≡ Some before → nothing_told K V ≡ Some (before ++ (access, given) ∷ [])) }
+        ensures shortens { IfOk result (λ given. (access : Access K V) → wanted (operation_of self.old.layers.begun) want ≡ Some access
+            → Shortens (work_of self.old.layers) (work_of self.new.layers) access given) }
+        ensures counted { (w : World K V) → WorldIs K.eq self.old.layers w → Counts w (work_of self.old.layers) }
+        ensures counts { (w : World K V) → WorldIs K.eq self.new.layers w → Counts w (work_of self.new.layers) }
         ensures err { OnErr result (Keeps K.eq self.old.layers self.new.layers) }
         ensures err_begun { OnErr result (operation_of self.new.layers.begun ≡ operation_of self.old.layers.begun) }
         ensures err_made { OnErr result (nothing_told K V ≡ nothing_told K V) }
+        ensures err_work { OnErr result (work_of self.new.layers ≡ work_of self.old.layers) }
     {
         self.accesses = self.accesses.saturating_add(1);
         self.layers.access(want)

@@ -24,7 +24,7 @@ impl<K: Eq + Hash + Clone + Drop, V: Clone + Drop> Layers<K, V> {
     ghost use Rattle.moka_hist.specs.Step.{On_table, On_desk};
     ghost use Rattle.moka_hist.specs.declared.tables.TableOp.{TableOp};
     ghost use Rattle.moka_init.specs.Grounds.{still_begun};
-    ghost use Rattle.moka_run.specs.Layers.{WorldIs, operation_of, Accesses, Keeps};
+    ghost use Rattle.moka_run.specs.Layers.{WorldIs, operation_of, Accesses, Decides, Keeps};
 
     // Makes a step of an operation that was begun. It stays begun where it is undecided, or memory
     // was wanting.
@@ -35,6 +35,7 @@ impl<K: Eq + Hash + Clone + Drop, V: Clone + Drop> Layers<K, V> {
         ensures gives { IfOk result (λ given. (operation : TableOp K V) → call.operation ≡ Some operation → Accesses K.eq self.old (On_table operation) given self.new) }
         ensures begins { IfOk result (λ given. (operation : TableOp K V) → call.operation ≡ Some operation
             → operation_of self.new.begun ≡ still_begun (On_table operation) given) }
+        ensures decides { IfOk result (λ given. Decides given) }
         ensures err { OnErr result (Keeps K.eq self.old self.new) }
         ensures err_begun { OnErr result ((operation : TableOp K V) → call.operation ≡ Some operation → operation_of self.new.begun ≡ Some operation) }
     {
@@ -60,6 +61,7 @@ impl<K: Eq + Hash + Clone + Drop, V: Clone + Drop> Layers<K, V> {
         requires values { IsExact V.is_clone }
         ensures gives { IfOk result (λ given. Accesses K.eq self.old (On_table operation) given self.new) }
         ensures begins { IfOk result (λ given. operation_of self.new.begun ≡ still_begun (On_table operation) given) }
+        ensures decides { IfOk result (λ given. Decides given) }
         ensures err { OnErr result (Keeps K.eq self.old self.new) }
         ensures err_begun { OnErr result (operation_of self.new.begun ≡ operation_of self.old.begun) }
     {
@@ -82,6 +84,7 @@ impl<K: Eq + Hash + Clone + Drop, V: Clone + Drop> Layers<K, V> {
         ensures gives { IfOk result (λ given. (operation : TableOp K V) → operation_of self.old.begun ≡ Some operation → Accesses K.eq self.old (On_table operation) given self.new) }
         ensures begins { IfOk result (λ given. (operation : TableOp K V) → operation_of self.old.begun ≡ Some operation
             → operation_of self.new.begun ≡ still_begun (On_table operation) given) }
+        ensures decides { IfOk result (λ given. Decides given) }
         ensures err { OnErr result (Keeps K.eq self.old self.new) }
         ensures err_begun { OnErr result (operation_of self.new.begun ≡ operation_of self.old.begun) }
     {
@@ -98,6 +101,7 @@ impl<K: Eq + Hash + Clone + Drop, V: Clone + Drop> Layers<K, V> {
         requires may { (w : World K V) × WorldIs K.eq self.old w × May w (On_desk visit) }
         ensures gives { IfOk result (λ given. Accesses K.eq self.old (On_desk visit) given self.new) }
         ensures begins { OnOk result (operation_of self.new.begun ≡ None) }
+        ensures decides { IfOk result (λ given. Decides given) }
         ensures err { OnErr result (Keeps K.eq self.old self.new) }
         ensures err_begun { OnErr result (operation_of self.new.begun ≡ operation_of self.old.begun) }
     {
@@ -109,10 +113,11 @@ impl<K: Eq + Hash + Clone + Drop, V: Clone + Drop> Layers<K, V> {
 
 impl<K: Eq + Hash + Clone + Drop, V: Clone + Drop> Ground<K, V> for Layers<K, V> {
     ghost use Rattle.moka_hist.specs.State.{World};
-    ghost use Rattle.moka_hist.specs.Step.{Access, Gets, May};
+    ghost use Rattle.moka_hist.specs.Step.{Access};
     ghost use Rattle.moka_hist.specs.declared.accesses.Got.{Got};
-    ghost use Rattle.moka_init.specs.Grounds.{wanted, still_begun, MayWant};
-    ghost use Rattle.moka_run.specs.Layers.{WorldIs, operation_of, nothing_told, Keeps};
+    ghost use Rattle.moka_bound.specs.Falling.{Counts, Shortens};
+    ghost use Rattle.moka_init.specs.Grounds.{wanted, still_begun, nothing_told, MayWant};
+    ghost use Rattle.moka_run.specs.Layers.{WorldIs, operation_of, work_of, Accesses, Keeps};
 
     ghost stands = { λ l w. WorldIs K.eq l w };
 
@@ -120,19 +125,26 @@ impl<K: Eq + Hash + Clone + Drop, V: Clone + Drop> Ground<K, V> for Layers<K, V>
 
     ghost made = { λ l. nothing_told K V };
 
+    ghost work = { λ l. work_of l };
+
     fn access(&mut self, want: Want<K, V>) -> Result<Got<K, V>, AllocError>
         requires keys { IsExact K.is_clone }
         requires values { IsExact V.is_clone }
         requires may { (w : World K V) × WorldIs K.eq self.old w × MayWant w (operation_of self.old.begun) want }
         ensures gives { IfOk result (λ given. (access : Access K V) → wanted (operation_of self.old.begun) want ≡ Some access
-            → (w : World K V) → WorldIs K.eq self.old w → May w access → (new : World K V) × Gets K.eq w access given new × WorldIs K.eq self.new new) }
+            → Accesses K.eq self.old access given self.new) }
         ensures begins { IfOk result (λ given. (access : Access K V) → wanted (operation_of self.old.begun) want ≡ Some access
             → operation_of self.new.begun ≡ still_begun access given) }
         ensures tells { IfOk result (λ given. (access : Access K V) → wanted (operation_of self.old.begun) want ≡ Some access
             → (before : List (Access K V × Got K V)) → nothing_told K V ≡ Some before → nothing_told K V ≡ Some (before ++ (access, given) ∷ [])) }
+        ensures shortens { IfOk result (λ given. (access : Access K V) → wanted (operation_of self.old.begun) want ≡ Some access
+            → Shortens (work_of self.old) (work_of self.new) access given) }
+        ensures counted { (w : World K V) → WorldIs K.eq self.old w → Counts w (work_of self.old) }
+        ensures counts { (w : World K V) → WorldIs K.eq self.new w → Counts w (work_of self.new) }
         ensures err { OnErr result (Keeps K.eq self.old self.new) }
         ensures err_begun { OnErr result (operation_of self.new.begun ≡ operation_of self.old.begun) }
         ensures err_made { OnErr result (nothing_told K V ≡ nothing_told K V) }
+        ensures err_work { OnErr result (work_of self.new ≡ work_of self.old) }
     {
         match want {
             Want::Begin(operation) => self.begin(operation),

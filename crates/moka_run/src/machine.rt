@@ -24,7 +24,7 @@ impl<K: Eq + Hash + Clone + Drop, V: Clone + Drop> Machine<K, V> {
     ghost use Rattle.moka_hist.specs.declared.events.Event.{Event};
     ghost use Rattle.moka_run.specs.Machine.{StandsFor, IsValid, Serves, Keeps};
 
-    /// A fresh cache, with a log of this many writes.
+    /// A fresh cache, with a log of this many writes: 1 to 65536.
     pub fn build(alloc: Global, log: usize) -> Result<Self, AllocError>
         requires least { 1 ≤ log }
         requires most { log ≤ 65536 }

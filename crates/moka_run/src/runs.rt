@@ -4,6 +4,7 @@ ghost use Rattle.std.specs.Vec.{vec_capacity};
 ghost use Rattle.moka_hist.specs.Finite.{IsExact};
 ghost use Rattle.moka_hist.specs.State.{State};
 ghost use Rattle.moka_hist.specs.Run.{IsReached};
+ghost use Rattle.moka_laws.specs.Bounded.{StepEventsAreBounded, StepsAreBounded};
 ghost use Rattle.moka_laws.specs.Waiting.{WaitsByCause};
 ghost use Rattle.moka_run.specs.Machine.{StandsFor, IsValid};
 ghost use Rattle.moka_run.specs.Running.{Answers, StopsAt};
@@ -22,6 +23,10 @@ use std::hash::Hash;
 /// the reference cache, in which no key and kind has two open initializers and each committed write
 /// stands in exactly one place. The report's lists are those of the last state. `Memory` tells how far
 /// it came; the machine stands in that state, and can be run on.
+///
+/// A call that is stepped alone has another reply than Going after fewer steps than
+/// `64 * (4 + 128 + 3 * peak + owed + logged)`, where `peak` is the most keys that were ever stored, and
+/// the other two are the writes that are owed and logged as the first of these steps is made.
 pub fn run<K: Eq + Hash + Clone + Drop, V: Clone + Drop>(
     alloc: Global,
     cache: &mut Machine<K, V>,
@@ -38,8 +43,12 @@ pub fn run<K: Eq + Hash + Clone + Drop, V: Clone + Drop>(
     ensures valid { IsValid K.eq cache.new }
     // of whatever state, not of this run alone
     ensures waits { WaitsByCause K V K.eq }
+    ensures steps { StepsAreBounded K V K.eq }
+    ensures events { StepEventsAreBounded K V K.eq }
 {
     moka_laws::waits_by_cause::<K, V>();
+    moka_laws::steps_are_bounded::<K, V>();
+    moka_laws::step_events_are_bounded::<K, V>();
     let replies = run_events(alloc, cache, events)?;
     let replies = ReplyList::from_vec(replies);
     match lists(alloc, cache) {

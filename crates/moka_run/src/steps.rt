@@ -1,5 +1,5 @@
 //! Steps and polls of the live calls.
-ghost use Rattle.std.specs.Prelude.{◌≡◌, ℕ, Option, Some, None, IfOk, IfErr, IfSome, IfNone, OnErr, OnSome};
+ghost use Rattle.std.specs.Prelude.{◌≡◌, ◌<◌, ℕ, Option, Some, None, IfOk, IfErr, IfSome, IfNone, OnErr, OnSome};
 ghost use Rattle.moka_hist.specs.Finite.{IsExact, put_at};
 
 use crate::calls::Running;
@@ -50,6 +50,7 @@ impl<K: Eq + Hash + Clone + Drop, V: Clone + Drop> Machine<K, V> {
         moka_laws::calls_are_safe::<K, V>();
         moka_laws::moves_are_steps::<K, V>();
         moka_laws::polled_is_poll::<K, V>();
+        moka_laws::logs_have_room::<K, V>();
         match self.take_out(call) {
             None => Ok(Reply::Refused(Refusal::UnknownCall)),
             Some(flow) => self.poll_out(call, flow),
@@ -151,7 +152,7 @@ impl<K: Eq + Hash + Clone + Drop, V: Clone + Drop> Machine<K, V> {
         requires values { IsExact V.is_clone }
         requires place { HasPlace self.old.calls call }
         requires on { IsOn (operation_of self.old.layers.begun) flow }
-        requires safe { (w : World K V) × WorldIs K.eq self.old.layers w × IsSafe K.eq flow.call (call_of flow) w }
+        requires safe { (w : World K V) × WorldIs K.eq self.old.layers w × IsSafe K.eq flow.call (call_of flow) w × (0 < w.desk.size) }
         ensures polls { IfOk result (λ r. PollOut K.eq self.old call flow r self.new) }
         ensures unfinished { IfErr result (λ u. UnfinishedOut K.eq self.old call flow u.steps self.new) }
     {

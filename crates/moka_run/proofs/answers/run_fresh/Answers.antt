@@ -6,7 +6,7 @@ use Rattle.moka_run.proofs.answers.run_fresh.Goals as goal
 
 pub returns-in-Ok : goal.returns-in-Ok
 returns-in-Ok c =
-    let reached : IsReached nat_eq (fresh ℕ ℕ c.args.log) = record { size = c.args.log; events = []; replies = []; run = refl } in
+    let reached : IsReached nat_eq (fresh ℕ ℕ c.args.log) = record { size = c.args.log; has_log = c.requires.least; events = []; replies = []; run = refl } in
     let ran = c.in-Ok.ensures.run (fresh ℕ ℕ c.args.log) c.in_ok-machine.ensures.fresh reached in
     record {
       final = ran.0.final;

@@ -35,7 +35,7 @@ returns-in-Err-serve-clause-memory g c = λ s h reached.
     let next : slice_get c.args.events.now i ≡ Some c.event-item.result =
     slice_get_read c.args.events.now (length c.args.events.now) i c.event-item.result refl c.loop-event-test.true c.event-item.is in
     stops_in g.K.PartialEq.eq c.serve.new.self c.args.events.now c.stopped-in-Err-serve.result i c.in-Err-serve.unfinished.steps c.loop-event.replies.items s m.0 k.0 c.event-item.result
-    (c.stopped-in-Err-serve.ensures ∙ ap at_done c.loop-event.invariant.told) m.1 next (λ n going. (c.steps_are_lawful.ensures.lawful c.in-Err-serve.unfinished.steps m.0 k.0 n m.3).0 going) k.1 k.2 c.in-Err-serve.ensures.cause
+    (c.stopped-in-Err-serve.ensures ∙ ap at_done c.loop-event.invariant.told) m.1 next (λ j n going. (c.steps_are_lawful.ensures.lawful j m.0 k.0 n m.3).0 going) k.1 k.2 c.in-Err-serve.ensures.cause
 
 pub returns-in-Err-serve-clause-valid : goal.returns-in-Err-serve-clause-valid
 returns-in-Err-serve-clause-valid g c =
@@ -45,7 +45,7 @@ returns-in-Err-serve-clause-valid g c =
     record {
       state = k.0;
       stands = k.2;
-      reached = begins_reached g.K.PartialEq.eq v.state k.0 c.event-item.result steps v.reached (λ n going. c.reached_by_steps.ensures.reached steps v.state k.0 n v.reached going) k.1;
+      reached = begins_reached g.K.PartialEq.eq v.state k.0 c.event-item.result steps v.reached (λ j n going. c.reached_by_steps.ensures.reached j v.state k.0 n v.reached going) k.1;
     }
 
 pub loop-event-preserved : goal.loop-event-preserved

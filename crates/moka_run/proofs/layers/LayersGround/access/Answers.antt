@@ -3,7 +3,7 @@ use Rattle.std.proofs.Common.{subst}
 use Rattle.std.proofs.lemmas.Result.{IfOk-weaker}
 use Rattle.moka_hist.specs.Step.{Access}
 use Rattle.moka_run.specs.Layers.{operation_of, Accesses}
-use Rattle.moka_run.proofs.Wanted.{begun_by_may, wanted_table, wanted_visit}
+use Rattle.moka_run.proofs.Wanted.{begun_by_may, wanted_begin, wanted_table, wanted_visit, decides_shorten}
 use Rattle.moka_run.proofs.layers.LayersGround.access.Goals as goal
 
 pub resume-requires-clause-begun : goal.resume-requires-clause-begun
@@ -22,3 +22,22 @@ returns-in-Desk-clause-gives g c =
     subst (λ (a : Access g.row.K.Denot g.row.V.Denot). Accesses g.K.PartialEq.eq c.args.self.now a given c.visit.new.self)
     (wanted_visit (operation_of c.args.self.now.begun) c.args.want access c.in-Desk.visit c.in-Desk.is is) gives)
     c.visit.ensures.gives
+
+pub returns-in-Begin-clause-gives : goal.returns-in-Begin-clause-gives
+returns-in-Begin-clause-gives g c =
+    IfOk-weaker c.begin.result _ _ (λ given gives access is.
+    subst (λ (a : Access g.row.K.Denot g.row.V.Denot). Accesses g.K.PartialEq.eq c.args.self.now a given c.begin.new.self)
+    (wanted_begin (operation_of c.args.self.now.begun) c.args.want access c.in-Begin.operation c.in-Begin.is is) gives)
+    c.begin.ensures.gives
+
+pub returns-in-Begin-clause-shortens : goal.returns-in-Begin-clause-shortens
+returns-in-Begin-clause-shortens g c =
+    IfOk-weaker c.begin.result _ _ (λ given decides access is. decides_shorten c.args.self.now c.begin.new.self access given decides) c.begin.ensures.decides
+
+pub returns-in-Table-clause-shortens : goal.returns-in-Table-clause-shortens
+returns-in-Table-clause-shortens g c =
+    IfOk-weaker c.resume.result _ _ (λ given decides access is. decides_shorten c.args.self.now c.resume.new.self access given decides) c.resume.ensures.decides
+
+pub returns-in-Desk-clause-shortens : goal.returns-in-Desk-clause-shortens
+returns-in-Desk-clause-shortens g c =
+    IfOk-weaker c.visit.result _ _ (λ given decides access is. decides_shorten c.args.self.now c.visit.new.self access given decides) c.visit.ensures.decides

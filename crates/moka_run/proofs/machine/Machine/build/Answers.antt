@@ -18,5 +18,5 @@ returns-clause-valid g c =
     record {
       state = fresh g.row.K.Denot g.row.V.Denot c.args.log;
       stands = returns-clause-fresh g c;
-      reached = record { size = c.args.log; events = []; replies = []; run = refl };
+      reached = record { size = c.args.log; has_log = c.requires.least; events = []; replies = []; run = refl };
     }

@@ -1,7 +1,7 @@
 -- A poll of a live call is the reference's, and without memory so far as it came.
-use Rattle.std.proofs.Common.{sym, subst}
+use Rattle.std.proofs.Common.{ℕ, sym, subst}
 use Rattle.std.proofs.lemmas.Result.{IfOk-weaker, IfErr-weaker}
-use Rattle.moka_hist.specs.Step.{state_after}
+use Rattle.moka_hist.specs.Step.{IsSafe, state_after}
 use Rattle.moka_hist.specs.Run.{Any, Happens}
 use Rattle.moka_hist.specs.declared.events.Event.TheVariants as event
 use Rattle.moka_hist.specs.declared.replies.Reply.{Reply}
@@ -24,6 +24,17 @@ returns-in-Some-clause-stops g c = IfErr-weaker c.poll_out.result _ _ (λ u stop
     let n = c.args.call in
     let d = call_of c.in-Some.flow in
     let t = c.in-Some.ensures.some s stands in
-    let m = stops s.calls s.world t.rest (c.calls_are_safe.ensures.safe s n d reached t.live) in
-    (gone_on s n m.0 m.1, c.moves_are_steps.ensures.steps s n u.steps d m.0 m.1 t.live m.2, m.3))
+    let m = stops.2 s.calls s.world t.rest (c.calls_are_safe.ensures.safe s n d reached t.live) in
+    (gone_on s n m.0 m.1, (stops.0, stops.1, c.moves_are_steps.ensures.steps s n stops.0 d m.0 m.1 t.live m.2), m.3))
     c.poll_out.ensures.unfinished
+
+pub poll_out-requires-clause-safe : goal.poll_out-requires-clause-safe
+poll_out-requires-clause-safe g c =
+    let v = c.requires.valid in
+    let d = call_of c.in-Some.flow in
+    let t = c.in-Some.ensures.some v.state v.stands in (
+      v.state.world,
+      t.rest.world,
+      subst (λ (n : ℕ). IsSafe g.K.PartialEq.eq n d v.state.world) (sym t.rest.number) (c.calls_are_safe.ensures.safe v.state c.args.call d v.reached t.live),
+      c.logs_have_room.ensures.room v.state v.reached,
+    )

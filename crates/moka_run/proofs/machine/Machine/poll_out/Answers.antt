@@ -16,10 +16,15 @@ returns-in-Ok-clause-polls g c = λ others w h safe.
     )
 
 pub returns-in-Err-clause-unfinished : goal.returns-in-Err-clause-unfinished
-returns-in-Err-clause-unfinished g c = λ others w h safe.
-    let m = c.in-Err.ensures.unfinished w h.world (subst (λ (n : ℕ). IsSafe g.K.PartialEq.eq n (call_of c.args.flow) w) (sym h.number) safe) in (
-      call_of c.poll.new.flow,
-      m.0,
-      subst (λ (n : ℕ). MovesOn g.K.PartialEq.eq c.in-Err.stopped.steps n (call_of c.args.flow) w (call_of c.poll.new.flow) m.0) h.number m.1,
-      c.put_in.ensures others m.0 (record { world = m.2; calls = h.calls; each = h.each; number = c.in-Err.ensures.number ∙ h.number; on = c.in-Err.ensures.on }),
+returns-in-Err-clause-unfinished g c =
+    let u = c.in-Err.ensures.unfinished in (
+      u.0,
+      u.1,
+      λ others w h safe.
+          let m = u.2 w h.world (subst (λ (n : ℕ). IsSafe g.K.PartialEq.eq n (call_of c.args.flow) w) (sym h.number) safe) in (
+            call_of c.poll.new.flow,
+            m.0,
+            subst (λ (n : ℕ). MovesOn g.K.PartialEq.eq u.0 n (call_of c.args.flow) w (call_of c.poll.new.flow) m.0) h.number m.1,
+            c.put_in.ensures others m.0 (record { world = m.2; calls = h.calls; each = h.each; number = c.in-Err.ensures.number ∙ h.number; on = c.in-Err.ensures.on }),
+          ),
     )

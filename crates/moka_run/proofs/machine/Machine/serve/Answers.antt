@@ -1,7 +1,7 @@
 -- Each event by its own function.
-use Rattle.std.proofs.Common.{IfOk, sym, subst}
+use Rattle.std.proofs.Common.{IfErr, IfOk, sym, subst}
 use Rattle.moka_hist.specs.declared.events.Event.{Event}
-use Rattle.moka_run.specs.Machine.{Serves}
+use Rattle.moka_run.specs.Machine.{Serves, Stops}
 use Rattle.moka_run.proofs.Happening.{unpolled_ok}
 use Rattle.moka_run.proofs.machine.Machine.serve.Goals as goal
 
@@ -18,3 +18,7 @@ returns-in-Tell-clause-serves g c =
 pub returns-in-Poll-clause-serves : goal.returns-in-Poll-clause-serves
 returns-in-Poll-clause-serves g c =
     subst (λ (e : Event g.row.K.Denot g.row.V.Denot). IfOk c.poll.result (λ r. Serves g.K.PartialEq.eq c.args.self.now e r c.poll.new.self)) (sym c.in-Poll.is) c.poll.ensures.serves
+
+pub returns-in-Poll-clause-stops : goal.returns-in-Poll-clause-stops
+returns-in-Poll-clause-stops g c =
+    subst (λ (e : Event g.row.K.Denot g.row.V.Denot). IfErr c.poll.result (λ u. Stops g.K.PartialEq.eq c.args.self.now e u.steps c.poll.new.self)) (sym c.in-Poll.is) c.poll.ensures.stops
