@@ -38,6 +38,7 @@ impl Source for PlainSource {
             (take n buf.new) (⟦<PlainSource as Source>⟧.left self.new)) }
         ensures end { IfOk result (λ n. n ≡ 0 → 0 < length buf.old
             → IsSpent (⟦<PlainSource as Source>⟧.left self.new)) }
+        ensures rest { IfOk result (λ n. drop n buf.new ≡ drop n buf.old) }
     {
         let count = copy_front(&self.bytes[self.position..], buf, usize::MAX);
         self.position += count;

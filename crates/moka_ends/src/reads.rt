@@ -53,6 +53,9 @@ pub fn read_all<S: Source>(alloc: Global, source: &mut S, most: usize) -> Result
         → HasRisen (S.faults source.old) (S.faults source.new) }
     ensures kept { OnErr result (GivesSome (S.left source.old) (S.left source.new)) }
     ensures faults { S.faults source.old ≤ S.faults source.new }
+    ensures calm { ¬ IsErrOf result ReadError.Fault
+        → S.faults source.new ≡ S.faults source.old }
+    ensures once { S.faults source.new ≤ S.faults source.old + 1 }
 {
     let mut bytes = Vec::new(alloc);
     let mut chunk = [0; CHUNK];
@@ -81,6 +84,9 @@ fn read_more<S: Source>(
         → HasRisen (S.faults source.old) (S.faults source.new) }
     ensures kept { OnErr result (GivesSome (S.left source.old) (S.left source.new)) }
     ensures faults { S.faults source.old ≤ S.faults source.new }
+    ensures calm { ¬ IsErrOf result ReadError.Fault
+        → S.faults source.new ≡ S.faults source.old }
+    ensures once { S.faults source.new ≤ S.faults source.old + 1 }
 {
     let count = source.read(chunk)?;
     if count > most - bytes.len() {

@@ -1,6 +1,6 @@
 //! Where bytes go.
 
-ghost use Rattle.std.specs.Prelude.{◌≡◌, ℕ, ◌<◌, ◌≤◌, List, Option, OnErr, IfOk, length, take};
+ghost use Rattle.std.specs.Prelude.{◌≡◌, ℕ, ◌+◌, ◌<◌, ◌≤◌, List, Option, OnErr, IfOk, length, take};
 ghost use Rattle.moka_ends.specs.Bytes.{Extends};
 ghost use Rattle.moka_ends.specs.Faults.{HasRisen};
 
@@ -9,7 +9,7 @@ use crate::Failed;
 /// Takes bytes, a piece a call.
 ///
 /// A proof knows the bytes that were written so far, where the sink tells them, and how many faults
-/// it has had, a count that never falls.
+/// it has had: a count that never falls, and rises by no call but one that fails.
 pub trait Sink {
     ghost written: { Self → Option (List ℕ) };
 
@@ -25,5 +25,7 @@ pub trait Sink {
         // faults
         ensures fault { OnErr result (HasRisen (faults self.old) (faults self.new)) }
         ensures kept { OnErr result (written self.new ≡ written self.old) }
-        ensures faults { faults self.old ≤ faults self.new };
+        ensures faults { faults self.old ≤ faults self.new }
+        ensures calm { IfOk result (λ n. faults self.new ≡ faults self.old) }
+        ensures once { faults self.new ≤ faults self.old + 1 };
 }

@@ -1,6 +1,6 @@
 //! Where bytes come from.
 
-ghost use Rattle.std.specs.Prelude.{◌≡◌, ℕ, ◌<◌, ◌≤◌, List, Option, OnErr, IfOk, length, take};
+ghost use Rattle.std.specs.Prelude.{◌≡◌, ℕ, ◌+◌, ◌<◌, ◌≤◌, List, Option, OnErr, IfOk, length, take};
 ghost use Rattle.moka_ends.specs.Bytes.{Gives, IsSpent};
 ghost use Rattle.moka_ends.specs.Faults.{HasRisen};
 
@@ -9,7 +9,7 @@ use crate::Failed;
 /// Gives bytes, a piece a call.
 ///
 /// A proof knows the bytes that a source has left, where it tells them, and how many faults it has
-/// had, a count that never falls.
+/// had: a count that never falls, and rises by no call but one that fails.
 pub trait Source {
     ghost left: { Self → Option (List ℕ) };
 
@@ -25,5 +25,7 @@ pub trait Source {
         // faults
         ensures fault { OnErr result (HasRisen (faults self.old) (faults self.new)) }
         ensures kept { OnErr result (left self.new ≡ left self.old) }
-        ensures faults { faults self.old ≤ faults self.new };
+        ensures faults { faults self.old ≤ faults self.new }
+        ensures calm { IfOk result (λ n. faults self.new ≡ faults self.old) }
+        ensures once { faults self.new ≤ faults self.old + 1 };
 }

@@ -1,6 +1,6 @@
 //! Writing all of a piece to a sink.
 
-ghost use Rattle.std.specs.Prelude.{◌≡◌, ℕ, ◌≤◌, OnOk, OnErr, length, take};
+ghost use Rattle.std.specs.Prelude.{◌≡◌, ℕ, ◌+◌, ◌≤◌, OnOk, OnErr, length, take};
 ghost use Rattle.moka_ends.specs.Bytes.{Extends};
 ghost use Rattle.moka_ends.specs.Faults.{HasRisen};
 
@@ -17,6 +17,8 @@ pub fn write_all<S: Sink>(sink: &mut S, bytes: &[u8]) -> Result<(), Failed>
     ensures some { OnErr result ((n : ℕ) × (n ≤ length bytes.now)
         × Extends (S.written sink.old) (take n bytes.now) (S.written sink.new)) }
     ensures faults { S.faults sink.old ≤ S.faults sink.new }
+    ensures calm { OnOk result (S.faults sink.new ≡ S.faults sink.old) }
+    ensures once { S.faults sink.new ≤ S.faults sink.old + 1 }
 {
     let mut done = 0;
     while done < bytes.len() {

@@ -6,7 +6,7 @@ use Rattle.moka_ends.proofs.lists.ListSourceSource.read.Goals as goal
 
 pub returns-clause-next : goal.returns-clause-next
 returns-clause-next c =
-    let s = c.args.self.now in
+    let s = c.self.inside in
     let n = c.copy_front-count.result in
     let copied = (rw (take_rest, c.deref-2.ensures.value) at c.copy_front-count.ensures.copied) in
-    ap Some (drop-taken s.bytes.items _ s.position n copied)
+    rw (← c.self.view_is) (ap Some (drop-taken s.bytes.items _ s.position n copied))
