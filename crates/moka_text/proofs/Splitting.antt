@@ -1,5 +1,5 @@
 -- The lines of a text, taken off one by one.
-use Rattle.std.proofs.Common.{◌≡◌, ℕ, suc, ◌+◌, ◌<◌, Bool, true, false, cond, eqb, List, [], ◌∷◌, ◌++◌, length, take, drop, Some, None, Result, Ok, Err, refl, sym, ap, ◌∙◌, append_assoc, append-nil, add-one, arith}
+use Rattle.std.proofs.Common.{◌≡◌, ℕ, suc, ◌+◌, ◌<◌, ◌≤◌, Bool, Option, subst, length-append, true, false, cond, eqb, List, [], ◌∷◌, ◌++◌, length, take, drop, Some, None, Result, Ok, Err, refl, sym, ap, ◌∙◌, append_assoc, append-nil, add-one, arith}
 use Rattle.std.specs.List.{position_or_len, onto_first}
 use Rattle.std.proofs.lemmas.Option.{none-some}
 use Rattle.moka_hist.specs.declared.events.Event.{Event}
@@ -7,7 +7,7 @@ use Rattle.moka_text.specs.declared.schedules.ScheduleError.{ScheduleError}
 use Rattle.moka_text.specs.declared.schedules.ScheduleError.TheVariants as errors
 use Rattle.moka_text.specs.Words.{before_byte, after_byte}
 use Rattle.moka_text.specs.ScheduleText.{lines}
-use Rattle.moka_text.specs.ScheduleReading.{call_after, event_of, event_then, events_from, with_front, with_log, log_of, log_then, schedule_of, schedule, Fails}
+use Rattle.moka_text.specs.ScheduleReading.{call_after, event_of, event_then, events_from, with_front, with_log, log_of, log_then, schedule_of, schedule, Fails, EventsTakeMemory, TakesMemory}
 
 -- the mark stands first
 place_here : (m b : ℕ) (bs : List ℕ) → eqb b m ≡ true → position_or_len (λ x. eqb x m) (b ∷ bs) ≡ 0
@@ -67,6 +67,37 @@ pub read_none : (done : List (Event ℕ ℕ)) (number : ℕ) (rest : List ℕ) �
 read_none done number rest some is =
     ap (with_front done) (ap (events_from number) (lines_cut rest some)
     ∙ ap (λ o. event_then number o (events_from (suc number) (lines (after_byte 10 rest)))) (sym is))
+
+-- the front of what is read leaves a bad line's number as it is
+with_front_bad : (done : List (Event ℕ ℕ)) (r : Result (List (Event ℕ ℕ)) ℕ) (bad : ℕ) → with_front done r ≡ Err bad → r ≡ Err bad
+with_front_bad done (Ok events) bad e = absurd cc
+with_front_bad done (Err number) bad e = e
+
+-- a bad line is none before the first
+bad_later : (number : ℕ) (ls : List (List ℕ)) (bad : ℕ) → events_from number ls ≡ Err bad → number ≤ bad
+bad_later number [] bad e = absurd cc
+bad_later number (l ∷ ls) bad e = by (event_of l) (λ f. bad_later (suc number) ls bad f) e where
+  by : (o : Option (Event ℕ ℕ)) → (events_from (suc number) ls ≡ Err bad → suc number ≤ bad) → event_then number o (events_from (suc number) ls) ≡ Err bad → number ≤ bad
+  by None later f = let same : number ≡ bad = cc in omega (arith, same)
+  by (Some x) later f = let less = later (with_front_bad (x ∷ []) (events_from (suc number) ls) bad f) in omega (arith, less)
+
+-- what is read past an event takes memory
+pub takes_memory : (done : List (Event ℕ ℕ)) (e : Event ℕ ℕ) (number : ℕ) (ls : List (List ℕ)) (whole : Result (List (Event ℕ ℕ)) ℕ) → 2 ≤ number → with_front (done ++ e ∷ []) (events_from (number + 1) ls) ≡ whole → EventsTakeMemory whole
+takes_memory done e number ls whole two is = subst EventsTakeMemory is (by (events_from (number + 1) ls) refl) where
+  by : (r : Result (List (Event ℕ ℕ)) ℕ) → events_from (number + 1) ls ≡ r → EventsTakeMemory (with_front (done ++ e ∷ []) r)
+  by (Ok events) f = grind (arith, length-append)
+  by (Err bad) f = let less = bad_later (number + 1) ls bad f in omega (arith, two, less)
+
+-- errors are the same, whatever was to be returned
+pub same_error : {X Y : Type 0} (e f : ScheduleError) (r : Result X ScheduleError) → r ≡ Err e → r ≡ Err f → (q : Result Y ScheduleError) → q ≡ Err e → q ≡ Err f
+same_error e f r h m q g = let same : e ≡ f = cc in g ∙ ap Err same
+
+-- the whole takes memory where its events do
+pub whole_takes_memory : (log : ℕ) (whole : Result (ℕ × List (Event ℕ ℕ)) ℕ) (events : Result (List (Event ℕ ℕ)) ℕ) → whole ≡ with_log log events → EventsTakeMemory events → TakesMemory whole
+whole_takes_memory log whole events e h = subst TakesMemory (sym e) (by events h) where
+  by : (r : Result (List (Event ℕ ℕ)) ℕ) → EventsTakeMemory r → TakesMemory (with_log log r)
+  by (Ok xs) g = g
+  by (Err n) g = g
 
 -- no line is left
 pub read_end : (done : List (Event ℕ ℕ)) (number : ℕ) (rest : List ℕ) → length rest ≡ 0 → with_front done (events_from number (lines rest)) ≡ Ok done

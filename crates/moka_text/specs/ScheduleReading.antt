@@ -1,5 +1,5 @@
 -- Reading the text of a schedule, line by line.
-use Rattle.std.specs.Prelude.{◌≡◌, ℕ, suc, ◌&&◌, List, [], ◌∷◌, ◌++◌, Option, Some, None, Result, Ok, Err, nat_le, codes, bytes_eq, if◌then◌else◌}
+use Rattle.std.specs.Prelude.{◌≡◌, ℕ, suc, ◌<◌, ◌&&◌, length, List, [], ◌∷◌, ◌++◌, Option, Some, None, Result, Ok, Err, nat_le, codes, bytes_eq, if◌then◌else◌}
 use Rattle.std.specs.Option.{option_map, option_or, option_and_then}
 use Rattle.moka_hist.specs.declared.events.Start.{Start}
 use Rattle.moka_hist.specs.declared.events.Start.TheVariants as start
@@ -104,6 +104,16 @@ Fails errors.Memory read = Unit {0}
 abbrev pub Gives : {X Y : Type 0} → (X → Y) → Result X ScheduleError → Result Y ℕ → Type 0
 Gives view (Ok x) read = read ≡ Ok (view x)
 Gives view (Err e) read = Fails e read
+
+-- reading the events takes memory: there is one, or the bad line is past the second
+abbrev pub EventsTakeMemory : Result (List (Event ℕ ℕ)) ℕ → Type 0
+EventsTakeMemory (Ok events) = 0 < length events
+EventsTakeMemory (Err number) = 2 < number
+
+-- reading the schedule takes memory: it has an event, or its bad line is past the second
+abbrev pub TakesMemory : Result (ℕ × List (Event ℕ ℕ)) ℕ → Type 0
+TakesMemory (Ok s) = 0 < length s.1
+TakesMemory (Err number) = 2 < number
 
 -- a schedule without where it lies in memory
 abbrev pub parts : Schedule → ℕ × List (Event ℕ ℕ)

@@ -1,8 +1,9 @@
 //! Reading the text of a schedule.
 
-ghost use Rattle.std.specs.Prelude.{◌≡◌, ℕ, IfOk, IsErrOf};
+ghost use Rattle.std.specs.Prelude.{◌≡◌, ℕ, Some, IfOk, IsErrOf};
 ghost use Rattle.moka_text.specs.ScheduleText.{lines, Says, IsFirstBad};
-ghost use Rattle.moka_text.specs.ScheduleReading.{events_from, schedule, Gives, parts};
+ghost use Rattle.moka_text.specs.ScheduleReading.{events_from, schedule, Gives, parts, EventsTakeMemory, TakesMemory};
+ghost use Rattle.moka_text.specs.ErrorText.{error_text};
 ghost use Rattle.moka_text.specs.declared.schedules.ScheduleError.TheVariants.{Memory};
 
 use crate::lines::{event_of, log_of};
@@ -29,6 +30,8 @@ pub enum ScheduleError {
 }
 
 impl fmt::Display for ScheduleError {
+    ghost output = { λ e. Some (error_text e) };
+
     fn fmt<W: fmt::Write>(&self, f: &mut fmt::Formatter<W>) -> fmt::Result {
         match self {
             ScheduleError::BadLine { line } => write!(f, "line {line} is bad"),
@@ -57,7 +60,9 @@ impl<T: Drop> From<AllocFailed<T>> for ScheduleError {
 
 /// Reads the lines after the first.
 fn read_events(alloc: Global, text: &[u8]) -> Result<Vec<Event<u32, u32>>, ScheduleError>
-    ensures { Gives (λ events. events.items) result (events_from 2 (lines text.now)) }
+    ensures exact { Gives (λ events. events.items) result (events_from 2 (lines text.now)) }
+    ensures memory { IsErrOf result ScheduleError.Memory
+        → EventsTakeMemory (events_from 2 (lines text.now)) }
 {
     let mut events = Vec::new(alloc);
     let mut number: u64 = 2;
@@ -76,7 +81,8 @@ fn read_events(alloc: Global, text: &[u8]) -> Result<Vec<Event<u32, u32>>, Sched
 
 /// Reads all lines.
 fn read_all(alloc: Global, text: &[u8]) -> Result<Schedule, ScheduleError>
-    ensures { Gives parts result (schedule text.now) }
+    ensures exact { Gives parts result (schedule text.now) }
+    ensures memory { IsErrOf result ScheduleError.Memory → TakesMemory (schedule text.now) }
 {
     let (first, rest) = cut(text, b'\n');
     let Some(log) = log_of(first) else {
@@ -89,12 +95,13 @@ fn read_all(alloc: Global, text: &[u8]) -> Result<Schedule, ScheduleError>
 /// Reads a schedule: the log's size that its first line says, and the events of the other lines.
 ///
 /// Answers `BadLine` with the first line that is not in the grammar, and `Memory` where memory
-/// runs out.
+/// runs out: only past a second line that spells an event.
 pub fn read_schedule(alloc: Global, bytes: &[u8]) -> Result<Schedule, ScheduleError>
     ensures exact { Gives parts result (schedule bytes.now) }
     ensures found { IfOk result (λ s. Says bytes.now s.log s.events.items) }
     ensures bad_line { (line : ℕ) → IsErrOf result (ScheduleError.BadLine line)
         → IsFirstBad bytes.now line }
+    ensures memory { IsErrOf result ScheduleError.Memory → TakesMemory (schedule bytes.now) }
 {
     read_all(alloc, bytes)
 }

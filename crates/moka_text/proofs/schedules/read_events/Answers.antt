@@ -1,11 +1,11 @@
 use Rattle.std.proofs.Common.{◌<◌, ◌+◌, ◌++◌, ◌∷◌, [], length, ap, sym, ◌∙◌, arith}
 use Rattle.moka_text.specs.ScheduleText.{lines}
 use Rattle.moka_text.specs.ScheduleReading.{event_of, events_from, with_front}
-use Rattle.moka_text.proofs.Splitting.{read_one, read_none}
+use Rattle.moka_text.proofs.Splitting.{read_one, read_none, takes_memory}
 use Rattle.moka_text.proofs.schedules.read_events.Goals as goal
 
-pub returns-in_default : goal.returns-in_default
-returns-in_default c =
+pub returns-in_default-clause-exact : goal.returns-in_default-clause-exact
+returns-in_default-clause-exact c =
     let some : 0 < length c.loop-rest.rest.now = grind (arith, c.loop-rest-test.ensures) in
     sym c.loop-rest.invariant.left ∙ read_none c.loop-rest.events.items c.loop-rest.number c.loop-rest.rest.now some (sym c.in_default.is ∙ c.event_of.ensures ∙ ap event_of c.cut.ensures.front)
 
@@ -19,4 +19,13 @@ loop-rest-preserved c =
           ∙ ap (λ rest. with_front (c.loop-rest.events.items ++ c.in-Some.event ∷ []) (events_from (c.loop-rest.number + 1) (lines rest))) c.cut.ensures.rest
           ∙ read_one c.loop-rest.events.items c.loop-rest.number c.loop-rest.rest.now c.in-Some.event some spelled ∙ c.loop-rest.invariant.left;
       count = let less = c.cut.ensures.shorter some in omega (arith, c.loop-rest.invariant.count);
+      two = omega (arith, c.loop-rest.invariant.two);
     }
+
+pub returns-in_err-push-clause-memory : goal.returns-in_err-push-clause-memory
+returns-in_err-push-clause-memory c = λ m.
+    let some : 0 < length c.loop-rest.rest.now = grind (arith, c.loop-rest-test.ensures) in
+    let spelled = sym c.in-Some.is ∙ c.event_of.ensures ∙ ap event_of c.cut.ensures.front in
+    let events = c.loop-rest.events.items in
+    takes_memory events c.in-Some.event c.loop-rest.number _ _ c.loop-rest.invariant.two
+    (read_one events c.loop-rest.number c.loop-rest.rest.now c.in-Some.event some spelled ∙ c.loop-rest.invariant.left)

@@ -8,6 +8,7 @@ invariant-loop-rest l =
     record {
       left : with_front l.events.items (events_from l.number (lines l.rest)) ≡ events_from 2 (lines l.fn.text);
       count : l.number + length l.rest ≤ length l.fn.text + 2;
+      two : 2 ≤ l.number;
     }
 
 abbrev pub decreases-loop-rest : goal.decreases-loop-rest
