@@ -1,6 +1,6 @@
 //! The writes that were committed, in the places where the desk keeps them.
 
-ghost use Rattle.std.specs.Prelude.{◌≡◌, ℕ, ◌+◌, ◌≤◌, ◌<◌, ◌||◌, true, nat_lt, cond, [], ◌∷◌, ◌++◌, length, take, drop, is_some, IsSome, option_to_list, OnOk, OnErr, IfOk};
+ghost use Rattle.std.specs.Prelude.{◌≡◌, ℕ, ◌+◌, ◌≤◌, ◌<◌, ◌||◌, true, false, None, nat_lt, cond, [], ◌∷◌, ◌++◌, length, take, drop, is_some, IsSome, option_to_list, OnOk, OnErr, IfOk};
 ghost use Rattle.std.specs.VecDeque.{deque_capacity};
 
 use crate::applied::Applied;
@@ -105,6 +105,11 @@ impl Writes {
               holders = without call p.holders;
               owed = p.owed ++ option_to_list held;
             }) }
+        ensures gives_up { held ≡ None → stamped ≡ true
+            → length self.old.owed.items + length self.old.log.items < self.old.applied.room
+            → self.new.applied.room + 1 ≡ self.old.applied.room }
+        ensures keeps { (is_some held || stamped) ≡ false
+            → self.new.applied.room ≡ self.old.applied.room }
     {
         match held {
             Some(write) => self.owed.push_back_reserved(write),
@@ -115,8 +120,10 @@ impl Writes {
 
     // Gives the places of one write up, if nobody else has them.
     fn give_up(&mut self)
-        ensures { (call : ℕ) (p : WritePart) → WritesAre self.old p → 0 < times call p.holders
+        ensures makes { (call : ℕ) (p : WritePart) → WritesAre self.old p → 0 < times call p.holders
             → WritesAre self.new (record p { holders = without call p.holders }) }
+        ensures room { length self.old.owed.items + length self.old.log.items < self.old.applied.room
+            → self.new.applied.room + 1 ≡ self.old.applied.room }
     {
         if self.owed.len() + self.log.len() < self.applied.room {
             self.applied.give_up();
