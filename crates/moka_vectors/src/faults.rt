@@ -5,9 +5,12 @@ use moka_ends::{Failed, ListSink, Source};
 use moka_run::{Status, play};
 use std::test::Fail;
 
-/// Gives zeros without end.
+/// Gives so many zeros, at most `piece` a read, and keeps none of them.
 #[derive(Drop)]
-struct Zeros;
+struct Zeros {
+    left: usize,
+    piece: usize,
+}
 
 impl Source for Zeros {
     ghost use Rattle.std.specs.Prelude.{None};
@@ -17,16 +20,20 @@ impl Source for Zeros {
     ghost faults = { λ s. 0 };
 
     fn read(&mut self, buf: &mut [u8]) -> Result<usize, Failed> {
-        Ok(buf.len())
+        let count = buf.len().min(self.piece).min(self.left);
+        self.left -= count;
+        Ok(count)
     }
 }
 
 #[test]
 fn only_the_word_play_is_taken(rt: HostRuntime) -> Result<(), Fail> {
-    let rows: [&[&str]; 4] = [&[], &["run"], &["play", "play"], &["Play"]];
+    let rows: [&[&str]; 5] = [&[], &["run"], &["play", "play"], &["Play"], &["play", ""]];
     for words in rows {
-        let ended = play_bytes(rt.alloc(), words, b"cache\nstart get 1\n", &[], &[])?;
+        // Nothing is read, so the read that fails does no harm.
+        let ended = play_bytes(rt.alloc(), words, b"cache\nstart get 1\n", &[0], &[])?;
         assert_eq!(rt; ended.status, Status::BadWords);
+        assert_eq!(rt; ended.status.code(), 1);
         assert_eq!(rt; ended.bytes.len(), 0);
     }
     Ok(())
@@ -42,39 +49,75 @@ fn the_first_bad_line_is_told(rt: HostRuntime) -> Result<(), Fail> {
         ("cache\npoll 01\n", 2),
     ];
     for (text, line) in rows {
-        let ended = play_bytes(rt.alloc(), &["play"], text.as_bytes(), &[], &[])?;
+        // Nothing is written, so the write that fails does no harm.
+        let ended = play_bytes(rt.alloc(), &["play"], text.as_bytes(), &[], &[0])?;
         assert_eq!(rt; ended.status, Status::BadLine { line }, "{text}");
+        assert_eq!(rt; ended.status.code(), 2, "{text}");
         assert_eq!(rt; ended.bytes.len(), 0, "{text}");
     }
     Ok(())
 }
 
 #[test]
-fn a_source_that_never_ends_is_too_long(rt: HostRuntime) -> Result<(), Fail> {
+fn a_source_one_byte_too_long_is_told(rt: HostRuntime) -> Result<(), Fail> {
     let words = words_of(rt.alloc(), &["play"])?;
-    let mut sink = ListSink::new(rt.alloc(), 5, Vec::new(rt.alloc()));
-    assert_eq!(rt;
-        play(rt.alloc(), &words, &mut Zeros, &mut sink),
-        Status::TooLong
-    );
-    assert_eq!(rt; sink.bytes().len(), 0);
+    let rows = [
+        (16_777_216, 4096, Status::BadLine { line: 1 }, 2),
+        (16_777_217, 4096, Status::TooLong, 3),
+        (16_777_216, 1000, Status::BadLine { line: 1 }, 2),
+        (16_777_217, 1000, Status::TooLong, 3),
+        (usize::MAX, 4096, Status::TooLong, 3),
+    ];
+    for (left, piece, status, code) in rows {
+        let mut sink = ListSink::new(rt.alloc(), 5, Vec::new(rt.alloc()));
+        let ended = play(rt.alloc(), &words, &mut Zeros { left, piece }, &mut sink);
+        assert_eq!(rt; ended, status, "{left} bytes, {piece} a read");
+        assert_eq!(rt; ended.code(), code, "{left} bytes, {piece} a read");
+        assert_eq!(rt; sink.bytes().len(), 0, "{left} bytes, {piece} a read");
+    }
+    Ok(())
+}
+
+/// 31 bytes, so that 5 reads give some, and the sixth tells the end. Its report is of 19 bytes, so
+/// that 4 writes take it.
+const LOOK: &str = "cache log=8 / start get 1 / poll 1";
+
+#[test]
+fn a_failing_read_ends_the_play(rt: HostRuntime) -> Result<(), Fail> {
+    let bytes = text_of(rt.alloc(), LOOK)?;
+    for read in 0..6 {
+        let ended = play_bytes(rt.alloc(), &["play"], bytes.as_bytes(), &[read], &[0])?;
+        assert_eq!(rt; ended.status, Status::ReadFault, "at read {read}");
+        assert_eq!(rt; ended.status.code(), 4, "at read {read}");
+        assert_eq!(rt; ended.bytes.len(), 0, "at read {read}");
+    }
+    let ended = play_bytes(rt.alloc(), &["play"], bytes.as_bytes(), &[6], &[])?;
+    assert_eq!(rt; ended.status, Status::Done);
+    // It is told before a bad line that was read.
+    let ended = play_bytes(rt.alloc(), &["play"], b"cach\nstart get 1\n", &[2], &[])?;
+    assert_eq!(rt; ended.status, Status::ReadFault);
     Ok(())
 }
 
 #[test]
-fn a_fault_ends_the_play(rt: HostRuntime) -> Result<(), Fail> {
-    let bytes = text_of(rt.alloc(), "cache log=8 / start get 1 / poll 1")?;
-    let none: &[u64] = &[];
-    let rows: [(&[u64], &[u64], Status, usize); 4] = [
-        (&[0], none, Status::ReadFault, 0),
-        (&[1], none, Status::ReadFault, 0),
-        (none, &[0], Status::WriteFault, 0),
-        (none, &[2], Status::WriteFault, 10),
+fn a_failing_write_leaves_the_front_of_the_report(rt: HostRuntime) -> Result<(), Fail> {
+    let bytes = text_of(rt.alloc(), LOOK)?;
+    let rows = [
+        (0, Status::WriteFault, 5, ""),
+        (1, Status::WriteFault, 5, "call "),
+        (2, Status::WriteFault, 5, "call 1\nans"),
+        (3, Status::WriteFault, 5, "call 1\nanswer n"),
+        (4, Status::Done, 0, "call 1\nanswer none\n"),
     ];
-    for (reads, writes, status, length) in rows {
-        let ended = play_bytes(rt.alloc(), &["play"], bytes.as_bytes(), reads, writes)?;
-        assert_eq!(rt; ended.status, status);
-        assert_eq!(rt; ended.bytes.len(), length);
+    for (write, status, code, written) in rows {
+        let ended = play_bytes(rt.alloc(), &["play"], bytes.as_bytes(), &[], &[write])?;
+        assert_eq!(rt; ended.status, status, "at write {write}");
+        assert_eq!(rt; ended.status.code(), code, "at write {write}");
+        assert_eq!(rt;
+            ended.bytes.as_slice(),
+            written.as_bytes(),
+            "at write {write}"
+        );
     }
     Ok(())
 }

@@ -1,4 +1,5 @@
 //! Playing a text in memory.
+ghost use Rattle.std.specs.Prelude.{◌<◌};
 
 use moka_ends::{ListSink, ListSource};
 use moka_run::{Status, play};
@@ -33,6 +34,19 @@ pub fn words_of(alloc: Global, row: &[&str]) -> Result<Vec<String>, AllocError> 
     Ok(words)
 }
 
+/// Plays what the source gives, to the sink.
+fn play_between(
+    alloc: Global,
+    words: &[&str],
+    mut source: ListSource,
+    mut sink: ListSink,
+) -> Result<Played, AllocError> {
+    let words = words_of(alloc, words)?;
+    let status = play(alloc, &words, &mut source, &mut sink);
+    let bytes = sink.bytes().to_vec(alloc)?;
+    Ok(Played { status, bytes })
+}
+
 /// Plays the bytes, which come 7 a read and go 5 a write. The calls of the numbers in `reads` and in
 /// `writes` fail.
 pub fn play_bytes(
@@ -42,10 +56,22 @@ pub fn play_bytes(
     reads: &[u64],
     writes: &[u64],
 ) -> Result<Played, AllocError> {
-    let words = words_of(alloc, words)?;
-    let mut source = ListSource::new(bytes.to_vec(alloc)?, 7, reads.to_vec(alloc)?);
-    let mut sink = ListSink::new(alloc, 5, writes.to_vec(alloc)?);
-    let status = play(alloc, &words, &mut source, &mut sink);
-    let bytes = sink.bytes().to_vec(alloc)?;
-    Ok(Played { status, bytes })
+    let source = ListSource::new(bytes.to_vec(alloc)?, 7, reads.to_vec(alloc)?);
+    let sink = ListSink::new(alloc, 5, writes.to_vec(alloc)?);
+    play_between(alloc, words, source, sink)
+}
+
+/// Plays the bytes, of which at most `read` come a read, and at most `write` go a write.
+pub fn play_pieces(
+    alloc: Global,
+    bytes: &[u8],
+    read: usize,
+    write: usize,
+) -> Result<Played, AllocError>
+    requires read { 0 < read }
+    requires write { 0 < write }
+{
+    let source = ListSource::new(bytes.to_vec(alloc)?, read, Vec::new(alloc));
+    let sink = ListSink::new(alloc, write, Vec::new(alloc));
+    play_between(alloc, &["play"], source, sink)
 }

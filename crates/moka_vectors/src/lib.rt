@@ -9,6 +9,10 @@ mod faults;
 #[cfg(test)]
 mod in_memory;
 #[cfg(test)]
+mod memory;
+#[cfg(test)]
+mod pieces;
+#[cfg(test)]
 mod rows;
 #[cfg(test)]
 mod stepping;
