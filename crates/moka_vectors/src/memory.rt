@@ -111,7 +111,7 @@ fn comes_to(
     };
     let ended = run_on(rt, name, &mut row.machine, &row.events, &mut row.replies)?;
     let text = text_of_report(rt, name, &row.replies, ended)?;
-    assert_eq!(rt; text.as_bytes(), row.report.as_bytes(), "{name}");
+    assert_eq!(rt; text.as_str(), row.report.as_str(), "{name}");
     Ok(())
 }
 
