@@ -14,21 +14,28 @@ A schedule is lines of text. The first line is one of
   cache log=N                the same with room for N writes, from 1 to 65536
 and each other line is an event:
   at MOMENT                  the clock moves on to the moment, in nanoseconds
-  start get KEY              a call is started, and gets the next number, from 1
-  start insert KEY VALUE
-  start get_with KEY
+  start get KEY              a call looks the key up
+  start insert KEY VALUE     a call stores the value under the key
+  start get_with KEY         a call looks the key up, and loads its value where there is none
   step CALL                  the call makes one step
   poll CALL                  the call makes steps until it waits, asks or answers
-  tell CALL value VALUE      what the call asked for is told
-  tell CALL done
+  tell CALL value VALUE      the open ask of the call is told the value
+  tell CALL done             the open ask is told that it is done; no ask takes this yet
   drop CALL                  the call is dropped where it stands
 Keys and values are below 2^32, moments and calls below 2^64, all in decimal.
+Calls are numbered from 1, as they are started. One that waits is not woken: it is polled again.
 
 A report is a line for each event, then for each stored record, ascending by key,
 then for each committed write, ascending by number, with where it stands.
 
 exit status: 0 done, 1 bad words, 2 bad line, 3 too long, 4 read fault,
-             5 write fault, 6 memory
+             5 write fault, 6 memory; but at 0 a line on standard error says which
+
+For example, printf 'cache\\nstart insert 1 5\\npoll 1\\n' | moka play writes
+  call 1
+  answer done
+  entry 1 5 stamp 1 at 0
+  write 1 logged
 ";
 
 /// The text that the words ask for, where they ask for one.
