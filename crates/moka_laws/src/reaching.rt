@@ -2,7 +2,7 @@
 
 ghost use Rattle.moka_laws.specs.Reaching.{FreshIsReached, ReachedByEvent, ReachedByRun, ReachedByStep, ReachedBySteps, RunGoesOn};
 
-/// Cites the law that a fresh cache is reached, with a log of any size.
+/// Cites the law that a fresh cache is reached, with a log of any size but 0.
 pub fn fresh_is_reached<K: Eq, V>()
     ensures reached { FreshIsReached K V K.eq }
 {}
