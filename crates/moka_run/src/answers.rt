@@ -2,7 +2,7 @@
 ghost use Rattle.std.specs.Prelude.{◌≡◌, ◌≤◌, ℕ, nat_eq, IfOk, IsErrOf, IsPermutation, IsSortedByKey};
 ghost use Rattle.std.specs.Ordering.{nat_cmp};
 ghost use Rattle.std.specs.String.{string_bytes};
-ghost use Rattle.moka_text.specs.ScheduleText.{IsFirstBad};
+ghost use Rattle.moka_text.specs.ScheduleText.{IsFirstBad, Says};
 ghost use Rattle.moka_run.specs.Playing.{IsReport, ReportsRun, RunsFresh};
 
 use crate::machine::Machine;
@@ -10,7 +10,7 @@ use crate::report::Report;
 use crate::run;
 use moka_hist::{Event, Stored};
 use moka_table::EntryList;
-use moka_text::{ScheduleError, read_schedule, write_report};
+use moka_text::{Schedule, ScheduleError, read_schedule, write_report};
 use std::alloc::{AllocError, Global};
 
 /// The entries, ascending by key.
@@ -41,14 +41,32 @@ fn run_fresh(
     }
 }
 
-/// Runs the events on a fresh cache with a log of this many writes, and answers the report's text.
-fn report_on(alloc: Global, log: usize, events: &[Event<u32, u32>]) -> Result<String, AllocError>
+/// The same, of events that are given up then.
+fn run_given(
+    alloc: Global,
+    log: usize,
+    events: Vec<Event<u32, u32>>,
+) -> Result<Report<u32, u32>, AllocError>
     requires least { 1 ≤ log }
     requires most { log ≤ 65536 }
-    ensures { IfOk result (λ text. ReportsRun log events.now (string_bytes text)) }
+    ensures { IfOk result (λ report. RunsFresh log events.items report) }
+{
+    run_fresh(alloc, log, &events)
+}
+
+/// Runs the events on a fresh cache with a log of this many writes, and answers the report's text. The
+/// events are given up before that is made.
+fn report_on(
+    alloc: Global,
+    log: usize,
+    events: Vec<Event<u32, u32>>,
+) -> Result<String, AllocError>
+    requires least { 1 ≤ log }
+    requires most { log ≤ 65536 }
+    ensures { IfOk result (λ text. ReportsRun log events.items (string_bytes text)) }
 {
     moka_laws::stored_under_own_keys::<u32, u32>();
-    let report = run_fresh(alloc, log, events)?;
+    let report = run_given(alloc, log, events)?;
     let Report {
         replies,
         entries,
@@ -58,16 +76,26 @@ fn report_on(alloc: Global, log: usize, events: &[Event<u32, u32>]) -> Result<St
     write_report(alloc, replies.as_slice(), &entries, places.as_slice())
 }
 
-/// Answers the text of the report of the schedule that the bytes say.
+/// Reads the schedule that the bytes say, which are given up then.
+fn read_given(alloc: Global, bytes: Vec<u8>) -> Result<Schedule, ScheduleError>
+    ensures found { IfOk result (λ s. Says bytes.items s.log s.events.items) }
+    ensures bad_line { (line : ℕ) → IsErrOf result (ScheduleError.BadLine line)
+        → IsFirstBad bytes.items line }
+{
+    read_schedule(alloc, &bytes)
+}
+
+/// Answers the text of the report of the schedule that the bytes say. These are given up once they are
+/// read.
 ///
 /// `BadLine` comes with the first line that is not in the grammar, `Memory` where memory runs out.
-pub(crate) fn answer(alloc: Global, bytes: &[u8]) -> Result<String, ScheduleError>
-    ensures answers { IfOk result (λ text. IsReport bytes.now (string_bytes text)) }
+pub(crate) fn answer(alloc: Global, bytes: Vec<u8>) -> Result<String, ScheduleError>
+    ensures answers { IfOk result (λ text. IsReport bytes.items (string_bytes text)) }
     ensures bad_line { (line : ℕ) → IsErrOf result (ScheduleError.BadLine line)
-        → IsFirstBad bytes.now line }
+        → IsFirstBad bytes.items line }
 {
-    let schedule = read_schedule(alloc, bytes)?;
-    match report_on(alloc, schedule.log, &schedule.events) {
+    let schedule = read_given(alloc, bytes)?;
+    match report_on(alloc, schedule.log, schedule.events) {
         Ok(text) => Ok(text),
         Err(_) => Err(ScheduleError::Memory),
     }

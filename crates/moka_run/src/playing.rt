@@ -46,15 +46,16 @@ fn schedule_status(e: ScheduleError) -> Status
 }
 
 /// Answers the schedule that the bytes say, on the sink.
-fn respond<Snk: Sink>(alloc: Global, bytes: &[u8], sink: &mut Snk) -> Status
+fn respond<Snk: Sink>(alloc: Global, bytes: Vec<u8>, sink: &mut Snk) -> Status
     ensures done { result ≡ Status.Done
-        → WritesReport bytes.now (Snk.written sink.old) (Snk.written sink.new) }
-    ensures bad_line { (line : ℕ) → result ≡ Status.BadLine line → IsFirstBad bytes.now line }
+        → WritesReport bytes.items (Snk.written sink.old) (Snk.written sink.new) }
+    ensures bad_line { (line : ℕ) → result ≡ Status.BadLine line → IsFirstBad bytes.items line }
     ensures broken_off { result ≡ Status.WriteFault
-        → WritesFront bytes.now (Snk.written sink.old) (Snk.written sink.new) }
+        → WritesFront bytes.items (Snk.written sink.old) (Snk.written sink.new) }
     ensures read { IsAfterReading result }
     ensures unwritten { result ≢ Status.Done → result ≢ Status.WriteFault → sink.new ≡ sink.old }
     ensures fault { result ≡ Status.WriteFault → HasRisen (Snk.faults sink.old) (Snk.faults sink.new) }
+    ensures calm { result ≢ Status.WriteFault → Snk.faults sink.new ≡ Snk.faults sink.old }
 {
     let text = match answer(alloc, bytes) {
         Ok(text) => text,
@@ -75,7 +76,7 @@ fn respond<Snk: Sink>(alloc: Global, bytes: &[u8], sink: &mut Snk) -> Status
 /// - `BadWords`: the words are not the one word `play`; nothing was read.
 /// - `BadLine`: the first line that is not in the grammar.
 /// - `TooLong`: the source gives more than 16,777,216 bytes.
-/// - `ReadFault`, `WriteFault`: a call of the source or of the sink failed.
+/// - `ReadFault`, `WriteFault`: a call of the source or of the sink failed. None did at any other status.
 /// - `Memory`: memory ran out.
 ///
 /// But after `Done` and `WriteFault` the sink was not called, and after `WriteFault` it was written
@@ -97,6 +98,8 @@ pub fn play<Src: Source, Snk: Sink>(
         → HasRisen (Src.faults source.old) (Src.faults source.new) }
     ensures write_fault { result ≡ Status.WriteFault
         → HasRisen (Snk.faults sink.old) (Snk.faults sink.new) }
+    ensures read_calm { result ≢ Status.ReadFault → Src.faults source.new ≡ Src.faults source.old }
+    ensures write_calm { result ≢ Status.WriteFault → Snk.faults sink.new ≡ Snk.faults sink.old }
     ensures broken_off { result ≡ Status.WriteFault
         → BreaksOff (Src.left source.old) (Src.left source.new) (Snk.written sink.old) (Snk.written sink.new) }
     // what stays
@@ -108,7 +111,7 @@ pub fn play<Src: Source, Snk: Sink>(
         return Status::BadWords;
     }
     match read_all(alloc, source, MOST) {
-        Ok(bytes) => respond(alloc, &bytes, sink),
+        Ok(bytes) => respond(alloc, bytes, sink),
         Err(e) => read_status(e),
     }
 }
