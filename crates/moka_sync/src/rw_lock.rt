@@ -1,6 +1,6 @@
 //! A lock for readers and a writer that calls poll.
 
-ghost use Rattle.std.specs.Prelude.{◌≡◌, ◌+◌, ◌<◌, ◌≤◌, true, false, not, is_none, Some, None, [], IfOk, OnOk, OnErr};
+ghost use Rattle.std.specs.Prelude.{◌≡◌, ◌+◌, ◌<◌, ◌≤◌, true, false, not, is_none, Some, None, [], IsSome, IfOk, OnOk, OnErr};
 ghost use Rattle.std.specs.Bool.{OnTrue, OnFalse};
 ghost use Rattle.moka_hist.specs.Finite.{without};
 ghost use Rattle.moka_sync.specs.Waiting.{waits, IsListed};
@@ -71,8 +71,8 @@ impl PolledRwLock {
     }
 
     /// Takes the lock for the call to read and answers true, where no writer holds it. Else lists the
-    /// call, also where it is the writer itself, and answers false. After want of memory nothing has
-    /// changed.
+    /// call, also where it is the writer itself, and answers false. Memory is taken only for a call
+    /// that is not yet among those it joins; after want of it nothing has changed.
     pub fn try_read(&mut self, call: u64) -> Result<bool, AllocError>
         ensures free { IfOk result (λ taken. taken ≡ is_none self.old.writer) }
         ensures writer { self.new.writer ≡ self.old.writer }
@@ -84,7 +84,12 @@ impl PolledRwLock {
         ensures listed { IfOk result
             (λ taken. OnFalse taken (IsListed self.old.waiting self.new.waiting call)) }
         ensures room { self.new.room ≡ self.old.room }
+        // want of memory
         ensures err { OnErr result (self.new ≡ self.old) }
+        ensures unlisted { OnErr result (IsSome self.old.writer
+            → waits call self.old.waiting ≡ false) }
+        ensures unread { OnErr result (self.old.writer ≡ None
+            → waits call self.old.readers ≡ false) }
     {
         if self.writer.is_some() {
             self.waiters.add(call)?;
@@ -97,7 +102,7 @@ impl PolledRwLock {
 
     /// Takes the lock for the call to write and answers true, where no other call holds it, to write
     /// or to read; a call that alone reads becomes the writer. Else lists the call and answers false.
-    /// After want of memory nothing has changed.
+    /// Memory is taken only for a call that was not listed; after want of it nothing has changed.
     pub fn try_write(&mut self, call: u64) -> Result<bool, AllocError>
         ensures free { IfOk result (λ taken. taken ≡ not (is_held_by_others self.old call)) }
         ensures writer { IfOk result (λ taken. OnTrue taken (self.new.writer ≡ Some call)) }
@@ -112,6 +117,7 @@ impl PolledRwLock {
         // want of memory
         ensures err { OnErr result (self.new ≡ self.old) }
         ensures held { OnErr result (is_held_by_others self.old call ≡ true) }
+        ensures unlisted { OnErr result (waits call self.old.waiting ≡ false) }
     {
         if self.is_held_by_others(call) {
             self.waiters.add(call)?;
@@ -131,6 +137,9 @@ impl PolledRwLock {
         ensures stays { OnFalse result (self.new.readers ≡ self.old.readers) }
         ensures listed { OnFalse result (IsListed self.old.waiting self.new.waiting call) }
         ensures room { self.old.room ≤ self.new.room + 1 }
+        ensures again { OnFalse result (waits call self.old.waiting ≡ true → self.new ≡ self.old) }
+        ensures reads_on { OnTrue result (waits call self.old.readers ≡ true
+            → self.new.room ≡ self.old.room) }
     {
         if self.writer.is_some() {
             self.waiters.add_reserved(call);
@@ -154,6 +163,7 @@ impl PolledRwLock {
         ensures read { OnFalse result (self.new.readers ≡ self.old.readers) }
         ensures listed { OnFalse result (IsListed self.old.waiting self.new.waiting call) }
         ensures room { self.old.room ≤ self.new.room + 1 }
+        ensures again { OnFalse result (waits call self.old.waiting ≡ true → self.new ≡ self.old) }
     {
         if self.is_held_by_others(call) {
             self.waiters.add_reserved(call);
