@@ -5,6 +5,8 @@ use Rattle.moka_hist.specs.State.{World}
 use Rattle.moka_hist.specs.Step.{Access, access_of, want_for, May}
 use Rattle.moka_hist.specs.Step as step
 use Rattle.moka_hist.specs.declared.tables.TableOp.{TableOp}
+use Rattle.moka_hist.specs.declared.visits.Visit.{Visit}
+use Rattle.moka_hist.specs.declared.visits.Visit.TheVariants as visit
 use Rattle.moka_hist.specs.declared.tables.TableTurn.TheVariants as table
 use Rattle.moka_hist.specs.declared.accesses.Want.{Want}
 use Rattle.moka_hist.specs.declared.accesses.Want.TheVariants as want
@@ -23,6 +25,32 @@ module _ {K V : Type 0} where
   wanted begun (want.Begin operation) = Some (step.On_table operation)
   wanted begun want.Table = option_map step.On_table begun
   wanted begun (want.Desk made) = Some (step.On_desk made)
+
+  -- memory may be wanting for such a visit
+  abbrev pub VisitNeedsMemory : Visit K V → Type 0
+  VisitNeedsMemory (visit.Clock n) = ⊥
+  VisitNeedsMemory (visit.TakeOwed n) = ⊥
+  VisitNeedsMemory (visit.StampMoment n) = Unit {0}
+  VisitNeedsMemory (visit.Judge key stored) = Unit {0}
+  VisitNeedsMemory (visit.WaitOrOwn n key kind) = Unit {0}
+  VisitNeedsMemory (visit.ReadSettled n) = Unit {0}
+  VisitNeedsMemory (visit.Settle n with) = Unit {0}
+  VisitNeedsMemory (visit.OpenAsk n takes) = Unit {0}
+  VisitNeedsMemory (visit.TakeTold n) = ⊥
+  VisitNeedsMemory (visit.PostWrite n write) = ⊥
+  VisitNeedsMemory (visit.TakeTurn n) = ⊥
+  VisitNeedsMemory (visit.ApplyOne n) = ⊥
+  VisitNeedsMemory (visit.EndTurn n) = ⊥
+
+  -- Memory may be wanting for such an access: it goes to the table, copies a key or a value, or writes down what is new. Taking up
+  -- what is owed or told, posting a write and applying the log need none.
+  abbrev pub NeedsMemory : Access K V → Type 0
+  NeedsMemory (step.On_table operation) = Unit {0}
+  NeedsMemory (step.On_desk made) = VisitNeedsMemory made
+
+  -- whatever the access
+  abbrev pub any_access : Access K V → Type 0
+  any_access access = Unit {0}
 
   -- the operation that is begun after an access gave this
   abbrev pub still_begun : Access K V → Got K V → Option (TableOp K V)

@@ -95,7 +95,7 @@ impl<K: Eq + Clone + Drop, V: Clone + Drop> Ground<K, V> for Bare<K, V> {
     ghost use Rattle.moka_hist.specs.declared.accesses.Got.{Got};
     ghost use Rattle.moka_bound.specs.Falling.{Counts, Shortens};
     ghost use Rattle.moka_init.specs.EmptyCache.{IsBare, bare_work};
-    ghost use Rattle.moka_init.specs.Grounds.{wanted, still_begun, MayWant, nothing_told};
+    ghost use Rattle.moka_init.specs.Grounds.{wanted, still_begun, MayWant, nothing_told, any_access};
 
     ghost stands = { λ g w. IsBare g.undecided w };
 
@@ -104,6 +104,8 @@ impl<K: Eq + Clone + Drop, V: Clone + Drop> Ground<K, V> for Bare<K, V> {
     ghost made = { λ g. nothing_told K V };
 
     ghost work = { λ g. bare_work g.undecided };
+
+    ghost needs = { any_access };
 
     fn access(&mut self, want: Want<K, V>) -> Result<Got<K, V>, AllocError>
         requires keys { IsExact K.is_clone }
@@ -121,6 +123,7 @@ impl<K: Eq + Clone + Drop, V: Clone + Drop> Ground<K, V> for Bare<K, V> {
         ensures counted { (w : World K V) → IsBare self.old.undecided w → Counts w (bare_work self.old.undecided) }
         ensures counts { (w : World K V) → IsBare self.new.undecided w → Counts w (bare_work self.new.undecided) }
         ensures err { OnErr result ((w : World K V) → IsBare self.old.undecided w → IsBare self.new.undecided w) }
+        ensures err_needs { OnErr result ((access : Access K V) → wanted self.old.begun want ≡ Some access → any_access access) }
         ensures err_begun { OnErr result (self.new.begun ≡ self.old.begun) }
         ensures err_made { OnErr result (nothing_told K V ≡ nothing_told K V) }
         ensures err_work { OnErr result (bare_work self.new.undecided ≡ bare_work self.old.undecided) }

@@ -1,5 +1,5 @@
 //! Single steps of a flow, and steps up to the first turn that isn't Going.
-ghost use Rattle.std.specs.Prelude.{◌≡◌, ◌≢◌, ℕ, ◌<◌, ◌+◌, List, [], ◌∷◌, ◌++◌, Option, Some, IfOk, IfErr, OnOk, OnErr};
+ghost use Rattle.std.specs.Prelude.{◌≡◌, ◌≢◌, ℕ, ◌<◌, ◌+◌, List, [], ◌∷◌, ◌++◌, Option, Some, IfOk, IfErr, OnOk, OnErr, ◌⊎◌};
 ghost use Rattle.moka_hist.specs.Finite.{IsExact};
 ghost use Rattle.moka_hist.specs.Bound.{as_told};
 ghost use Rattle.moka_hist.specs.State.{Call, World};
@@ -7,7 +7,7 @@ ghost use Rattle.moka_hist.specs.Step.{Access, Moves, MovesOn, Polled, IsSafe, M
 ghost use Rattle.moka_hist.specs.declared.accesses.Got.{Got};
 ghost use Rattle.moka_bound.specs.Ahead.{ahead};
 ghost use Rattle.moka_init.specs.FlowPlan.{call_of, next_in};
-ghost use Rattle.moka_init.specs.Grounds.{IsOn, access_at};
+ghost use Rattle.moka_init.specs.Grounds.{IsOn, access_at, NeedsMemory};
 ghost use Rattle.moka_init.specs.Telling.{TellsPoll, TellsSteps};
 
 use crate::flow::Flow;
@@ -35,6 +35,7 @@ pub fn step<K: Eq + Clone + Drop, V: Clone + Drop, G: Ground<K, V>>(
     ensures on { OnOk result (IsOn (G.begun ground.new) flow.new) }
     ensures number { flow.new.call ≡ flow.old.call }
     ensures err { OnErr result (flow.new ≡ flow.old) }
+    ensures err_needs { OnErr result (NeedsMemory (access_at flow.old) ⊎ G.needs (access_at flow.old)) }
     ensures err_ground { OnErr result ((w : World K V) → G.stands ground.old w → G.stands ground.new w) }
     ensures err_begun { OnErr result (G.begun ground.new ≡ G.begun ground.old) }
     ensures err_made { OnErr result (G.made ground.new ≡ G.made ground.old) }
@@ -69,6 +70,7 @@ pub fn poll<K: Eq + Clone + Drop, V: Clone + Drop, G: Alone<K, V>>(
         → (new : World K V) × MovesOn K.eq steps flow.old.call (call_of flow.old) w (call_of flow.new) new × G.stands ground.new new)
         × ((before : List (Access K V × Got K V)) → G.made ground.old ≡ Some before
         → TellsSteps steps flow.old.call (call_of flow.old) (call_of flow.new) before (G.made ground.new))) }
+    ensures needs { OnErr result (NeedsMemory (access_at flow.new) ⊎ G.needs (access_at flow.new)) }
     ensures tells { IfOk result (λ turn. (before : List (Access K V × Got K V)) → G.made ground.old ≡ Some before
         → TellsPoll flow.old.call (call_of flow.old) (next_in turn flow.new) before (G.made ground.new)) }
     ensures on { IsOn (G.begun ground.new) flow.new }

@@ -27,6 +27,9 @@ pub trait Ground<K: Eq + Clone, V: Clone> {
     /// how many steps its table operation may stay undecided.
     ghost work: { Self → Work };
 
+    /// The accesses for which memory may be wanting there.
+    ghost needs: { Access K V → Type 0 };
+
     /// Makes the wanted access. Condition: the ground stands for a world that has what it needs.
     /// After want of memory nothing has changed.
     fn access(&mut self, want: Want<K, V>) -> Result<Got<K, V>, AllocError>
@@ -44,6 +47,7 @@ pub trait Ground<K: Eq + Clone, V: Clone> {
         ensures counted { (w : World K V) → stands self.old w → Counts w (work self.old) }
         ensures counts { (w : World K V) → stands self.new w → Counts w (work self.new) }
         ensures err { OnErr result ((w : World K V) → stands self.old w → stands self.new w) }
+        ensures err_needs { OnErr result ((access : Access K V) → wanted (begun self.old) want ≡ Some access → needs access) }
         ensures err_begun { OnErr result (begun self.new ≡ begun self.old) }
         ensures err_made { OnErr result (made self.new ≡ made self.old) }
         ensures err_work { OnErr result (work self.new ≡ work self.old) };

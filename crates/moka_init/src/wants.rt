@@ -1,9 +1,10 @@
 //! The next access of a flow.
-ghost use Rattle.std.specs.Prelude.{◌≡◌, IfOk};
+ghost use Rattle.std.specs.Prelude.{◌≡◌, IfOk, OnErr};
 ghost use Rattle.moka_hist.specs.Finite.{IsExact};
 ghost use Rattle.moka_hist.specs.Plan as plan;
 ghost use Rattle.moka_hist.specs.Step.{access_of, access_for, want_for, takes_of};
 ghost use Rattle.moka_init.specs.FlowPlan.{call_of, aim_of, key_of};
+ghost use Rattle.moka_init.specs.Grounds.{access_at, NeedsMemory};
 
 use crate::flow::Flow;
 use crate::points::{Look, Point, Put};
@@ -17,6 +18,7 @@ impl<K: Clone + Drop, V: Clone + Drop> Flow<K, V> {
         requires values { IsExact V.is_clone }
         ensures want { IfOk result (λ want. want ≡ want_for self.old.begun (access_of self.old.call (call_of self.old))) }
         ensures same { self.new ≡ self.old }
+        ensures err { OnErr result (NeedsMemory (access_at self.old)) }
     {
         let call = self.call;
         match &self.point {

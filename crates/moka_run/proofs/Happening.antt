@@ -40,6 +40,21 @@ module _ {R E : Type 0} where
   unpolled_ok reply (Ok r) P e p = subst (λ (x : Result R E). IfOk x P) e p
   unpolled_ok reply (Err u) P e p = tt
 
+  -- the same of its want of memory
+  pub unpolled_on_err : (reply : Result R E) (result : Result R Unfinished) (P : Type 0)
+      → MatchResult result (λ r. reply ≡ Ok r) (λ u. (u.steps ≡ 0) × (is_ok reply ≡ false)) → OnErr reply P → OnErr result P
+  unpolled_on_err reply (Ok r) P e p = tt
+  unpolled_on_err (Ok r) (Err u) P e p = let f : true ≡ false = e.1 in absurd (cc)
+  unpolled_on_err (Err x) (Err u) P e p = p
+
+  pub on_err_if : (result : Result R E) (P : E → Type 0) (Q : Type 0) → ((e : E) → P e → Q) → IfErr result P → OnErr result Q
+  on_err_if (Ok r) P Q f p = tt
+  on_err_if (Err e) P Q f p = f e p
+
+  pub on_err_both : (result : Result R E) (P Q : Type 0) → OnErr result P → OnErr result Q → OnErr result (P × Q)
+  on_err_both (Ok r) P Q p q = tt
+  on_err_both (Err e) P Q p q = (p, q)
+
   pub unpolled_err : (reply : Result R E) (result : Result R Unfinished) (P : Type 0)
       → MatchResult result (λ r. reply ≡ Ok r) (λ u. (u.steps ≡ 0) × (is_ok reply ≡ false)) → OnErr reply P → IfErr result (λ u. (u.steps ≡ 0) × P)
   unpolled_err reply (Ok r) P e p = tt

@@ -5,6 +5,7 @@ pub mod Happening
 pub mod LiveCalls
 pub mod ReportPlaces
 pub mod Stopping
+pub mod Needing
 pub mod ByKey
 pub mod OneWord
 pub mod Reported

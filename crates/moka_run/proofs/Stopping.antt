@@ -10,7 +10,7 @@ use Rattle.moka_hist.specs.declared.events.Event.{Event}
 use Rattle.moka_hist.specs.declared.events.Event.TheVariants as event
 use Rattle.moka_hist.specs.declared.replies.Reply.{Reply}
 use Rattle.moka_run.specs.Machine.{Begins, StandsFor}
-use Rattle.moka_run.specs.Running.{StopsAt, TakesMemory}
+use Rattle.moka_run.specs.Running.{StopsAt, MayStopIn}
 use Rattle.moka_run.specs.declared.machine.Machine.{Machine}
 use Rattle.moka_run.specs.declared.report.Memory.{Memory}
 
@@ -50,7 +50,7 @@ module _ {K V : Type 0} {same : PartialEq.Ghosts K} {hash : Hash.Ghosts K} (eq :
   -- memory was wanting between two events, or after the last
   pub stops_between : (m : Machine K V same hash) (events : List (Event K V)) (stop : Memory V) (done : ℕ) (replies : List (Reply V)) (s mid : State K V)
       → stop ≡ record { done = done; steps = 0; replies = replies } → Run eq (IsLawful eq) s (take done events) replies mid → StandsFor eq m mid
-      → (done ≡ 0) ⊎ IfSome (slice_get events done) TakesMemory
+      → ((done ≡ 0) × (◌≡◌ {A = ℕ} 0 0)) ⊎ IfSome (slice_get events done) (MayStopIn mid)
       → StopsAt eq events stop.done stop.steps stop.replies m s
   stops_between m events stop done replies s mid is run stands cause =
       subst (λ (x : Memory V). StopsAt eq events x.done x.steps x.replies m s) (sym is)
@@ -59,7 +59,7 @@ module _ {K V : Type 0} {same : PartialEq.Ghosts K} {hash : Hash.Ghosts K} (eq :
   -- memory was wanting in an event
   pub stops_in : (m : Machine K V same hash) (events : List (Event K V)) (stop : Memory V) (done steps : ℕ) (replies : List (Reply V)) (s mid t : State K V) (e : Event K V)
       → stop ≡ record { done = done; steps = steps; replies = replies } → Run eq (IsLawful eq) s (take done events) replies mid → slice_get events done ≡ Some e
-      → ((k n : ℕ) → Goings eq Any k mid n t → Goings eq (IsLawful eq) k mid n t) → Begins eq Any mid (Some e) steps t → StandsFor eq m t → TakesMemory e
+      → ((k n : ℕ) → Goings eq Any k mid n t → Goings eq (IsLawful eq) k mid n t) → Begins eq Any mid (Some e) steps t → StandsFor eq m t → MayStopIn t e
       → StopsAt eq events stop.done stop.steps stop.replies m s
   stops_in m events stop done steps replies s mid t e is run next lawful begins stands takes =
       subst (λ (x : Memory V). StopsAt eq events x.done x.steps x.replies m s) (sym is)
@@ -69,5 +69,5 @@ module _ {K V : Type 0} {same : PartialEq.Ghosts K} {hash : Hash.Ghosts K} (eq :
         final = t;
         begins = subst (λ (o : Option (Event K V)). Begins eq (IsLawful eq) mid o steps t) (sym next) (begins_lawful eq mid t e steps lawful begins);
         stands = stands;
-        cause = inr (subst (λ (o : Option (Event K V)). IfSome o TakesMemory) (sym next) takes);
+        cause = inr (subst (λ (o : Option (Event K V)). IfSome o (MayStopIn t)) (sym next) takes);
       })

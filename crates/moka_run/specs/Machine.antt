@@ -7,14 +7,14 @@ use Rattle.moka_hist.specs.State.{Call, State, World}
 use Rattle.moka_hist.specs.Bound.{as_told}
 use Rattle.moka_hist.specs.Finite.{put_at}
 use Rattle.moka_hist.specs.Next.{Next}
-use Rattle.moka_hist.specs.Step.{May, Moves, MovesOn, Polled, IsSafe}
+use Rattle.moka_hist.specs.Step.{May, Moves, MovesOn, Polled, IsSafe, access_of}
 use Rattle.moka_hist.specs.Run.{Any, Goings, Happens, IsReached, reply_of}
 use Rattle.moka_hist.specs.declared.events.Event.{Event}
 use Rattle.moka_hist.specs.declared.events.Event.TheVariants as event
 use Rattle.moka_hist.specs.declared.replies.Reply.{Reply}
 use Rattle.moka_init.specs.declared.flow.Flow.{Flow}
 use Rattle.moka_init.specs.FlowPlan.{call_of}
-use Rattle.moka_init.specs.Grounds.{IsOn, access_at}
+use Rattle.moka_init.specs.Grounds.{IsOn, access_at, NeedsMemory}
 use Rattle.moka_run.specs.Calls.{running_at}
 use Rattle.moka_run.specs.Layers.{WorldIs, operation_of}
 use Rattle.moka_run.specs.declared.calls.Running.{Running}
@@ -97,10 +97,10 @@ module _ {K V : Type 0} {same : PartialEq.Ghosts K} {hash : Hash.Ghosts K} where
       → (next : Next K V) × (after : World K V) × Polled eq n (call_of flow) w next after × (r ≡ reply_of next.turn)
       × StandsFor eq new (record { world = after; calls = put_at others n next.left })
 
-  -- so many steps of a call that was taken out, each of which left it going
+  -- so many steps of a call that was taken out, each of which left it going, up to an access that needs memory
   abbrev pub UnfinishedOut : (K → K → Bool) → Machine K V same hash → ℕ → Flow K V → ℕ → Machine K V same hash → Type 0
   UnfinishedOut eq old n flow steps new =
       (made : ℕ) × (steps ≡ as_told made)
       × ((others : ℕ → Option (Call K V)) (w : World K V) → Without eq old n flow others w → IsSafe eq n (call_of flow) w
       → (d : Call K V) × (after : World K V) × MovesOn eq made n (call_of flow) w d after
-      × StandsFor eq new (record { world = after; calls = put_at others n (Some d) }))
+      × StandsFor eq new (record { world = after; calls = put_at others n (Some d) }) × NeedsMemory (access_of n d))

@@ -1,15 +1,25 @@
 -- What a run of events on a machine answers.
-use Rattle.std.specs.Prelude.{◌≡◌, ◌⊎◌, IfSome, ℕ, Bool, List, take, slice_get,}
+use Rattle.std.specs.Prelude.{◌≡◌, ◌⊎◌, IfSome, MatchOption, ℕ, Bool, List, take, slice_get}
 use Rattle.std.specs.declared.cmp.PartialEq as PartialEq
 use Rattle.std.specs.declared.hash.Hash as Hash
 use Rattle.moka_hist.specs.State.{State}
 use Rattle.moka_hist.specs.Places.{IsLawful}
 use Rattle.moka_hist.specs.Run.{Run}
+use Rattle.moka_hist.specs.Step.{access_of}
 use Rattle.moka_hist.specs.declared.events.Event.{Event}
 use Rattle.moka_hist.specs.declared.events.Event.TheVariants as event
+use Rattle.moka_hist.specs.declared.events.Told.{Told}
+use Rattle.moka_hist.specs.declared.events.Told.TheVariants as told
 use Rattle.moka_hist.specs.declared.replies.Reply.{Reply}
+use Rattle.moka_init.specs.Grounds.{NeedsMemory}
 use Rattle.moka_run.specs.Machine.{StandsFor, Begins}
 use Rattle.moka_run.specs.declared.machine.Machine.{Machine}
+
+module _ {V : Type 0} where
+  -- memory may be wanting to tell this: a value is copied
+  abbrev pub ToldNeedsMemory : Told V → Type 0
+  ToldNeedsMemory (told.Value value) = Unit {0}
+  ToldNeedsMemory told.Done = ⊥
 
 module _ {K V : Type 0} where
   -- memory may be wanting in such an event. Moving the clock and dropping a call take none
@@ -20,6 +30,20 @@ module _ {K V : Type 0} where
   TakesMemory (event.Poll n) = Unit {0}
   TakesMemory (event.Tell n answer) = Unit {0}
   TakesMemory (event.Drop n) = ⊥
+
+  -- the call is live, and memory may be wanting for the access at which it stands
+  abbrev pub CallNeedsMemory : State K V → ℕ → Type 0
+  CallNeedsMemory s n = MatchOption (s.calls n) ⊥ (λ c. NeedsMemory (access_of n c))
+
+  -- Memory may be wanting in such an event in this state. In a step or a poll it may only where the call stands at an access that
+  -- needs some: none is needed to take up what is owed or told, to post a write and to apply the log.
+  abbrev pub MayStopIn : State K V → Event K V → Type 0
+  MayStopIn s (event.At moment) = ⊥
+  MayStopIn s (event.Start start) = Unit {0}
+  MayStopIn s (event.Step n) = CallNeedsMemory s n
+  MayStopIn s (event.Poll n) = CallNeedsMemory s n
+  MayStopIn s (event.Tell n answer) = ToldNeedsMemory answer
+  MayStopIn s (event.Drop n) = ⊥
 
 -- The headline: from each reached state that the machine stood for these replies answer the events
 -- in order, one for each, by a run of the reference cache through lawful states to a state that the
@@ -36,5 +60,5 @@ pub record StopsAt {K V : Type 0} {same : PartialEq.Ghosts K} {hash : Hash.Ghost
   pub final : State K V
   pub begins : Begins eq (IsLawful eq) mid (slice_get events done) steps final
   pub stands : StandsFor eq new final
-  -- at the very beginning, for the room of the replies; in an event that takes memory; or after the last one, for the lists
-  pub cause : (done ≡ 0) ⊎ IfSome (slice_get events done) TakesMemory
+  -- at the very beginning, for the room of the replies; in an event that needs memory there; or after the last one, for the lists
+  pub cause : ((done ≡ 0) × (steps ≡ 0)) ⊎ IfSome (slice_get events done) (MayStopIn final)

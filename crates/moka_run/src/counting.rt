@@ -31,7 +31,7 @@ impl<K: Eq + Hash + Clone + Drop, V: Clone + Drop> Ground<K, V> for Counting<K, 
     ghost use Rattle.moka_hist.specs.Step.{Access};
     ghost use Rattle.moka_hist.specs.declared.accesses.Got.{Got};
     ghost use Rattle.moka_bound.specs.Falling.{Counts, Shortens};
-    ghost use Rattle.moka_init.specs.Grounds.{wanted, still_begun, nothing_told, MayWant};
+    ghost use Rattle.moka_init.specs.Grounds.{wanted, still_begun, nothing_told, MayWant, NeedsMemory};
     ghost use Rattle.moka_run.specs.Layers.{WorldIs, operation_of, work_of, Accesses, Keeps};
 
     ghost stands = { λ c w. WorldIs K.eq c.layers w };
@@ -41,6 +41,8 @@ impl<K: Eq + Hash + Clone + Drop, V: Clone + Drop> Ground<K, V> for Counting<K, 
     ghost made = { λ c. nothing_told K V };
 
     ghost work = { λ c. work_of c.layers };
+
+    ghost needs = { NeedsMemory };
 
     fn access(&mut self, want: Want<K, V>) -> Result<Got<K, V>, AllocError>
         requires keys { IsExact K.is_clone }
@@ -57,6 +59,7 @@ impl<K: Eq + Hash + Clone + Drop, V: Clone + Drop> Ground<K, V> for Counting<K, 
         ensures counted { (w : World K V) → WorldIs K.eq self.old.layers w → Counts w (work_of self.old.layers) }
         ensures counts { (w : World K V) → WorldIs K.eq self.new.layers w → Counts w (work_of self.new.layers) }
         ensures err { OnErr result (Keeps K.eq self.old.layers self.new.layers) }
+        ensures err_needs { OnErr result ((access : Access K V) → wanted (operation_of self.old.layers.begun) want ≡ Some access → NeedsMemory access) }
         ensures err_begun { OnErr result (operation_of self.new.layers.begun ≡ operation_of self.old.layers.begun) }
         ensures err_made { OnErr result (nothing_told K V ≡ nothing_told K V) }
         ensures err_work { OnErr result (work_of self.new.layers ≡ work_of self.old.layers) }

@@ -23,7 +23,7 @@ impl<K: Eq + Hash + Clone + Drop, V: Clone + Drop> Layers<K, V> {
     ghost use Rattle.moka_hist.specs.Step.{Access, Gets, May};
     ghost use Rattle.moka_hist.specs.Step.{On_table, On_desk};
     ghost use Rattle.moka_hist.specs.declared.tables.TableOp.{TableOp};
-    ghost use Rattle.moka_init.specs.Grounds.{still_begun};
+    ghost use Rattle.moka_init.specs.Grounds.{still_begun, VisitNeedsMemory};
     ghost use Rattle.moka_run.specs.Layers.{WorldIs, operation_of, Accesses, Decides, Keeps};
 
     // Makes a step of an operation that was begun. It stays begun where it is undecided, or memory
@@ -103,6 +103,7 @@ impl<K: Eq + Hash + Clone + Drop, V: Clone + Drop> Layers<K, V> {
         ensures begins { OnOk result (operation_of self.new.begun ≡ None) }
         ensures decides { IfOk result (λ given. Decides given) }
         ensures err { OnErr result (Keeps K.eq self.old self.new) }
+        ensures err_needs { OnErr result (VisitNeedsMemory visit) }
         ensures err_begun { OnErr result (operation_of self.new.begun ≡ operation_of self.old.begun) }
     {
         let found = make_visit(&mut self.desk, visit)?;
@@ -116,7 +117,7 @@ impl<K: Eq + Hash + Clone + Drop, V: Clone + Drop> Ground<K, V> for Layers<K, V>
     ghost use Rattle.moka_hist.specs.Step.{Access};
     ghost use Rattle.moka_hist.specs.declared.accesses.Got.{Got};
     ghost use Rattle.moka_bound.specs.Falling.{Counts, Shortens};
-    ghost use Rattle.moka_init.specs.Grounds.{wanted, still_begun, nothing_told, MayWant};
+    ghost use Rattle.moka_init.specs.Grounds.{wanted, still_begun, nothing_told, MayWant, NeedsMemory};
     ghost use Rattle.moka_run.specs.Layers.{WorldIs, operation_of, work_of, Accesses, Keeps};
 
     ghost stands = { λ l w. WorldIs K.eq l w };
@@ -126,6 +127,8 @@ impl<K: Eq + Hash + Clone + Drop, V: Clone + Drop> Ground<K, V> for Layers<K, V>
     ghost made = { λ l. nothing_told K V };
 
     ghost work = { λ l. work_of l };
+
+    ghost needs = { NeedsMemory };
 
     fn access(&mut self, want: Want<K, V>) -> Result<Got<K, V>, AllocError>
         requires keys { IsExact K.is_clone }
@@ -142,6 +145,7 @@ impl<K: Eq + Hash + Clone + Drop, V: Clone + Drop> Ground<K, V> for Layers<K, V>
         ensures counted { (w : World K V) → WorldIs K.eq self.old w → Counts w (work_of self.old) }
         ensures counts { (w : World K V) → WorldIs K.eq self.new w → Counts w (work_of self.new) }
         ensures err { OnErr result (Keeps K.eq self.old self.new) }
+        ensures err_needs { OnErr result ((access : Access K V) → wanted (operation_of self.old.begun) want ≡ Some access → NeedsMemory access) }
         ensures err_begun { OnErr result (operation_of self.new.begun ≡ operation_of self.old.begun) }
         ensures err_made { OnErr result (nothing_told K V ≡ nothing_told K V) }
         ensures err_work { OnErr result (work_of self.new ≡ work_of self.old) }

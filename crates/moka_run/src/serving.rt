@@ -2,6 +2,7 @@
 ghost use Rattle.std.specs.Prelude.{◌≡◌, ◌<◌, ℕ, Some, None, IsSome, IfOk, IfErr, is_ok, false, OnOk, OnErr, MatchResult};
 ghost use Rattle.std.specs.HashMap.{spare};
 ghost use Rattle.moka_hist.specs.Finite.{IsExact};
+ghost use Rattle.moka_run.specs.Running.{ToldNeedsMemory};
 
 use crate::calls::Running;
 use crate::machine::Machine;
@@ -18,7 +19,7 @@ impl<K: Eq + Hash + Clone + Drop, V: Clone + Drop> Machine<K, V> {
     ghost use Rattle.moka_hist.specs.State.{State};
     ghost use Rattle.moka_init.specs.FlowPlan.{call_of};
     ghost use Rattle.moka_run.specs.Calls.{HasPlace};
-    ghost use Rattle.moka_run.specs.Running.{TakesMemory};
+    ghost use Rattle.moka_run.specs.Running.{TakesMemory, MayStopIn};
     ghost use Rattle.moka_run.specs.Machine.{StandsFor, TakenOut, IsValid, Serves, Keeps, Stops};
 
     /// Carries one event out, or refuses it. Want of memory tells how many steps of a poll were made;
@@ -30,6 +31,7 @@ impl<K: Eq + Hash + Clone + Drop, V: Clone + Drop> Machine<K, V> {
         ensures serves { IfOk result (λ r. Serves K.eq self.old event.now r self.new) }
         ensures stops { IfErr result (λ u. Stops K.eq self.old event.now u.steps self.new) }
         ensures cause { OnErr result (TakesMemory event.now) }
+        ensures needs { OnErr result ((s : State K V) → StandsFor K.eq self.new s → MayStopIn s event.now) }
     {
         match event {
             Event::At { moment } => Ok(self.at(*moment)),
@@ -92,6 +94,7 @@ impl<K: Eq + Hash + Clone + Drop, V: Clone + Drop> Machine<K, V> {
         requires { IsExact V.is_clone }
         ensures serves { IfOk result (λ r. Serves K.eq self.old (Event.Tell call answer.now) r self.new) }
         ensures err { OnErr result (Keeps K.eq self.old self.new) }
+        ensures err_needs { OnErr result (ToldNeedsMemory answer.now) }
     {
         let answer = cloned_told(answer)?;
         if self.layers.desk.tell(call, answer) {
@@ -170,7 +173,8 @@ fn cloned_start<K: Clone + Drop, V: Clone + Drop>(
 
 fn cloned_told<V: Clone + Drop>(answer: &Told<V>) -> Result<Told<V>, AllocError>
     requires { IsExact V.is_clone }
-    ensures { IfOk result (λ same. same ≡ answer.now) }
+    ensures same { IfOk result (λ same. same ≡ answer.now) }
+    ensures err { OnErr result (ToldNeedsMemory answer.now) }
 {
     match answer {
         Told::Value(value) => {

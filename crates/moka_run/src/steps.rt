@@ -16,9 +16,10 @@ impl<K: Eq + Hash + Clone + Drop, V: Clone + Drop> Machine<K, V> {
     ghost use Rattle.moka_init.specs.FlowPlan.{call_of, left_in};
     ghost use Rattle.moka_init.specs.declared.flow.Flow.{Flow};
     ghost use Rattle.moka_hist.specs.Step.{May, IsSafe};
-    ghost use Rattle.moka_init.specs.Grounds.{IsOn, access_at};
+    ghost use Rattle.moka_init.specs.Grounds.{IsOn, access_at, NeedsMemory};
     ghost use Rattle.moka_run.specs.Layers.{WorldIs, operation_of};
     ghost use Rattle.moka_run.specs.Calls.{HasPlace};
+    ghost use Rattle.moka_run.specs.Running.{CallNeedsMemory};
     ghost use Rattle.moka_run.specs.declared.calls.Running.{Running};
     ghost use Rattle.moka_run.specs.Machine.{StandsFor, Without, TakenOut, IsValid, Serves, Keeps, Stops, StepOut, KeepsOut, PollOut, UnfinishedOut};
 
@@ -29,6 +30,7 @@ impl<K: Eq + Hash + Clone + Drop, V: Clone + Drop> Machine<K, V> {
         requires valid { IsValid K.eq self.old }
         ensures serves { IfOk result (λ r. Serves K.eq self.old (Event.Step call) r self.new) }
         ensures err { OnErr result (Keeps K.eq self.old self.new) }
+        ensures err_needs { OnErr result ((s : State K V) → StandsFor K.eq self.new s → CallNeedsMemory s call) }
     {
         moka_laws::calls_are_safe::<K, V>();
         moka_laws::move_is_step::<K, V>();
@@ -46,6 +48,7 @@ impl<K: Eq + Hash + Clone + Drop, V: Clone + Drop> Machine<K, V> {
         requires valid { IsValid K.eq self.old }
         ensures serves { IfOk result (λ r. Serves K.eq self.old (Event.Poll call) r self.new) }
         ensures stops { IfErr result (λ u. Stops K.eq self.old (Event.Poll call) u.steps self.new) }
+        ensures needs { OnErr result ((s : State K V) → StandsFor K.eq self.new s → CallNeedsMemory s call) }
     {
         moka_laws::calls_are_safe::<K, V>();
         moka_laws::moves_are_steps::<K, V>();
@@ -92,8 +95,9 @@ impl<K: Eq + Hash + Clone + Drop, V: Clone + Drop> Machine<K, V> {
 
     // The call has ended, and gives its place up.
     pub(crate) fn end(&mut self, call: u64)
-        ensures { (flow : Flow K V) (others : ℕ → Option (Call K V)) (w : World K V) → Without K.eq self.old call flow others w
+        ensures stands { (flow : Flow K V) (others : ℕ → Option (Call K V)) (w : World K V) → Without K.eq self.old call flow others w
             → StandsFor K.eq self.new (record { world = w; calls = put_at others call None }) }
+        ensures begun { self.new.layers.begun ≡ None }
     {
         self.layers.begun = None;
         self.calls.forget(call);
@@ -135,6 +139,7 @@ impl<K: Eq + Hash + Clone + Drop, V: Clone + Drop> Machine<K, V> {
         requires may { (w : World K V) × WorldIs K.eq self.old.layers w × May w (access_at flow) }
         ensures steps { IfOk result (λ r. StepOut K.eq self.old call flow r self.new) }
         ensures err { OnErr result (KeepsOut K.eq self.old call flow self.new) }
+        ensures err_needs { OnErr result (NeedsMemory (access_at flow)) }
     {
         match step(&mut flow, &mut self.layers) {
             Ok(turn) => Ok(self.after_step(call, flow, turn)),

@@ -4,6 +4,7 @@ ghost use Rattle.moka_hist.specs.Finite.{IsExact};
 ghost use Rattle.moka_hist.specs.State.{DeskPart};
 ghost use Rattle.moka_hist.specs.Visits.{MayVisit};
 ghost use Rattle.moka_desk.specs.StandsFor.{StandsFor};
+ghost use Rattle.moka_init.specs.Grounds.{VisitNeedsMemory};
 ghost use Rattle.moka_run.specs.Visiting.{VisitIs, JudgeIs, Keeps};
 
 use moka_desk::Desk;
@@ -21,6 +22,7 @@ pub(crate) fn make_visit<K: Eq + Hash + Clone + Drop, V: Clone + Drop>(
     requires may { (w : DeskPart K V) × StandsFor K.eq desk.old w × MayVisit w visit }
     ensures ok { IfOk result (λ found. VisitIs K.eq desk.old visit found desk.new) }
     ensures err { OnErr result (Keeps K.eq desk.old desk.new) }
+    ensures err_needs { OnErr result (VisitNeedsMemory visit) }
 {
     match visit {
         Visit::Clock { .. } => Ok(Found::Clock(desk.clock())),

@@ -1,6 +1,8 @@
 -- What the steps so far did, and one more.
-use Rattle.std.proofs.Common.{◌≡◌, ℕ, ◌+◌, true, refl, ◌∙◌, ◌++◌, arith}
+use Rattle.std.proofs.Common.{◌≡◌, ℕ, ◌+◌, true, refl, sym, subst, ◌∙◌, ◌++◌, ◌⊎◌, arith}
+use Rattle.moka_init.specs.declared.flow.Flow.{Flow}
 use Rattle.moka_init.specs.FlowPlan.{call_of}
+use Rattle.moka_init.specs.Grounds.{access_at, NeedsMemory}
 use Rattle.moka_init.proofs.Going.{moves_none, safe_next, flow_more, flow_last, has_log_still}
 use Rattle.moka_init.proofs.Told.{told_none, told_more, told_last}
 use Rattle.moka_init.proofs.goings.poll.Goals as goal
@@ -57,3 +59,7 @@ loop-turn-smaller g c =
     let m = so_far.1.moved safe.0 safe.1 safe.2 in
     c.in-Ok.ensures.nears m.0 m.2 (safe_next g.K.PartialEq.eq so_far.0 c.args.flow.now c.loop-turn.flow safe.0 m.0 so_far.1.number m.1 safe.2)
     (has_log_still g.K.PartialEq.eq so_far.0 c.args.flow.now.call (call_of c.args.flow.now) safe.0 (call_of c.loop-turn.flow) m.0 m.1 safe.3) (c.is_going.ensures.0 (cc))
+
+pub returns-in-Err-clause-needs : goal.returns-in-Err-clause-needs
+returns-in-Err-clause-needs g c =
+    subst (λ (f : Flow g.row.K.Denot g.row.V.Denot). NeedsMemory (access_at f) ⊎ g.G.Ground.needs (access_at f)) (sym c.in-Err.ensures.err) c.in-Err.ensures.err_needs

@@ -7,7 +7,7 @@ use Rattle.moka_hist.specs.Run.{Run}
 use Rattle.moka_hist.specs.declared.events.Event.{Event}
 use Rattle.moka_hist.specs.declared.replies.Reply.{Reply}
 use Rattle.moka_run.specs.declared.report.Memory.{Memory}
-use Rattle.moka_run.specs.Running.{TakesMemory}
+use Rattle.moka_run.specs.Running.{MayStopIn}
 use Rattle.moka_run.proofs.Stopping.{stops_between}
 use Rattle.moka_run.proofs.runs.run.Goals as goal
 
@@ -33,4 +33,4 @@ returns-in-Err-clause-memory g c = λ s h reached.
     (subst (λ (rs : List (Reply g.row.V.Denot)). Run g.K.PartialEq.eq (IsLawful g.K.PartialEq.eq) s (take (length events) events) rs a.final) same
     (subst (λ (es : List (Event g.row.K.Denot g.row.V.Denot)). Run g.K.PartialEq.eq (IsLawful g.K.PartialEq.eq) s es c.in_ok-replies.replies.items a.final) (sym (take-length events)) a.run))
     a.stands
-    (inr (subst (λ (o : Option (Event g.row.K.Denot g.row.V.Denot)). IfSome o TakesMemory) (sym (slice_get_past events (length events) (omega arith))) tt))
+    (inr (subst (λ (o : Option (Event g.row.K.Denot g.row.V.Denot)). IfSome o (MayStopIn a.final)) (sym (slice_get_past events (length events) (omega arith))) tt))

@@ -16,7 +16,7 @@ returns-in-Err-clause-memory g c = λ s h reached.
     let at_done : ℕ → Memory g.row.V.Denot = λ n. record { done = n; steps = 0; replies = c.new.result.items } in
     let with_replies : List (Reply g.row.V.Denot) → Memory g.row.V.Denot = λ rs. record { done = 0; steps = 0; replies = rs } in
     stops_between g.K.PartialEq.eq c.args.cache.now c.args.events.now c.stopped.result 0 [] s s
-    (c.stopped.ensures ∙ ap at_done c.new.ensures.len ∙ ap with_replies c.new.ensures.items) refl h (inl refl)
+    (c.stopped.ensures ∙ ap at_done c.new.ensures.len ∙ ap with_replies c.new.ensures.items) refl h (inl (refl, refl))
 
 pub loop-event-init : goal.loop-event-init
 loop-event-init g c = record {
@@ -35,7 +35,7 @@ returns-in-Err-serve-clause-memory g c = λ s h reached.
     let next : slice_get c.args.events.now i ≡ Some c.event-item.result =
     slice_get_read c.args.events.now (length c.args.events.now) i c.event-item.result refl c.loop-event-test.true c.event-item.is in
     stops_in g.K.PartialEq.eq c.serve.new.self c.args.events.now c.stopped-in-Err-serve.result i c.in-Err-serve.unfinished.steps c.loop-event.replies.items s m.0 k.0 c.event-item.result
-    (c.stopped-in-Err-serve.ensures ∙ ap at_done c.loop-event.invariant.told) m.1 next (λ j n going. (c.steps_are_lawful.ensures.lawful j m.0 k.0 n m.3).0 going) k.1 k.2 c.in-Err-serve.ensures.cause
+    (c.stopped-in-Err-serve.ensures ∙ ap at_done c.loop-event.invariant.told) m.1 next (λ j n going. (c.steps_are_lawful.ensures.lawful j m.0 k.0 n m.3).0 going) k.1 k.2 (c.in-Err-serve.ensures.needs k.0 k.2)
 
 pub returns-in-Err-serve-clause-valid : goal.returns-in-Err-serve-clause-valid
 returns-in-Err-serve-clause-valid g c =

@@ -1,7 +1,8 @@
 -- Each way of an access makes the one that is wanted.
 use Rattle.std.proofs.Common.{subst}
-use Rattle.std.proofs.lemmas.Result.{IfOk-weaker}
+use Rattle.std.proofs.lemmas.Result.{IfOk-weaker, on_err_weaker}
 use Rattle.moka_hist.specs.Step.{Access}
+use Rattle.moka_init.specs.Grounds.{NeedsMemory}
 use Rattle.moka_run.specs.Layers.{operation_of, Accesses}
 use Rattle.moka_run.proofs.Wanted.{begun_by_may, wanted_begin, wanted_table, wanted_visit, decides_shorten}
 use Rattle.moka_run.proofs.layers.LayersGround.access.Goals as goal
@@ -41,3 +42,24 @@ returns-in-Table-clause-shortens g c =
 pub returns-in-Desk-clause-shortens : goal.returns-in-Desk-clause-shortens
 returns-in-Desk-clause-shortens g c =
     IfOk-weaker c.visit.result _ _ (λ given decides access is. decides_shorten c.args.self.now c.visit.new.self access given decides) c.visit.ensures.decides
+
+pub returns-in-Begin-clause-err_needs : goal.returns-in-Begin-clause-err_needs
+returns-in-Begin-clause-err_needs g c =
+    on_err_weaker c.begin.result (λ kept access is.
+    subst (λ (a : Access g.row.K.Denot g.row.V.Denot). NeedsMemory a)
+    (wanted_begin (operation_of c.args.self.now.begun) c.args.want access c.in-Begin.operation c.in-Begin.is is) tt)
+    c.begin.ensures.err
+
+pub returns-in-Table-clause-err_needs : goal.returns-in-Table-clause-err_needs
+returns-in-Table-clause-err_needs g c =
+    on_err_weaker c.resume.result (λ kept access is.
+    let o = wanted_table (operation_of c.args.self.now.begun) c.args.want access c.in-Table.is is in
+    subst (λ (a : Access g.row.K.Denot g.row.V.Denot). NeedsMemory a) o.2 tt)
+    c.resume.ensures.err
+
+pub returns-in-Desk-clause-err_needs : goal.returns-in-Desk-clause-err_needs
+returns-in-Desk-clause-err_needs g c =
+    on_err_weaker c.visit.result (λ needs access is.
+    subst (λ (a : Access g.row.K.Denot g.row.V.Denot). NeedsMemory a)
+    (wanted_visit (operation_of c.args.self.now.begun) c.args.want access c.in-Desk.visit c.in-Desk.is is) needs)
+    c.visit.ensures.err_needs

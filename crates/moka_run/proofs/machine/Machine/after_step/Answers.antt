@@ -9,7 +9,7 @@ use Rattle.moka_run.proofs.machine.Machine.after_step.Goals as goal
 pub returns-in-Answer-clause-stands : goal.returns-in-Answer-clause-stands
 returns-in-Answer-clause-stands g c = λ others w h.
     subst (λ (t : Turn g.row.V.Denot). StandsFor g.K.PartialEq.eq c.end.new.self (record { world = w; calls = put_at others c.args.call (left_in t c.args.flow) })) (sym c.in-Answer.is)
-    (c.end.ensures c.args.flow others w h)
+    (c.end.ensures.stands c.args.flow others w h)
 
 pub returns-in-Going-clause-stands : goal.returns-in-Going-clause-stands
 returns-in-Going-clause-stands g c = λ others w h.

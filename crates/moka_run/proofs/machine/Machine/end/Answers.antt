@@ -4,8 +4,8 @@ use Rattle.moka_run.specs.Calls.{running_at}
 use Rattle.moka_run.proofs.Places.{set_calls, set_each}
 use Rattle.moka_run.proofs.machine.Machine.end.Goals as goal
 
-pub returns : goal.returns
-returns g c = λ flow others w h.
+pub returns-clause-stands : goal.returns-clause-stands
+returns-clause-stands g c = λ flow others w h.
     record {
       world = record { table = h.world.table; desk = h.world.desk };
       calls = set_calls (running_at c.args.self.now.calls) (running_at c.forget.new.self) others c.args.call None None refl c.forget.ensures h.calls;

@@ -17,7 +17,7 @@ returns-clause-leaves g c = λ s t places.
     let d = call_of c.args.flow in
     let has = λ (some : IsSome c.held-held.result). places c.args.call d t.live (subst (λ (o : Option Write). IsSome o) c.held-held.ensures some) in
     let stands = c.leave.ensures s.world.desk t.rest.world.desk has in
-    c.end.ensures c.args.flow s.calls (record s.world { desk = left s.world.desk c.args.call (held_by d.plan) })
+    c.end.ensures.stands c.args.flow s.calls (record s.world { desk = left s.world.desk c.args.call (held_by d.plan) })
     (record {
       world = record {
         table = t.rest.world.table;

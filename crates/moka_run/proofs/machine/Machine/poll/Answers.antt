@@ -7,6 +7,8 @@ use Rattle.moka_hist.specs.declared.events.Event.TheVariants as event
 use Rattle.moka_hist.specs.declared.replies.Reply.{Reply}
 use Rattle.moka_laws.specs.Moving.{gone_on}
 use Rattle.moka_init.specs.FlowPlan.{call_of}
+use Rattle.moka_run.proofs.Happening.{on_err_if}
+use Rattle.moka_run.proofs.Needing.{call_needs}
 use Rattle.moka_run.proofs.machine.Machine.poll.Goals as goal
 
 pub returns-in-Some-clause-serves : goal.returns-in-Some-clause-serves
@@ -38,3 +40,13 @@ poll_out-requires-clause-safe g c =
       subst (λ (n : ℕ). IsSafe g.K.PartialEq.eq n d v.state.world) (sym t.rest.number) (c.calls_are_safe.ensures.safe v.state c.args.call d v.reached t.live),
       c.logs_have_room.ensures.room v.state v.reached,
     )
+
+pub returns-in-Some-clause-needs : goal.returns-in-Some-clause-needs
+returns-in-Some-clause-needs g c =
+    let v = c.requires.valid in
+    let n = c.args.call in
+    let t = c.in-Some.ensures.some v.state v.stands in
+    on_err_if c.poll_out.result _ _ (λ u stops s stands.
+    let m = stops.2 v.state.calls v.state.world t.rest (c.calls_are_safe.ensures.safe v.state n (call_of c.in-Some.flow) v.reached t.live) in
+    call_needs g.K.PartialEq.eq c.poll_out.new.self n m.0 v.state.calls m.1 s m.3 stands m.4)
+    c.poll_out.ensures.unfinished

@@ -1,7 +1,9 @@
 -- The steps are the call's, and the call is put back or has ended.
 use Rattle.std.proofs.Common.{ℕ, sym, subst, ◌∙◌}
-use Rattle.moka_hist.specs.Step.{MovesOn, Polled, IsSafe}
+use Rattle.moka_hist.specs.Step.{MovesOn, Polled, IsSafe, access_of}
 use Rattle.moka_init.specs.FlowPlan.{call_of, next_in}
+use Rattle.moka_init.specs.Grounds.{NeedsMemory}
+use Rattle.moka_run.proofs.Needing.{either_needs}
 use Rattle.moka_run.proofs.machine.Machine.poll_out.Goals as goal
 
 pub returns-in-Ok-clause-polls : goal.returns-in-Ok-clause-polls
@@ -26,5 +28,6 @@ returns-in-Err-clause-unfinished g c =
             m.0,
             subst (λ (n : ℕ). MovesOn g.K.PartialEq.eq u.0 n (call_of c.args.flow) w (call_of c.poll.new.flow) m.0) h.number m.1,
             c.put_in.ensures others m.0 (record { world = m.2; calls = h.calls; each = h.each; number = c.in-Err.ensures.number ∙ h.number; on = c.in-Err.ensures.on }),
+            subst (λ (n : ℕ). NeedsMemory (access_of n (call_of c.poll.new.flow))) (c.in-Err.ensures.number ∙ h.number) (either_needs c.in-Err.ensures.needs),
           ),
     )

@@ -4,11 +4,12 @@ use Rattle.std.proofs.lemmas.Result.{IfOk-weaker, on_err_weaker}
 use Rattle.moka_hist.specs.State.{State}
 use Rattle.moka_hist.specs.Step.{May, access_of, state_after}
 use Rattle.moka_init.specs.FlowPlan.{call_of}
-use Rattle.moka_init.specs.Grounds.{access_at}
+use Rattle.moka_init.specs.Grounds.{access_at, NeedsMemory}
 use Rattle.moka_init.proofs.Going.{moves_none}
 use Rattle.moka_laws.proofs.Outcomes.{put_same}
 use Rattle.moka_run.specs.Machine.{StandsFor}
-use Rattle.moka_run.proofs.Happening.{happens_step}
+use Rattle.moka_run.proofs.Happening.{happens_step, on_err_both}
+use Rattle.moka_run.proofs.Needing.{call_needs}
 use Rattle.moka_run.proofs.machine.Machine.step.Goals as goal
 
 pub step_out-requires-clause-may : goal.step_out-requires-clause-may
@@ -42,3 +43,14 @@ returns-in-Some-clause-err g c = on_err_weaker c.step_out.result (λ keeps s sta
     (ap (λ f. record s { calls = f }) (put_same s.calls c.args.call (Some (call_of c.in-Some.flow)) t.live))
     (keeps s.calls s.world t.rest))
     c.step_out.ensures.err
+
+pub returns-in-Some-clause-err_needs : goal.returns-in-Some-clause-err_needs
+returns-in-Some-clause-err_needs g c =
+    let v = c.requires.valid in
+    let n = c.args.call in
+    let d = call_of c.in-Some.flow in
+    let t = c.in-Some.ensures.some v.state v.stands in
+    on_err_weaker c.step_out.result (λ both s stands.
+    call_needs g.K.PartialEq.eq c.step_out.new.self n d v.state.calls v.state.world s
+    (both.0 v.state.calls v.state.world t.rest) stands (subst (λ (m : ℕ). NeedsMemory (access_of m d)) t.rest.number both.1))
+    (on_err_both c.step_out.result _ _ c.step_out.ensures.err c.step_out.ensures.err_needs)

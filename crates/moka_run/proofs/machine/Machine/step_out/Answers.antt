@@ -8,6 +8,7 @@ use Rattle.moka_init.specs.FlowPlan.{call_of, next_in}
 use Rattle.moka_init.specs.Grounds.{IsOn}
 use Rattle.moka_run.specs.Layers.{operation_of}
 use Rattle.moka_run.specs.Machine.{StandsFor}
+use Rattle.moka_run.proofs.Needing.{either_needs}
 use Rattle.moka_run.proofs.machine.Machine.step_out.Goals as goal
 
 pub returns-in-Ok-clause-steps : goal.returns-in-Ok-clause-steps
@@ -29,3 +30,6 @@ returns-in-Err-clause-err g c = λ others w h.
     (subst (λ (f : Flow g.row.K.Denot g.row.V.Denot). IsOn (operation_of c.args.self.now.layers.begun) f) (sym same) h.on) in
     subst (λ (f : Flow g.row.K.Denot g.row.V.Denot). StandsFor g.K.PartialEq.eq c.put_in.new.self (record { world = w; calls = put_at others c.args.call (Some (call_of f)) })) same
     (c.put_in.ensures others w (record { world = c.in-Err.ensures.err_ground w h.world; calls = h.calls; each = h.each; number = c.in-Err.ensures.number ∙ h.number; on = on }))
+
+pub returns-in-Err-clause-err_needs : goal.returns-in-Err-clause-err_needs
+returns-in-Err-clause-err_needs g c = either_needs c.in-Err.ensures.err_needs

@@ -10,7 +10,7 @@ use Rattle.moka_run.proofs.machine.Machine.tell.Goals as goal
 pub returns-then-tell-clause-serves : goal.returns-then-tell-clause-serves
 returns-then-tell-clause-serves g c = λ s h reached.
     let w = s.world.desk in
-    let same : c.in_ok-answer.answer ≡ c.args.answer.now = c.in_ok-answer.ensures in
+    let same : c.in_ok-answer.answer ≡ c.args.answer.now = c.in_ok-answer.ensures.same in
     let e : is_asked w c.args.call c.args.answer.now ≡ true =
     subst (λ (a : Told g.row.V.Denot). is_asked w c.args.call a ≡ true) same (sym (c.tell.ensures.finds w h.world.desk) ∙ c.if-tell.true) in (
       with_desk s (told w c.args.call c.args.answer.now),
