@@ -228,6 +228,7 @@ module _ {K V : Type 0} (eq : K → K → Bool) where
     where
       refused : Refuses s refusal.UnknownCall reply.Going t → ⊥
       refused r = let e = r.reply in cc
+
       by : (o : Option (Call K V)) → s.calls n ≡ o → MatchOption o (Refuses s refusal.UnknownCall reply.Going t) (λ _. Steps eq s n reply.Going t) →
           (c : Call K V) × (s.calls n ≡ Some c) × Step eq s n turn.Going t
       by None e r = absurd (refused r)

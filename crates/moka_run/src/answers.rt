@@ -56,11 +56,7 @@ fn run_given(
 
 /// Runs the events on a fresh cache with a log of this many writes, and answers the report's text. The
 /// events are given up before that is made.
-fn report_on(
-    alloc: Global,
-    log: usize,
-    events: Vec<Event<u32, u32>>,
-) -> Result<String, AllocError>
+fn report_on(alloc: Global, log: usize, events: Vec<Event<u32, u32>>) -> Result<String, AllocError>
     requires least { 1 ≤ log }
     requires most { log ≤ 65536 }
     ensures { IfOk result (λ text. ReportsRun log events.items (string_bytes text)) }

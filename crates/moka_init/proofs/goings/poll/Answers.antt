@@ -8,13 +8,16 @@ use Rattle.moka_init.proofs.Told.{told_none, told_more, told_last}
 use Rattle.moka_init.proofs.goings.poll.Goals as goal
 
 pub loop-turn-init : goal.loop-turn-init
-loop-turn-init g c = (0, record {
-  on = c.requires.on;
-  number = refl;
-  so_many = omega arith;
-  moved = λ w h safe. (w, moves_none g.K.PartialEq.eq c.args.flow.now.call (call_of c.args.flow.now) w, h);
-  told = λ before e. told_none c.args.flow.now.call (call_of c.args.flow.now) before (g.G.Ground.made c.args.ground.now) e;
-})
+loop-turn-init g c = (
+  0,
+  record {
+    on = c.requires.on;
+    number = refl;
+    so_many = omega arith;
+    moved = λ w h safe. (w, moves_none g.K.PartialEq.eq c.args.flow.now.call (call_of c.args.flow.now) w, h);
+    told = λ before e. told_none c.args.flow.now.call (call_of c.args.flow.now) before (g.G.Ground.made c.args.ground.now) e;
+  },
+)
 
 pub returns-then-not-is_going-clause-polls : goal.returns-then-not-is_going-clause-polls
 returns-then-not-is_going-clause-polls g c = λ w h safe.
@@ -37,20 +40,22 @@ returns-then-not-is_going-clause-tells g c = λ before e.
 pub loop-turn-preserved : goal.loop-turn-preserved
 loop-turn-preserved g c =
     let going = c.is_going.ensures.0 (cc) in
-    let so_far = c.loop-turn.invariant in
-    (so_far.0 + 1, record {
-      on = c.in-Ok.ensures.on;
-      number = c.step.ensures.number ∙ so_far.1.number;
-      so_many = omega (arith, so_far.1.so_many, c.saturating_add-steps.ensures);
-      moved = λ w h safe.
-          let m = so_far.1.moved w h safe in
-          let r = c.in-Ok.ensures.moves m.0 m.2 (safe_next g.K.PartialEq.eq so_far.0 c.args.flow.now c.loop-turn.flow w m.0 so_far.1.number m.1 safe) in
-          (r.0, flow_more g.K.PartialEq.eq so_far.0 c.args.flow.now c.loop-turn.flow c.step.new.flow w m.0 r.0 c.in-Ok.turn so_far.1.number going m.1 r.1, r.2);
-      told = λ before e.
-          let told = so_far.1.told before e in
-          told_more so_far.0 c.args.flow.now c.loop-turn.flow c.step.new.flow c.in-Ok.turn before (g.G.Ground.made c.loop-turn.ground) (g.G.Ground.made c.step.new.ground)
-          so_far.1.number going told (c.in-Ok.ensures.tells (before ++ told.path) told.told);
-    })
+    let so_far = c.loop-turn.invariant in (
+      so_far.0 + 1,
+      record {
+        on = c.in-Ok.ensures.on;
+        number = c.step.ensures.number ∙ so_far.1.number;
+        so_many = omega (arith, so_far.1.so_many, c.saturating_add-steps.ensures);
+        moved = λ w h safe.
+            let m = so_far.1.moved w h safe in
+            let r = c.in-Ok.ensures.moves m.0 m.2 (safe_next g.K.PartialEq.eq so_far.0 c.args.flow.now c.loop-turn.flow w m.0 so_far.1.number m.1 safe) in
+            (r.0, flow_more g.K.PartialEq.eq so_far.0 c.args.flow.now c.loop-turn.flow c.step.new.flow w m.0 r.0 c.in-Ok.turn so_far.1.number going m.1 r.1, r.2);
+        told = λ before e.
+            let told = so_far.1.told before e in
+            told_more so_far.0 c.args.flow.now c.loop-turn.flow c.step.new.flow c.in-Ok.turn before (g.G.Ground.made c.loop-turn.ground) (g.G.Ground.made c.step.new.ground)
+            so_far.1.number going told (c.in-Ok.ensures.tells (before ++ told.path) told.told);
+      },
+    )
 
 pub loop-turn-smaller : goal.loop-turn-smaller
 loop-turn-smaller g c =
