@@ -1,7 +1,7 @@
 -- A step that leaves a flow going lowers how many it may still make.
-use Rattle.std.proofs.Common.{◌≡◌, ℕ, ◌<◌, Bool, sym, ap, subst, ◌∙◌}
-use Rattle.moka_hist.specs.State.{Call, World}
-use Rattle.moka_hist.specs.Step.{Gets, next_of, going_as}
+use Rattle.std.proofs.Common.{◌≡◌, ◌<◌, Bool, sym, ap, subst, ◌∙◌}
+use Rattle.moka_hist.specs.State.{World}
+use Rattle.moka_hist.specs.Step.{Gets, next_of}
 use Rattle.moka_hist.specs.declared.accesses.Got.{Got}
 use Rattle.moka_hist.specs.declared.accesses.Turn.{Turn}
 use Rattle.moka_hist.specs.declared.accesses.Turn.TheVariants as turn

@@ -54,7 +54,8 @@ pub struct Unfinished {
 }
 
 /// Makes steps up to the first turn that isn't Going. Condition: the ground has what each step of the
-/// flow needs, as long as it goes on. After want of memory the steps made so far stand.
+/// flow needs, as long as it goes on, and its log has room for a write once it is empty, without which a
+/// write would never be posted. After want of memory the steps made so far stand.
 pub fn poll<K: Eq + Clone + Drop, V: Clone + Drop, G: Alone<K, V>>(
     flow: &mut Flow<K, V>,
     ground: &mut G,

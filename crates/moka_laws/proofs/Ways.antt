@@ -8,11 +8,7 @@ use Rattle.moka_hist.specs.Run.{Goings, Happens, Refuses, Run, Steps, Any, IsRea
 use Rattle.moka_hist.specs.State.{Call, State, TablePart, World}
 use Rattle.moka_hist.specs.Step.{Access, Gets, Step, access_of, going_as, next_of, state_after}
 use Rattle.moka_hist.specs.Step as step
-use Rattle.moka_hist.specs.Finite.{put_at}
 use Rattle.moka_hist.specs.Tables.{table_after}
-use Rattle.moka_hist.specs.Visits.{makes, claimed, settlement_for, readers_without, settled_without}
-use Rattle.moka_hist.specs.declared.visits.Visit.{Visit}
-use Rattle.moka_hist.specs.declared.visits.Visit.TheVariants as visit
 use Rattle.moka_hist.specs.declared.accesses.Got.{Got}
 use Rattle.moka_hist.specs.declared.accesses.Got.TheVariants as got
 use Rattle.moka_hist.specs.declared.accesses.Turn.{Turn}
