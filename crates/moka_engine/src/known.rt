@@ -1,6 +1,6 @@
 //! Records that are known, and records that are named to leave.
 
-use moka_hist::{Cause, Times};
+use moka_hist::{Cause, Listing, Times};
 
 /// What is known of a stored record: its key, the number of the call that wrote it, its times, and
 /// whether an invalidation by a test hits it.
@@ -19,3 +19,6 @@ pub struct Named<K> {
     pub stamp: u64,
     pub cause: Cause,
 }
+
+/// Records that are named to leave, in order.
+pub type NamedList<K> = Listing<Named<K>>;

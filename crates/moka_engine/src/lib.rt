@@ -5,13 +5,11 @@
 mod choice;
 mod judge;
 mod known;
-mod named_list;
 mod policy;
 
 pub use choice::choose;
 pub use judge::{chosen_holds, remove_cause, upsert_cause, visible};
-pub use known::{Known, Named};
-pub use named_list::NamedList;
+pub use known::{Known, Named, NamedList};
 pub use policy::Policy;
 
 #[cfg(test)]

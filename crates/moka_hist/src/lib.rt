@@ -7,6 +7,7 @@
 
 mod accesses;
 mod events;
+mod listing;
 mod loads;
 mod records;
 mod replies;
@@ -17,6 +18,7 @@ mod writes;
 
 pub use accesses::{Got, Turn, Want};
 pub use events::{Event, Start, Told};
+pub use listing::Listing;
 pub use loads::{Kind, Load};
 pub use records::{Mode, Stored};
 pub use replies::{Answer, Ask, Refusal, Reply};
