@@ -13,7 +13,7 @@ use Rattle.std.proofs.lemmas.Slice.Eq.{bytes_eq-Decides}
 use Rattle.std.proofs.lemmas.Bool.Decides.{Decides-and, Decides-ltb}
 use Rattle.std.proofs.lemmas.Option.{cond_some, none-some}
 use Rattle.std.specs.Bool.{Decides}
-use Rattle.moka_text.specs.Words.{number_of}
+use Rattle.moka_text.specs.Words.{number_in}
 
 pub own : IsNumeralModel (AllDigits 10) (digits_value 10)
 own = numerals_by_value (AllDigits 10) tells_digits
@@ -46,8 +46,8 @@ failed true x h = absurd (h refl)
 failed false x h = refl
 
 -- what has a number for its decimal form is read as that number
-pub number_some : (limit n : ℕ) (bytes : List ℕ) → n < limit → limit ≤ 2 ^ 64 → bytes ≡ decimal n → number_of limit bytes ≡ Some n
-unfolding number_of
+pub number_some : (limit n : ℕ) (bytes : List ℕ) → n < limit → limit ≤ 2 ^ 64 → bytes ≡ decimal n → number_in limit bytes ≡ Some n
+unfolding number_in
 number_some limit n bytes small low e =
     let v : digits_value 10 bytes ≡ n = ap (digits_value 10) e ∙ digits_value-decimal own n (omega arith) in
     let holds : (bytes_eq bytes (decimal (digits_value 10 bytes)) && ltb (digits_value 10 bytes) limit) ≡ true =
@@ -55,25 +55,25 @@ number_some limit n bytes small low e =
     ap (λ b. cond b (Some (digits_value 10 bytes)) None) holds ∙ ap Some v
 
 -- what is read as a number has it for its decimal form
-pub number_found : (limit n : ℕ) (bytes : List ℕ) → number_of limit bytes ≡ Some n → (bytes ≡ decimal n) × (n < limit)
-unfolding number_of
+pub number_found : (limit n : ℕ) (bytes : List ℕ) → number_in limit bytes ≡ Some n → (bytes ≡ decimal n) × (n < limit)
+unfolding number_in
 number_found limit n bytes e =
     let parts = cond_some _ (digits_value 10 bytes) n e in
     let holds = (form_Decides limit (digits_value 10 bytes) bytes).0 parts.0 in
     (holds.0 ∙ ap decimal parts.1, subst (λ m. m < limit) parts.1 holds.1)
 
 -- what is no number's decimal form is not read
-pub number_none : (limit : ℕ) (bytes : List ℕ) → ((n : ℕ) → n < limit → bytes ≡ decimal n → ⊥) → number_of limit bytes ≡ None
-unfolding number_of
+pub number_none : (limit : ℕ) (bytes : List ℕ) → ((n : ℕ) → n < limit → bytes ≡ decimal n → ⊥) → number_in limit bytes ≡ None
+unfolding number_in
 number_none limit bytes none =
     failed _ (digits_value 10 bytes) (λ h. let holds = (form_Decides limit (digits_value 10 bytes) bytes).0 h in none (digits_value 10 bytes) holds.1 holds.0)
 
 -- no bytes are no number
-pub none_of_nothing : (bytes : List ℕ) → length bytes ≡ 0 → number_of (2 ^ 64) bytes ≡ None
+pub none_of_nothing : (bytes : List ℕ) → length bytes ≡ 0 → number_in (2 ^ 64) bytes ≡ None
 none_of_nothing bytes empty = number_none (2 ^ 64) bytes (λ n small e. let h = decimal_nonempty n small in let l = ap length e in absurd (omega arith))
 
 -- a zero and more bytes are no number
-pub none_of_zeros : (bytes : List ℕ) → get_or bytes 0 0 ≡ 48 → 1 < length bytes → number_of (2 ^ 64) bytes ≡ None
+pub none_of_zeros : (bytes : List ℕ) → get_or bytes 0 0 ≡ 48 → 1 < length bytes → number_in (2 ^ 64) bytes ≡ None
 none_of_zeros bytes lead more =
     number_none (2 ^ 64) bytes (λ n small e.
     let h = one_zero n small (ap (λ b. get_or b 0 0) (sym e) ∙ lead) in
@@ -81,28 +81,28 @@ none_of_zeros bytes lead more =
     absurd (omega arith))
 
 -- what the digits' value is where it is read
-pub number_of_value : (bytes : List ℕ) (r : Option ℕ) → 0 < length bytes → (get_or bytes 0 0 ≡ 48 → length bytes ≡ 1) → (IsSome r → AllDigits 10 bytes) → IfSome r (λ n. n ≡ digits_value 10 bytes) → IfSome r (λ n. n < 2 ^ 64) → IfNone r (AllDigits 10 bytes → 2 ^ 64 ≤ digits_value 10 bytes) → r ≡ number_of (2 ^ 64) bytes
-number_of_value bytes (Some n) some lead digits value small none =
+pub number_in_value : (bytes : List ℕ) (r : Option ℕ) → 0 < length bytes → (get_or bytes 0 0 ≡ 48 → length bytes ≡ 1) → (IsSome r → AllDigits 10 bytes) → IfSome r (λ n. n ≡ digits_value 10 bytes) → IfSome r (λ n. n < 2 ^ 64) → IfNone r (AllDigits 10 bytes → 2 ^ 64 ≤ digits_value 10 bytes) → r ≡ number_in (2 ^ 64) bytes
+number_in_value bytes (Some n) some lead digits value small none =
     sym (number_some (2 ^ 64) n bytes small (omega arith) (sym (ap decimal value ∙ decimal-digits_value own bytes (digits (search rules)) some lead (subst (λ m. m < 2 ^ 64) value small))))
-number_of_value bytes None some lead digits value small none =
+number_in_value bytes None some lead digits value small none =
     sym (number_none (2 ^ 64) bytes (λ n below e.
     let v : digits_value 10 bytes ≡ n = ap (digits_value 10) e ∙ digits_value-decimal own n below in
     let past = none (subst (AllDigits 10) (sym e) (digits_decimal own n below)) in
     absurd (omega arith)))
 
 -- a number of 32 bits is one of 64 bits that is small enough
-pub key_from_call : (bytes : List ℕ) (n : ℕ) → number_of (2 ^ 64) bytes ≡ Some n → n < 2 ^ 32 → number_of (2 ^ 32) bytes ≡ Some n
+pub key_from_call : (bytes : List ℕ) (n : ℕ) → number_in (2 ^ 64) bytes ≡ Some n → n < 2 ^ 32 → number_in (2 ^ 32) bytes ≡ Some n
 key_from_call bytes n e small = number_some (2 ^ 32) n bytes small (omega arith) (number_found (2 ^ 64) n bytes e).0
 
-pub no_key : (bytes : List ℕ) (n : ℕ) → number_of (2 ^ 64) bytes ≡ Some n → ¬ (n < 2 ^ 32) → number_of (2 ^ 32) bytes ≡ None
+pub no_key : (bytes : List ℕ) (n : ℕ) → number_in (2 ^ 64) bytes ≡ Some n → ¬ (n < 2 ^ 32) → number_in (2 ^ 32) bytes ≡ None
 no_key bytes n e large = number_none (2 ^ 32) bytes (λ m small form.
     let one = decimal_injective m n (omega arith) (number_found (2 ^ 64) n bytes e).1 (sym form ∙ (number_found (2 ^ 64) n bytes e).0) in
     large (omega arith))
 
-pub no_call_no_key : (bytes : List ℕ) → number_of (2 ^ 64) bytes ≡ None → number_of (2 ^ 32) bytes ≡ None
+pub no_call_no_key : (bytes : List ℕ) → number_in (2 ^ 64) bytes ≡ None → number_in (2 ^ 32) bytes ≡ None
 no_call_no_key bytes e = number_none (2 ^ 32) bytes (λ m small form. let h = number_some (2 ^ 64) m bytes (omega arith) (omega arith) form in none-some m (sym e ∙ h))
 
 -- what a test of the range says
-pub key_tested : {E : Type 0} (bytes : List ℕ) (n : ℕ) (r : Result ℕ E) → number_of (2 ^ 64) bytes ≡ Some n → OkIff r (n < 2 ^ 32) n → result_ok r ≡ number_of (2 ^ 32) bytes
+pub key_tested : {E : Type 0} (bytes : List ℕ) (n : ℕ) (r : Result ℕ E) → number_in (2 ^ 64) bytes ≡ Some n → OkIff r (n < 2 ^ 32) n → result_ok r ≡ number_in (2 ^ 32) bytes
 key_tested bytes n (Ok m) e h = ap Some h.1 ∙ sym (key_from_call bytes n e (subst (λ k. n < 2 ^ 32) h.1 h.0))
 key_tested bytes n (Err x) e h = sym (no_key bytes n e h)

@@ -21,7 +21,7 @@ use Rattle.moka_hist.specs.declared.events.Told.{Told}
 use Rattle.moka_hist.specs.declared.events.Told.TheVariants as told
 use Rattle.moka_hist.specs.declared.events.Event.{Event}
 use Rattle.moka_hist.specs.declared.events.Event.TheVariants as event
-use Rattle.moka_text.specs.Words.{number_of, call_of, key_of, after, before_byte, after_byte}
+use Rattle.moka_text.specs.Words.{number_in, call_in, key_in, after, before_byte, after_byte}
 use Rattle.moka_text.specs.ScheduleText.{start_words, told_words, event_line, StartFits, ToldFits, EventFits, IsCacheLine, SpellsNone}
 use Rattle.moka_text.specs.ScheduleReading.{call_after, key_after, pair_of, start_of, told_of, tell_of, event_of, log_of}
 use Rattle.moka_text.proofs.Numbers.{own, number_some, number_found}
@@ -55,18 +55,18 @@ after_is front line = known (λ rest. line ≡ front ++ rest) (after front line)
     let same = (bytes_eq-Decides (take (length front) line) front).0 parts.0 in
     sym (take-append-drop (length front) line) ∙ ap (λ t. t ++ drop (length front) line) same ∙ ap (λ t. front ++ t) parts.1)
 
-number_is : (limit : ℕ) (bytes : List ℕ) → IfSome (number_of limit bytes) (λ n. (bytes ≡ decimal n) × (n < limit))
-number_is limit bytes = known _ (number_of limit bytes) (λ n e. number_found limit n bytes e)
+number_is : (limit : ℕ) (bytes : List ℕ) → IfSome (number_in limit bytes) (λ n. (bytes ≡ decimal n) × (n < limit))
+number_is limit bytes = known _ (number_in limit bytes) (λ n e. number_found limit n bytes e)
 
 call_after_is : (front line : List ℕ) → IfSome (call_after front line) (λ n. (line ≡ front ++ decimal n) × (n < 2 ^ 64))
 unfolding call_after
 call_after_is front line =
-    bound _ _ call_of (after front line) (after_is front line) (λ rest e. weaker _ _ (call_of rest) (number_is (2 ^ 64) rest) (λ n h. (e ∙ ap (λ t. front ++ t) h.0, h.1)))
+    bound _ _ call_in (after front line) (after_is front line) (λ rest e. weaker _ _ (call_in rest) (number_is (2 ^ 64) rest) (λ n h. (e ∙ ap (λ t. front ++ t) h.0, h.1)))
 
 key_after_is : (front line : List ℕ) → IfSome (key_after front line) (λ n. (line ≡ front ++ decimal n) × (n < 2 ^ 32))
 unfolding key_after
 key_after_is front line =
-    bound _ _ key_of (after front line) (after_is front line) (λ rest e. weaker _ _ (key_of rest) (number_is (2 ^ 32) rest) (λ n h. (e ∙ ap (λ t. front ++ t) h.0, h.1)))
+    bound _ _ key_in (after front line) (after_is front line) (λ rest e. weaker _ _ (key_in rest) (number_is (2 ^ 32) rest) (λ n h. (e ∙ ap (λ t. front ++ t) h.0, h.1)))
 
 self : (n : ℕ) → eqb n n ≡ true
 self n = (Decides-eqb n n).1 refl
@@ -86,10 +86,10 @@ no_space (b ∷ ds) h = (let d = digit_from_value b h.0 in grind (arith, nat_tes
 spaced : (n : ℕ) (rest : List ℕ) → n < 2 ^ 64 → (before_byte 32 (decimal n ++ 32 ∷ rest) ≡ decimal n) × (after_byte 32 (decimal n ++ 32 ∷ rest) ≡ rest)
 spaced n rest h = cut_at (decimal n) rest 32 (no_space (decimal n) (digits_decimal own n h))
 
-call_some : (n : ℕ) → n < 2 ^ 64 → call_of (decimal n) ≡ Some n
+call_some : (n : ℕ) → n < 2 ^ 64 → call_in (decimal n) ≡ Some n
 call_some n h = number_some (2 ^ 64) n (decimal n) h (omega arith) refl
 
-key_some : (n : ℕ) → n < 2 ^ 32 → key_of (decimal n) ≡ Some n
+key_some : (n : ℕ) → n < 2 ^ 32 → key_in (decimal n) ≡ Some n
 key_some n h = number_some (2 ^ 32) n (decimal n) h (omega arith) refl
 
 pair_read : (k v : ℕ) → k < 2 ^ 32 → v < 2 ^ 32 → pair_of (decimal k ++ 32 ∷ decimal v) ≡ Some (k, v)
@@ -133,8 +133,8 @@ rejoined bytes front rest e f some =
 pair_is : (bytes : List ℕ) → IfSome (pair_of bytes) (λ p. (bytes ≡ decimal p.0 ++ 32 ∷ decimal p.1) × (p.0 < 2 ^ 32) × (p.1 < 2 ^ 32))
 unfolding pair_of
 pair_is bytes =
-    bound _ _ (λ key. option_and_then (λ value. Some (key, value)) (key_of (after_byte 32 bytes))) (key_of (before_byte 32 bytes)) (number_is (2 ^ 32) (before_byte 32 bytes)) (λ key h.
-    bound _ _ (λ value. Some (key, value)) (key_of (after_byte 32 bytes)) (number_is (2 ^ 32) (after_byte 32 bytes)) (λ value j.
+    bound _ _ (λ key. option_and_then (λ value. Some (key, value)) (key_in (after_byte 32 bytes))) (key_in (before_byte 32 bytes)) (number_is (2 ^ 32) (before_byte 32 bytes)) (λ key h.
+    bound _ _ (λ value. Some (key, value)) (key_in (after_byte 32 bytes)) (number_is (2 ^ 32) (after_byte 32 bytes)) (λ value j.
     (rejoined bytes (decimal key) (decimal value) h.0 j.0 (decimal_nonempty value (omega arith)), h.1, j.1)))
 
 start_is : (bytes : List ℕ) → IfSome (start_of bytes) (λ s. (bytes ≡ start_words s) × StartFits s)
@@ -164,7 +164,7 @@ some_words told.Done = omega arith
 tell_is : (bytes : List ℕ) → IfSome (tell_of bytes) (λ e. (codes "tell " ++ bytes ≡ event_line e) × EventFits e)
 unfolding tell_of
 tell_is bytes =
-    bound _ _ (λ call. option_and_then (λ t. Some (event.Tell call t)) (told_of (after_byte 32 bytes))) (call_of (before_byte 32 bytes)) (number_is (2 ^ 64) (before_byte 32 bytes)) (λ call h.
+    bound _ _ (λ call. option_and_then (λ t. Some (event.Tell call t)) (told_of (after_byte 32 bytes))) (call_in (before_byte 32 bytes)) (number_is (2 ^ 64) (before_byte 32 bytes)) (λ call h.
     bound _ _ (λ t. Some (event.Tell call t)) (told_of (after_byte 32 bytes)) (told_is (after_byte 32 bytes)) (λ t j.
     (ap (λ r. codes "tell " ++ r) (rejoined bytes (decimal call) (told_words t) h.0 j.0 (some_words t)), (h.1, j.1))))
 

@@ -7,7 +7,7 @@ use Rattle.moka_text.specs.declared.schedules.ScheduleError.{ScheduleError}
 use Rattle.moka_text.specs.declared.schedules.ScheduleError.TheVariants as errors
 use Rattle.moka_text.specs.Words.{before_byte, after_byte}
 use Rattle.moka_text.specs.ScheduleText.{lines}
-use Rattle.moka_text.specs.ScheduleReading.{call_after, event_of, event_then, events_from, with_front, with_log, log_of, log_then, schedule_of, schedule, Fails, EventsTakeMemory, TakesMemory}
+use Rattle.moka_text.specs.ScheduleReading.{call_after, event_of, event_then, events_from, with_front, with_log, log_of, log_then, schedule_of, schedule, Fails, EventsMayWantMemory, MayWantMemory}
 
 -- the mark stands first
 place_here : (m b : ℕ) (bs : List ℕ) → eqb b m ≡ true → position_or_len (λ x. eqb x m) (b ∷ bs) ≡ 0
@@ -82,9 +82,9 @@ bad_later number (l ∷ ls) bad e = by (event_of l) (λ f. bad_later (suc number
   by (Some x) later f = let less = later (with_front_bad (x ∷ []) (events_from (suc number) ls) bad f) in omega (arith, less)
 
 -- what is read past an event takes memory
-pub takes_memory : (done : List (Event ℕ ℕ)) (e : Event ℕ ℕ) (number : ℕ) (ls : List (List ℕ)) (whole : Result (List (Event ℕ ℕ)) ℕ) → 2 ≤ number → with_front (done ++ e ∷ []) (events_from (number + 1) ls) ≡ whole → EventsTakeMemory whole
-takes_memory done e number ls whole two is = subst EventsTakeMemory is (by (events_from (number + 1) ls) refl) where
-  by : (r : Result (List (Event ℕ ℕ)) ℕ) → events_from (number + 1) ls ≡ r → EventsTakeMemory (with_front (done ++ e ∷ []) r)
+pub takes_memory : (done : List (Event ℕ ℕ)) (e : Event ℕ ℕ) (number : ℕ) (ls : List (List ℕ)) (whole : Result (List (Event ℕ ℕ)) ℕ) → 2 ≤ number → with_front (done ++ e ∷ []) (events_from (number + 1) ls) ≡ whole → EventsMayWantMemory whole
+takes_memory done e number ls whole two is = subst EventsMayWantMemory is (by (events_from (number + 1) ls) refl) where
+  by : (r : Result (List (Event ℕ ℕ)) ℕ) → events_from (number + 1) ls ≡ r → EventsMayWantMemory (with_front (done ++ e ∷ []) r)
   by (Ok events) f = grind (arith, length-append)
   by (Err bad) f = let less = bad_later (number + 1) ls bad f in omega (arith, two, less)
 
@@ -93,9 +93,9 @@ pub same_error : {X Y : Type 0} (e f : ScheduleError) (r : Result X ScheduleErro
 same_error e f r h m q g = let same : e ≡ f = cc in g ∙ ap Err same
 
 -- the whole takes memory where its events do
-pub whole_takes_memory : (log : ℕ) (whole : Result (ℕ × List (Event ℕ ℕ)) ℕ) (events : Result (List (Event ℕ ℕ)) ℕ) → whole ≡ with_log log events → EventsTakeMemory events → TakesMemory whole
-whole_takes_memory log whole events e h = subst TakesMemory (sym e) (by events h) where
-  by : (r : Result (List (Event ℕ ℕ)) ℕ) → EventsTakeMemory r → TakesMemory (with_log log r)
+pub whole_takes_memory : (log : ℕ) (whole : Result (ℕ × List (Event ℕ ℕ)) ℕ) (events : Result (List (Event ℕ ℕ)) ℕ) → whole ≡ with_log log events → EventsMayWantMemory events → MayWantMemory whole
+whole_takes_memory log whole events e h = subst MayWantMemory (sym e) (by events h) where
+  by : (r : Result (List (Event ℕ ℕ)) ℕ) → EventsMayWantMemory r → MayWantMemory (with_log log r)
   by (Ok xs) g = g
   by (Err n) g = g
 

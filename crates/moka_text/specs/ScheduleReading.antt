@@ -10,7 +10,7 @@ use Rattle.moka_hist.specs.declared.events.Event.TheVariants as event
 use Rattle.moka_text.specs.declared.schedules.Schedule.{Schedule}
 use Rattle.moka_text.specs.declared.schedules.ScheduleError.{ScheduleError}
 use Rattle.moka_text.specs.declared.schedules.ScheduleError.TheVariants as errors
-use Rattle.moka_text.specs.Words.{call_of, key_of, after, before_byte, after_byte}
+use Rattle.moka_text.specs.Words.{call_in, key_in, after, before_byte, after_byte}
 use Rattle.moka_text.specs.ScheduleText.{event_line, EventFits, lines, Says, IsFirstBad}
 
 infixl 10 ◌>>=◌
@@ -19,16 +19,16 @@ o >>= f = option_and_then f o
 
 -- a number of 64 bits, and one of 32 bits, after these bytes
 unfoldable pub call_after : List ℕ → List ℕ → Option ℕ
-call_after front line = after front line >>= call_of
+call_after front line = after front line >>= call_in
 
 unfoldable pub key_after : List ℕ → List ℕ → Option ℕ
-key_after front line = after front line >>= key_of
+key_after front line = after front line >>= key_in
 
 -- a key and a value with a space between them
 unfoldable pub pair_of : List ℕ → Option (ℕ × ℕ)
 pair_of bytes = do
-  key ← key_of (before_byte 32 bytes)
-  value ← key_of (after_byte 32 bytes)
+  key ← key_in (before_byte 32 bytes)
+  value ← key_in (after_byte 32 bytes)
   Some (key, value)
 
 unfoldable pub start_of : List ℕ → Option (Start ℕ ℕ)
@@ -43,7 +43,7 @@ told_of bytes = if bytes_eq bytes (codes "done") then Some told.Done else option
 -- a call, and after a space what it is told
 unfoldable pub tell_of : List ℕ → Option (Event ℕ ℕ)
 tell_of bytes = do
-  call ← call_of (before_byte 32 bytes)
+  call ← call_in (before_byte 32 bytes)
   answer ← told_of (after_byte 32 bytes)
   Some (event.Tell call answer)
 
@@ -106,14 +106,14 @@ Gives view (Ok x) read = read ≡ Ok (view x)
 Gives view (Err e) read = Fails e read
 
 -- reading the events takes memory: there is one, or the bad line is past the second
-abbrev pub EventsTakeMemory : Result (List (Event ℕ ℕ)) ℕ → Type 0
-EventsTakeMemory (Ok events) = 0 < length events
-EventsTakeMemory (Err number) = 2 < number
+abbrev pub EventsMayWantMemory : Result (List (Event ℕ ℕ)) ℕ → Type 0
+EventsMayWantMemory (Ok events) = 0 < length events
+EventsMayWantMemory (Err number) = 2 < number
 
 -- reading the schedule takes memory: it has an event, or its bad line is past the second
-abbrev pub TakesMemory : Result (ℕ × List (Event ℕ ℕ)) ℕ → Type 0
-TakesMemory (Ok s) = 0 < length s.1
-TakesMemory (Err number) = 2 < number
+abbrev pub MayWantMemory : Result (ℕ × List (Event ℕ ℕ)) ℕ → Type 0
+MayWantMemory (Ok s) = 0 < length s.1
+MayWantMemory (Err number) = 2 < number
 
 -- a schedule without where it lies in memory
 abbrev pub parts : Schedule → ℕ × List (Event ℕ ℕ)

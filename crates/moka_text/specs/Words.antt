@@ -4,17 +4,17 @@ use Rattle.std.specs.List.{before_first, after_first}
 use Rattle.std.specs.Str.Parse.{digits_value}
 
 -- the number below the limit of which these bytes are the decimal form
-unfoldable pub number_of : ℕ → List ℕ → Option ℕ
-number_of limit bytes =
+unfoldable pub number_in : ℕ → List ℕ → Option ℕ
+number_in limit bytes =
     if bytes_eq bytes (decimal (digits_value 10 bytes)) && nat_lt (digits_value 10 bytes) limit then Some (digits_value 10 bytes) else None
 
 -- a moment or the number of a call
-abbrev pub call_of : List ℕ → Option ℕ
-call_of = number_of (2 ^ 64)
+abbrev pub call_in : List ℕ → Option ℕ
+call_in = number_in (2 ^ 64)
 
 -- a key or a value
-abbrev pub key_of : List ℕ → Option ℕ
-key_of = number_of (2 ^ 32)
+abbrev pub key_in : List ℕ → Option ℕ
+key_in = number_in (2 ^ 32)
 
 -- what follows these bytes at the front of the line
 abbrev pub after : List ℕ → List ℕ → Option (List ℕ)

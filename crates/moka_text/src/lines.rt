@@ -3,7 +3,7 @@
 ghost use Rattle.std.specs.Prelude.{◌≡◌};
 ghost use Rattle.moka_text.specs.ScheduleReading.{pair_of, start_of, told_of, tell_of, event_of, log_of};
 
-use crate::words::{after, call_after, call_of, cut, key_after, key_of};
+use crate::words::{after, call_after, call_in, cut, key_after, key_in};
 use moka_hist::{Event, Start, Told};
 
 /// How many writes the write log has room for where the first line doesn't say.
@@ -18,8 +18,8 @@ fn pair_of(bytes: &[u8]) -> Option<(u32, u32)>
     ensures { result ≡ pair_of bytes.now }
 {
     let (key, value) = cut(bytes, b' ');
-    let key = key_of(key)?;
-    let value = key_of(value)?;
+    let key = key_in(key)?;
+    let value = key_in(value)?;
     Some((key, value))
 }
 
@@ -56,7 +56,7 @@ fn tell_of(bytes: &[u8]) -> Option<Event<u32, u32>>
     ensures { result ≡ tell_of bytes.now }
 {
     let (call, answer) = cut(bytes, b' ');
-    let call = call_of(call)?;
+    let call = call_in(call)?;
     let answer = told_of(answer)?;
     Some(Event::Tell { call, answer })
 }

@@ -2,7 +2,7 @@
 
 ghost use Rattle.std.specs.Prelude.{◌≡◌, ℕ, Some, IfOk, IsErrOf};
 ghost use Rattle.moka_text.specs.ScheduleText.{lines, Says, IsFirstBad};
-ghost use Rattle.moka_text.specs.ScheduleReading.{events_from, schedule, Gives, parts, EventsTakeMemory, TakesMemory};
+ghost use Rattle.moka_text.specs.ScheduleReading.{events_from, schedule, Gives, parts, EventsMayWantMemory, MayWantMemory};
 ghost use Rattle.moka_text.specs.ErrorText.{error_text};
 ghost use Rattle.moka_text.specs.declared.schedules.ScheduleError.TheVariants.{Memory};
 
@@ -62,7 +62,7 @@ impl<T: Drop> From<AllocFailed<T>> for ScheduleError {
 fn read_events(alloc: Global, text: &[u8]) -> Result<Vec<Event<u32, u32>>, ScheduleError>
     ensures exact { Gives (λ events. events.items) result (events_from 2 (lines text.now)) }
     ensures memory { IsErrOf result ScheduleError.Memory
-        → EventsTakeMemory (events_from 2 (lines text.now)) }
+        → EventsMayWantMemory (events_from 2 (lines text.now)) }
 {
     let mut events = Vec::new(alloc);
     let mut number: u64 = 2;
@@ -80,9 +80,9 @@ fn read_events(alloc: Global, text: &[u8]) -> Result<Vec<Event<u32, u32>>, Sched
 }
 
 /// Reads all lines.
-fn read_all(alloc: Global, text: &[u8]) -> Result<Schedule, ScheduleError>
+fn read_whole(alloc: Global, text: &[u8]) -> Result<Schedule, ScheduleError>
     ensures exact { Gives parts result (schedule text.now) }
-    ensures memory { IsErrOf result ScheduleError.Memory → TakesMemory (schedule text.now) }
+    ensures memory { IsErrOf result ScheduleError.Memory → MayWantMemory (schedule text.now) }
 {
     let (first, rest) = cut(text, b'\n');
     let Some(log) = log_of(first) else {
@@ -101,7 +101,7 @@ pub fn read_schedule(alloc: Global, bytes: &[u8]) -> Result<Schedule, ScheduleEr
     ensures found { IfOk result (λ s. Says bytes.now s.log s.events.items) }
     ensures bad_line { (line : ℕ) → IsErrOf result (ScheduleError.BadLine line)
         → IsFirstBad bytes.now line }
-    ensures memory { IsErrOf result ScheduleError.Memory → TakesMemory (schedule bytes.now) }
+    ensures memory { IsErrOf result ScheduleError.Memory → MayWantMemory (schedule bytes.now) }
 {
-    read_all(alloc, bytes)
+    read_whole(alloc, bytes)
 }

@@ -3,7 +3,7 @@
 ghost use Rattle.std.specs.Prelude.{◌≡◌, ◌<◌, ◌≤◌, ◌^◌, length, IsSome, IfSome, IfNone};
 ghost use Rattle.std.specs.Str.Parse.{AllDigits, digits_value};
 ghost use Rattle.std.specs.Option.{option_copied};
-ghost use Rattle.moka_text.specs.Words.{call_of, key_of, after, before_byte, after_byte};
+ghost use Rattle.moka_text.specs.Words.{call_in, key_in, after, before_byte, after_byte};
 ghost use Rattle.moka_text.specs.ScheduleReading.{call_after, key_after};
 
 /// The value of decimal digits: none where a byte is no digit, or where it needs more than 64 bits.
@@ -25,8 +25,8 @@ fn value_of(digits: &[u8]) -> Option<u64>
 }
 
 /// The moment or number of a call that the bytes spell: `0`, or digits without a leading zero.
-pub(crate) fn call_of(digits: &[u8]) -> Option<u64>
-    ensures { result ≡ call_of digits.now }
+pub(crate) fn call_in(digits: &[u8]) -> Option<u64>
+    ensures { result ≡ call_in digits.now }
 {
     if digits.is_empty() {
         return None;
@@ -38,10 +38,10 @@ pub(crate) fn call_of(digits: &[u8]) -> Option<u64>
 }
 
 /// The key or value that the bytes spell.
-pub(crate) fn key_of(digits: &[u8]) -> Option<u32>
-    ensures { result ≡ key_of digits.now }
+pub(crate) fn key_in(digits: &[u8]) -> Option<u32>
+    ensures { result ≡ key_in digits.now }
 {
-    u32::try_from(call_of(digits)?).ok()
+    u32::try_from(call_in(digits)?).ok()
 }
 
 /// What the line has after these bytes at its front.
@@ -56,7 +56,7 @@ pub(crate) fn after<'a>(line: &'a [u8], front: &[u8]) -> Option<&'a [u8]>
 pub(crate) fn call_after(line: &[u8], front: &[u8]) -> Option<u64>
     ensures { result ≡ call_after front.now line.now }
 {
-    call_of(after(line, front)?)
+    call_in(after(line, front)?)
 }
 
 /// The key or value after these bytes.
@@ -64,7 +64,7 @@ pub(crate) fn call_after(line: &[u8], front: &[u8]) -> Option<u64>
 pub(crate) fn key_after(line: &[u8], front: &[u8]) -> Option<u32>
     ensures { result ≡ key_after front.now line.now }
 {
-    key_of(after(line, front)?)
+    key_in(after(line, front)?)
 }
 
 /// What stands before the first such byte, and what stands after it. Where there is none, all

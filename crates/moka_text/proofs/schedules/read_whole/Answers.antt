@@ -3,7 +3,7 @@ use Rattle.std.proofs.lemmas.Result.{err_from_is_err_and}
 use Rattle.moka_text.specs.ScheduleText.{lines}
 use Rattle.moka_text.specs.ScheduleReading.{log_of, events_from, with_log, schedule}
 use Rattle.moka_text.proofs.Splitting.{no_log, with_rest, passed_on, same_error, whole_takes_memory}
-use Rattle.moka_text.proofs.schedules.read_all.Goals as goal
+use Rattle.moka_text.proofs.schedules.read_whole.Goals as goal
 
 pub returns-in_default-clause-exact : goal.returns-in_default-clause-exact
 returns-in_default-clause-exact c = no_log c.args.text.now (sym c.in_default.is ∙ c.log_of.ensures ∙ ap log_of c.cut.ensures.front)
