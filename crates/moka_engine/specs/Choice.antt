@@ -38,7 +38,8 @@ module _ {K : Type 0} where
 
   -- the records that leave whatever the capacity, in their order
   abbrev pub named_on_sight : Rules → List (Known K) → List (Named K)
-  named_on_sight rules known = filter_map (λ k. option_map (λ cause. named_for cause k) (cause_on_sight rules k)) known
+  named_on_sight rules known =
+      filter_map (λ k. option_map (λ cause. named_for cause k) (cause_on_sight rules k)) known
 
   -- the other records, in their order
   abbrev pub staying : Rules → List (Known K) → List (Known K)
@@ -54,8 +55,10 @@ module _ {K : Type 0} where
     pub sorted : IsSortedByKey age_of age_cmp order
     pub stable : IsStableByKey age_of age_cmp records order
 
-  -- these are the records that leave on sight, and then the oldest of the others, as many as are more than the capacity
+  -- these are the records that leave on sight, and then the oldest of the others, as many as are more than
+  -- the capacity
   pub record IsChoice (rules : Rules) (known : List (Known K)) (names : List (Named K)) : Type 0 where
     pub order : List (Known K)
     pub oldest_first : IsOldestFirst (staying rules known) order
-    pub chosen : names ≡ named_on_sight rules known ++ map (named_for Size) (take (surplus_of rules.max_capacity (length order)) order)
+    pub chosen : names ≡ named_on_sight rules known
+        ++ map (named_for Size) (take (surplus_of rules.max_capacity (length order)) order)

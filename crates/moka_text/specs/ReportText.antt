@@ -53,7 +53,8 @@ reply_line r = ended (reply_words r)
 -- the line of a key and its record: the value, the stamp, and the moment of the write
 abbrev pub entry_line : ℕ × Stored ℕ → List ℕ
 entry_line e =
-    ended (codes "entry " ++ decimal e.0 ++ 32 ∷ decimal e.1.value ++ codes " stamp " ++ decimal e.1.stamp ++ codes " at " ++ decimal e.1.modified)
+    ended (codes "entry " ++ decimal e.0 ++ 32 ∷ decimal e.1.value
+      ++ codes " stamp " ++ decimal e.1.stamp ++ codes " at " ++ decimal e.1.modified)
 
 abbrev pub place_word : Place → List ℕ
 place_word place.Held = codes "held"
@@ -67,4 +68,5 @@ write_line w = ended (codes "write " ++ decimal w.0 ++ 32 ∷ place_word w.1)
 
 -- the replies, then what is stored, then the committed writes
 abbrev pub report_text : List (Reply ℕ) → List (ℕ × Stored ℕ) → List (ℕ × Place) → List ℕ
-report_text replies entries places = flat_map reply_line replies ++ flat_map entry_line entries ++ flat_map write_line places
+report_text replies entries places =
+    flat_map reply_line replies ++ flat_map entry_line entries ++ flat_map write_line places

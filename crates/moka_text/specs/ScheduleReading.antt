@@ -38,7 +38,9 @@ start_of bytes =
     (option_map (λ p. start.Insert p.0 p.1) (after (codes "insert ") bytes >>= pair_of)))
 
 unfoldable pub told_of : List ℕ → Option (Told ℕ)
-told_of bytes = if bytes_eq bytes (codes "done") then Some told.Done else option_map told.Value (key_after (codes "value ") bytes)
+told_of bytes =
+    if bytes_eq bytes (codes "done") then Some told.Done
+    else option_map told.Value (key_after (codes "value ") bytes)
 
 -- a call, and after a space what it is told
 unfoldable pub tell_of : List ℕ → Option (Event ℕ ℕ)
@@ -61,7 +63,8 @@ event_of line =
 unfoldable pub log_of : List ℕ → Option ℕ
 log_of line =
     if bytes_eq line (codes "cache") then Some 384
-    else (call_after (codes "cache log=") line >>= λ log. if nat_le 1 log && nat_le log 65536 then Some log else None)
+    else (call_after (codes "cache log=") line >>=
+      λ log. if nat_le 1 log && nat_le log 65536 then Some log else None)
 
 -- what was read goes before what is read
 abbrev pub with_front : List (Event ℕ ℕ) → Result (List (Event ℕ ℕ)) ℕ → Result (List (Event ℕ ℕ)) ℕ
@@ -69,7 +72,8 @@ with_front front (Ok events) = Ok (front ++ events)
 with_front front (Err number) = Err number
 
 -- the event of the line of this number goes before the others
-abbrev pub event_then : ℕ → Option (Event ℕ ℕ) → Result (List (Event ℕ ℕ)) ℕ → Result (List (Event ℕ ℕ)) ℕ
+abbrev pub event_then :
+    ℕ → Option (Event ℕ ℕ) → Result (List (Event ℕ ℕ)) ℕ → Result (List (Event ℕ ℕ)) ℕ
 event_then number None others = Err number
 event_then number (Some e) others = with_front (e ∷ []) others
 
@@ -125,7 +129,9 @@ LinesAreRead = (e : Event ℕ ℕ) → EventFits e → event_of (event_line e) �
 
 -- each text that says a schedule is read as that schedule
 abbrev pub TextsAreRead : Type 0
-TextsAreRead = (text : List ℕ) (log : ℕ) (events : List (Event ℕ ℕ)) → Says text log events → schedule text ≡ Ok (log, events)
+TextsAreRead =
+    (text : List ℕ) (log : ℕ) (events : List (Event ℕ ℕ)) →
+    Says text log events → schedule text ≡ Ok (log, events)
 
 -- each text with a bad line is read as the number of the first
 abbrev pub BadLinesAreRead : Type 0

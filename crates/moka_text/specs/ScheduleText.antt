@@ -50,7 +50,8 @@ EventFits (event.Drop call) = call < 2 ^ 64
 -- the first line says the size of the write log, which is 384 where it doesn't
 abbrev pub IsCacheLine : List ℕ → ℕ → Type 0
 IsCacheLine line log =
-    ((line ≡ codes "cache") × (log ≡ 384)) ⊎ ((line ≡ codes "cache log=" ++ decimal log) × (1 ≤ log) × (log ≤ 65536))
+    ((line ≡ codes "cache") × (log ≡ 384))
+    ⊎ ((line ≡ codes "cache log=" ++ decimal log) × (1 ≤ log) × (log ≤ 65536))
 
 -- Each line ends with byte 10, and the last may lack it: what stands after the last byte 10 is a line
 -- only where it isn't empty.
@@ -67,7 +68,9 @@ pub record Says (text : List ℕ) (log : ℕ) (events : List (Event ℕ ℕ)) : 
 
 -- the first line is none of a cache, or there is no line
 abbrev pub BeginsBadly : List ℕ → Type 0
-BeginsBadly text = (first : List ℕ) (rest : List (List ℕ)) (log : ℕ) → lines text ≡ first ∷ rest → IsCacheLine first log → ⊥
+BeginsBadly text =
+    (first : List ℕ) (rest : List (List ℕ)) (log : ℕ) →
+    lines text ≡ first ∷ rest → IsCacheLine first log → ⊥
 
 -- the line spells no event
 abbrev pub SpellsNone : List ℕ → Type 0
@@ -87,4 +90,5 @@ pub record GoesBad (text : List ℕ) (events : List (Event ℕ ℕ)) : Type 0 wh
 -- this is the number, from 1, of the first line that is not in the grammar
 abbrev pub IsFirstBad : List ℕ → ℕ → Type 0
 IsFirstBad text number =
-    ((number ≡ 1) × BeginsBadly text) ⊎ ((events : List (Event ℕ ℕ)) × GoesBad text events × (number ≡ length events + 2))
+    ((number ≡ 1) × BeginsBadly text)
+    ⊎ ((events : List (Event ℕ ℕ)) × GoesBad text events × (number ≡ length events + 2))

@@ -6,7 +6,8 @@ use Rattle.std.specs.Str.Parse.{digits_value}
 -- the number below the limit of which these bytes are the decimal form
 unfoldable pub number_in : ℕ → List ℕ → Option ℕ
 number_in limit bytes =
-    if bytes_eq bytes (decimal (digits_value 10 bytes)) && nat_lt (digits_value 10 bytes) limit then Some (digits_value 10 bytes) else None
+    let value : ℕ = digits_value 10 bytes in
+    if bytes_eq bytes (decimal value) && nat_lt value limit then Some value else None
 
 -- a moment or the number of a call
 abbrev pub call_in : List ℕ → Option ℕ
@@ -18,7 +19,8 @@ key_in = number_in (2 ^ 32)
 
 -- what follows these bytes at the front of the line
 abbrev pub after : List ℕ → List ℕ → Option (List ℕ)
-after front line = if bytes_eq (take (length front) line) front then Some (drop (length front) line) else None
+after front line =
+    if bytes_eq (take (length front) line) front then Some (drop (length front) line) else None
 
 -- what stands before the first of such bytes, and what stands after it
 abbrev pub before_byte : ℕ → List ℕ → List ℕ
