@@ -1,0 +1,6 @@
+pub mod Words
+pub mod Arrays
+pub mod Later
+pub mod Layout
+pub mod Effect
+pub mod Rehash

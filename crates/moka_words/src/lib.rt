@@ -1,0 +1,16 @@
+//! The words that the buckets of an array hold, and what holds of them: probing, exchanging, and the
+//! layout of an array in a longer one.
+//!
+//! The definitions stand in `specs/`: words and arrays (`Words`, `Arrays`), what lasts of them
+//! (`Later`), layouts (`Layout`), what an access sees and leaves (`Effect`), and when an array is
+//! made anew (`Rehash`). Each law is the contract of a function that does nothing. To call it is to
+//! cite the law.
+#![tactic(auto)]
+
+mod accesses;
+mod rehash;
+mod words;
+
+pub use accesses::{Access, Choice, Seen};
+pub use rehash::RehashOp;
+pub use words::Word;
