@@ -1,1 +1,4 @@
-pub mod Arrays
+pub mod Alone
+pub mod Probes
+pub mod Lasts
+pub mod Exchanges

@@ -4,3 +4,4 @@ pub mod Later
 pub mod Layout
 pub mod Effect
 pub mod Rehash
+pub mod Laws

@@ -8,9 +8,13 @@
 #![tactic(auto)]
 
 mod accesses;
+mod exchanging;
+mod probing;
 mod rehash;
 mod words;
 
 pub use accesses::{Access, Choice, Seen};
+pub use exchanging::exchange_keeps_array;
+pub use probing::{first_free_is_reached, probe_comes_to_each};
 pub use rehash::RehashOp;
 pub use words::Word;
