@@ -1,9 +1,9 @@
 -- What holds of words, whatever the hashes are and whichever nodes have one key.
-use Rattle.std.specs.Prelude.{◌≡◌, ℕ, ◌<◌, Bool, List, length, Some, None, IsSome, MatchOption, slice_set}
+use Rattle.std.specs.Prelude.{◌≡◌, ℕ, ◌<◌, Bool, true, List, length, Some, None, IsSome, MatchOption, slice_set}
 use Rattle.moka_words.specs.declared.words.Word.{Word}
 use Rattle.moka_words.specs.Words.{node_of, word_at, NamesKeys}
 use Rattle.moka_words.specs.Arrays.{bucket_at, IsReached, IsArray, IsNew, first_free}
-use Rattle.moka_words.specs.Later.{Later}
+use Rattle.moka_words.specs.Later.{Later, LaterWords, IsOwn, IsOwnHash, HasPassed, IsAbsent}
 
 -- a probe comes to each bucket, after fewer others than there are buckets
 abbrev pub ProbeComesToEach : Type 0
@@ -23,3 +23,34 @@ FirstFreeIsReached =
     (words : List Word) (hash : ℕ) →
     MatchOption (first_free words hash) ((i : ℕ) → i < length words → IsSome (node_of (word_at words i)))
     (λ i. (node_of (word_at words i) ≡ None) × IsReached words hash i)
+
+-- each word of an array may be exchanged for a later one, and later words of later ones are later
+abbrev pub LaterGoesOn : Type 0
+LaterGoesOn =
+    (hash : ℕ → ℕ) (same : ℕ → ℕ → Bool) (old mid new : List Word) → NamesKeys hash same → LaterWords same old mid →
+    LaterWords same mid new → LaterWords same old new
+
+abbrev pub ExchangeIsLater : Type 0
+ExchangeIsLater =
+    (hash : ℕ → ℕ) (same : ℕ → ℕ → Bool) (words : List Word) (i : ℕ) (w : Word) → NamesKeys hash same →
+    Later same (word_at words i) w → LaterWords same words (slice_set words i w)
+
+-- buckets that a probe has passed stay buckets of other keys, whoever exchanges words
+abbrev pub PassedStaysPassed : Type 0
+PassedStaysPassed =
+    (same : ℕ → ℕ → Bool) (own : ℕ → Bool) (old new : List Word) (hash n : ℕ) → IsOwn same own →
+    LaterWords same old new → HasPassed own old hash n → HasPassed own new hash n
+
+-- a probe that has passed n buckets ends at the next one, if that has no key, or after all: no bucket has the call's key
+abbrev pub ProbeEndsAbsent : Type 0
+ProbeEndsAbsent =
+    (hash : ℕ → ℕ) (same : ℕ → ℕ → Bool) (own : ℕ → Bool) (words : List Word) (h n : ℕ) → IsArray hash same words →
+    IsOwnHash hash own words h → HasPassed own words h n →
+    (n < length words → node_of (word_at words (bucket_at (length words) h n)) ≡ None) → IsAbsent own words
+
+-- a node of the call's key is then new to the array, at the bucket where the probe stands
+abbrev pub AbsentIsNew : Type 0
+AbsentIsNew =
+    (hash : ℕ → ℕ) (same : ℕ → ℕ → Bool) (own : ℕ → Bool) (words : List Word) (k n : ℕ) → IsOwn same own →
+    own n ≡ true → k < length words → HasPassed own words (hash n) k → IsAbsent own words →
+    IsNew hash same words (bucket_at (length words) (hash n) k) n

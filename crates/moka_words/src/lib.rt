@@ -9,12 +9,16 @@
 
 mod accesses;
 mod exchanging;
+mod lasting;
 mod probing;
 mod rehash;
 mod words;
 
 pub use accesses::{Access, Choice, Seen};
 pub use exchanging::exchange_keeps_array;
+pub use lasting::{
+    absent_is_new, exchange_is_later, later_goes_on, passed_stays_passed, probe_ends_absent,
+};
 pub use probing::{first_free_is_reached, probe_comes_to_each};
 pub use rehash::RehashOp;
 pub use words::Word;
