@@ -3,3 +3,5 @@ pub mod Probes
 pub mod Lasts
 pub mod Exchanges
 pub mod Passing
+pub mod Placing
+pub mod Laying

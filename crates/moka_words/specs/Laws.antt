@@ -1,9 +1,11 @@
 -- What holds of words, whatever the hashes are and whichever nodes have one key.
-use Rattle.std.specs.Prelude.{◌≡◌, ℕ, ◌<◌, Bool, true, List, length, Some, None, IsSome, MatchOption, slice_set}
+use Rattle.std.specs.Prelude.{◌≡◌, ◌↔◌, ℕ, ◌<◌, ◌≤◌, Bool, true, List, length, Some, None, IsSome, MatchOption, slice_set}
+use Rattle.std.specs.List.Sorted.{IsPermutation}
 use Rattle.moka_words.specs.declared.words.Word.{Word}
 use Rattle.moka_words.specs.Words.{node_of, word_at, NamesKeys}
 use Rattle.moka_words.specs.Arrays.{bucket_at, IsReached, IsArray, IsNew, first_free}
 use Rattle.moka_words.specs.Later.{Later, LaterWords, IsOwn, IsOwnHash, HasPassed, IsAbsent}
+use Rattle.moka_words.specs.Layout.{IsEmptyOrLive, IsStored, stored_nodes, layout}
 
 -- a probe comes to each bucket, after fewer others than there are buckets
 abbrev pub ProbeComesToEach : Type 0
@@ -54,3 +56,21 @@ AbsentIsNew =
     (hash : ℕ → ℕ) (same : ℕ → ℕ → Bool) (own : ℕ → Bool) (words : List Word) (k n : ℕ) → IsOwn same own →
     own n ≡ true → k < length words → HasPassed own words (hash n) k → IsAbsent own words →
     IsNew hash same words (bucket_at (length words) (hash n) k) n
+
+-- an array laid out anew has its length, and each of its words is empty or live
+abbrev pub LayoutIsFilled : Type 0
+LayoutIsFilled =
+    (hash : ℕ → ℕ) (words : List Word) (size : ℕ) →
+    (length (layout hash words size) ≡ size) × ((i : ℕ) → i < size → IsEmptyOrLive (word_at (layout hash words size) i))
+
+-- in an array that is as long or longer each stored node gets a place, and nothing else is stored there
+abbrev pub LayoutHasAll : Type 0
+LayoutHasAll =
+    (hash : ℕ → ℕ) (words : List Word) (size : ℕ) → length words ≤ size →
+    IsPermutation (stored_nodes words) (stored_nodes (layout hash words size))
+
+-- the layout of an array is one; in an array that is as long or longer just the same nodes are stored
+abbrev pub LayoutIsArray : Type 0
+LayoutIsArray =
+    (hash : ℕ → ℕ) (same : ℕ → ℕ → Bool) (words : List Word) (size : ℕ) → NamesKeys hash same → IsArray hash same words →
+    length words ≤ size → IsArray hash same (layout hash words size) × ((n : ℕ) → IsStored words n ↔ IsStored (layout hash words size) n)

@@ -1,5 +1,5 @@
 -- How the stored nodes of one array stand in another.
-use Rattle.std.specs.Prelude.{◌≡◌, ℕ, List, [], ◌∷◌, replicate, Some, slice_set}
+use Rattle.std.specs.Prelude.{◌≡◌, ◌⊎◌, ℕ, List, [], ◌∷◌, replicate, Some, slice_set}
 use Rattle.std.specs.Option.{option_to_list, option_map_or}
 use Rattle.std.specs.List.{flat_map}
 use Rattle.moka_words.specs.declared.words.Word.{Word}
@@ -10,6 +10,10 @@ use Rattle.moka_words.specs.Arrays.{first_free}
 -- the stored nodes of an array, in the order of its buckets
 abbrev pub stored_nodes : List Word → List ℕ
 stored_nodes words = flat_map (λ w. option_to_list (stored_in w)) words
+
+-- empty, or a live node
+abbrev pub IsEmptyOrLive : Word → Type 0
+IsEmptyOrLive w = (w ≡ Empty) ⊎ ((n : ℕ) × (w ≡ Live n))
 
 -- the node is stored in some bucket
 abbrev pub IsStored : List Word → ℕ → Type 0

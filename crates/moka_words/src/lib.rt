@@ -10,6 +10,7 @@
 mod accesses;
 mod exchanging;
 mod lasting;
+mod layouts;
 mod probing;
 mod rehash;
 mod words;
@@ -19,6 +20,7 @@ pub use exchanging::exchange_keeps_array;
 pub use lasting::{
     absent_is_new, exchange_is_later, later_goes_on, passed_stays_passed, probe_ends_absent,
 };
+pub use layouts::{layout_has_all, layout_is_array, layout_is_filled};
 pub use probing::{first_free_is_reached, probe_comes_to_each};
 pub use rehash::RehashOp;
 pub use words::Word;
