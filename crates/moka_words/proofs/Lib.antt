@@ -5,3 +5,4 @@ pub mod Exchanges
 pub mod Passing
 pub mod Placing
 pub mod Laying
+pub mod Worked

@@ -37,7 +37,7 @@ is_sealed (SealedTomb n) = true
 abbrev pub word_at : List Word → ℕ → Word
 word_at words i = slice_index_or words i Unset
 
--- two nodes have one key where `same` says so: a test of that kind, with a hash that is the key's
+-- `same` says of two nodes whether they have one key: an equivalence, and nodes of one key have one hash
 pub record NamesKeys (hash : ℕ → ℕ) (same : ℕ → ℕ → Bool) : Type 0 where
   pub itself : (n : ℕ) → same n n ≡ true
   pub either_way : (n m : ℕ) → same n m ≡ true → same m n ≡ true
