@@ -6,3 +6,4 @@ pub mod Passing
 pub mod Placing
 pub mod Laying
 pub mod Worked
+pub mod Effects

@@ -1,5 +1,5 @@
 -- Layouts and probes worked by hand: the definitions give them.
-use Rattle.std.proofs.Common.{◌≡◌, ℕ, [], ◌∷◌, Some, None, refl}
+use Rattle.std.proofs.Common.{◌≡◌, [], ◌∷◌, Some, None, refl}
 use Rattle.moka_words.specs.declared.words.Word.TheVariants.{Empty, Live, Tomb, SealedEmpty, SealedLive, SealedTomb}
 use Rattle.moka_words.specs.Arrays.{probe, first_free}
 use Rattle.moka_words.specs.Layout.{layout}

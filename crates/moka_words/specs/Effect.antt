@@ -7,6 +7,7 @@ use Rattle.moka_words.specs.declared.accesses.Access.TheVariants as access
 use Rattle.moka_words.specs.declared.accesses.Seen.{Seen}
 use Rattle.moka_words.specs.declared.accesses.Seen.TheVariants as seen
 use Rattle.moka_words.specs.Words.{node_of, word_at}
+use Rattle.moka_words.specs.Later.{Later, LaterWords}
 
 -- the words of each array, by its number
 pub record Memory : Type 0 where
@@ -40,3 +41,12 @@ Effect hash own (access.Exchange array index from to) (seen.Exchanged None) old 
 Effect hash own (access.Exchange array index from to) (seen.Exchanged (Some met)) old new =
     (met ≡ word_at (old.words array) index) × (met ≢ from) × IsUnchanged old new
 Effect hash own access seen old new = ⊥
+
+-- what the access exchanges it exchanges for a later word
+abbrev pub IsForLater : (ℕ → ℕ → Bool) → Access → Type 0
+IsForLater same (access.Exchange array index from to) = Later same from to
+IsForLater same access = Unit {0}
+
+-- each word of each array may stand some time later where the old one stood
+abbrev pub LaterMemory : (ℕ → ℕ → Bool) → (old new : Memory) → Type 0
+LaterMemory same old new = (a : ℕ) → LaterWords same (old.words a) (new.words a)

@@ -2,9 +2,12 @@
 use Rattle.std.specs.Prelude.{◌≡◌, ◌↔◌, ℕ, ◌<◌, ◌≤◌, Bool, true, List, length, Some, None, IsSome, MatchOption, slice_set}
 use Rattle.std.specs.List.Sorted.{IsPermutation}
 use Rattle.moka_words.specs.declared.words.Word.{Word}
+use Rattle.moka_words.specs.declared.accesses.Access.{Access}
+use Rattle.moka_words.specs.declared.accesses.Seen.{Seen}
 use Rattle.moka_words.specs.Words.{node_of, word_at, NamesKeys}
 use Rattle.moka_words.specs.Arrays.{bucket_at, IsReached, IsArray, IsNew, first_free}
 use Rattle.moka_words.specs.Later.{Later, LaterWords, IsOwn, IsOwnHash, HasPassed, IsAbsent}
+use Rattle.moka_words.specs.Effect.{Memory, Effect, IsForLater, LaterMemory}
 use Rattle.moka_words.specs.Layout.{IsEmptyOrLive, IsStored, stored_nodes, layout}
 
 -- a probe comes to each bucket, after fewer others than there are buckets
@@ -36,6 +39,12 @@ abbrev pub ExchangeIsLater : Type 0
 ExchangeIsLater =
     (hash : ℕ → ℕ) (same : ℕ → ℕ → Bool) (words : List Word) (i : ℕ) (w : Word) → NamesKeys hash same →
     Later same (word_at words i) w → LaterWords same words (slice_set words i w)
+
+-- an access whose exchange is for a later word leaves later words in each array
+abbrev pub EffectIsLater : Type 0
+EffectIsLater =
+    (hash : ℕ → ℕ) (same : ℕ → ℕ → Bool) (own : ℕ → Bool) (access : Access) (seen : Seen) (old new : Memory) → NamesKeys hash same →
+    IsForLater same access → Effect hash own access seen old new → LaterMemory same old new
 
 -- buckets that a probe has passed stay buckets of other keys, whoever exchanges words
 abbrev pub PassedStaysPassed : Type 0

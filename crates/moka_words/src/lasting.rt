@@ -1,6 +1,6 @@
 //! Laws of what lasts of words, and of what a call knows by it.
 
-ghost use Rattle.moka_words.specs.Laws.{AbsentIsNew, ExchangeIsLater, LaterGoesOn, PassedStaysPassed, ProbeEndsAbsent};
+ghost use Rattle.moka_words.specs.Laws.{AbsentIsNew, EffectIsLater, ExchangeIsLater, LaterGoesOn, PassedStaysPassed, ProbeEndsAbsent};
 
 /// Cites the law that later words of later ones are later.
 pub fn later_goes_on()
@@ -10,6 +10,12 @@ pub fn later_goes_on()
 /// Cites the law that an exchange of one word for a later one leaves later words.
 pub fn exchange_is_later()
     ensures later { ExchangeIsLater }
+{}
+
+/// Cites the law that an access whose exchange, if it is one, is for a later word leaves later words
+/// in each array.
+pub fn effect_is_later()
+    ensures later { EffectIsLater }
 {}
 
 /// Cites the law that a bucket which a probe has passed has another key than the call's for good,

@@ -18,7 +18,8 @@ mod words;
 pub use accesses::{Access, Choice, Seen};
 pub use exchanging::exchange_keeps_array;
 pub use lasting::{
-    absent_is_new, exchange_is_later, later_goes_on, passed_stays_passed, probe_ends_absent,
+    absent_is_new, effect_is_later, exchange_is_later, later_goes_on, passed_stays_passed,
+    probe_ends_absent,
 };
 pub use layouts::{layout_has_all, layout_is_array, layout_is_filled};
 pub use probing::{first_free_is_reached, probe_comes_to_each};
