@@ -17,8 +17,8 @@ unchanged_later same old new names stays a =
     subst (λ ws. LaterWords same (old.words a) ws) (sym (stays a)) (words_itself same names (old.words a))
 
 set_word_later : {hash : ℕ → ℕ} (same : ℕ → ℕ → Bool) (array index : ℕ) (w : Word) (old new : Memory) →
-    NamesKeys hash same →
-    Later same (word_at (old.words array) index) w → SetsWord array index w old new → LaterMemory same old new
+    NamesKeys hash same → Later same (word_at (old.words array) index) w → SetsWord array index w old new →
+    LaterMemory same old new
 set_word_later same array index w old new names later sets a =
     elim (cases_eq a array) [ inl e ↦ here e | inr e ↦ there e ]
   where
@@ -31,9 +31,9 @@ set_word_later same array index w old new names later sets a =
     there e = subst (λ ws. LaterWords same (old.words a) ws) (sym (sets.1 a e))
         (words_itself same names (old.words a))
 
-pub effect_later : (hash : ℕ → ℕ) (same : ℕ → ℕ → Bool) (own : ℕ →
-    Bool) (access : Access) (seen : Seen) (old new : Memory) → NamesKeys hash same →
-    IsForLater same access → Effect hash own access seen old new → LaterMemory same old new
+pub effect_later : (hash : ℕ → ℕ) (same : ℕ → ℕ → Bool) (own : ℕ → Bool) (access : Access) (seen : Seen)
+    (old new : Memory) → NamesKeys hash same → IsForLater same access → Effect hash own access seen old new →
+    LaterMemory same old new
 effect_later hash same own (access.LoadWord a i) (seen.Word w h s) old new names later e =
     unchanged_later same old new names e.3
 effect_later hash same own (access.Choose p) (seen.Chosen c) old new names later e =

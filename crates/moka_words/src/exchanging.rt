@@ -3,7 +3,7 @@
 ghost use Rattle.moka_words.specs.Laws.{ExchangeKeepsArray};
 
 /// Cites the law that an array stays one where a word is exchanged for a later one: a key keeps its
-/// bucket, and a bucket without a key gets one that is new to the array and whose probe comes there.
+/// bucket, and a bucket without a key gets a key that is new to the array, whose probe comes there.
 pub fn exchange_keeps_array()
     ensures keeps { ExchangeKeepsArray }
 {}

@@ -12,8 +12,8 @@ pub fn exchange_is_later()
     ensures later { ExchangeIsLater }
 {}
 
-/// Cites the law that an access whose exchange, if it is one, is for a later word leaves later words
-/// in each array.
+/// Cites the law that an access leaves later words in each array. If it is an exchange, that must
+/// be for a later word.
 pub fn effect_is_later()
     ensures later { EffectIsLater }
 {}
@@ -30,7 +30,8 @@ pub fn probe_ends_absent()
     ensures absent { ProbeEndsAbsent }
 {}
 
-/// Cites the law that the call's key is then new to the array, at the bucket where its probe stands.
+/// Cites the law that the call's key is then new to the array, at the bucket where its probe
+/// stands.
 pub fn absent_is_new()
     ensures new { AbsentIsNew }
 {}

@@ -1,5 +1,5 @@
-//! The words that the buckets of an array hold, and what holds of them: probing, exchanging, and the
-//! layout of an array in a longer one.
+//! The words that the buckets of an array hold, and what holds of them: probing, exchanging, and
+//! the layout of an array in a longer one.
 //!
 //! The definitions stand in `specs/`: words and arrays (`Words`, `Arrays`), what lasts of them
 //! (`Later`), layouts (`Layout`), what an access sees and leaves (`Effect`), and when an array is

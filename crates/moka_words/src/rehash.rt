@@ -24,8 +24,10 @@ pub enum RehashOp {
 
 impl RehashOp {
     /// How to make an array of this length anew that has so many tombstones, where its segment has
-    /// `len` keys. With many tombstones (25,000, or a tenth of the length) it is `Shrink` or `GcOnly`;
-    /// with fewer `Expand`, where more than seven tenths of the words are keys, and else `Skip`.
+    /// `len` keys. With many tombstones (25,000, or a tenth of the length) it is `Shrink` where the
+    /// length is at least 512 and the keys less the tombstones are fewer than a quarter of it, and
+    /// else `GcOnly`. With fewer it is `Expand` where more than seven tenths of the words are keys,
+    /// and else `Skip`.
     pub fn new(length: u64, tombstones: u64, len: u64) -> RehashOp
         requires length_fits { length ≤ 2 ^ 60 }
         requires tombstones_fit { tombstones ≤ 2 ^ 60 }
