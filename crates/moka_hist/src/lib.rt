@@ -7,6 +7,7 @@
 
 mod accesses;
 mod events;
+mod key_list;
 mod listing;
 mod loads;
 mod records;
@@ -18,6 +19,7 @@ mod writes;
 
 pub use accesses::{Got, Turn, Want};
 pub use events::{Event, Start, Told};
+pub use key_list::KeyList;
 pub use listing::Listing;
 pub use loads::{Kind, Load};
 pub use records::{Mode, Stored};

@@ -16,7 +16,7 @@ use Rattle.moka_words.proofs.Exchanges.{exchange_keeps_array}
 use Rattle.moka_words.proofs.Placing.{IsFilled, free_is_empty, reached_within, placed_cases, placed_filled, empty_filled, layout_has_all}
 
 -- a stored node is one of the stored nodes
-stored_contains : (words : List Word) (i n : ℕ) → stored_in (word_at words i) ≡ Some n →
+pub stored_contains : (words : List Word) (i n : ℕ) → stored_in (word_at words i) ≡ Some n →
     Contains (stored_nodes words) n
 stored_contains [] i n e = absurd (cc e)
 stored_contains (w ∷ ws) zero n e =
@@ -27,7 +27,7 @@ stored_contains (w ∷ ws) (suc i) n e = by (stored_in w) (stored_contains ws i 
     by None h = h
     by (Some m) h = (suc h.0, omega arith, h.2)
 
-contains_stored : (words : List Word) (n : ℕ) → Contains (stored_nodes words) n → IsStored words n
+pub contains_stored : (words : List Word) (n : ℕ) → Contains (stored_nodes words) n → IsStored words n
 contains_stored [] n h = absurd (omega arith)
 contains_stored (w ∷ ws) n h = by (stored_in w) refl (contains_stored ws n) h
   where
@@ -102,7 +102,7 @@ stored_differ same (w ∷ ws) one = by (stored_in w) refl
         other j m d true alike = let never = one 0 (suc j) n m e d alike in absurd (omega arith)
 
 -- a stored node is its bucket's
-stored_is_key : (w : Word) (n : ℕ) → stored_in w ≡ Some n → node_of w ≡ Some n
+pub stored_is_key : (w : Word) (n : ℕ) → stored_in w ≡ Some n → node_of w ≡ Some n
 stored_is_key w n e = by w e
   where
     by : (v : Word) → stored_in v ≡ Some n → node_of v ≡ Some n

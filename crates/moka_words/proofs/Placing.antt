@@ -44,7 +44,7 @@ one_more (w ∷ ws) (suc i) n h e =
     (IsPermutation-append_right old _ _ (one_more ws i n (omega arith) e))
 
 -- where every bucket has a stored node, there are as many nodes as buckets
-all_stored : (words : List Word) → ((i : ℕ) → i < length words → IsSome (stored_in (word_at words i))) →
+pub all_stored : (words : List Word) → ((i : ℕ) → i < length words → IsSome (stored_in (word_at words i))) →
     length (stored_nodes words) ≡ length words
 all_stored [] h = refl
 all_stored (w ∷ ws) h =
@@ -152,15 +152,20 @@ layout_length hash words size = all_length hash (replicate size Empty) (stored_n
 pub layout_filled : (hash : ℕ → ℕ) (words : List Word) (size : ℕ) → IsFilled (layout hash words size)
 layout_filled hash words size = all_filled hash (replicate size Empty) (stored_nodes words) (empty_filled size)
 
-pub layout_has_all : (hash : ℕ → ℕ) (words : List Word) (size : ℕ) → length words ≤ size →
+-- where there is room for the stored nodes, each gets a place
+pub layout_has_stored : (hash : ℕ → ℕ) (words : List Word) (size : ℕ) → length (stored_nodes words) ≤ size →
     IsPermutation (stored_nodes words) (stored_nodes (layout hash words size))
-layout_has_all hash words size room =
+layout_has_stored hash words size room =
     let none = empty_stores size in
     let count = ap (λ xs. length xs) none in
     let long = length-replicate size Empty in
-    let within = stored_within words in
     subst (λ xs. IsPermutation (xs ++ stored_nodes words) (stored_nodes (layout hash words size))) none
     (all_more hash (replicate size Empty) (stored_nodes words) (empty_filled size) (omega arith))
+
+pub layout_has_all : (hash : ℕ → ℕ) (words : List Word) (size : ℕ) → length words ≤ size →
+    IsPermutation (stored_nodes words) (stored_nodes (layout hash words size))
+layout_has_all hash words size room =
+    let within = stored_within words in layout_has_stored hash words size (omega arith)
 
 pub layout_is_filled : (hash : ℕ → ℕ) (words : List Word) (size : ℕ) →
     (length (layout hash words size) ≡ size) × ((i : ℕ) → i < size →

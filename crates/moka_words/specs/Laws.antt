@@ -40,7 +40,7 @@ ExchangeIsLater =
     (hash : ℕ → ℕ) (same : ℕ → ℕ → Bool) (words : List Word) (i : ℕ) (w : Word) → NamesKeys hash same →
     Later same (word_at words i) w → LaterWords same words (slice_set words i w)
 
--- an access whose exchange is for a later word leaves later words in each array
+-- an access whose exchange is for a later word leaves a later memory
 abbrev pub EffectIsLater : Type 0
 EffectIsLater =
     (hash : ℕ → ℕ) (same : ℕ → ℕ → Bool) (own : ℕ → Bool) (access : Access) (seen : Seen) (old new : Memory) → NamesKeys hash same →

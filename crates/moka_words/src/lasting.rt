@@ -12,8 +12,9 @@ pub fn exchange_is_later()
     ensures later { ExchangeIsLater }
 {}
 
-/// Cites the law that an access leaves later words in each array. If it is an exchange, that must
-/// be for a later word.
+/// Cites the law that an access leaves a later memory: each array stands where it stood, with later
+/// words, and each that has been root has been it. If the access is an exchange, that must be for a
+/// later word.
 pub fn effect_is_later()
     ensures later { EffectIsLater }
 {}

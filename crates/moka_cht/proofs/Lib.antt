@@ -1,0 +1,14 @@
+pub mod Passing
+pub mod Calls
+pub mod Points
+pub mod Loads
+pub mod Firsts
+pub mod Sameness
+pub mod Lookups
+pub mod Agreeing
+pub mod Putting
+pub mod Placing
+pub mod Removing
+pub mod Inserting
+pub mod Listing
+pub mod Following

@@ -1,0 +1,11 @@
+use Rattle.std.proofs.Common.{sym}
+use Rattle.moka_cht.specs.Nodes.{own_key}
+use Rattle.moka_cht.proofs.Loads.{tells_after}
+use Rattle.moka_cht.proofs.look.find_live.Goals as goal
+
+pub returns-in-Ended-Kept : goal.returns-in-Ended-Kept
+returns-in-Ended-Kept g c q k =
+    let begun = c.begin-probe in (
+      c.in-Ended-Kept.field-0-0,
+      tells_after (own_key g.K.PartialEq.eq c.args.nodes.now q) c.args.words.now begun.result c.look.result _ _ _ c.args.hash begun.ensures.aim begun.ensures.hash c.in-Ended-Kept.is c.in-Ended-Kept.field-0-is (c.look.ensures q k),
+    )

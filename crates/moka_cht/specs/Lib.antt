@@ -1,0 +1,4 @@
+pub mod Nodes
+pub mod Probes
+pub mod Buckets
+pub mod Calls

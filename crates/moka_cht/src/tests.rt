@@ -1,0 +1,97 @@
+//! What no clause says: that calls succeed with ample memory; and moka's own cases, worked.
+
+mod mirror;
+mod table;
+
+use crate::BucketArray;
+use crate::tests::mirror::Mirror;
+use crate::tests::table::{Table, told};
+use std::test::Fail;
+
+// The names of three keys.
+const FOO: u64 = 1;
+
+const BAR: u64 = 5;
+
+const BAZ: u64 = 14;
+
+#[test]
+fn three_names_in_sixteen_buckets(rt: HostRuntime) -> Result<(), Fail> {
+    let mut table = Table::with_power(rt.alloc(), 4)?;
+    assert_eq!(rt; table.capacity(), 8);
+    for (key, value) in [(FOO, 5), (BAR, 10), (BAZ, 15)] {
+        assert_eq!(rt; told(table.insert(key, value)?), ("inserted", 0));
+        assert_eq!(rt; table.get(key), Some(value));
+    }
+    assert_eq!(rt; table.keys(rt.alloc())?.len(), 3);
+    assert_eq!(rt; told(table.add(FOO, 1, 0)?), ("present", 5));
+    for (key, value) in [(FOO, 6), (BAR, 10), (BAZ, 15)] {
+        assert_eq!(rt; table.remove(key, 0)?, Some(value));
+        assert_eq!(rt; table.get(key), None);
+    }
+    assert!(rt; table.keys(rt.alloc())?.is_empty());
+    Ok(())
+}
+
+#[test]
+fn one_bucket_stays_its_keys(rt: HostRuntime) -> Result<(), Fail> {
+    let mut table = Table::with_power(rt.alloc(), 0)?;
+    assert_eq!(rt; table.capacity(), 0);
+    assert_eq!(rt; told(table.insert(1, 10)?), ("inserted", 0));
+    assert_eq!(rt; told(table.insert(2, 20)?), ("no free", 20));
+    assert_eq!(rt; table.remove(1, 11)?, None);
+    assert_eq!(rt; table.remove(1, 10)?, Some(10));
+    assert_eq!(rt; told(table.insert(2, 20)?), ("no free", 20));
+    assert_eq!(rt; told(table.insert(1, 30)?), ("replaced", 0));
+    assert_eq!(rt; table.get(1), Some(30));
+    Ok(())
+}
+
+#[test]
+fn four_keys_of_one_hash_go_round_the_end(rt: HostRuntime) -> Result<(), Fail> {
+    let mut table = Table::with_power(rt.alloc(), 2)?;
+    for key in [3, 7, 11, 15] {
+        assert_eq!(rt; told(table.insert(key, key)?), ("inserted", 0));
+    }
+    assert_eq!(rt;
+        table.keys(rt.alloc())?.as_slice(),
+        [7, 11, 15, 3].as_slice()
+    );
+    assert_eq!(rt; told(table.insert(19, 5)?), ("no free", 5));
+    for key in [3, 7, 11] {
+        assert_eq!(rt; table.remove(key, 0)?, Some(key));
+    }
+    assert_eq!(rt; table.get(15), Some(15));
+    assert_eq!(rt; told(table.insert(19, 5)?), ("no free", 5));
+    assert_eq!(rt; table.keys(rt.alloc())?.as_slice(), [15].as_slice());
+    Ok(())
+}
+
+// Pseudo-random numbers, by a linear congruence.
+fn after(seed: u64) -> u64 {
+    seed.wrapping_mul(6364136223846793005)
+        .wrapping_add(1442695040888963407)
+}
+
+#[test]
+fn random_calls_answer_as_the_standard_map(rt: HostRuntime) -> Result<(), Fail> {
+    let mut seed = 1;
+    for power in 0..5 {
+        let mut mirror = Mirror::with_power(rt.alloc(), power)?;
+        for call in 0..400 {
+            seed = after(seed);
+            assert!(rt;
+                mirror.call(seed, call)?,
+                "call {call} on 2^{power} buckets"
+            );
+        }
+    }
+    Ok(())
+}
+
+// More than 2^60 buckets are want of memory, and so is a length for which there is none.
+#[test]
+fn too_many_buckets_are_want_of_memory(rt: HostRuntime) {
+    let array: Result<BucketArray<u64, u64>, _> = BucketArray::with_length(rt.alloc(), 1 << 61);
+    assert!(rt; array.is_err());
+}

@@ -1,0 +1,10 @@
+pub mod Growing
+pub mod Sound
+pub mod Calls
+pub mod Fits
+pub mod Maps
+pub mod Left
+pub mod Counts
+pub mod Listing
+pub mod Turns
+pub mod Laws
