@@ -322,10 +322,10 @@ module _ {K V : Type 0} where
     on_item (plan.Reply a) rest (got.Desk f) e g h = never new _ (answers a) (λ d. cc)
     on_item (plan.Get aim key) rest (got.Table table.Going) e g h = get_stays aim key rest e (leaves w.desk (ap (λ v. v.desk) g.1) (same_lists w.desk) h.within h.raises) (h.going refl)
     on_item (plan.Get aim key) rest (got.Table (table.Decided answer)) e g h =
-        get_falls aim rest answer key (leaves w.desk (ap (λ v. v.desk) g.1) (same_lists w.desk) h.within h.raises)
+        get_falls aim rest answer key (leaves w.desk (ap (λ v. v.desk) g.2) (same_lists w.desk) h.within h.raises)
     on_item (plan.Write key value moment) rest (got.Table table.Going) e g h = write_stays key value moment rest e (leaves w.desk (ap (λ v. v.desk) g.1) (same_lists w.desk) h.within h.raises) (h.going refl)
     on_item (plan.Write key value moment) rest (got.Table (table.Decided answer)) e g h =
-        let d : next.desk ≡ w.desk = ap (λ v. v.desk) g.1 in
+        let d : next.desk ≡ w.desk = ap (λ v. v.desk) g.2 in
         wrote key value moment rest (Upsert n (old_stamp answer)) (is.owed ∙ ap (λ v. length v.owed) d ∙ sym was.owed)
         (is.logged ∙ ap (λ v. length v.log) d ∙ sym was.logged) h.raises
     -- no other answer is one of the item's access

@@ -27,6 +27,6 @@ module _ {K V : Type 0} (eq : K → K → Bool) where
 
   pub access_size : (n : ℕ) (w new : World K V) (a : Access K V) (g : Got K V) → Gets eq n w a g new → new.desk.size ≡ w.desk.size
   access_size n w new (step.On_table o) (got.Table table.Going) gets = ap (λ v. v.desk.size) gets.1
-  access_size n w new (step.On_table o) (got.Table (table.Decided answer)) gets = ap (λ v. v.desk.size) gets.1
+  access_size n w new (step.On_table o) (got.Table (table.Decided answer)) gets = ap (λ v. v.desk.size) gets.2
   access_size n w new (step.On_desk made) (got.Desk found) gets = ap (λ v. v.desk.size) gets.1 ∙ size_same w made
   access_size n w new _ _ gets = absurd gets

@@ -1,6 +1,5 @@
 pub mod Standing
-pub mod Holders
 pub mod SameLoads
-pub mod Owners
 pub mod Waiting
 pub mod Outcomes
+pub mod Holdings

@@ -1,49 +1,53 @@
 -- What the desk stands for.
-use Rattle.std.specs.Prelude.{◌≡◌, ℕ, ◌<◌, Bool, IsSome, nat_eq}
+use Rattle.std.specs.Prelude.{◌≡◌, ℕ, Bool, Option, Some, None, nat_eq}
 use Rattle.std.specs.HashMap.{get}
 use Rattle.std.specs.declared.cmp.PartialEq as PartialEq
 use Rattle.std.specs.declared.hash.Hash as Hash
-use Rattle.moka_hist.specs.Finite.{times}
 use Rattle.moka_hist.specs.State.{DeskPart}
 use Rattle.moka_hist.specs.Visits.{finds, makes}
+use Rattle.moka_hist.specs.Conditions.{MayVisit, HoldsWrite}
 use Rattle.moka_hist.specs.declared.visits.Visit.{Visit}
 use Rattle.moka_hist.specs.declared.visits.Found.{Found}
+use Rattle.moka_hist.specs.declared.writes.Write.{Write}
 use Rattle.moka_desk.specs.Writes.{write_part, WritesAre}
 use Rattle.moka_desk.specs.Loads.{load_part, LoadsAre}
 use Rattle.moka_desk.specs.Asks.{ask_part, AsksAre}
 use Rattle.moka_desk.specs.declared.state.Desk.{Desk}
 
--- The desk has what the reference's desk has, part by part. Of the holders it keeps only that each
--- has its places, and that a call with a moment for its write is one of them.
+-- The desk has what the reference's desk has, part by part.
 pub record StandsFor {K V : Type 0} {same : PartialEq.Ghosts K} {hash : Hash.Ghosts K} (eq : K → K → Bool) (desk : Desk K V same hash) (w : DeskPart K V) : Type 0 where
   pub clock : desk.clock ≡ w.clock
   pub accessed : (n : ℕ) → get nat_eq desk.accessed n ≡ w.accessed n
-  pub pending : (n : ℕ) → get nat_eq desk.pending n ≡ w.pending n
   pub turn : desk.turn ≡ w.turn
   pub published : desk.published ≡ w.published
   pub last : desk.last ≡ w.last
   pub writes : WritesAre desk.writes (write_part w)
   pub loads : LoadsAre eq desk.loads (load_part w)
   pub asks : AsksAre desk.asks (ask_part w)
-  pub stamped : (n : ℕ) → IsSome (w.pending n) → 0 < times n w.holders
 
 module _ {K V : Type 0} {same : PartialEq.Ghosts K} {hash : Hash.Ghosts K} (eq : K → K → Bool) where
-  -- the visit finds this, whatever the desk stands for
+  -- the desk stands for a state that allows the visit
+  abbrev pub Can : Desk K V same hash → Visit K V → Type 0
+  Can desk visit = (w : DeskPart K V) × StandsFor eq desk w × MayVisit w visit
+
+  -- the visit finds this, in each state that the desk stands for and that allows it
   abbrev pub Finds : Desk K V same hash → Visit K V → Found V → Type 0
-  Finds desk visit found = (w : DeskPart K V) → StandsFor eq desk w → found ≡ finds w visit
+  Finds desk visit found = (w : DeskPart K V) → StandsFor eq desk w → MayVisit w visit → found ≡ finds w visit
+
+  -- the visit was made, and nothing else, in each such state
+  abbrev pub Makes : Desk K V same hash → Visit K V → Desk K V same hash → Type 0
+  Makes old visit new =
+      (w : DeskPart K V) → StandsFor eq old w → MayVisit w visit → StandsFor eq new (makes eq w visit)
 
   -- the desk changes as the state does, whatever it stands for
   abbrev pub Becomes : Desk K V same hash → (DeskPart K V → DeskPart K V) → Desk K V same hash → Type 0
   Becomes old change new = (w : DeskPart K V) → StandsFor eq old w → StandsFor eq new (change w)
 
-  -- the visit was made, and nothing else
-  abbrev pub Makes : Desk K V same hash → Visit K V → Desk K V same hash → Type 0
-  Makes old visit new = Becomes old (λ w. makes eq w visit) new
-
   -- nothing has changed of what the desk stands for
   abbrev pub Stays : Desk K V same hash → Desk K V same hash → Type 0
   Stays old new = Becomes old (λ w. w) new
 
-  -- the desk stands for a state where the call has a place for a write
-  abbrev pub HasPlace : Desk K V same hash → ℕ → Type 0
-  HasPlace desk call = (w : DeskPart K V) × StandsFor eq desk w × 0 < times call w.holders
+  -- the call may leave this write, if any: the desk stands for a state where it holds it
+  abbrev pub CanLeave : Desk K V same hash → ℕ → Option Write → Type 0
+  CanLeave desk call None = Unit {0}
+  CanLeave desk call (Some write) = (w : DeskPart K V) × StandsFor eq desk w × HoldsWrite w call write

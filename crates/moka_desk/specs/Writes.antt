@@ -1,12 +1,14 @@
 -- What the kept writes stand for.
-use Rattle.std.specs.Prelude.{◌≡◌, ℕ, ◌+◌, ◌≤◌, List, length}
+use Rattle.std.specs.Prelude.{◌≡◌, ℕ, List, Option}
 use Rattle.moka_hist.specs.State.{DeskPart}
+use Rattle.moka_hist.specs.declared.writes.Holding.{Holding}
 use Rattle.moka_hist.specs.declared.writes.Write.{Write}
+use Rattle.moka_desk.specs.Held.{holding_at}
 use Rattle.moka_desk.specs.declared.writes.Writes.{Writes}
 
 -- What the desk's part says of writes.
 pub record WritePart : Type 0 where
-  pub holders : List ℕ
+  pub holding : ℕ → Option Holding
   pub owed : List Write
   pub log : List Write
   pub applied : List Write
@@ -14,16 +16,15 @@ pub record WritePart : Type 0 where
 
 -- that part of it
 abbrev pub write_part : {K V : Type 0} → DeskPart K V → WritePart
-write_part w = record { holders = w.holders; owed = w.owed; log = w.log; applied = w.applied; size = w.size }
+write_part w = record { holding = w.holding; owed = w.owed; log = w.log; applied = w.applied; size = w.size }
 
--- The lists are those that are kept, and each write that isn't applied yet has its place, as each
--- holder has.
+-- Each call holds what is kept of it, and the lists are those that are kept.
 pub record WritesAre (writes : Writes) (p : WritePart) : Type 0 where
+  pub holding : (n : ℕ) → holding_at writes.held n ≡ p.holding n
   pub owed : writes.owed.items ≡ p.owed
   pub log : writes.log.items ≡ p.log
   pub applied : writes.applied.writes.items ≡ p.applied
   pub size : writes.size ≡ p.size
-  pub places : length p.holders + length p.owed + length p.log ≤ writes.applied.room
 
 -- the writes change as the part does, whatever they stand for
 abbrev pub WritesBecome : Writes → (WritePart → WritePart) → Writes → Type 0

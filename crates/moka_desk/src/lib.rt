@@ -3,6 +3,7 @@
 
 mod applied;
 mod asks;
+mod held;
 mod loading;
 mod loads;
 mod maps;

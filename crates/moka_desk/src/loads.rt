@@ -54,10 +54,11 @@ impl<K: Eq + Hash + Clone + Drop, V: Drop> Loads<K, V> {
         }
     }
 
-    /// Makes the call the owner of a load that nobody owns, or lets it wait for the owner. A call
-    /// owns one load at a time: there is no place for a second.
+    /// Makes the call, which owns nothing, the owner of a load that nobody owns, or lets it wait for
+    /// the owner.
     pub(crate) fn claim(&mut self, call: u64, load: Load<K>) -> Result<Claim, AllocError>
-        requires { IsExact K.is_clone }
+        requires exact { IsExact K.is_clone }
+        requires idle { get nat_eq self.old.owning call ≡ None }
         ensures finds { IfOk result (λ claim. (w : DeskPart K V) → LoadsAre K.eq self.old (load_part w)
             → claim ≡ claim_of (w.owners load)) }
         ensures ok { OnOk result (LoadsMake K.eq self.old
@@ -94,9 +95,10 @@ impl<K: Eq + Hash + Clone + Drop, V: Drop> Loads<K, V> {
         }
     }
 
-    // Makes the call the owner of the load, which has no owner.
+    // Makes the call, which owns nothing, the owner of the load, which has no owner.
     fn own(&mut self, call: u64, load: Load<K>) -> Result<(), AllocError>
         requires exact { IsExact K.is_clone }
+        requires idle { get nat_eq self.old.owning call ≡ None }
         requires free { get (load_eq K.eq) self.old.owners load ≡ None }
         ensures ok { OnOk result (LoadsBecome K.eq self.old
             (λ p. record p {
@@ -105,9 +107,6 @@ impl<K: Eq + Hash + Clone + Drop, V: Drop> Loads<K, V> {
             }) self.new) }
         ensures err { OnErr result (LoadsStay K.eq self.old self.new) }
     {
-        if self.owning.contains_key(&call) {
-            return Err(AllocError);
-        }
         let own = copy_of(&load)?;
         self.make_room()?;
         put(&mut self.owners, own, call);

@@ -5,7 +5,7 @@ ghost use Rattle.std.specs.Prelude.{◌≡◌, ◌+◌, ◌==◌, nat_lt, not, O
 use crate::asks::Asks;
 use crate::loads::Loads;
 use crate::writes::Writes;
-use moka_hist::Write;
+use moka_hist::{Holding, Write};
 use std::alloc::{AllocError, Global};
 use std::collections::{HashMap, VecDeque};
 use std::hash::Hash;
@@ -18,7 +18,6 @@ use std::hash::Hash;
 pub struct Desk<K: Eq + Hash, V> {
     pub(crate) clock: u64,
     pub(crate) accessed: HashMap<u64, u64>,
-    pub(crate) pending: HashMap<u64, u64>,
     pub(crate) turn: Option<u64>,
     pub(crate) published: u64,
     pub(crate) last: u64,
@@ -46,7 +45,6 @@ impl<K: Eq + Hash + Clone + Drop, V: Drop> Desk<K, V> {
         Ok(Desk {
             clock: 0,
             accessed: HashMap::new(alloc),
-            pending: HashMap::new(alloc),
             turn: None,
             published: 0,
             last,
@@ -96,6 +94,13 @@ impl<K: Eq + Hash + Clone + Drop, V: Drop> Desk<K, V> {
         let next = self.last.checked_add(1)?;
         self.last = next;
         Some(next)
+    }
+
+    /// What the call holds of writes.
+    pub fn holding(&self, call: u64) -> Option<Holding>
+        ensures { (w : DeskPart K V) → StandsFor K.eq self.now w → result ≡ w.holding call }
+    {
+        self.writes.held.holding(call)
     }
 
     /// The writes that dropped calls left, oldest first.

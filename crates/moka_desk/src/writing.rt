@@ -1,39 +1,37 @@
 //! The visits that see to writes: owed, logged and applied.
 
-ghost use Rattle.std.specs.Prelude.{◌<◌, IsTrue, IfOk, OnOk, OnErr};
+ghost use Rattle.std.specs.Prelude.{IsTrue, IfOk, OnOk, OnErr};
 
 use crate::Desk;
-use crate::maps::put;
 use moka_hist::Write;
 use std::alloc::AllocError;
 use std::hash::Hash;
 
 impl<K: Eq + Hash + Clone + Drop, V: Drop> Desk<K, V> {
-    ghost use Rattle.moka_hist.specs.Finite.{times};
-    ghost use Rattle.moka_hist.specs.State.{DeskPart};
-    ghost use Rattle.moka_hist.specs.Visits.{finds, makes, judged, decided as with_decided};
+    ghost use Rattle.moka_hist.specs.Visits.{judged, decided as with_decided};
     ghost use Rattle.moka_hist.specs.declared.visits.Visit.TheVariants as visit;
     ghost use Rattle.moka_hist.specs.declared.visits.Found.TheVariants as found;
-    ghost use Rattle.moka_desk.specs.StandsFor.{StandsFor, Finds, Becomes, Makes, Stays, HasPlace};
+    ghost use Rattle.moka_desk.specs.StandsFor.{Can, Finds, Becomes, Makes, Stays};
 
-    /// Takes the oldest owed write up, if there is one, together with its places.
+    /// Takes the oldest owed write up, if there is one, for a call that holds none.
     pub fn take_owed(&mut self, call: u64) -> Option<Write>
+        requires { Can K.eq self.old (visit.TakeOwed call) }
         ensures finds { Finds K.eq self.old (visit.TakeOwed call) (found.TakeOwed result) }
         ensures makes { Makes K.eq self.old (visit.TakeOwed call) self.new }
     {
-        self.writes.take_owed()
+        self.writes.take_owed(call)
     }
 
-    /// Takes the clock's moment for a write that follows, together with the places of that write.
+    /// Takes the clock's moment for a write that follows, together with the places of that write. The
+    /// call holds no write, and none of its number stands anywhere.
     pub fn stamp_moment(&mut self, call: u64) -> Result<u64, AllocError>
+        requires { Can K.eq self.old (visit.StampMoment call) }
         ensures finds { IfOk result (λ moment. Finds K.eq self.old (visit.StampMoment call)
             (found.StampMoment moment)) }
         ensures makes { OnOk result (Makes K.eq self.old (visit.StampMoment call) self.new) }
         ensures err { OnErr result (Stays K.eq self.old self.new) }
     {
-        self.pending.reserve(1)?;
-        self.writes.reserve()?;
-        put(&mut self.pending, call, self.clock);
+        self.writes.stamp(call, self.clock)?;
         Ok(self.clock)
     }
 
@@ -41,7 +39,7 @@ impl<K: Eq + Hash + Clone + Drop, V: Drop> Desk<K, V> {
     pub fn decided(&mut self, call: u64)
         ensures { Becomes K.eq self.old (λ w. with_decided w call) self.new }
     {
-        let _ = self.pending.remove(&call);
+        self.writes.decide(call);
     }
 
     /// Judges whether the record of this stamp, written at the moment `modified`, may be seen, and
@@ -59,17 +57,17 @@ impl<K: Eq + Hash + Clone + Drop, V: Drop> Desk<K, V> {
     /// Appends the write, which the call holds, to the log. Answers false where the log is full; the
     /// call goes on holding it then. A pending moment of the call ends in either case.
     pub fn post_write(&mut self, call: u64, write: Write) -> bool
-        requires { HasPlace K.eq self.old call }
+        requires { Can K.eq self.old (visit.PostWrite call write) }
         ensures finds { Finds K.eq self.old (visit.PostWrite call write) (found.PostWrite result) }
-        ensures makes { (w : DeskPart K V) → StandsFor K.eq self.old w → 0 < times call w.holders
-            → StandsFor K.eq self.new (makes K.eq w (visit.PostWrite call write)) }
+        ensures makes { Makes K.eq self.old (visit.PostWrite call write) self.new }
     {
-        self.decided(call);
-        self.writes.post(write)
+        self.writes.post(call, write)
     }
 
-    /// Takes the maintenance turn for the call. Answers false where another call has it.
+    /// Takes the maintenance turn for the call, which has it not. Answers false where another call has
+    /// it.
     pub fn take_turn(&mut self, call: u64) -> bool
+        requires { Can K.eq self.old (visit.TakeTurn call) }
         ensures finds { Finds K.eq self.old (visit.TakeTurn call) (found.TakeTurn result) }
         ensures makes { Makes K.eq self.old (visit.TakeTurn call) self.new }
     {
@@ -82,16 +80,19 @@ impl<K: Eq + Hash + Clone + Drop, V: Drop> Desk<K, V> {
         }
     }
 
-    /// Applies the oldest write of the log. Answers whether there was one.
+    /// Applies the oldest write of the log, for the call that has the turn. Answers whether there was
+    /// one.
     pub fn apply_one(&mut self, call: u64) -> bool
+        requires { Can K.eq self.old (visit.ApplyOne call) }
         ensures finds { Finds K.eq self.old (visit.ApplyOne call) (found.ApplyOne result) }
         ensures makes { Makes K.eq self.old (visit.ApplyOne call) self.new }
     {
         self.writes.apply_one()
     }
 
-    /// Publishes how many applied upserts stand unreplaced, and gives the turn up.
+    /// Publishes how many applied upserts stand unreplaced, and gives up the turn, which the call has.
     pub fn end_turn(&mut self, call: u64)
+        requires { Can K.eq self.old (visit.EndTurn call) }
         ensures { Makes K.eq self.old (visit.EndTurn call) self.new }
     {
         self.published = self.writes.applied.standing();

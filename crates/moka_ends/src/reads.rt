@@ -42,7 +42,8 @@ impl From<AllocError> for ReadError {
 /// Reads all that the source has left, and takes at most `most` bytes.
 ///
 /// `TooLong` comes where the source gives more, `Fault` where a read fails, `Memory` where the bytes
-/// find no memory. What was read before an error is lost, and the rest is still left.
+/// find no memory, so never of an empty source. What was read before an error is lost, and the rest
+/// is still left.
 pub fn read_all<S: Source>(alloc: Global, source: &mut S, most: usize) -> Result<Vec<u8>, ReadError>
     ensures all { IfOk result
         (λ bytes. GivesAll (S.left source.old) bytes.items (S.left source.new)) }
@@ -51,6 +52,7 @@ pub fn read_all<S: Source>(alloc: Global, source: &mut S, most: usize) -> Result
     ensures too_long { IsErrOf result ReadError.TooLong → HasMoreThan most (S.left source.old) }
     ensures fault { IsErrOf result ReadError.Fault
         → HasRisen (S.faults source.old) (S.faults source.new) }
+    ensures memory { IsErrOf result ReadError.Memory → HasMoreThan 0 (S.left source.old) }
     ensures kept { OnErr result (GivesSome (S.left source.old) (S.left source.new)) }
     ensures faults { S.faults source.old ≤ S.faults source.new }
     ensures calm { ¬ IsErrOf result ReadError.Fault
@@ -82,6 +84,7 @@ fn read_more<S: Source>(
         → HasMoreThan most (with_front bytes.old.items (S.left source.old)) }
     ensures fault { IsErrOf result ReadError.Fault
         → HasRisen (S.faults source.old) (S.faults source.new) }
+    ensures memory { IsErrOf result ReadError.Memory → HasMoreThan 0 (S.left source.old) }
     ensures kept { OnErr result (GivesSome (S.left source.old) (S.left source.new)) }
     ensures faults { S.faults source.old ≤ S.faults source.new }
     ensures calm { ¬ IsErrOf result ReadError.Fault
@@ -89,9 +92,12 @@ fn read_more<S: Source>(
     ensures once { S.faults source.new ≤ S.faults source.old + 1 }
 {
     let count = source.read(chunk)?;
+    if count == 0 {
+        return Ok(false);
+    }
     if count > most - bytes.len() {
         return Err(ReadError::TooLong);
     }
     bytes.extend_from_slice(&chunk[..count])?;
-    Ok(count > 0)
+    Ok(true)
 }

@@ -19,7 +19,7 @@ abbrev pub as_told : ℕ → ℕ
 as_told steps = min steps (2 ^ 64 - 1)
 
 module _ {K V : Type 0} where
-  -- how long an array of the table may be: 128 at least, and three times the most keys that were ever stored
+  -- how long an array of the table may be: 128 words, and three for each of the most keys that were ever stored
   abbrev pub array_bound : TablePart K V → ℕ
   array_bound t = 128 + 3 * t.peak
 

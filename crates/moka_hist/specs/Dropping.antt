@@ -1,7 +1,7 @@
 -- Dropping a call where it stands.
 use Rattle.std.specs.Prelude.{ℕ, ◌++◌, Option, None}
 use Rattle.std.specs.Option.{option_to_list}
-use Rattle.moka_hist.specs.Finite.{put_at, without}
+use Rattle.moka_hist.specs.Finite.{put_at}
 use Rattle.moka_hist.specs.State.{Call, DeskPart, State}
 use Rattle.moka_hist.specs.Plan.{held_by}
 use Rattle.moka_hist.specs.Visits.{owners_without, settled_without, settled_with, readers_without}
@@ -13,8 +13,7 @@ module _ {K V : Type 0} where
   -- waits for nobody; and a write that it held is owed from then on.
   abbrev pub left : DeskPart K V → ℕ → Option Write → DeskPart K V
   left w call held = record w {
-    pending = put_at w.pending call None;
-    holders = without call w.holders;
+    holding = put_at w.holding call None;
     owed = w.owed ++ option_to_list held;
     owners = owners_without w call;
     owning = put_at w.owning call None;

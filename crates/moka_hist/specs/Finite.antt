@@ -27,16 +27,6 @@ abbrev pub times : ℕ → List ℕ → ℕ
 times n [] = 0
 times n (x ∷ xs) = cond (n == x) (times n xs + 1) (times n xs)
 
--- the list without the first n in it
-abbrev pub without_one : ℕ → List ℕ → List ℕ
-without_one n [] = []
-without_one n (x ∷ xs) = cond (n == x) xs (x ∷ without_one n xs)
-
--- the list without every n in it
-abbrev pub without : ℕ → List ℕ → List ℕ
-without n [] = []
-without n (x ∷ xs) = cond (n == x) (without n xs) (x ∷ without n xs)
-
 -- the pairs list the map: each key of the map once, and no other
 pub record Lists {K A : Type 0} (eq : K → K → Bool) (pairs : List (K × A)) (f : K → Option A) : Type 0 where
   pub distinct : IsDistinct eq (keys_of pairs)

@@ -2,6 +2,8 @@ pub mod Finite
 pub mod State
 pub mod Plan
 pub mod Visits
+pub mod Conditions
+pub mod SoundDesk
 pub mod Tables
 pub mod Bound
 pub mod Next

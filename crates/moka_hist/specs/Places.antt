@@ -5,6 +5,7 @@ use Rattle.moka_hist.specs.State.{Call, State}
 use Rattle.moka_hist.specs.Plan.{Item, held_by}
 use Rattle.moka_hist.specs.Plan as plan
 use Rattle.moka_hist.specs.Visits.{number_of}
+use Rattle.moka_hist.specs.Conditions.{HoldsWrite}
 use Rattle.moka_hist.specs.declared.loads.Load.{Load}
 use Rattle.moka_hist.specs.declared.writes.Write.{Write}
 use Rattle.moka_hist.specs.declared.writes.Place.{Place}
@@ -43,13 +44,16 @@ module _ {K V : Type 0} where
     pub asked : call.plan ≡ plan.Told load ∷ []
     pub opened : IsSome (s.world.desk.asks n)
 
-  -- a live call that holds a write has a place for it with the desk
-  abbrev pub HoldersHavePlaces : State K V → Type 0
-  HoldersHavePlaces s = (n : ℕ) (c : Call K V) → s.calls n ≡ Some c → IsSome (held_by c.plan) → 0 < times n s.world.desk.holders
+  -- the desk knows each write that a live call holds
+  abbrev pub HeldAreKnown : State K V → Type 0
+  HeldAreKnown s =
+      (n : ℕ) (c : Call K V) (write : Write) → s.calls n ≡ Some c → held_by c.plan ≡ Some write →
+      HoldsWrite s.world.desk n write
 
-  -- What holds in every state of a run: each committed write stands in exactly one place, no other
-  -- write stands anywhere, and no key and kind has two open initializers.
+  -- What holds in every state of a run: no number commits twice, each committed write stands in
+  -- exactly one place, no other write stands anywhere, and no key and kind has two open initializers.
   pub record IsLawful (eq : K → K → Bool) (s : State K V) : Type 0 where
+    pub commits_once : (number : ℕ) → times number s.world.table.committed ≤ 1
     pub one_place : (number : ℕ) → Contains s.world.table.committed number → StandsOnce s number
     pub committed : (number : ℕ) (place : Place) → StandsAt s place number → Contains s.world.table.committed number
     pub one_initializer : (n m : ℕ) (a b : Load K) → Initializes s n a → Initializes s m b → load_eq eq a b ≡ true → n ≡ m

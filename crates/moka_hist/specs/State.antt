@@ -6,6 +6,7 @@ use Rattle.moka_hist.specs.declared.records.Stored.{Stored}
 use Rattle.moka_hist.specs.declared.events.Told.{Told}
 use Rattle.moka_hist.specs.declared.visits.Settled.{Settled}
 use Rattle.moka_hist.specs.declared.visits.Takes.{Takes}
+use Rattle.moka_hist.specs.declared.writes.Holding.{Holding}
 use Rattle.moka_hist.specs.declared.writes.Write.{Write}
 use Rattle.moka_hist.specs.Plan.{Item}
 
@@ -24,10 +25,8 @@ pub record DeskPart (K V : Type 0) : Type 0 where
   pub clock : ℕ
   -- the moment at which a stamp's record was last seen; where there is none, that of its write
   pub accessed : ℕ → Option ℕ
-  -- the moment that a call has taken for a write that it hasn't committed yet
-  pub pending : ℕ → Option ℕ
-  -- each call that holds a write or has a place for one, as often as it has
-  pub holders : List ℕ
+  -- what a call holds: the place of a write of its own, or an owed write that it took up
+  pub holding : ℕ → Option Holding
   -- the writes that dropped calls left, the log, and what was applied, oldest first
   pub owed : List Write
   pub log : List Write
@@ -84,8 +83,7 @@ fresh_desk K V size =
     record {
       clock = 0;
       accessed = λ _. None;
-      pending = λ _. None;
-      holders = [];
+      holding = λ _. None;
       owed = [];
       log = [];
       applied = [];

@@ -1,11 +1,12 @@
 -- One step of a call: one access, and what follows from its answer.
 use Rattle.std.specs.Prelude.{◌<◌, ◌≢◌, suc, zero, ◌≡◌, ℕ, Bool, true, false, List, [], ◌∷◌, Some}
 use Rattle.moka_hist.specs.Finite.{put_at}
-use Rattle.moka_hist.specs.State.{Call, World, State}
+use Rattle.moka_hist.specs.State.{Call, TablePart, World, State}
 use Rattle.moka_hist.specs.Plan.{Item}
 use Rattle.moka_hist.specs.Plan as plan
-use Rattle.moka_hist.specs.Visits.{finds, makes, MayVisit}
-use Rattle.moka_hist.specs.Tables.{table_answer, table_after}
+use Rattle.moka_hist.specs.Visits.{finds, makes}
+use Rattle.moka_hist.specs.Conditions.{MayVisit}
+use Rattle.moka_hist.specs.Tables.{Operates}
 use Rattle.moka_hist.specs.Bound.{times_of, stayed, decided_by, most_undecided}
 use Rattle.moka_hist.specs.Next.{Next, goes, waits}
 use Rattle.moka_hist.specs.Posting.{after_drain, after_post, after_turn, after_apply, after_end}
@@ -112,7 +113,8 @@ module _ {K V : Type 0} where
   Gets eq n w (On_table operation) (got.Table table.Going) new =
       (times_of w.stay n < most_undecided w.table) × (new ≡ record w { stay = stayed w.stay n })
   Gets eq n w (On_table operation) (got.Table (table.Decided answer)) new =
-      (answer ≡ table_answer w.table operation) × (new ≡ record w { table = table_after eq w.table operation; stay = decided_by n })
+      (t : TablePart K V) × Operates eq n w.table operation answer t
+      × (new ≡ record w { table = t; stay = decided_by n })
   Gets eq n w (On_desk made) (got.Desk f) new = (f ≡ finds w.desk made) × (new ≡ record w { desk = makes eq w.desk made })
   Gets eq n w (On_table operation) (got.Desk f) new = ⊥
   Gets eq n w (On_desk made) (got.Table turn) new = ⊥

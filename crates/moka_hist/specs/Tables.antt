@@ -1,5 +1,5 @@
 -- The operations on the table's map.
-use Rattle.std.specs.Prelude.{ℕ, ◌+◌, max, Bool, cond, [], ◌∷◌, ◌++◌, Option, Some, None, is_some}
+use Rattle.std.specs.Prelude.{◌≡◌, ℕ, ◌+◌, max, Bool, cond, [], ◌∷◌, ◌++◌, Option, Some, None, is_some}
 use Rattle.moka_hist.specs.Finite.{put_key}
 use Rattle.moka_hist.specs.State.{TablePart}
 use Rattle.moka_hist.specs.declared.records.Stored.{Stored}
@@ -17,23 +17,27 @@ module _ {K V : Type 0} where
   key_of (op.Get key) = key
   key_of (op.InsertOrModify key stored) = key
 
-  -- either operation answers the pair that the map has at the key before it
-  abbrev pub table_answer : TablePart K V → TableOp K V → TableAnswer K V
-  table_answer t operation = answer_of (t.stored (key_of operation))
-
   -- the map with the pair at its key
   abbrev pub stored_with : (K → K → Bool) → (K → Option (K × Stored V)) → TableOp K V → K → Option (K × Stored V)
   stored_with eq f (op.Get key) = f
   stored_with eq f (op.InsertOrModify key stored) = put_key eq f key (Some (key, stored))
 
-  -- a look changes nothing; a write puts the pair in the place of the one that was there
-  abbrev pub table_after : (K → K → Bool) → TablePart K V → TableOp K V → TablePart K V
-  table_after eq t (op.Get key) = t
-  table_after eq t (op.InsertOrModify key stored) =
+  -- a write of the call of this number puts the pair in the place of the one that was there
+  abbrev pub written : (K → K → Bool) → ℕ → TablePart K V → K → Stored V → TablePart K V
+  written eq n t key stored =
       let keys : ℕ = cond (is_some (t.stored key)) t.keys (t.keys + 1) in
       record {
         stored = put_key eq t.stored key (Some (key, stored));
         keys = keys;
         peak = max t.peak keys;
-        committed = t.committed ++ stored.stamp ∷ [];
+        committed = t.committed ++ n ∷ [];
       }
+
+  -- What an operation of the call of this number answers, and what it leaves. A look answers the
+  -- pair at its key and changes nothing; a write answers the pair that it takes the place of, and is
+  -- committed.
+  abbrev pub Operates : (K → K → Bool) → ℕ → TablePart K V → TableOp K V → TableAnswer K V →
+      TablePart K V → Type 0
+  Operates eq n t (op.Get key) answer new = (answer ≡ answer_of (t.stored key)) × (new ≡ t)
+  Operates eq n t (op.InsertOrModify key stored) answer new =
+      (answer ≡ answer_of (t.stored key)) × (new ≡ written eq n t key stored)

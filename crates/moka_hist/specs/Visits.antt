@@ -1,10 +1,12 @@
 -- The visits of the desk: what each finds, and what it changes.
-use Rattle.std.specs.Prelude.{◌<◌, ℕ, ◌+◌, ◌-◌, ◌==◌, nat_lt, max, Bool, true, false, not, cond, ◌&&◌, List, [], ◌∷◌, ◌++◌, length, take, drop, Option, Some, None, is_some, unwrap_or}
-use Rattle.std.specs.Option.{option_map_or, option_and_then}
+use Rattle.std.specs.Prelude.{ℕ, ◌+◌, ◌-◌, ◌==◌, nat_lt, max, Bool, true, false, not, cond, ◌&&◌, List, [], ◌∷◌, ◌++◌, length, take, drop, Option, Some, None, is_some, unwrap_or}
+use Rattle.std.specs.Option.{option_map, option_map_or, option_and_then}
 use Rattle.std.specs.List.{list_any, count_by}
-use Rattle.moka_hist.specs.Finite.{times, put_at, put_key, load_eq, without_one}
+use Rattle.moka_hist.specs.Finite.{put_at, put_key, load_eq}
 use Rattle.moka_hist.specs.State.{DeskPart}
 use Rattle.moka_hist.specs.declared.loads.Load.{Load}
+use Rattle.moka_hist.specs.declared.writes.Holding.{Holding}
+use Rattle.moka_hist.specs.declared.writes.Holding.TheVariants as holding
 use Rattle.moka_hist.specs.declared.writes.Write.{Write}
 use Rattle.moka_hist.specs.declared.writes.Write.TheVariants.{Upsert}
 use Rattle.moka_hist.specs.declared.visits.Claim.{Claim}
@@ -32,6 +34,26 @@ is_replaced writes stamp = list_any (λ w. option_map_or (λ old. old == stamp) 
 abbrev pub standing : List Write → ℕ
 standing writes = count_by (λ w. not (is_replaced writes (number_of w))) writes
 
+-- the oldest of the writes
+abbrev pub first_of : List Write → Option Write
+first_of [] = None
+first_of (x ∷ xs) = Some x
+
+-- the moment that is pending with what a call holds
+abbrev pub moment_of : Holding → Option ℕ
+moment_of (holding.Own pending) = pending
+moment_of (holding.TookUp write) = None
+
+-- what the call holds once its write is decided: no moment is pending with it any more
+abbrev pub without_moment : Holding → Holding
+without_moment (holding.Own pending) = holding.Own None
+without_moment (holding.TookUp write) = holding.TookUp write
+
+-- what is held once the call has taken this write up, if any
+abbrev pub holding_with : (ℕ → Option Holding) → ℕ → Option Write → ℕ → Option Holding
+holding_with held call None = held
+holding_with held call (Some write) = put_at held call (Some (holding.TookUp write))
+
 -- how a load with this owner stands for a call that comes
 abbrev pub claim_of : Option ℕ → Claim
 claim_of None = claim.Owner
@@ -45,6 +67,10 @@ module _ {K V : Type 0} where
   -- nobody has the turn, or this call has it
   abbrev pub is_free_for : DeskPart K V → ℕ → Bool
   is_free_for w call = option_map_or (λ holder. holder == call) w.turn true
+
+  -- the moment that the call has taken for a write that it hasn't committed yet
+  abbrev pub pending_of : DeskPart K V → ℕ → Option ℕ
+  pending_of w call = option_and_then moment_of (w.holding call)
 
   -- the log takes another write
   abbrev pub has_room : DeskPart K V → Bool
@@ -77,23 +103,26 @@ module _ {K V : Type 0} where
   -- ---- what each visit changes
 
   abbrev pub took_owed : DeskPart K V → ℕ → DeskPart K V
-  took_owed w call = record w {
-    holders = cond (nat_lt 0 (length w.owed)) (call ∷ w.holders) w.holders;
-    owed = drop 1 w.owed;
-  }
+  took_owed w call =
+      record w { holding = holding_with w.holding call (first_of w.owed); owed = drop 1 w.owed }
 
   abbrev pub stamped : DeskPart K V → ℕ → DeskPart K V
-  stamped w call = record w { pending = put_at w.pending call (Some w.clock); holders = call ∷ w.holders }
+  stamped w call =
+      record w { holding = put_at w.holding call (Some (holding.Own (Some w.clock))) }
 
   abbrev pub decided : DeskPart K V → ℕ → DeskPart K V
-  decided w call = record w { pending = put_at w.pending call None }
+  decided w call =
+      record w { holding = put_at w.holding call (option_map without_moment (w.holding call)) }
 
   abbrev pub judged : DeskPart K V → ℕ → ℕ → DeskPart K V
   judged w stamp modified = record w { accessed = put_at w.accessed stamp (Some (max (access_of w stamp modified) w.clock)) }
 
+  -- where the log has room the call holds the write no longer. The visit that posts is the first
+  -- after the write, so the pending moment ends too
   abbrev pub posted : DeskPart K V → ℕ → Write → DeskPart K V
   posted w call write = record w {
-    holders = cond (has_room w) (without_one call w.holders) w.holders;
+    holding = put_at w.holding call
+        (cond (has_room w) None (option_map without_moment (w.holding call)));
     log = cond (has_room w) (w.log ++ write ∷ []) w.log;
   }
 
@@ -145,11 +174,7 @@ module _ {K V : Type 0} where
   -- what it finds
   abbrev pub finds : DeskPart K V → Visit K V → Found V
   finds w (visit.Clock call) = found.Clock w.clock
-  finds w (visit.TakeOwed call) = found.TakeOwed (first w.owed)
-    where
-      first : List Write → Option Write
-      first [] = None
-      first (x ∷ xs) = Some x
+  finds w (visit.TakeOwed call) = found.TakeOwed (first_of w.owed)
   finds w (visit.StampMoment call) = found.StampMoment w.clock
   finds w (visit.Judge key stored) = found.Judge true
   finds w (visit.WaitOrOwn call key kind) = found.WaitOrOwn (claim_of (w.owners (record { key = key; kind = kind })))
@@ -162,7 +187,7 @@ module _ {K V : Type 0} where
   finds w (visit.ApplyOne call) = found.ApplyOne (nat_lt 0 (length w.log))
   finds w (visit.EndTurn call) = found.EndTurn
 
-  -- what it changes. The visit that posts is the first after the write, so it ends the pending moment too
+  -- what it changes
   abbrev pub makes : (K → K → Bool) → DeskPart K V → Visit K V → DeskPart K V
   makes eq w (visit.Clock call) = w
   makes eq w (visit.TakeOwed call) = took_owed w call
@@ -174,12 +199,7 @@ module _ {K V : Type 0} where
   makes eq w (visit.Settle call with) = settled_as w call with
   makes eq w (visit.OpenAsk call takes) = opened w call takes
   makes eq w (visit.TakeTold call) = took_told w call
-  makes eq w (visit.PostWrite call write) = decided (posted w call write) call
+  makes eq w (visit.PostWrite call write) = posted w call write
   makes eq w (visit.TakeTurn call) = took_turn w call
   makes eq w (visit.ApplyOne call) = applied_one w
   makes eq w (visit.EndTurn call) = ended_turn w
-
-  -- what the desk must have for it: the place of a write that is posted
-  abbrev pub MayVisit : DeskPart K V → Visit K V → Type 0
-  MayVisit w (visit.PostWrite call write) = 0 < times call w.holders
-  MayVisit w _ = Unit {0}

@@ -1,4 +1,5 @@
-//! The plain types of the cache, and the reference cache that all contracts speak of.
+//! The reference cache, after whose history (`hist`) the crate is named: the plain types of the cache,
+//! and the definitions that all contracts speak of.
 //!
 //! The definitions stand in `specs/`: the state by layer (`State`), what a call has still to do
 //! (`Plan`), the visits of the desk (`Visits`), one step (`Step`), runs on events (`Run`), and what
@@ -27,4 +28,4 @@ pub use replies::{Answer, Ask, Refusal, Reply};
 pub use rules::{Cause, Rules, Times, later};
 pub use tables::{TableAnswer, TableOp, TableTurn};
 pub use visits::{Claim, Found, Settled, Takes, Visit};
-pub use writes::{Place, Write};
+pub use writes::{Holding, Place, Write};

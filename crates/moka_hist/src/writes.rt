@@ -6,6 +6,15 @@ pub enum Write {
     Upsert { number: u64, old: Option<u64> },
 }
 
+/// What a call holds of writes: the place of a write of its own number, with the moment that it
+/// took for it as long as that write isn't decided; or an owed write that it took up. A moment is
+/// in nanoseconds.
+#[derive(Clone, Copy, PartialEq, Eq, Debug)]
+pub enum Holding {
+    Own { pending: Option<u64> },
+    TookUp { write: Write },
+}
+
 /// Where a committed write stands: with the call that made it or took it up; left by a dropped
 /// call; in the write log; or applied by maintenance.
 #[derive(Clone, Copy, PartialEq, Eq, Debug)]

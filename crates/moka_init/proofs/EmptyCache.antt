@@ -1,14 +1,15 @@
 -- Looks on an empty cache.
-use Rattle.std.proofs.Common.{◌≡◌, ℕ, zero, suc, ◌+◌, ◌≤◌, ◌==◌, Bool, true, false, cond, arith, List, [], ◌∷◌, drop, Option, Some, None, IfOk, refl, sym, ap, subst, ◌∙◌, ◌⊎◌, inl, inr}
+use Rattle.std.proofs.Common.{◌≡◌, ℕ, zero, suc, ◌+◌, ◌≤◌, ◌==◌, Bool, true, false, cond, arith, List, [], ◌∷◌, ◌++◌, map, drop, Option, Some, None, is_some, IfOk, OnOk, refl, sym, ap, subst, ◌∙◌, ◌⊎◌, inl, inr}
 use Rattle.std.specs.Option.{option_map}
+use Rattle.std.proofs.lemmas.List.{map-append}
 use Rattle.std.specs.declared.result.Result as result
 use Rattle.std.specs.declared.result.Result.TheVariants as results
-use Rattle.moka_hist.specs.Bound.{stayed, times_of}
+use Rattle.moka_hist.specs.Bound.{stayed, times_of, decided_by}
 use Rattle.moka_hist.specs.State.{Call, World}
 use Rattle.moka_hist.specs.Plan.{Item}
 use Rattle.moka_hist.specs.Plan as plan
 use Rattle.moka_hist.specs.Step.{Access, Gets, May, Moves, MovesOn, IsSafe, On_desk, On_table, access_of, next_of, going_as}
-use Rattle.moka_hist.specs.Visits.{finds, makes}
+use Rattle.moka_hist.specs.Visits.{finds, makes, holding_with, first_of}
 use Rattle.moka_hist.specs.Tables.{answer_of}
 use Rattle.moka_hist.specs.Run.{fresh_call}
 use Rattle.moka_hist.specs.declared.events.Start.TheVariants as start
@@ -24,11 +25,16 @@ use Rattle.moka_hist.specs.declared.tables.TableTurn.TheVariants as table
 use Rattle.moka_hist.specs.declared.tables.TableAnswer.TheVariants as answer
 use Rattle.moka_hist.specs.declared.accesses.Got.{Got}
 use Rattle.moka_hist.specs.declared.accesses.Got.TheVariants as got
-use Rattle.moka_init.specs.EmptyCache.{IsBare}
+use Rattle.moka_hist.specs.declared.accesses.Want.{Want}
+use Rattle.moka_hist.specs.declared.writes.Write.{Write}
+use Rattle.moka_hist.specs.declared.accesses.Want.TheVariants as want
+use Rattle.moka_init.specs.Grounds.{Accesses, wanted}
+use Rattle.moka_init.specs.EmptyCache.{IsBare, BareGives, BareServes, bare_account, noted}
 
--- nothing is stored, and no write is owed
+-- nothing is stored, and no write is owed or held
 record IsEmpty {K V : Type 0} (w : World K V) : Type 0 where
   owed : w.desk.owed ≡ []
+  holding : (n : ℕ) → w.desk.holding n ≡ None
   stored : (q : K) → w.table.stored q ≡ None
 
 module _ {K V : Type 0} where
@@ -46,30 +52,77 @@ module _ {K V : Type 0} where
     owed = bare.owed;
     log = bare.log;
     size = bare.size;
+    holding = bare.holding;
     stored = bare.stored;
     patient = omega (arith, bare.patient, times_less w n);
   }
 
-module _ {K V : Type 0} where
-  pub one_operation : (a b : TableOp K V) → Some a ≡ Some b → a ≡ b
-  one_operation a b e = cc
+module _ {K V : Type 0} (eq : K → K → Bool) where
+  -- a look that decides finds nothing
+  pub looked_bare : (left : ℕ) (key : K) → BareGives {V = V} eq left (On_table (op.Get key)) (got.Table (table.Decided answer.None)) left
+  looked_bare left key = λ n w bare. (
+    record w { stay = decided_by n },
+    (w.table, (ap answer_of (sym (bare.stored key)), refl), refl),
+    record {
+      owed = bare.owed;
+      holding = bare.holding;
+      log = bare.log;
+      size = bare.size;
+      stored = bare.stored;
+      patient = omega (arith, bare.patient);
+    },
+  )
 
+  -- nothing is found owed
+  pub owes_bare : (left n : ℕ) → BareGives {K = K} {V = V} eq left (On_desk (visit.TakeOwed n)) (got.Desk (found.TakeOwed None)) left
+  owes_bare left n = λ m w bare.
+      let owed : List Write → World K V = λ l. record w { desk = record w.desk { owed = l } } in (
+        record w { desk = makes eq w.desk (visit.TakeOwed n) },
+        (ap (λ l. finds (owed l).desk (visit.TakeOwed n)) (sym bare.owed), refl),
+        record {
+          owed = ap (λ l. drop 1 l) bare.owed;
+          holding = λ k. ap (λ l. holding_with w.desk.holding n (first_of l) k) bare.owed ∙ bare.holding k;
+          log = bare.log;
+          size = bare.size;
+          stored = bare.stored;
+          patient = bare.patient;
+        },
+      )
+
+module _ {K V : Type 0} where
+  -- what was served is told
+  pub serves_tell : (eq : K → K → Bool) (call call_now : ℕ) (begun begun_now : Option (TableOp K V)) (old new : List (Want K V × Got K V)) (left left_now : ℕ)
+      (access : Access K V) (wish : Want K V) (given : Got K V) → call_now ≡ call → BareServes eq old left access wish given begun_now new left_now
+      → Accesses (bare_account call begun old left) access given (bare_account call_now begun_now new left_now)
+  serves_tell eq call call_now begun begun_now old new left left_now access wish given same s =
+      record {
+        form = s.form;
+        call = same;
+        begun = s.begins;
+        tells = λ before e.
+            let is : map noted old ≡ before = cc in
+            ap (λ l. Some (map noted l)) s.notes
+            ∙ ap (λ l. Some l) (map-append noted old ((wish, given) ∷ []) ∙ ap (λ x. map noted old ++ x ∷ []) s.is_noted ∙ ap (λ l. l ++ (access, given) ∷ []) is);
+        shortens = s.shortens;
+      }
+
+module _ {K V : Type 0} where
   pub one_access : (a b : Access K V) → Some a ≡ Some b → a ≡ b
   one_access a b e = cc
 
-  -- what holds of the operation that was begun holds of the access that is wanted further
-  pub of_begun : (begun : Option (TableOp K V)) (Q : Access K V → Type 0) → ((o : TableOp K V) → begun ≡ Some o → Q (On_table o)) →
-      (a : Access K V) → option_map On_table begun ≡ Some a → Q a
-  of_begun None Q h a e = absurd (no_access a e)
+  -- what is wanted further is the operation that was begun
+  pub wanted_table : (begun : Option (TableOp K V)) (wish : Want K V) (access : Access K V) → wish ≡ want.Table → wanted begun wish ≡ Some access
+      → (o : TableOp K V) × (begun ≡ Some o) × (On_table o ≡ access)
+  wanted_table begun wish access is e = by begun (subst (λ (v : Want K V). wanted begun v ≡ Some access) is e)
     where
-      no_access : (a : Access K V) → ¬ (None ≡ Some a)
-      no_access a e = cc
-  of_begun (Some o) Q h a e = subst Q (one_access (On_table o) a e) (h o refl)
+      by : (b : Option (TableOp K V)) → wanted b want.Table ≡ Some access → (o : TableOp K V) × (b ≡ Some o) × (On_table o ≡ access)
+      by None e = absurd (cc)
+      by (Some o) e = (o, refl, one_access _ _ e)
 
--- what follows of an answer follows of one that there may be
-pub if_ok : {A B : Type 0} (r : result.Result A B) (P Q : A → Type 0) → ((a : A) → P a → Q a) → IfOk r P → IfOk r Q
-if_ok (results.Ok a) P Q f h = f a h
-if_ok (results.Err e) P Q f h = tt
+-- what follows of an answer, where there is one
+pub on_ok_of : {A E : Type 0} (r : result.Result A E) (P : A → Type 0) (Q : Type 0) → ((a : A) → P a → Q) → IfOk r P → OnOk r Q
+on_ok_of (results.Ok a) P Q f h = f a h
+on_ok_of (results.Err e) P Q f h = tt
 
 module _ {K V : Type 0} (eq : K → K → Bool) where
   -- no write is found owed
@@ -78,7 +131,11 @@ module _ {K V : Type 0} (eq : K → K → Bool) where
 
   -- none is owed after
   still_bare : (w : World K V) (n : ℕ) → IsEmpty w → IsEmpty (record w { desk = makes eq w.desk (visit.TakeOwed n) })
-  still_bare w n bare = record { owed = ap (λ l. drop 1 l) bare.owed; stored = bare.stored }
+  still_bare w n bare = record {
+    owed = ap (λ l. drop 1 l) bare.owed;
+    holding = λ k. ap (λ l. holding_with w.desk.holding n (first_of l) k) bare.owed ∙ bare.holding k;
+    stored = bare.stored;
+  }
 
   -- a get that has not answered yet, on an empty cache
   abbrev Looks : Call K V → Type 0
@@ -111,9 +168,9 @@ module _ {K V : Type 0} (eq : K → K → Bool) where
   looked n key m aborts mid new d (got.Desk f) bare gets goes = absurd gets
   looked n key m aborts mid new d (got.Table table.Going) bare gets goes =
       let left : Some d ≡ Some (record { mode = mode.Mid; plan = plan.Get plan.To_answer key ∷ []; aborts = aborts }) = ap (λ x. x.left) goes in
-      (subst (λ (w : World K V). IsEmpty w) (sym gets.1) (record { owed = bare.owed; stored = bare.stored }), inr (key, ap (λ x. x.plan) (some_same d _ left)))
+      (subst (λ (w : World K V). IsEmpty w) (sym gets.1) (record { owed = bare.owed; holding = bare.holding; stored = bare.stored }), inr (key, ap (λ x. x.plan) (some_same d _ left)))
   looked n key m aborts mid new d (got.Table (table.Decided a)) bare gets goes =
-      let is : a ≡ answer.None = gets.0 ∙ ap (λ o. answer_of o) (bare.stored key) in
+      let is : a ≡ answer.None = gets.1.0 ∙ ap (λ o. answer_of o) (bare.stored key) in
       let c : Call K V = record { mode = m; plan = plan.Get plan.To_answer key ∷ []; aborts = aborts } in
       let next : going_as d ≡ next_of n c (got.Table (table.Decided answer.None)) = goes ∙ ap (λ (x : TableAnswer K V). next_of n c (got.Table (table.Decided x))) is in
       let left : Some d ≡ None = ap (λ x. x.left) next in
@@ -143,11 +200,13 @@ module _ {K V : Type 0} (eq : K → K → Bool) where
       let so_far = looks_on k n c w on.0 on.1 bare looks on.2 in
       looks_more n on.0 on.1 mid d so_far.0 so_far.1 on.3
 
-  may_look : (n : ℕ) (d : Call K V) (mid : World K V) → Looks d → May mid (access_of n d)
-  may_look n d mid (inl at) = subst (λ (p : List (Item K V)). May mid (access_of n (record d { plan = p }))) (sym at.1) tt
-  may_look n d mid (inr at) = subst (λ (p : List (Item K V)). May mid (access_of n (record d { plan = p }))) (sym at.1) tt
+  may_look : (n : ℕ) (d : Call K V) (mid : World K V) → IsEmpty mid → Looks d → May mid (access_of n d)
+  may_look n d mid bare (inl at) =
+      subst (λ (p : List (Item K V)). May mid (access_of n (record d { plan = p }))) (sym at.1) (ap (λ o. is_some o) (bare.holding n))
+  may_look n d mid bare (inr at) = subst (λ (p : List (Item K V)). May mid (access_of n (record d { plan = p }))) (sym at.1) tt
 
   -- an empty cache has what each step of a get needs
   pub get_is_safe : (left n : ℕ) (key : K) (c : Call K V) (w : World K V) → c ≡ fresh_call (start.Get key) → IsBare left w → IsSafe eq n c w
   get_is_safe left n key c w is bare = λ k d mid on.
-      may_look n d mid (looks_on k n c w d mid (record { owed = bare.owed; stored = bare.stored }) (inl (key, ap (λ x. x.plan) is)) on).1
+      let on_to = looks_on k n c w d mid (record { owed = bare.owed; holding = bare.holding; stored = bare.stored }) (inl (key, ap (λ x. x.plan) is)) on in
+      may_look n d mid on_to.0 on_to.1

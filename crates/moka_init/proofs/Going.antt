@@ -1,13 +1,30 @@
 -- Steps of a call by itself, one after the other.
-use Rattle.std.proofs.Common.{◌≡◌, ◌≢◌, ℕ, zero, suc, ◌<◌, Bool, ◌+◌, refl, sym, ap, ◌∙◌, subst, add-one}
+use Rattle.std.proofs.Common.{◌≡◌, ◌≢◌, ℕ, zero, suc, ◌<◌, Bool, Option, MatchOption, ◌+◌, refl, sym, ap, ◌∙◌, subst, add-one}
 use Rattle.moka_hist.specs.State.{Call, World}
-use Rattle.moka_hist.specs.Step.{Moves, MovesOn, Polled, IsSafe, May, access_of, going_as}
+use Rattle.moka_hist.specs.Step.{Access, Moves, MovesOn, Polled, IsSafe, May, access_of, going_as}
 use Rattle.moka_hist.specs.declared.accesses.Turn.{Turn}
 use Rattle.moka_hist.specs.declared.accesses.Turn.TheVariants as turn
 use Rattle.moka_bound.proofs.Size.{access_size}
 use Rattle.moka_init.specs.declared.flow.Flow.{Flow}
-use Rattle.moka_init.specs.FlowPlan.{call_of, next_in}
-use Rattle.moka_init.specs.Grounds.{access_at}
+use Rattle.moka_hist.specs.declared.accesses.Want.{Want}
+use Rattle.moka_hist.specs.declared.tables.TableOp.{TableOp}
+use Rattle.moka_init.specs.FlowPlan.{call_of, next_in, IsLive, Leaves}
+use Rattle.moka_init.specs.Grounds.{Account, IsOn, HasBegun, MayWant, access_at, wish_of}
+
+module _ {K V : Type 0} where
+  -- a flow that goes on is live
+  pub live_going : (t : Turn V) (flow : Flow K V) → t ≡ turn.Going → Leaves t flow → IsLive flow
+  live_going t flow going leaves = subst (λ (u : Turn V). Leaves u flow) going leaves
+
+  -- what the flow wants is allowed in a world that has what its step needs
+  pub may_want : (begun : Option (TableOp K V)) (flow : Flow K V) (w : World K V) → HasBegun begun flow → May w (access_at flow) → MayWant w begun (wish_of flow)
+  may_want begun flow w on may = subst (λ (o : Option (Access K V)). MatchOption o ⊥ (λ access. May w access)) (sym on) may
+
+-- What a flow wants fits its ground, where that stands for a world that has what the step needs.
+pub may_fit : {K V G : Type 0} (account : G → Account K V) (stands : G → World K V → Type 0) (fits : G → Want K V → Type 0)
+    → ((g : G) (w : World K V) (wish : Want K V) → stands g w → MayWant w (account g).begun wish → fits g wish)
+    → (g : G) (flow : Flow K V) (w : World K V) → IsOn (account g) flow → stands g w → May w (access_at flow) → fits g (wish_of flow)
+may_fit account stands fits allows g flow w on h may = allows g w (wish_of flow) h (may_want (account g).begun flow w on.begun may)
 
 module _ {K V : Type 0} (eq : K → K → Bool) where
   pub moves_none : (n : ℕ) (c : Call K V) (w : World K V) → MovesOn eq 0 n c w c w

@@ -3,3 +3,4 @@ pub mod Going
 pub mod Told
 pub mod EmptyCache
 pub mod Near
+pub mod Fitting

@@ -9,7 +9,7 @@ use Rattle.moka_hist.specs.declared.accesses.Turn.{Turn}
 use Rattle.moka_hist.specs.declared.accesses.Turn.TheVariants as turn
 use Rattle.moka_init.specs.declared.flow.Flow.{Flow}
 use Rattle.moka_init.specs.FlowPlan.{call_of, next_in}
-use Rattle.moka_init.specs.Telling.{Made, TellsSteps, TellsPoll}
+use Rattle.moka_init.specs.Telling.{Made, TellsStep, TellsSteps, TellsPoll}
 
 module _ {K V : Type 0} where
   -- a call that goes on to d goes on by one more access
@@ -21,11 +21,6 @@ module _ {K V : Type 0} where
       (e, same, on, refl)
   leads_more n c (made ∷ more) d given e leads goes =
       (leads.0, leads.1, leads.2, leads_more n leads.0 more d given e leads.3 goes)
-
-  -- what one step tells beside what was told before
-  abbrev pub TellsStep : (n : ℕ) (c : Call K V) (next : Next K V) (before : List (Made K V)) (after : Option (List (Made K V))) → Type 0
-  TellsStep n c next before after =
-      (given : Got K V) × (next ≡ next_of n c given) × (after ≡ Some (before ++ (access_of n c, given) ∷ []))
 
   -- no step tells nothing
   pub told_none : (n : ℕ) (c : Call K V) (before : List (Made K V)) (after : Option (List (Made K V)))

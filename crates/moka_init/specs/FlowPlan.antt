@@ -1,8 +1,10 @@
 -- What a flow stands for: the call of the reference cache, with its plan.
 use Rattle.std.specs.Prelude.{◌≡◌, Bool, true, false, cond, List, [], ◌∷◌, Option, Some, None}
 use Rattle.moka_hist.specs.State.{Call}
-use Rattle.moka_hist.specs.Plan.{Item, Aim}
+use Rattle.moka_hist.specs.Plan.{Item, Aim, held_by}
 use Rattle.moka_hist.specs.Next.{Next}
+use Rattle.moka_hist.specs.Step.{going_as}
+use Rattle.moka_hist.specs.declared.records.Mode.TheVariants as mode
 use Rattle.moka_hist.specs.Plan as plan
 use Rattle.moka_hist.specs.declared.replies.Answer.TheVariants as answer
 use Rattle.moka_hist.specs.declared.visits.Settled.TheVariants as settled
@@ -77,6 +79,10 @@ module _ {K V : Type 0} where
   abbrev pub standing : Flow K V → List (Item K V) → Call K V
   standing flow items = record { mode = flow.mode; plan = items; aborts = flow.aborts }
 
+  -- it goes on with this plan
+  abbrev pub mid : Flow K V → List (Item K V) → Next K V
+  mid flow items = going_as (record { mode = mode.Mid; plan = items; aborts = flow.aborts })
+
   -- the call that a turn leaves in the flow
   abbrev pub left_in : Turn V → Flow K V → Option (Call K V)
   left_in turn.Going flow = Some (call_of flow)
@@ -93,7 +99,30 @@ module _ {K V : Type 0} where
   is_begun (got.Table (table.Decided answer)) = false
   is_begun (got.Desk found) = false
 
-  -- the flow is still of its call, and where its table operation is
-  pub record Keeps (old new : Flow K V) : Type 0 where
+  -- nothing is left to do
+  abbrev pub is_over : List (Item K V) → Bool
+  is_over [] = true
+  is_over (item ∷ rest) = false
+
+  -- the call has not answered: something is left for it to do
+  abbrev pub IsLive : Flow K V → Type 0
+  IsLive flow = is_over (plan_at flow.point) ≡ false
+
+  -- nothing is left of an answered call: nothing to do, and no write that it holds
+  pub record IsOver (flow : Flow K V) : Type 0 where
+    pub plan : (call_of flow).plan ≡ []
+    pub holds : held_by (call_of flow).plan ≡ None
+
+  -- what a turn leaves of its call: nothing, once it has answered
+  abbrev pub Leaves : Turn V → Flow K V → Type 0
+  Leaves turn.Going flow = IsLive flow
+  Leaves turn.Wait flow = IsLive flow
+  Leaves (turn.Ask ask) flow = IsLive flow
+  Leaves (turn.Answer answer) flow = IsOver flow
+
+  -- the flow goes on so: its turn and the call that is left are these, of the same number, and where its operation is stays
+  pub record GoesOn (old : Flow K V) (on : Next K V) (turn : Turn V) (new : Flow K V) : Type 0 where
+    pub next : next_in turn new ≡ on
+    pub leaves : Leaves turn new
     pub number : new.call ≡ old.call
     pub begun : new.begun ≡ old.begun

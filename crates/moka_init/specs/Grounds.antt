@@ -1,8 +1,7 @@
 -- What a flow stands on.
-use Rattle.std.specs.Prelude.{◌≡◌, List, Option, Some, None, MatchOption}
-use Rattle.std.specs.Option.{option_map}
+use Rattle.std.specs.Prelude.{◌≡◌, ℕ, Bool, List, [], ◌∷◌, ◌++◌, Option, Some, None, MatchOption}
 use Rattle.moka_hist.specs.State.{World}
-use Rattle.moka_hist.specs.Step.{Access, access_of, want_for, May}
+use Rattle.moka_hist.specs.Step.{Access, Gets, access_of, want_for, May}
 use Rattle.moka_hist.specs.Step as step
 use Rattle.moka_hist.specs.declared.tables.TableOp.{TableOp}
 use Rattle.moka_hist.specs.declared.visits.Visit.{Visit}
@@ -12,19 +11,37 @@ use Rattle.moka_hist.specs.declared.accesses.Want.{Want}
 use Rattle.moka_hist.specs.declared.accesses.Want.TheVariants as want
 use Rattle.moka_hist.specs.declared.accesses.Got.{Got}
 use Rattle.moka_hist.specs.declared.accesses.Got.TheVariants as got
+use Rattle.moka_bound.specs.Ahead.{Work}
+use Rattle.moka_bound.specs.Falling.{Shortens}
 use Rattle.moka_init.specs.FlowPlan.{call_of}
+use Rattle.moka_init.specs.Forms.{HasForm}
 use Rattle.moka_init.specs.declared.flow.Flow.{Flow}
 
 -- what a ground has told that keeps no list of the accesses that were made
 abbrev pub nothing_told : (K V : Type 0) → Option (List (Access K V × Got K V))
 nothing_told K V = None
 
+-- What a ground tells of itself.
+pub record Account (K V : Type 0) : Type 0 where
+  -- the number of the call whose ground it is
+  pub call : ℕ
+  -- the table operation that the call has begun there and that has not decided
+  pub begun : Option (TableOp K V)
+  -- the accesses that were made there with what they gave, where it can tell them
+  pub made : Option (List (Access K V × Got K V))
+  -- What the length of the call's way depends on there: how many writes are owed and logged, and for how many steps its
+  -- table operation may stay undecided.
+  pub work : Work
+
 module _ {K V : Type 0} where
-  -- the access that is wanted, where this operation was begun
+  -- The access that is wanted, where this operation was begun: nothing else is, until it has decided.
   abbrev pub wanted : Option (TableOp K V) → Want K V → Option (Access K V)
-  wanted begun (want.Begin operation) = Some (step.On_table operation)
-  wanted begun want.Table = option_map step.On_table begun
-  wanted begun (want.Desk made) = Some (step.On_desk made)
+  wanted None (want.Begin operation) = Some (step.On_table operation)
+  wanted None (want.Desk made) = Some (step.On_desk made)
+  wanted None want.Table = None
+  wanted (Some begun) want.Table = Some (step.On_table begun)
+  wanted (Some begun) (want.Begin operation) = None
+  wanted (Some begun) (want.Desk made) = None
 
   -- memory may be wanting for such a visit
   abbrev pub VisitNeedsMemory : Visit K V → Type 0
@@ -71,6 +88,38 @@ module _ {K V : Type 0} where
   abbrev pub wish_of : Flow K V → Want K V
   wish_of flow = want_for flow.begun (access_at flow)
 
-  -- where the flow has begun its operation, it is the one that is begun there
-  abbrev pub IsOn : Option (TableOp K V) → Flow K V → Type 0
-  IsOn begun flow = wanted begun (wish_of flow) ≡ Some (access_at flow)
+  -- where the flow has begun its operation, it is the one that is begun there, and else none is
+  abbrev pub HasBegun : Option (TableOp K V) → Flow K V → Type 0
+  HasBegun begun flow = wanted begun (wish_of flow) ≡ Some (access_at flow)
+
+  -- a ground that tells this is that of the flow
+  pub record IsOn (account : Account K V) (flow : Flow K V) : Type 0 where
+    pub call : account.call ≡ flow.call
+    pub begun : HasBegun account.begun flow
+
+  -- The access gave this, in each world that the ground stood for and that allows it, and the ground stands for the world then.
+  abbrev pub Gives : (K → K → Bool) → ℕ → (World K V → Type 0) → Access K V → Got K V → (World K V → Type 0) → Type 0
+  Gives eq call stood access given stands =
+      (w : World K V) → stood w → May w access → (new : World K V) × Gets eq call w access given new × stands new
+
+  -- the access is told with what it gave, after what was told before, and nothing else is
+  abbrev pub Tells : Option (List (Access K V × Got K V)) → Access K V → Got K V → Option (List (Access K V × Got K V)) → Type 0
+  Tells old access given new =
+      (before : List (Access K V × Got K V)) → old ≡ Some before → new ≡ Some (before ++ (access, given) ∷ [])
+
+  -- What a ground tells after the access gave this.
+  pub record Accesses (old : Account K V) (access : Access K V) (given : Got K V) (new : Account K V) : Type 0 where
+    -- the answer is of the form that belongs to the access
+    pub form : HasForm access given
+    -- it is the ground of the same call
+    pub call : new.call ≡ old.call
+    -- an operation is begun there as long as it has not decided
+    pub begun : new.begun ≡ still_begun access given
+    -- exactly this access is told
+    pub tells : Tells old.made access given new.made
+    -- an undecided step is followed by fewer
+    pub shortens : Shortens old.work new.work access given
+
+  -- it holds of the access that is wanted
+  abbrev pub OfWanted : Account K V → Want K V → (Access K V → Type 0) → Type 0
+  OfWanted old wish P = (access : Access K V) → wanted old.begun wish ≡ Some access → P access

@@ -1,4 +1,6 @@
 pub mod FlowPlan
+pub mod Forms
 pub mod Grounds
 pub mod Telling
+pub mod Steps
 pub mod EmptyCache

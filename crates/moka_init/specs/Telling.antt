@@ -10,6 +10,11 @@ abbrev pub Made : (K V : Type 0) → Type 0
 Made K V = Access K V × Got K V
 
 module _ {K V : Type 0} where
+  -- beside what was told before, the one access of a step, from whose answer the turn and the call that is left follow
+  abbrev pub TellsStep : ℕ → Call K V → Next K V → List (Made K V) → Option (List (Made K V)) → Type 0
+  TellsStep n c next before after =
+      (given : Got K V) × (next ≡ next_of n c given) × (after ≡ Some (before ++ (access_of n c, given) ∷ []))
+
   -- beside what was told before, the accesses of k steps by which the call goes on from c to d
   pub record TellsSteps (k n : ℕ) (c d : Call K V) (before : List (Made K V)) (after : Option (List (Made K V))) : Type 0 where
     -- the accesses of the steps, in order

@@ -1,5 +1,5 @@
 //! A call as a state.
-ghost use Rattle.std.specs.Prelude.{◌≡◌, ◌<◌, Some, None, false};
+ghost use Rattle.std.specs.Prelude.{◌≡◌, ◌<◌, false};
 
 use crate::points::Point;
 use moka_hist::{Mode, Start, Write};
@@ -20,13 +20,14 @@ pub struct Flow<K, V> {
 impl<K, V> Flow<K, V> {
     ghost use Rattle.moka_hist.specs.Plan.{held_by};
     ghost use Rattle.moka_hist.specs.Run.{fresh_call};
-    ghost use Rattle.moka_init.specs.FlowPlan.{call_of};
+    ghost use Rattle.moka_init.specs.FlowPlan.{call_of, is_over, IsLive};
 
     /// The fresh flow of a start, under this number. It takes no memory.
     pub fn new(start: Start<K, V>, call: u64) -> Self
         ensures call { call_of result ≡ fresh_call start }
         ensures number { result.call ≡ call }
         ensures begun { result.begun ≡ false }
+        ensures live { IsLive result }
     {
         Flow {
             call,
@@ -42,6 +43,16 @@ impl<K, V> Flow<K, V> {
         ensures { result ≡ (call_of self.now).mode }
     {
         self.mode
+    }
+
+    /// Whether the call has answered: nothing is left for it to do.
+    pub fn has_answered(&self) -> bool
+        ensures { result ≡ is_over (call_of self.now).plan }
+    {
+        match &self.point {
+            Point::Spent => true,
+            _ => false,
+        }
     }
 
     /// The write that the call holds.

@@ -1,6 +1,9 @@
 //! What no clause says: how whole calls read, access by access, and that each step succeeds with
 //! ample memory.
 
+ghost use Rattle.std.specs.Bool.{OnTrue};
+ghost use Rattle.moka_init.specs.Forms.{FitsWant, IsFoundBy};
+
 use crate::{Flow, Got, Turn, Want};
 use moka_hist::{
     Answer, Claim, Found, Settled, Start, Stored, TableAnswer, TableOp, TableTurn, Told, Visit,
@@ -28,6 +31,14 @@ fn found() -> TableAnswer<u32, u32> {
 
 fn decided(answer: TableAnswer<u32, u32>) -> Got<u32, u32> {
     Got::Table(TableTurn::Decided(answer))
+}
+
+fn waits() -> Got<u32, u32> {
+    Got::Desk(Found::WaitOrOwn(Claim::Waits { owner: 2 }))
+}
+
+fn aborted() -> Got<u32, u32> {
+    Got::Desk(Found::ReadSettled(Settled::Aborted))
 }
 
 fn undecided() -> Got<u32, u32> {
@@ -81,11 +92,49 @@ fn answer_name(answer: &Answer<u32>) -> &'static str {
     }
 }
 
+// Whether the answer is of the form that belongs to what was wanted.
+fn does_fit(want: &Want<u32, u32>, given: &Got<u32, u32>) -> bool
+    ensures { OnTrue result (FitsWant want.now given.now) }
+{
+    match want {
+        Want::Begin(_) => matches!(given, Got::Table(_)),
+        Want::Table => matches!(given, Got::Table(_)),
+        Want::Desk(visit) => match given {
+            Got::Table(_) => false,
+            Got::Desk(found) => is_found_by(visit, found),
+        },
+    }
+}
+
+fn is_found_by(visit: &Visit<u32, u32>, found: &Found<u32>) -> bool
+    ensures { OnTrue result (IsFoundBy visit.now found.now) }
+{
+    match visit {
+        Visit::Clock { .. } => matches!(found, Found::Clock(_)),
+        Visit::TakeOwed { .. } => matches!(found, Found::TakeOwed(_)),
+        Visit::StampMoment { .. } => matches!(found, Found::StampMoment(_)),
+        Visit::Judge { .. } => matches!(found, Found::Judge(_)),
+        Visit::WaitOrOwn { .. } => matches!(found, Found::WaitOrOwn(_)),
+        Visit::ReadSettled { .. } => matches!(found, Found::ReadSettled(_)),
+        Visit::Settle { .. } => matches!(found, Found::Settle),
+        Visit::OpenAsk { .. } => matches!(found, Found::OpenAsk),
+        Visit::TakeTold { .. } => matches!(found, Found::TakeTold(_)),
+        Visit::PostWrite { .. } => matches!(found, Found::PostWrite(_)),
+        Visit::TakeTurn { .. } => matches!(found, Found::TakeTurn(_)),
+        Visit::ApplyOne { .. } => matches!(found, Found::ApplyOne(_)),
+        Visit::EndTurn { .. } => matches!(found, Found::EndTurn),
+    }
+}
+
 // One step of the flow: the access that it wants, what that gives, and the turn then.
 fn goes(rt: &impl Abort, flow: &mut Flow<u32, u32>, row: Row) -> Result<(), Fail> {
     let (access, given, turn) = row;
+    let live = !flow.has_answered();
+    assert!(rt; live, "before {access}");
     let want = flow.want()?;
     assert_eq!(rt; want_name(&want), access);
+    let fits = does_fit(&want, &given);
+    assert!(rt; fits, "at {access}");
     let left = flow.take(given);
     assert_eq!(rt; turn_name(&left), turn, "after {access}");
     Ok(())
@@ -209,16 +258,20 @@ fn a_waiter_owns_after_an_abort_and_settles_what_it_finds(rt: HostRuntime) -> Re
 
 #[test]
 fn a_load_gives_up_at_the_200th_dropped_owner(rt: HostRuntime) -> Result<(), Fail> {
-    let mut flow: Flow<u32, u32> = Flow::new(Start::GetWith { key: KEY }, 7);
-    let _ = flow.take(Got::Desk(Found::TakeOwed(None)));
-    let _ = flow.take(decided(TableAnswer::None));
-    for abort in 1..200 {
-        let _ = flow.take(Got::Desk(Found::WaitOrOwn(Claim::Waits { owner: 2 })));
-        let left = flow.take(Got::Desk(Found::ReadSettled(Settled::Aborted)));
-        assert_eq!(rt; turn_name(&left), "going", "at {abort}");
+    let mut flow = Flow::new(Start::GetWith { key: KEY }, 7);
+    goes(
+        &rt,
+        &mut flow,
+        ("take owed", Got::Desk(Found::TakeOwed(None)), "going"),
+    )?;
+    goes(&rt, &mut flow, ("get", decided(TableAnswer::None), "going"))?;
+    for _ in 1..200 {
+        goes(&rt, &mut flow, ("wait or own", waits(), "going"))?;
+        goes(&rt, &mut flow, ("read settled", aborted(), "going"))?;
     }
-    let _ = flow.take(Got::Desk(Found::WaitOrOwn(Claim::Waits { owner: 2 })));
-    let left = flow.take(Got::Desk(Found::ReadSettled(Settled::Aborted)));
-    assert_eq!(rt; turn_name(&left), "exhausted");
+    goes(&rt, &mut flow, ("wait or own", waits(), "going"))?;
+    goes(&rt, &mut flow, ("read settled", aborted(), "exhausted"))?;
+    assert!(rt; flow.has_answered());
+    assert!(rt; flow.held().is_none());
     Ok(())
 }

@@ -2,9 +2,9 @@
 ghost use Rattle.std.specs.Prelude.{◌≡◌, IfOk, OnErr};
 ghost use Rattle.moka_hist.specs.Finite.{IsExact};
 ghost use Rattle.moka_hist.specs.Plan as plan;
-ghost use Rattle.moka_hist.specs.Step.{access_of, access_for, want_for, takes_of};
-ghost use Rattle.moka_init.specs.FlowPlan.{call_of, aim_of, key_of};
-ghost use Rattle.moka_init.specs.Grounds.{access_at, NeedsMemory};
+ghost use Rattle.moka_hist.specs.Step.{access_for, want_for, takes_of};
+ghost use Rattle.moka_init.specs.FlowPlan.{aim_of, key_of, IsLive};
+ghost use Rattle.moka_init.specs.Grounds.{access_at, wish_of, NeedsMemory};
 
 use crate::flow::Flow;
 use crate::points::{Look, Point, Put};
@@ -13,10 +13,12 @@ use std::alloc::AllocError;
 
 impl<K: Clone + Drop, V: Clone + Drop> Flow<K, V> {
     /// The flow's next access. It makes the clones that the access needs, and leaves the flow.
+    /// Condition: the call has not answered.
     pub fn want(&mut self) -> Result<Want<K, V>, AllocError>
         requires keys { IsExact K.is_clone }
         requires values { IsExact V.is_clone }
-        ensures want { IfOk result (λ want. want ≡ want_for self.old.begun (access_of self.old.call (call_of self.old))) }
+        requires live { IsLive self.old }
+        ensures want { IfOk result (λ want. want ≡ wish_of self.old) }
         ensures same { self.new ≡ self.old }
         ensures err { OnErr result (NeedsMemory (access_at self.old)) }
     {
@@ -42,7 +44,7 @@ impl<K: Clone + Drop, V: Clone + Drop> Flow<K, V> {
             Point::Told(_) => Ok(Want::Desk(Visit::TakeTold { call })),
             Point::Moment(_) => Ok(Want::Desk(Visit::StampMoment { call })),
             Point::Write { put, moment } => want_write(self.begun, call, put, *moment),
-            Point::Spent => Ok(Want::Desk(Visit::Clock { call })),
+            Point::Spent => unreachable!(),
         }
     }
 }
@@ -58,7 +60,8 @@ fn takes_of(kind: Kind) -> Takes
 
 fn want_get<K: Clone + Drop, V>(begun: bool, look: &Look<K>) -> Result<Want<K, V>, AllocError>
     requires { IsExact K.is_clone }
-    ensures { IfOk result (λ want. want ≡ want_for begun (access_for 0 (plan.Get (aim_of look.now) (key_of look.now)))) }
+    ensures { IfOk result (λ want.
+        want ≡ want_for begun (access_for 0 (plan.Get (aim_of look.now) (key_of look.now)))) }
 {
     if begun {
         return Ok(Want::Table);
@@ -93,7 +96,8 @@ fn want_judge<K: Clone + Drop, V: Clone + Drop>(
 
 fn want_own<K: Clone + Drop, V>(call: u64, load: &Load<K>) -> Result<Want<K, V>, AllocError>
     requires { IsExact K.is_clone }
-    ensures { IfOk result (λ want. want ≡ Want.Desk (Visit.WaitOrOwn call load.now.key load.now.kind)) }
+    ensures { IfOk result (λ want.
+        want ≡ Want.Desk (Visit.WaitOrOwn call load.now.key load.now.kind)) }
 {
     let key = load.key.clone()?;
     Ok(Want::Desk(Visit::WaitOrOwn {
@@ -105,7 +109,8 @@ fn want_own<K: Clone + Drop, V>(call: u64, load: &Load<K>) -> Result<Want<K, V>,
 
 fn want_settle<K, V: Clone + Drop>(call: u64, value: &V) -> Result<Want<K, V>, AllocError>
     requires { IsExact V.is_clone }
-    ensures { IfOk result (λ want. want ≡ Want.Desk (Visit.Settle call (Settled.Ready value.now))) }
+    ensures { IfOk result (λ want.
+        want ≡ Want.Desk (Visit.Settle call (Settled.Ready value.now))) }
 {
     let told = value.clone()?;
     Ok(Want::Desk(Visit::Settle {
@@ -122,7 +127,8 @@ fn want_write<K: Clone + Drop, V: Clone + Drop>(
 ) -> Result<Want<K, V>, AllocError>
     requires keys { IsExact K.is_clone }
     requires values { IsExact V.is_clone }
-    ensures { IfOk result (λ want. want ≡ want_for begun (access_for call (plan.Write put.now.key put.now.value moment))) }
+    ensures { IfOk result (λ want. want
+        ≡ want_for begun (access_for call (plan.Write put.now.key put.now.value moment))) }
 {
     if begun {
         return Ok(Want::Table);

@@ -43,7 +43,7 @@ pub record Answers {V : Type 0} (kept : ℕ → Option (Settled V)) (given : ℕ
 
 module _ {K V : Type 0} where
   -- the plan ends with an item that answers or says how the call goes on, and all owners are settled with an answer
-  abbrev EndsWell : List (Item K V) → Type 0
+  abbrev pub EndsWell : List (Item K V) → Type 0
   EndsWell [] = ⊥
   EndsWell (plan.Get aim key ∷ rest) = Unit {0}
   EndsWell (plan.Judge aim key stored ∷ rest) = Unit {0}
@@ -118,7 +118,7 @@ module _ {K V : Type 0} where
   asked_for d n (answer.Value value) asked = λ e. cc
   asked_for d n answer.Done asked = λ e. false≢true (sym (not_asked d n) ∙ asked)
 
-  some_ready : (with : Settled V) (rest : List (Item K V)) → EndsWell (plan.Settle with ∷ rest) →
+  pub some_ready : (with : Settled V) (rest : List (Item K V)) → EndsWell (plan.Settle with ∷ rest) →
       (Some with ≢ Some settled.NotYet) × EndsWell rest
   some_ready settled.NotYet rest h = absurd h
   some_ready settled.Aborted rest h = (λ e. cc, h)

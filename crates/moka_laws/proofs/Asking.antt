@@ -1,6 +1,6 @@
 -- The ask of a call is open until it is answered, and the answer is kept until the call takes it.
-use Rattle.std.proofs.Common.{◌≡◌, ◌≢◌, ℕ, ◌+◌, ◌<◌, ◌==◌, Bool, true, false, cond, List, [], ◌∷◌, Option, Some, None, is_some, IsSome, ◌⊎◌, inl, inr, refl, sym, ap, ◌∙◌, subst, arith}
-use Rattle.std.proofs.lemmas.Bool.{eqb-true, false≢true}
+use Rattle.std.proofs.Common.{◌≡◌, ◌≢◌, ℕ, ◌+◌, ◌≤◌, ◌==◌, Bool, true, false, cond, List, [], ◌∷◌, Option, Some, None, is_some, IsSome, refl, sym, ap, ◌∙◌, subst, arith}
+use Rattle.std.proofs.lemmas.Bool.{eqb-true}
 use Rattle.moka_hist.specs.Finite.{put_at}
 use Rattle.moka_hist.specs.State.{State, World, Call, DeskPart}
 use Rattle.moka_hist.specs.Plan.{Item, Aim, plan_of}
@@ -8,8 +8,11 @@ use Rattle.moka_hist.specs.Plan as plan
 use Rattle.moka_hist.specs.Next.{Next, goes}
 use Rattle.moka_hist.specs.Looking.{hits, misses}
 use Rattle.moka_hist.specs.Loading.{after_read, after_told, retries}
+use Rattle.moka_hist.specs.Telling.{is_asked, does_take}
+use Rattle.moka_hist.specs.Dropping.{dropped}
+use Rattle.std.specs.Option.{option_map_or}
 use Rattle.moka_hist.specs.Step.{Step}
-use Rattle.moka_hist.specs.Run.{IsReached, fresh_call}
+use Rattle.moka_hist.specs.Run.{IsReached, started, fresh_call}
 use Rattle.moka_hist.specs.declared.loads.Load.{Load}
 use Rattle.moka_hist.specs.declared.events.Start.{Start}
 use Rattle.moka_hist.specs.declared.events.Start.TheVariants as start
@@ -22,14 +25,21 @@ use Rattle.moka_hist.specs.declared.visits.Found.TheVariants as found
 use Rattle.moka_hist.specs.declared.accesses.Turn.{Turn}
 use Rattle.moka_laws.proofs.Counting.{put_here, put_there}
 use Rattle.moka_laws.proofs.Weights.{weigh, weigh_call, weigh_goes}
+use Rattle.moka_laws.proofs.Plans.{IsTail, Answering, Settling, IsDrained, Looking, Putting, IsPosted, Draining, Ended, IsPlan, Posted, Drained, Posting, Turning, Applying, Ending, Judging, Owning, Reading, Asking, Telling, Writing, IsKnown, known_kept}
+use Rattle.moka_laws.proofs.Balance.{IsBalanced}
+use Rattle.moka_laws.proofs.Balanced.{balanced_kept, next_free}
 use Rattle.moka_laws.proofs.Kept.{IsKept, in_reached}
 use Rattle.moka_laws.proofs.StepCases.{OnStep, step_cases}
-use Rattle.moka_laws.proofs.Outcomes.{Outcomes, outcomes}
+use Rattle.moka_laws.proofs.Outcomes.{outcomes}
 use Rattle.moka_laws.proofs.Answering.{IsAnswering, HasAnswers, answering_kept}
+
+-- how many there are of an open ask and an answer
+abbrev pub opened : {V : Type 0} → Option Takes → Option (Told V) → ℕ
+opened ask told = cond (is_some ask) 1 0 + cond (is_some told) 1 0
 
 module _ {K V : Type 0} where
   -- the item takes the answer to an ask
-  abbrev takes_told : Item K V → ℕ
+  abbrev pub takes_told : Item K V → ℕ
   takes_told (plan.Told load) = 1
   takes_told _ = 0
 
@@ -48,153 +58,263 @@ module _ {K V : Type 0} where
   either_takes true x y h k = h
   either_takes false x y h k = k
 
+  reads_take : (c : Call K V) (load : Load K) (with : Settled V) → weigh takes_told c.plan ≡ 0 →
+      weigh_call takes_told (after_read c load (found.ReadSettled with)).left ≡ 0
+  reads_take c load (settled.Ready value) e = refl
+  reads_take c load settled.NotYet e = e
+  reads_take c load settled.Aborted e = either_takes (c.aborts + 1 == retries) _ _ refl refl
+
+  told_takes : (c : Call K V) (load : Load K) (given : Told V) → Some given ≢ Some answer.Done →
+      weigh_call takes_told (after_told c load (found.TakeTold (Some given))).left ≡ 0
+  told_takes c load (answer.Value value) not = refl
+  told_takes c load answer.Done not = absurd (not refl)
+
   fresh_takes : (start : Start K V) → weigh takes_told (plan_of start) ≡ 0
   fresh_takes (start.Get key) = refl
   fresh_takes (start.Insert key value) = refl
   fresh_takes (start.GetWith key) = refl
 
--- an ask of the call is open, or its answer is there
-abbrev Asked : {V : Type 0} → (ℕ → Option Takes) → (ℕ → Option (Told V)) → ℕ → Type 0
-Asked asks told n = IsSome (asks n) ⊎ IsSome (told n)
+  -- no plan takes two answers
+  tail_few : (p : List (Item K V)) → IsTail p → weigh takes_told p ≤ 1
+  tail_few p (Answering a) = omega arith
+  tail_few p (Settling with a) = omega arith
 
--- an ask that is told is closed, and its answer is there; the others are as they were
-still_asked : {V : Type 0} (asks : ℕ → Option Takes) (told : ℕ → Option (Told V)) (n : ℕ) (given : Told V) (m : ℕ) → Asked asks told m →
-    Asked (put_at asks n None) (put_at told n (Some given)) m
-still_asked asks told n given m h = by (n == m)
-  where
-    by : (b : Bool) → IsSome (cond b None (asks m)) ⊎ IsSome (cond b (Some given) (told m))
-    by true = inr refl
-    by false = h
+  drained_few : (p : List (Item K V)) → IsDrained p → weigh takes_told p ≤ 1
+  drained_few p (Looking aim key) = omega arith
+  drained_few p (Putting key value rest t) = omega (arith, tail_few rest t)
 
-module _ {K V : Type 0} where
-  -- what a step has to show
+  posted_few : (p : List (Item K V)) → IsPosted p → weigh takes_told p ≤ 1
+  posted_few p (Draining rest d) = omega (arith, drained_few rest d)
+  posted_few p (Ended rest t) = tail_few rest t
+
+  pub plan_few : (p : List (Item K V)) → IsPlan p → weigh takes_told p ≤ 1
+  plan_few p (Posted rest d) = posted_few rest d
+  plan_few p (Drained rest d) = drained_few rest d
+  plan_few p (Posting x rest d) = omega (arith, posted_few rest d)
+  plan_few p (Turning x rest d) = omega (arith, posted_few rest d)
+  plan_few p (Applying x rest d) = omega (arith, posted_few rest d)
+  plan_few p (Ending x rest d) = omega (arith, posted_few rest d)
+  plan_few p (Writing key value moment rest t) = omega (arith, tail_few rest t)
+  plan_few p (Judging aim key stored) = omega arith
+  plan_few p (Owning load) = omega arith
+  plan_few p (Reading load) = omega arith
+  plan_few p (Asking load) = omega arith
+  plan_few p (Telling load) = omega arith
+
+  -- ---- what a step has to show
+
+  -- The call has an ask or an answer exactly where it is to take one, and the others' are as they were.
   record Asks (d : DeskPart K V) (n : ℕ) (asks : ℕ → Option Takes) (told : ℕ → Option (Told V)) (left : Option (Call K V)) : Type 0 where
-    own : 0 < weigh_call takes_told left → Asked asks told n
+    own : opened (asks n) (told n) ≡ weigh_call takes_told left
     others : (m : ℕ) → (n == m) ≡ false → (asks m ≡ d.asks m) × (told m ≡ d.told m)
 
-  module _ (d : DeskPart K V) (n : ℕ) where
-    -- the call takes no answer
-    takes_none : {left : Option (Call K V)} → weigh_call takes_told left ≡ 0 → Asks d n d.asks d.told left
-    takes_none h = record { own = λ l. absurd (omega arith); others = λ m e. (refl, refl) }
-
-    -- the call is as it was, and so are its asks
-    takes_still : {left : Option (Call K V)} → (0 < weigh_call takes_told left → Asked d.asks d.told n) → Asks d n d.asks d.told left
-    takes_still h = record { own = h; others = λ m e. (refl, refl) }
-
-    told_none : {left : Option (Call K V)} → weigh_call takes_told left ≡ 0 → Asks d n d.asks (put_at d.told n None) left
-    told_none h = record { own = λ l. absurd (omega arith); others = λ m e. (refl, put_there d.told n None m e) }
-
   module _ (eq : K → K → Bool) (w : World K V) (n : ℕ) (c : Call K V) (ready : HasAnswers w.desk)
-      (was : 0 < weigh takes_told c.plan → Asked w.desk.asks w.desk.told n) where
+      (was : opened (w.desk.asks n) (w.desk.told n) ≡ weigh takes_told c.plan) where
     abbrev Leaves : World K V → Next K V → Type 0
     Leaves new next = Asks w.desk n new.desk.asks new.desk.told next.left
 
-    -- the call goes on with the rest
-    goes_on : (rest : List (Item K V)) → (0 < weigh takes_told rest → Asked w.desk.asks w.desk.told n) →
-        Asks w.desk n w.desk.asks w.desk.told (goes c rest).left
-    goes_on rest h = takes_still w.desk n (λ l. h (omega (arith, weigh_goes takes_told c rest (λ a. refl))))
+    -- the asks are as they were, and the call's plan takes as many answers
+    still : {left : Option (Call K V)} → weigh_call takes_told left ≡ weigh takes_told c.plan → Asks w.desk n w.desk.asks w.desk.told left
+    still e = record { own = was ∙ sym e; others = λ m d. (refl, refl) }
 
-    reads : (load : Load K) (with : Settled V) → Asks w.desk n w.desk.asks w.desk.told (after_read c load (found.ReadSettled with)).left
-    reads load (settled.Ready value) = takes_none w.desk n refl
-    reads load settled.NotYet = takes_still w.desk n was
-    reads load settled.Aborted = takes_none w.desk n (either_takes (c.aborts + 1 == retries) _ _ refl refl)
+    goes_on : (rest : List (Item K V)) → weigh takes_told rest ≡ weigh takes_told c.plan → Asks w.desk n w.desk.asks w.desk.told (goes c rest).left
+    goes_on rest e = still (weigh_goes takes_told c rest (λ a. refl) ∙ e)
 
-    takes : (load : Load K) (given : Told V) → Some given ≢ Some answer.Done →
-        Asks w.desk n w.desk.asks (put_at w.desk.told n None) (after_told c load (found.TakeTold (Some given))).left
-    takes load (answer.Value value) not = told_none w.desk n refl
-    takes load answer.Done not = absurd (not refl)
+    on_tail : (p : List (Item K V)) → c.plan ≡ p → IsTail p → OnStep eq Leaves w n c p
+    on_tail p e (Answering a) = outcomes eq Leaves w n c (plan.Reply a) [] (still (omega (arith, ap (weigh takes_told) e)))
+    on_tail p e (Settling with a) = outcomes eq Leaves w n c (plan.Settle with) (plan.Reply a ∷ []) (still (omega (arith, ap (weigh takes_told) e)))
 
-    on_item : (item : Item K V) (rest : List (Item K V)) → (0 < weigh takes_told (item ∷ rest) → Asked w.desk.asks w.desk.told n) →
-        Outcomes eq Leaves w n c item rest
-    on_item plan.Drain rest q = (λ e. goes_on rest (λ l. q (omega arith)), λ x xs e. takes_still w.desk n (λ l. q (omega arith)))
-    on_item (plan.Post write) rest q = (λ e. goes_on rest (λ l. q (omega arith)), λ e. takes_still w.desk n (λ l. q (omega arith)))
-    on_item plan.Turn rest q = (λ e. goes_on rest (λ l. q (omega arith)), λ e. takes_still w.desk n was)
-    on_item plan.Apply rest q = (λ e. goes_on rest (λ l. q (omega arith)), λ x xs e. takes_still w.desk n (λ l. q (omega arith)))
-    on_item plan.End rest q = goes_on rest (λ l. q (omega arith))
-    on_item (plan.Get aim key) rest q = ((λ more. takes_still w.desk n was), takes_none w.desk n (misses_takes c aim), λ k stored. takes_none w.desk n refl)
-    on_item (plan.Judge aim key stored) rest q = takes_none w.desk n (hits_takes c aim stored.value)
-    on_item (plan.Own load) rest q = (λ e. takes_none w.desk n refl, λ owner e. takes_none w.desk n refl)
-    on_item (plan.Read load) rest q = (λ e. takes_still w.desk n was, λ with e. reads load with)
-    on_item (plan.Settle with) rest q = goes_on rest (λ l. q (omega arith))
-    on_item (plan.Ask load) rest q = record {
-      own = λ l. inl (ap is_some (put_here w.desk.asks n _));
-      others = λ m e. (put_there w.desk.asks n _ m e, put_there w.desk.told n None m e);
-    }
-    on_item (plan.Told load) rest q = (
-      λ e. takes_still w.desk n was,
-      λ given e. takes load given (λ h. ready.told n (e ∙ h)),
+    on_drained : (p : List (Item K V)) → c.plan ≡ p → IsDrained p → OnStep eq Leaves w n c p
+    on_drained p e (Looking aim key) = outcomes eq Leaves w n c (plan.Get aim key) []
+        ((λ more. still refl), still (omega (arith, misses_takes c aim, ap (weigh takes_told) e)), λ k stored. still (omega (arith, ap (weigh takes_told) e)))
+    on_drained p e (Putting key value rest t) = outcomes eq Leaves w n c (plan.Moment key value) rest (still (omega (arith, ap (weigh takes_told) e)))
+
+    on_posted : (p : List (Item K V)) → c.plan ≡ p → IsPosted p → OnStep eq Leaves w n c p
+    on_posted p e (Draining rest d) = outcomes eq Leaves w n c plan.Drain rest
+        ((λ none. goes_on rest (omega (arith, ap (weigh takes_told) e))), λ x xs some. still (omega (arith, ap (weigh takes_told) e)))
+    on_posted p e (Ended rest t) = on_tail rest e t
+
+    on_plan : (p : List (Item K V)) → c.plan ≡ p → IsPlan p → OnStep eq Leaves w n c p
+    on_plan p e (Posted rest d) = on_posted rest e d
+    on_plan p e (Drained rest d) = on_drained rest e d
+    on_plan p e (Posting x rest d) = outcomes eq Leaves w n c (plan.Post x) rest
+        ((λ room. goes_on rest (omega (arith, ap (weigh takes_told) e))), λ full. still (omega (arith, ap (weigh takes_told) e)))
+    on_plan p e (Turning x rest d) = outcomes eq Leaves w n c plan.Turn (plan.Apply ∷ plan.End ∷ plan.Post x ∷ rest)
+        ((λ free. still (omega (arith, ap (weigh takes_told) e))), λ taken. still refl)
+    on_plan p e (Applying x rest d) = outcomes eq Leaves w n c plan.Apply (plan.End ∷ plan.Post x ∷ rest)
+        ((λ none. still (omega (arith, ap (weigh takes_told) e))), λ y ys some. still (omega (arith, ap (weigh takes_told) e)))
+    on_plan p e (Ending x rest d) = outcomes eq Leaves w n c plan.End (plan.Post x ∷ rest) (still (omega (arith, ap (weigh takes_told) e)))
+    on_plan p e (Judging aim key stored) = outcomes eq Leaves w n c (plan.Judge aim key stored) []
+        (still (omega (arith, hits_takes c aim stored.value, ap (weigh takes_told) e)))
+    on_plan p e (Owning load) = outcomes eq Leaves w n c (plan.Own load) []
+        ((λ none. still (omega (arith, ap (weigh takes_told) e))), λ owner some. still (omega (arith, ap (weigh takes_told) e)))
+    on_plan p e (Reading load) = outcomes eq Leaves w n c (plan.Read load) [] (
+      λ none. still refl,
+      λ with some.
+          let zero : weigh takes_told c.plan ≡ 0 = ap (weigh takes_told) e in
+          still (reads_take c load with zero ∙ sym zero),
     )
-    on_item (plan.Moment key value) rest q = takes_still w.desk n (λ l. q (omega arith))
-    on_item (plan.Write key value moment) rest q = ((λ more. takes_still w.desk n was), takes_still w.desk n (λ l. q (omega arith)))
-    on_item (plan.Reply answer) rest q = takes_none w.desk n refl
-
-    on_plan : (plan : List (Item K V)) → c.plan ≡ plan → OnStep eq Leaves w n c plan
-    on_plan [] e = takes_still w.desk n was
-    on_plan (item ∷ rest) e = outcomes eq Leaves w n c item rest
-        (on_item item rest (subst (λ p. 0 < weigh takes_told p → Asked w.desk.asks w.desk.told n) e was))
+    on_plan p e (Asking load) = outcomes eq Leaves w n c (plan.Ask load) [] (record {
+      own = ap (λ a. opened a (put_at w.desk.told n None n)) (put_here w.desk.asks n _) ∙ ap (λ t. 1 + cond {A = ℕ} (is_some t) 1 0) (put_here w.desk.told n None);
+      others = λ m d. (put_there w.desk.asks n _ m d, put_there w.desk.told n None m d);
+    })
+    on_plan p e (Telling load) = outcomes eq Leaves w n c (plan.Told load) [] (
+      λ none. still refl,
+      λ given some.
+          let one : weigh takes_told c.plan ≡ 1 = ap (weigh takes_told) e in
+          let told : cond {A = ℕ} (is_some (w.desk.told n)) 1 0 ≡ 1 = ap (λ t. cond {A = ℕ} (is_some t) 1 0) some in
+          let gone : cond {A = ℕ} (is_some (put_at w.desk.told n None n)) 1 0 ≡ 0 = ap (λ t. cond {A = ℕ} (is_some t) 1 0) (put_here w.desk.told n None) in
+          record {
+            own = omega (arith, was, told_takes c load given (λ h. ready.told n (some ∙ h)));
+            others = λ m d. (refl, put_there w.desk.told n None m d);
+          },
+    )
+    on_plan p e (Writing key value moment rest t) = outcomes eq Leaves w n c (plan.Write key value moment) rest
+        ((λ more. still refl), still (omega (arith, ap (weigh takes_told) e)))
 
   -- ---- of a state
 
-  -- Each call that is to take an answer has an open ask, or the answer is there.
+  -- Each call has an ask or an answer exactly where it is to take one.
   pub record IsAsking (s : State K V) : Type 0 where
+    pub balanced : IsBalanced s
     pub answering : IsAnswering s
-    pub asked : (n : ℕ) → 0 < weigh_call takes_told (s.calls n) → Asked s.world.desk.asks s.world.desk.told n
+    pub known : (n : ℕ) (c : Call K V) → s.calls n ≡ Some c → IsKnown c
+    pub asked : (n : ℕ) → opened (s.world.desk.asks n) (s.world.desk.told n) ≡ weigh_call takes_told (s.calls n)
 
-  asking : (s : State K V) (n : ℕ) (w : World K V) (left : Option (Call K V)) → IsAsking s →
-      Asks s.world.desk n w.desk.asks w.desk.told left →
-      let t : State K V = record { world = w; calls = put_at s.calls n left } in
-      IsAnswering t → IsAsking t
-  asking s n w left i b answering = record { answering = answering; asked = λ m. by m (n == m) refl }
+  asks_on : (s : State K V) (n : ℕ) (w : World K V) (left : Option (Call K V)) → IsAsking s →
+      Asks s.world.desk n w.desk.asks w.desk.told left → (m : ℕ) →
+      opened (w.desk.asks m) (w.desk.told m) ≡ weigh_call takes_told (put_at s.calls n left m)
+  asks_on s n w left i b m = by (n == m) refl
     where
-      by : (m : ℕ) (t : Bool) → (n == m) ≡ t → 0 < weigh_call takes_told (put_at s.calls n left m) → Asked w.desk.asks w.desk.told m
-      by m true e =
-          subst (λ v. 0 < weigh_call takes_told (put_at s.calls n left v) → Asked w.desk.asks w.desk.told v) (eqb-true n m e)
-          (subst (λ v. 0 < weigh_call takes_told v → Asked w.desk.asks w.desk.told n) (sym (put_here s.calls n left)) b.own)
-      by m false e =
+      by : (t : Bool) → (n == m) ≡ t → opened (w.desk.asks m) (w.desk.told m) ≡ weigh_call takes_told (put_at s.calls n left m)
+      by true e =
+          subst (λ v. opened (w.desk.asks v) (w.desk.told v) ≡ weigh_call takes_told (put_at s.calls n left v)) (eqb-true n m e)
+          (b.own ∙ ap (weigh_call takes_told) (sym (put_here s.calls n left)))
+      by false e =
           let same = b.others m e in
-          subst (λ v. 0 < weigh_call takes_told v → Asked w.desk.asks w.desk.told m) (sym (put_there s.calls n left m e))
-          (λ l. moved (sym same.0) (sym same.1) (i.asked m l))
-        where
-          moved : {f g : Option Takes} {x y : Option (Told V)} → f ≡ g → x ≡ y → IsSome f ⊎ IsSome x → IsSome g ⊎ IsSome y
-          moved a b (inl h) = inl (subst IsSome a h)
-          moved a b (inr h) = inr (subst IsSome b h)
+          ap (λ a. opened a (w.desk.told m)) same.0 ∙ ap (λ t. opened (s.world.desk.asks m) t) same.1 ∙ i.asked m ∙ ap (weigh_call takes_told) (sym (put_there s.calls n left m e))
+
+  -- an ask that takes the answer is open
+  is_open : (d : DeskPart K V) (n : ℕ) (given : Told V) → is_asked d n given ≡ true → is_some (d.asks n) ≡ true
+  is_open d n given e = by (d.asks n) e
+    where
+      by : (a : Option Takes) → option_map_or (λ t. does_take t given) a false ≡ true → is_some a ≡ true
+      by None e = e
+      by (Some t) e = refl
 
 module _ {K V : Type 0} (eq : K → K → Bool) where
   asking_step : (s t : State K V) (n : ℕ) (turn : Turn V) → IsAsking s → Step eq s n turn t → IsAsking t
   asking_step s t n turn i step =
       let c : Call K V = step.call in
-      let was : 0 < weigh takes_told c.plan → Asked s.world.desk.asks s.world.desk.told n = subst
-      (λ v. 0 < weigh_call takes_told v → Asked s.world.desk.asks s.world.desk.told n) step.live (i.asked n) in
-      let kept : IsAnswering t → IsAsking t =
-      step_cases eq (λ new next. Asks s.world.desk n new.desk.asks new.desk.told next.left) (λ v _. IsAnswering v → IsAsking v) s t n turn step
-      (on_plan eq s.world n c i.answering.desk was c.plan refl) (λ w next b. asking s n w next.left i b) in
-      kept ((answering_kept eq).step s t n turn i.answering step)
+      let was : opened (s.world.desk.asks n) (s.world.desk.told n) ≡ weigh takes_told c.plan = i.asked n ∙ ap (weigh_call takes_told) step.live in
+      record {
+        balanced = (balanced_kept eq).step s t n turn i.balanced step;
+        answering = (answering_kept eq).step s t n turn i.answering step;
+        known = (known_kept eq).step s t n turn i.known step;
+        asked = step_cases eq (λ new next. Asks s.world.desk n new.desk.asks new.desk.told next.left)
+            (λ v _. (m : ℕ) → opened (v.world.desk.asks m) (v.world.desk.told m) ≡ weigh_call takes_told (v.calls m)) s t n turn step
+            (on_plan eq s.world n c i.answering.desk was c.plan refl (i.known n c step.live).plan) (λ w next b. asks_on s n w next.left i b);
+      }
 
-  asking_kept : IsKept eq (IsAsking {K = K} {V = V})
+  asking_start : (s : State K V) (start : Start K V) → IsAsking s → IsAsking (started s start)
+  asking_start s start i =
+      let new : ℕ = s.world.desk.last + 1 in
+      record {
+        balanced = (balanced_kept eq).start s start i.balanced;
+        answering = (answering_kept eq).start s start i.answering;
+        known = (known_kept eq).start s start i.known;
+        asked = asks_on s new s.world (Some (fresh_call start)) i (record {
+          own = i.asked new ∙ ap (weigh_call takes_told) (next_free s i.balanced) ∙ sym (fresh_takes start);
+          others = λ m d. (refl, refl);
+        });
+      }
+
+  asking_tell : (s : State K V) (n : ℕ) (given : Told V) → is_asked s.world.desk n given ≡ true → IsAsking s → (m : ℕ) →
+      opened (put_at s.world.desk.asks n None m) (put_at s.world.desk.told n (Some given) m) ≡ weigh_call takes_told (s.calls m)
+  asking_tell s n given asked i m = by (n == m) refl
+    where
+      by : (b : Bool) → (n == m) ≡ b →
+          opened (cond b None (s.world.desk.asks m)) (cond b (Some given) (s.world.desk.told m)) ≡ weigh_call takes_told (s.calls m)
+      by false e = i.asked m
+      by true e =
+          let here : is_some (s.world.desk.asks m) ≡ true = subst (λ v. is_some (s.world.desk.asks v) ≡ true) (eqb-true n m e) (is_open s.world.desk n given asked) in
+          let one : cond {A = ℕ} (is_some (s.world.desk.asks m)) 1 0 ≡ 1 = ap (λ b. cond {A = ℕ} b 1 0) here in
+          omega (arith, i.asked m, few m (s.calls m) refl)
+        where
+          few : (m : ℕ) (o : Option (Call K V)) → s.calls m ≡ o → weigh_call takes_told o ≤ 1
+          few m None e = omega arith
+          few m (Some c) e = plan_few c.plan (i.known m c e).plan
+
+  pub asking_kept : IsKept eq (IsAsking {K = K} {V = V})
   asking_kept = record {
-    fresh = λ size has_log. record { answering = (answering_kept eq).fresh size has_log; asked = λ n l. absurd (omega arith) };
-    at = λ s moment i. record { answering = (answering_kept eq).at s moment i.answering; asked = i.asked };
-    start = λ s start i. asking s (s.world.desk.last + 1) _ (Some (fresh_call start)) i
-        (takes_none s.world.desk (s.world.desk.last + 1) (fresh_takes start)) ((answering_kept eq).start s start i.answering);
+    fresh = λ size has_log. record {
+      balanced = (balanced_kept eq).fresh size has_log;
+      answering = (answering_kept eq).fresh size has_log;
+      known = (known_kept eq).fresh size has_log;
+      asked = λ n. refl;
+    };
+    at = λ s moment i. record {
+      balanced = (balanced_kept eq).at s moment i.balanced;
+      answering = (answering_kept eq).at s moment i.answering;
+      known = (known_kept eq).at s moment i.known;
+      asked = i.asked;
+    };
+    start = asking_start;
     step = asking_step;
     tell = λ s n given told i. record {
+      balanced = (balanced_kept eq).tell s n given told i.balanced;
       answering = (answering_kept eq).tell s n given told i.answering;
-      asked = λ m l. still_asked s.world.desk.asks s.world.desk.told n given m (i.asked m l);
+      known = (known_kept eq).tell s n given told i.known;
+      asked = asking_tell s n given told i;
     };
-    drop = λ s n c live between i.
-        asking s n _ None i
-        (record { own = λ l. absurd (omega arith); others = λ m e. (put_there s.world.desk.asks n None m e, put_there s.world.desk.told n None m e) })
-        ((answering_kept eq).drop s n c live between i.answering);
+    drop = λ s n c live between i. record {
+      balanced = (balanced_kept eq).drop s n c live between i.balanced;
+      answering = (answering_kept eq).drop s n c live between i.answering;
+      known = (known_kept eq).drop s n c live between i.known;
+      asked = asks_on s n (dropped s n c).world None i (record {
+        own = ap (λ a. opened a (put_at s.world.desk.told n None n)) (put_here s.world.desk.asks n None) ∙ ap (λ t. opened {V = V} None t) (put_here s.world.desk.told n None);
+        others = λ m e. (put_there s.world.desk.asks n None m e, put_there s.world.desk.told n None m e);
+      });
+    };
   }
 
-  -- the call that is to take an answer which is not there has an open ask
-  pub ask_open : (s : State K V) (n : ℕ) (c : Call K V) (load : Load K) (rest : List (Item K V)) → IsReached eq s → s.calls n ≡ Some c →
-      c.plan ≡ plan.Told load ∷ rest → is_some (s.world.desk.told n) ≡ false → IsSome (s.world.desk.asks n)
-  ask_open s n c load rest h live e none =
-      let i : IsAsking s = in_reached eq IsAsking asking_kept s h in
-      let weighs = ap (weigh_call takes_told) live ∙ ap (weigh takes_told) e in
-      by (i.asked n (omega arith))
-    where
-      by : Asked s.world.desk.asks s.world.desk.told n → IsSome (s.world.desk.asks n)
-      by (inl some) = some
-      by (inr some) = absurd (false≢true (sym none ∙ some))
+  pub in_asking : (s : State K V) → IsReached eq s → IsAsking s
+  in_asking s h = in_reached eq IsAsking asking_kept s h
+
+module _ {K V : Type 0} where
+  -- The call with this plan has an ask or an answer exactly where it is to take one, and it takes one at most.
+  pub record AsksWhole (d : DeskPart K V) (n : ℕ) (plan : List (Item K V)) : Type 0 where
+    pub asked : opened (d.asks n) (d.told n) ≡ weigh takes_told plan
+    pub few : weigh takes_told plan ≤ 1
+
+  module _ (d : DeskPart K V) (n : ℕ) where
+    -- where the answer isn't there the ask is open, and where it is the ask is closed
+    pub ask_open : (load : Load K) (rest : List (Item K V)) → AsksWhole d n (plan.Told load ∷ rest) → is_some (d.told n) ≡ false → IsSome (d.asks n)
+    ask_open load rest a none = by (is_some (d.asks n)) refl
+      where
+        by : (b : Bool) → is_some (d.asks n) ≡ b → b ≡ true
+        by true e = refl
+        by false e =
+            let ask = ap (λ b. cond {A = ℕ} b 1 0) e in
+            let told = ap (λ b. cond {A = ℕ} b 1 0) none in
+            absurd (omega (arith, a.asked))
+
+    pub ask_closed : (load : Load K) (rest : List (Item K V)) → AsksWhole d n (plan.Told load ∷ rest) → is_some (d.told n) ≡ true → ¬ IsSome (d.asks n)
+    ask_closed load rest a some = λ opens.
+        let ask = ap (λ b. cond {A = ℕ} b 1 0) opens in
+        let told = ap (λ b. cond {A = ℕ} b 1 0) some in
+        omega (arith, a.asked, a.few)
+
+    -- a call that is to take none has neither
+    pub none_asked : (plan : List (Item K V)) → opened (d.asks n) (d.told n) ≡ weigh takes_told plan → weigh takes_told plan ≡ 0 →
+        (is_some (d.asks n) ≡ false) × (is_some (d.told n) ≡ false)
+    none_asked plan e zero = by (is_some (d.asks n)) (is_some (d.told n)) refl refl
+      where
+        by : (a t : Bool) → is_some (d.asks n) ≡ a → is_some (d.told n) ≡ t → (a ≡ false) × (t ≡ false)
+        by false false f g = (refl, refl)
+        by true t f g = let ask = ap (λ b. cond {A = ℕ} b 1 0) f in absurd (omega (arith, e))
+        by false true f g = let told = ap (λ b. cond {A = ℕ} b 1 0) g in absurd (omega (arith, e))
+
+module _ {K V : Type 0} where
+  pub whole : (s : State K V) → IsAsking s → (n : ℕ) (c : Call K V) → s.calls n ≡ Some c → AsksWhole s.world.desk n c.plan
+  whole s i n c live = record { asked = i.asked n ∙ ap (weigh_call takes_told) live; few = plan_few c.plan (i.known n c live).plan }

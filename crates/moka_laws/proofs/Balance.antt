@@ -20,20 +20,20 @@ use Rattle.moka_laws.proofs.StepCases.{OnStep}
 use Rattle.moka_laws.proofs.Outcomes.{Outcomes, outcomes}
 
 -- a number stands once more in a list with one more
-times_first : (x y : ℕ) (ys : List ℕ) → times x (y ∷ ys) ≡ once x y + times x ys
+pub times_first : (x y : ℕ) (ys : List ℕ) → times x (y ∷ ys) ≡ once x y + times x ys
 times_first x y ys = by (x == y)
   where
     by : (b : Bool) → cond b (times x ys + 1) (times x ys) ≡ cond b 1 0 + times x ys
     by true = omega arith
     by false = omega arith
 
-times_last : (x y : ℕ) (ys : List ℕ) → times x (ys ++ y ∷ []) ≡ times x ys + once x y
+pub times_last : (x y : ℕ) (ys : List ℕ) → times x (ys ++ y ∷ []) ≡ times x ys + once x y
 times_last x y ys = omega (arith, times_append x ys (y ∷ []), times_first x y [])
 
 pub among_append : (x : ℕ) (xs ys : List Write) → among x (xs ++ ys) ≡ among x xs + among x ys
 among_append x xs ys = ap (times x) (map-append number_of xs ys) ∙ times_append x (map number_of xs) (map number_of ys)
 
-among_last : (x : ℕ) (w : Write) (xs : List Write) → among x (xs ++ w ∷ []) ≡ among x xs + once x (number_of w)
+pub among_last : (x : ℕ) (w : Write) (xs : List Write) → among x (xs ++ w ∷ []) ≡ among x xs + once x (number_of w)
 among_last x w xs = omega (arith, among_append x xs (w ∷ []), times_first x (number_of w) [])
 
 module _ {K V : Type 0} where

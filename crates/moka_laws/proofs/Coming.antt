@@ -11,7 +11,6 @@ use Rattle.moka_hist.specs.declared.loads.Load.{Load}
 use Rattle.moka_laws.specs.Missing.{MissingCanCome, CanCome, HasOwner, OwnsAlike}
 use Rattle.moka_laws.proofs.Turns.{turn_held}
 use Rattle.moka_laws.proofs.Served.{waiters_served}
-use Rattle.moka_laws.proofs.Asking.{ask_open}
 
 module _ {K V : Type 0} (eq : K → K → Bool) where
   turn_comes : (s : State K V) (n : ℕ) → IsReached eq s → is_free_for s.world.desk n ≡ false → CanCome eq s n plan.Turn
@@ -32,5 +31,5 @@ module _ {K V : Type 0} (eq : K → K → Bool) where
   pub can_come : MissingCanCome K V eq
   can_come s n c plan.Turn rest h live e missing = turn_comes s n h missing
   can_come s n c (plan.Read load) rest h live e missing = owner_comes s n load missing (waiters_served eq s n c load rest h live e)
-  can_come s n c (plan.Told load) rest h live e missing = ask_open eq s n c load rest h live e missing
+  can_come s n c (plan.Told load) rest h live e missing = missing
   can_come s n c _ rest h live e missing = missing

@@ -1,7 +1,7 @@
 -- Numbers in lists, and maps over numbers with one place changed.
-use Rattle.std.proofs.Common.{◌≢◌, Some, None, ◌≡◌, ℕ, ◌+◌, ◌≤◌, ◌==◌, Bool, true, false, cond, List, [], ◌∷◌, ◌++◌, refl, sym, ap, ◌∙◌, arith}
+use Rattle.std.proofs.Common.{◌≢◌, Some, None, ◌≡◌, ℕ, ◌+◌, ◌==◌, Bool, true, false, cond, List, [], ◌∷◌, ◌++◌, refl, sym, ap, ◌∙◌, arith}
 use Rattle.std.proofs.lemmas.Bool.{eqb-true, eq-eqb, false≢true}
-use Rattle.moka_hist.specs.Finite.{times, without, without_one, put_at}
+use Rattle.moka_hist.specs.Finite.{times, put_at}
 
 pub none_some : {A : Type 0} {x : A} → None ≡ Some x → ⊥
 none_some e = cc
@@ -50,37 +50,6 @@ times_same n xs = ap (λ b. cond b (times n xs + 1) (times n xs)) (same_number n
 
 pub times_other : (n m : ℕ) (xs : List ℕ) → (n == m) ≡ false → times m (n ∷ xs) ≡ times m xs
 times_other n m xs h = ap (λ b. cond b (times m xs + 1) (times m xs)) (other_number n m h)
-
--- taking numbers out leaves the others
-pub times_without : (n m : ℕ) (xs : List ℕ) → (n == m) ≡ false → times m (without n xs) ≡ times m xs
-times_without n m [] h = refl
-times_without n m (x ∷ xs) h = by (n == x) refl (times_without n m xs h)
-  where
-    by : (b : Bool) → (n == x) ≡ b → times m (without n xs) ≡ times m xs →
-        times m (cond b (without n xs) (x ∷ without n xs)) ≡ times m (x ∷ xs)
-    by true e less = less ∙ sym (ap (λ v. times m (v ∷ xs)) (sym (eqb-true n x e)) ∙ times_other n m xs h)
-    by false e less = ap (λ v. cond (m == x) (v + 1) v) less
-
-pub times_without_one : (n m : ℕ) (xs : List ℕ) → (n == m) ≡ false → times m (without_one n xs) ≡ times m xs
-times_without_one n m [] h = refl
-times_without_one n m (x ∷ xs) h = by (n == x) refl (times_without_one n m xs h)
-  where
-    by : (b : Bool) → (n == x) ≡ b → times m (without_one n xs) ≡ times m xs → times m (cond b xs (x ∷ without_one n xs)) ≡ times m (x ∷ xs)
-    by true e less = sym (ap (λ v. times m (v ∷ xs)) (sym (eqb-true n x e)) ∙ times_other n m xs h)
-    by false e less = ap (λ v. cond (m == x) (v + 1) v) less
-
--- one taken out is one less
-pub times_one_less : (n : ℕ) (xs : List ℕ) → times n xs ≤ times n (without_one n xs) + 1
-times_one_less n [] = omega arith
-times_one_less n (x ∷ xs) = by (n == x) refl (times_one_less n xs)
-  where
-    by : (b : Bool) → (n == x) ≡ b → times n xs ≤ times n (without_one n xs) + 1 →
-        cond b (times n xs + 1) (times n xs) ≤ times n (cond b xs (x ∷ without_one n xs)) + 1
-    by true e less = omega arith
-    by false e less =
-        let same : times n (x ∷ without_one n xs) ≡ times n (without_one n xs) = ap
-        (λ b. cond b (times n (without_one n xs) + 1) (times n (without_one n xs))) e in
-        omega arith
 
 -- two lists one after the other
 pub times_append : (n : ℕ) (xs ys : List ℕ) → times n (xs ++ ys) ≡ times n xs + times n ys

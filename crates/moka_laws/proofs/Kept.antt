@@ -26,7 +26,16 @@ module _ {K V : Type 0} (eq : K → K → Bool) where
         I (with_desk s (told s.world.desk n answer))
     pub drop : (s : State K V) (n : ℕ) (c : Call K V) → s.calls n ≡ Some c → c.mode ≢ mode.Mid → I s → I (dropped s n c)
 
-  module _ (I : State K V → Type 0) (kept : IsKept I) where
+  -- each event keeps it
+  pub record IsStable (I : State K V → Type 0) : Type 0 where
+    pub at : (s : State K V) (moment : ℕ) → I s → I (at_moment s moment)
+    pub start : (s : State K V) (start : Start K V) → I s → I (started s start)
+    pub step : (s t : State K V) (n : ℕ) (turn : Turn V) → I s → Step eq s n turn t → I t
+    pub tell : (s : State K V) (n : ℕ) (answer : Told V) → is_asked s.world.desk n answer ≡ true → I s →
+        I (with_desk s (told s.world.desk n answer))
+    pub drop : (s : State K V) (n : ℕ) (c : Call K V) → s.calls n ≡ Some c → c.mode ≢ mode.Mid → I s → I (dropped s n c)
+
+  module _ (I : State K V → Type 0) (kept : IsStable I) where
     refused : (s t : State K V) (why : Refusal) (r : Reply V) → I s → Refuses s why r t → I t
     refused s t why r i h = subst (λ v. I v) (sym h.same) i
 
@@ -71,11 +80,14 @@ module _ {K V : Type 0} (eq : K → K → Bool) where
     happens P s t (event.Drop n) r i h =
         looked t (s.calls n) _ (λ c. Drops s n c c.mode r t) (refused s t _ r i) (λ c e d. drops s t n c c.mode r e refl i d) h
 
-    runs : (s t : State K V) (es : List (Event K V)) (rs : List (Reply V)) → I s → Run eq Any s es rs t → I t
+    pub runs : (s t : State K V) (es : List (Event K V)) (rs : List (Reply V)) → I s → Run eq Any s es rs t → I t
     runs s t [] [] i run = subst (λ v. I v) (sym run) i
     runs s t (e ∷ es) (r ∷ rs) i run = runs run.0 t es rs (happens Any s run.0 e r i run.1) run.3
     runs s t [] (r ∷ rs) i run = absurd run
     runs s t (e ∷ es) [] i run = absurd run
 
-    pub in_reached : (s : State K V) → IsReached eq s → I s
-    in_reached s h = runs (fresh K V h.size) s h.events h.replies (kept.fresh h.size h.has_log) h.run
+  stable : (I : State K V → Type 0) → IsKept I → IsStable I
+  stable I kept = record { at = kept.at; start = kept.start; step = kept.step; tell = kept.tell; drop = kept.drop }
+
+  pub in_reached : (I : State K V → Type 0) → IsKept I → (s : State K V) → IsReached eq s → I s
+  in_reached I kept s h = runs I (stable I kept) (fresh K V h.size) s h.events h.replies (kept.fresh h.size h.has_log) h.run

@@ -13,7 +13,7 @@ module _ {K V : Type 0} (eq : K → K → Bool) (laws : IsEquivalence eq) where
   pub lawfully : ReachedIsLawful K V eq
   lawfully s h =
       let i = in_balance eq s h in
-      record { one_place = stands_once s i; committed = stands_committed s i; one_initializer = one_initializes eq laws s h }
+      record { commits_once = i.once; one_place = stands_once s i; committed = stands_committed s i; one_initializer = one_initializes eq laws s h }
 
   pub steps_are_lawful : StepsAreLawful K V eq
   steps_are_lawful k s t n h =

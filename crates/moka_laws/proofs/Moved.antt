@@ -1,13 +1,10 @@
 -- What a live call does by itself, as steps and polls of the state.
-use Rattle.std.proofs.Common.{◌≡◌, ◌≢◌, ℕ, zero, suc, ◌<◌, ◌==◌, Bool, true, false, cond, List, [], ◌∷◌, Some, IsSome, refl, ap, ◌∙◌, subst}
-use Rattle.moka_hist.specs.Finite.{put_at, times}
+use Rattle.std.proofs.Common.{◌≡◌, ◌≢◌, ℕ, zero, suc, ◌==◌, Bool, true, false, cond, Some, refl, ap, ◌∙◌, subst}
+use Rattle.moka_hist.specs.Finite.{put_at}
 use Rattle.moka_hist.specs.State.{State, World, Call}
-use Rattle.moka_hist.specs.Plan.{Item, held_by}
-use Rattle.moka_hist.specs.Plan as plan
 use Rattle.moka_hist.specs.Next.{Next}
-use Rattle.moka_hist.specs.Step.{Step, Moves, MovesOn, May, access_of, state_after}
+use Rattle.moka_hist.specs.Step.{Step, Moves, MovesOn, state_after}
 use Rattle.moka_hist.specs.Run.{Goings, Polls, Any, IsReached, reply_of}
-use Rattle.moka_hist.specs.declared.records.Mode.{Mode}
 use Rattle.moka_hist.specs.declared.replies.Reply.TheVariants as reply
 use Rattle.moka_hist.specs.declared.accesses.Turn.{Turn}
 use Rattle.moka_hist.specs.declared.accesses.Turn.TheVariants as turn
@@ -15,7 +12,7 @@ use Rattle.moka_laws.specs.Moving.{gone_on, MoveIsStep, MovesAreSteps, PolledIsP
 use Rattle.moka_laws.proofs.Counting.{put_here}
 use Rattle.moka_laws.proofs.Outcomes.{put_same}
 use Rattle.moka_laws.proofs.Reached.{steps_reached}
-use Rattle.moka_laws.proofs.Held.{holders_places}
+use Rattle.moka_laws.proofs.Safe.{in_well, may_step}
 
 -- what was put at a number is gone once another is put there
 put_twice : {A : Type 0} (f : ℕ → A) (n : ℕ) (v w : A) → put_at (put_at f n v) n w ≡ put_at f n w
@@ -71,15 +68,8 @@ module _ {K V : Type 0} (eq : K → K → Bool) where
       } in
       rw live polls
 
-  -- what a call needs for its next step it has, where it has a place for a write that it holds
-  may_access : (w : World K V) (n : ℕ) (mode : Mode) (plan : List (Item K V)) (aborts : ℕ) → (IsSome (held_by plan) → 0 < times n w.desk.holders) →
-      May w (access_of n (record { mode = mode; plan = plan; aborts = aborts }))
-  may_access w n mode [] aborts h = tt
-  may_access w n mode (plan.Post write ∷ rest) aborts h = h refl
-  may_access w n mode (_ ∷ rest) aborts h = tt
-
   pub safe_calls : CallsAreSafe K V eq
   safe_calls s n c h live k d mid m =
       let t : State K V = gone_on s n d mid in
       let reached : IsReached eq t = steps_reached eq Any k s t n h (moves_steps s n k c d mid live m) in
-      may_access mid n d.mode d.plan d.aborts (holders_places eq t reached n d (put_here s.calls n (Some d)))
+      may_step eq t (in_well eq t reached) n d (put_here s.calls n (Some d))

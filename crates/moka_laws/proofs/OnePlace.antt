@@ -17,7 +17,7 @@ use Rattle.moka_laws.proofs.Posts.{among, post_of, posts_held}
 use Rattle.moka_laws.proofs.Balance.{IsBalanced, with_calls}
 
 -- a list contains what stands in it
-contains_times : (x : ℕ) (xs : List ℕ) → Contains xs x → 0 < times x xs
+pub contains_times : (x : ℕ) (xs : List ℕ) → Contains xs x → 0 < times x xs
 contains_times x [] h = absurd (omega (arith, h.1))
 contains_times x (y ∷ ys) h = by h.0 h.1 h.2 (contains_times x ys)
   where
@@ -29,7 +29,7 @@ contains_times x (y ∷ ys) h = by h.0 h.1 h.2 (contains_times x ys)
         grows true h = omega arith
         grows false h = h
 
-times_contains : (x : ℕ) (xs : List ℕ) → 0 < times x xs → Contains xs x
+pub times_contains : (x : ℕ) (xs : List ℕ) → 0 < times x xs → Contains xs x
 times_contains x [] h = absurd (omega arith)
 times_contains x (y ∷ ys) h = by (x == y) refl h (times_contains x ys)
   where

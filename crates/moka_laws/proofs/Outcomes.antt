@@ -1,13 +1,14 @@
 -- What a step may make, item by item.
+use Rattle.std.specs.Option.{option_map}
 use Rattle.std.proofs.Common.{append-nil, ◌<◌, ◌≡◌, ℕ, suc, Bool, true, false, cond, nat_lt, ◌==◌, List, [], ◌∷◌, ◌++◌, length, drop, take, Option, Some, None, is_some, unwrap_or, refl, sym, ap, ◌∙◌, subst, arith}
 use Rattle.std.proofs.lemmas.Bool.{eqb-true}
 use Rattle.std.proofs.lemmas.Bool.Decides.{nat_tests}
-use Rattle.moka_hist.specs.Finite.{put_at, without_one}
+use Rattle.moka_hist.specs.Finite.{put_at}
 use Rattle.moka_hist.specs.State.{Call, World, DeskPart}
 use Rattle.moka_hist.specs.Plan.{Item, Aim, look}
 use Rattle.moka_hist.specs.Plan as plan
-use Rattle.moka_hist.specs.Visits.{decided, claimed, claim_of, finds, has_room, is_free_for, settlement_for, readers_without, settled_without, stamped, judged, settled_as, opened, took_told, ended_turn}
-use Rattle.moka_hist.specs.Tables.{table_answer, table_after, answer_of}
+use Rattle.moka_hist.specs.Visits.{without_moment, first_of, holding_with, claimed, claim_of, finds, has_room, is_free_for, settlement_for, readers_without, settled_without, stamped, judged, settled_as, opened, took_told, ended_turn}
+use Rattle.moka_hist.specs.Tables.{answer_of, written}
 use Rattle.moka_hist.specs.Bound.{times_of, stayed, decided_by, most_undecided}
 use Rattle.moka_hist.specs.Next.{Next, goes, stays, waits, asks, answers}
 use Rattle.moka_hist.specs.Posting.{after_drain, after_post, after_turn, after_apply}
@@ -18,6 +19,7 @@ use Rattle.moka_hist.specs.Step.{access_for, takes_of}
 use Rattle.moka_hist.specs.declared.records.Stored.{Stored}
 use Rattle.moka_hist.specs.declared.events.Told.{Told}
 use Rattle.moka_hist.specs.declared.loads.Load.{Load}
+use Rattle.moka_hist.specs.declared.writes.Holding.TheVariants as holding
 use Rattle.moka_hist.specs.declared.writes.Write.{Write}
 use Rattle.moka_hist.specs.declared.writes.Write.TheVariants.{Upsert}
 use Rattle.moka_hist.specs.declared.replies.Ask.TheVariants as ask
@@ -25,8 +27,6 @@ use Rattle.moka_hist.specs.declared.visits.Settled.{Settled}
 use Rattle.moka_hist.specs.declared.visits.Settled.TheVariants as settled
 use Rattle.moka_hist.specs.declared.visits.Visit.TheVariants as visit
 use Rattle.moka_hist.specs.declared.visits.Found.TheVariants as found
-use Rattle.moka_hist.specs.declared.tables.TableOp.{TableOp}
-use Rattle.moka_hist.specs.declared.tables.TableOp.TheVariants as op
 use Rattle.moka_hist.specs.declared.tables.TableTurn.TheVariants as table
 use Rattle.moka_laws.proofs.StepCases.{OnAccess}
 
@@ -50,11 +50,14 @@ module _ {K V : Type 0} (eq : K → K → Bool) where
 
   -- the desk once the call took up the first owed write, posted its write, applied the first logged
   -- write, or read how its owner ended
-  abbrev pub was_owed : DeskPart K V → ℕ → List Write → DeskPart K V
-  was_owed d n rest = record d { holders = n ∷ d.holders; owed = rest }
+  abbrev pub was_owed : DeskPart K V → ℕ → Write → List Write → DeskPart K V
+  was_owed d n first rest = record d { holding = put_at d.holding n (Some (holding.TookUp first)); owed = rest }
 
   abbrev pub was_posted : DeskPart K V → ℕ → Write → DeskPart K V
-  was_posted d n write = record d { pending = put_at d.pending n None; holders = without_one n d.holders; log = d.log ++ write ∷ [] }
+  was_posted d n write = record d { holding = put_at d.holding n None; log = d.log ++ write ∷ [] }
+
+  abbrev pub not_posted : DeskPart K V → ℕ → DeskPart K V
+  not_posted d n = record d { holding = put_at d.holding n (option_map without_moment (d.holding n)) }
 
   abbrev pub was_applied : DeskPart K V → Write → List Write → DeskPart K V
   was_applied d first rest = record d { log = rest; applied = d.applied ++ first ∷ [] }
@@ -75,11 +78,11 @@ module _ {K V : Type 0} (eq : K → K → Bool) where
   Outcomes M w n c plan.Drain rest =
       (w.desk.owed ≡ [] → M w (goes c rest)) ×
       ((x : Write) (xs : List Write) → w.desk.owed ≡ x ∷ xs →
-      M (on_desk w (was_owed w.desk n xs)) (goes c (plan.Post x ∷ plan.Drain ∷ rest)))
+      M (on_desk w (was_owed w.desk n x xs)) (goes c (plan.Post x ∷ plan.Drain ∷ rest)))
   Outcomes M w n c (plan.Post write) rest =
       (has_room w.desk ≡ true → M (on_desk w (was_posted w.desk n write)) (goes c rest)) ×
       (has_room w.desk ≡ false →
-      M (on_desk w (decided w.desk n)) (goes c (plan.Turn ∷ plan.Apply ∷ plan.End ∷ plan.Post write ∷ rest)))
+      M (on_desk w (not_posted w.desk n)) (goes c (plan.Turn ∷ plan.Apply ∷ plan.End ∷ plan.Post write ∷ rest)))
   Outcomes M w n c plan.Turn rest =
       (is_free_for w.desk n ≡ true → M (on_desk w (record w.desk { turn = Some n })) (goes c rest)) ×
       (is_free_for w.desk n ≡ false → M w (waits c))
@@ -103,32 +106,30 @@ module _ {K V : Type 0} (eq : K → K → Bool) where
       ((given : Told V) → w.desk.told n ≡ Some given → M (on_desk w (took_told w.desk n)) (after_told c load (found.TakeTold (Some given))))
   Outcomes M w n c (plan.Moment key value) rest = M (on_desk w (stamped w.desk n)) (goes c (plan.Write key value w.desk.clock ∷ rest))
   Outcomes M w n c (plan.Write key value moment) rest =
-      let write : TableOp K V = op.InsertOrModify key (record { value = value; stamp = n; modified = moment }) in
+      let stored : Stored V = record { value = value; stamp = n; modified = moment } in
       Undecided M w n c ×
-      M (record w { table = table_after eq w.table write; stay = decided_by n }) (goes c (plan.Post (Upsert n (old_stamp (table_answer w.table write))) ∷ rest))
+      M (record w { table = written eq n w.table key stored; stay = decided_by n })
+      (goes c (plan.Post (Upsert n (old_stamp (answer_of (w.table.stored key)))) ∷ rest))
   Outcomes M w n c (plan.Reply answer) rest = M w (answers answer)
 
   -- the desk once the call has tried to post its write
   abbrev posted_if : DeskPart K V → ℕ → Write → Bool → DeskPart K V
   posted_if d n write b = record d {
-    pending = put_at d.pending n None;
-    holders = cond b (without_one n d.holders) d.holders;
+    holding = put_at d.holding n (cond b None (option_map without_moment (d.holding n)));
     log = cond b (d.log ++ write ∷ []) d.log;
   }
 
   module _ (M : World K V → Next K V → Type 0) (w : World K V) (n : ℕ) (c : Call K V) where
     drained : (rest : List (Item K V)) (owed : List Write) → w.desk.owed ≡ owed → Outcomes M w n c plan.Drain rest →
-        M (on_desk w (record w.desk { holders = cond (nat_lt 0 (length owed)) (n ∷ w.desk.holders) w.desk.holders; owed = drop 1 owed }))
+        M (on_desk w (record w.desk { holding = holding_with w.desk.holding n (first_of owed); owed = drop 1 owed }))
         (after_drain c rest (finds (record w.desk { owed = owed }) (visit.TakeOwed n)))
     drained rest [] e o = subst (λ v. M (on_desk w (record w.desk { owed = v })) (goes c rest)) e (o.0 e)
-    drained rest (x ∷ xs) e o = subst
-        (λ b. M (on_desk w (record w.desk { holders = cond b (n ∷ w.desk.holders) w.desk.holders; owed = xs }))
-        (goes c (plan.Post x ∷ plan.Drain ∷ rest))) (sym (some_left (length xs))) (o.1 x xs e)
+    drained rest (x ∷ xs) e o = o.1 x xs e
 
-    posted : (write : Write) (rest : List (Item K V)) (b : Bool) → has_room w.desk ≡ b → Outcomes M w n c (plan.Post write) rest →
+    posts : (write : Write) (rest : List (Item K V)) (b : Bool) → has_room w.desk ≡ b → Outcomes M w n c (plan.Post write) rest →
         M (on_desk w (posted_if w.desk n write b)) (after_post c write rest (found.PostWrite b))
-    posted write rest true e o = o.0 e
-    posted write rest false e o = o.1 e
+    posts write rest true e o = o.0 e
+    posts write rest false e o = o.1 e
 
     turned : (rest : List (Item K V)) (b : Bool) → is_free_for w.desk n ≡ b → Outcomes M w n c plan.Turn rest →
         M (on_desk w (record w.desk { turn = cond b (Some n) w.desk.turn })) (after_turn c rest (found.TakeTurn b))
@@ -171,11 +172,11 @@ module _ {K V : Type 0} (eq : K → K → Bool) where
   pub outcomes : (M : World K V → Next K V → Type 0) (w : World K V) (n : ℕ) (c : Call K V) (item : Item K V) (rest : List (Item K V)) →
       Outcomes M w n c item rest → OnAccess eq M w n c item rest (access_for n item)
   outcomes M w n c plan.Drain rest o = drained M w n c rest w.desk.owed refl o
-  outcomes M w n c (plan.Post write) rest o = posted M w n c write rest (has_room w.desk) refl o
+  outcomes M w n c (plan.Post write) rest o = posts M w n c write rest (has_room w.desk) refl o
   outcomes M w n c plan.Turn rest o = turned M w n c rest (is_free_for w.desk n) refl o
   outcomes M w n c plan.Apply rest o = applied M w n c rest w.desk.log refl o
   outcomes M w n c plan.End rest o = o
-  outcomes M w n c (plan.Get aim key) rest o = (o.0, got M w n c aim key rest (w.table.stored key) o)
+  outcomes M w n c (plan.Get aim key) rest o = (o.0, λ answer t h. rw (h.1, h.0) (got M w n c aim key rest (w.table.stored key) o))
   outcomes M w n c (plan.Judge aim key stored) rest o = o
   outcomes M w n c (plan.Own load) rest o = owned M w n c load rest (w.desk.owners load) refl o
   outcomes M w n c (plan.Read load) rest o = was_told M w n c load rest (settlement_for w.desk n) refl o
@@ -183,5 +184,5 @@ module _ {K V : Type 0} (eq : K → K → Bool) where
   outcomes M w n c (plan.Ask load) rest o = o
   outcomes M w n c (plan.Told load) rest o = taken M w n c load rest (w.desk.told n) refl o
   outcomes M w n c (plan.Moment key value) rest o = o
-  outcomes M w n c (plan.Write key value moment) rest o = o
+  outcomes M w n c (plan.Write key value moment) rest o = (o.0, λ answer t h. rw (h.1, h.0) o.1)
   outcomes M w n c (plan.Reply answer) rest o = o

@@ -1,10 +1,11 @@
 -- Each step keeps stored pairs under their own keys.
 use Rattle.std.proofs.Common.{◌≡◌, ℕ, Bool, true, false, cond, Option, Some, refl, sym, ap, subst, ◌∙◌}
-use Rattle.moka_hist.specs.State.{State, World}
+use Rattle.moka_hist.specs.State.{State, TablePart, World}
 use Rattle.moka_hist.specs.Step.{Access, Gets, Step, access_of}
 use Rattle.moka_hist.specs.Step as step
-use Rattle.moka_hist.specs.Tables.{table_after}
+use Rattle.moka_hist.specs.Tables.{Operates}
 use Rattle.moka_hist.specs.declared.records.Stored.{Stored}
+use Rattle.moka_hist.specs.declared.tables.TableAnswer.{TableAnswer}
 use Rattle.moka_hist.specs.declared.tables.TableOp.{TableOp}
 use Rattle.moka_hist.specs.declared.tables.TableOp.TheVariants as op
 use Rattle.moka_hist.specs.declared.tables.TableTurn.TheVariants as table
@@ -28,15 +29,16 @@ module _ {K V : Type 0} (eq : K → K → Bool) where
       subst (λ (k : K). eq k q ≡ true) (sym own ∙ ap (λ (x : K × Stored V). x.0) (some_same new p is)) e
   put_under key q new p old false own e is kept = kept is
 
-  operation_keeps : (w : World K V) (o : TableOp K V) → IsUnder w.table.stored → IsUnder (table_after eq w.table o).stored
-  operation_keeps w (op.Get key) under = under
-  operation_keeps w (op.InsertOrModify key stored) under =
-      λ q p is. put_under key q (key, stored) p (w.table.stored q) (eq key q) refl refl is (under q p)
+  operation_keeps : (n : ℕ) (w t : TablePart K V) (o : TableOp K V) (answer : TableAnswer K V) → Operates eq n w o answer t → IsUnder w.stored → IsUnder t.stored
+  operation_keeps n w t (op.Get key) answer o under = subst (λ (v : TablePart K V). IsUnder v.stored) (sym o.1) under
+  operation_keeps n w t (op.InsertOrModify key stored) answer o under =
+      subst (λ (v : TablePart K V). IsUnder v.stored) (sym o.1)
+      (λ q p is. put_under key q (key, stored) p (w.stored q) (eq key q) refl refl is (under q p))
 
   access_keeps : (n : ℕ) (w new : World K V) (a : Access K V) (g : Got K V) → Gets eq n w a g new → IsUnder w.table.stored → IsUnder new.table.stored
   access_keeps n w new (step.On_table o) (got.Table table.Going) gets under = subst (λ (v : World K V). IsUnder v.table.stored) (sym gets.1) under
   access_keeps n w new (step.On_table o) (got.Table (table.Decided answer)) gets under =
-      subst (λ (v : World K V). IsUnder v.table.stored) (sym gets.1) (operation_keeps w o under)
+      subst (λ (v : World K V). IsUnder v.table.stored) (sym gets.2) (operation_keeps n w.table gets.0 o answer gets.1 under)
   access_keeps n w new (step.On_desk made) (got.Desk found) gets under = subst (λ (v : World K V). IsUnder v.table.stored) (sym gets.1) under
   access_keeps n w new (step.On_table o) (got.Desk found) gets under = absurd gets
   access_keeps n w new (step.On_desk made) (got.Table turn) gets under = absurd gets

@@ -41,11 +41,11 @@ and_left true y h = refl
 and_left false y h = absurd (false≢true h)
 
 module _ {K : Type 0} (eq : K → K → Bool) (laws : IsEquivalence eq) where
-  loads_self : (a : Load K) → load_eq eq a a ≡ true
+  pub loads_self : (a : Load K) → load_eq eq a a ≡ true
   loads_self a = rw (laws.refl a.key, kinds_alike a.kind a.kind) refl
 
   -- a load is equal to both or to neither of two that are equal
-  loads_alike : (l a b : Load K) → load_eq eq a b ≡ true → load_eq eq l a ≡ load_eq eq l b
+  pub loads_alike : (l a b : Load K) → load_eq eq a b ≡ true → load_eq eq l a ≡ load_eq eq l b
   loads_alike l a b e =
       let keys = and_left _ _ e in
       let alike : eq l.key a.key ≡ eq l.key b.key = laws.symm l.key a.key ∙ laws.congr a.key b.key l.key keys ∙ laws.symm b.key l.key in

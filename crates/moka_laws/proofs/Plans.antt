@@ -146,7 +146,7 @@ module _ {K V : Type 0} where
 
 module _ {K V : Type 0} (eq : K → K → Bool) where
   -- each live call is known
-  abbrev AllKnown : State K V → Type 0
+  abbrev pub AllKnown : State K V → Type 0
   AllKnown s = (n : ℕ) (c : Call K V) → s.calls n ≡ Some c → IsKnown c
 
   goes_on : (s : State K V) (n : ℕ) (w : World K V) (next : Next K V) → AllKnown s → KnownIf next.left → AllKnown (state_after s n w next)
@@ -159,7 +159,7 @@ module _ {K V : Type 0} (eq : K → K → Bool) where
       step_cases eq (λ _ next. KnownIf next.left) (λ v _. AllKnown v) s t n turn step
       (on_plan eq s.world n step.call h step.call.plan h.plan) (λ w next. goes_on s n w next all)
 
-  known_kept : IsKept eq AllKnown
+  pub known_kept : IsKept eq AllKnown
   known_kept = record {
     fresh = λ size has_log n c live. absurd (none_some live);
     at = λ s moment all. all;

@@ -5,7 +5,7 @@ use Rattle.moka_hist.specs.Finite.{put_at}
 use Rattle.moka_hist.specs.State.{State, World, Call}
 use Rattle.moka_hist.specs.Plan.{plan_of}
 use Rattle.moka_hist.specs.Step.{Step}
-use Rattle.moka_hist.specs.Run.{started, fresh_call}
+use Rattle.moka_hist.specs.Run.{IsReached, started, fresh_call}
 use Rattle.moka_hist.specs.declared.loads.Load.{Load}
 use Rattle.moka_hist.specs.declared.events.Start.{Start}
 use Rattle.moka_hist.specs.declared.accesses.Turn.{Turn}
@@ -19,7 +19,7 @@ use Rattle.moka_laws.proofs.Balance.{IsBalanced}
 use Rattle.moka_laws.proofs.Balanced.{balanced_kept, next_free}
 use Rattle.moka_laws.proofs.Owning.{plan_left}
 use Rattle.moka_laws.proofs.Roles.{Fits, awaited, fresh_fits}
-use Rattle.moka_laws.proofs.Readers.{joins, joins_self, Answered, OwnerOf}
+use Rattle.moka_laws.proofs.Reading.{joins, joins_self, Answered, OwnerOf}
 use Rattle.moka_laws.proofs.Serving.{part, Serves, drops, no_load, no_owner}
 use Rattle.moka_laws.proofs.ServingSteps.{on_plan}
 
@@ -38,19 +38,19 @@ module _ {K V : Type 0} (eq : K → K → Bool) where
         Answered eq s.world.desk.owning s.world.desk.settled o load
 
   -- a call that waits for an owner is live
-  joined_live : (o : Option (Call K V)) (a : Option (Load K)) (j : Option ℕ) (who : ℕ) → Fits a j (plan_left o) → j ≡ Some who →
+  pub joined_live : (o : Option (Call K V)) (a : Option (Load K)) (j : Option ℕ) (who : ℕ) → Fits a j (plan_left o) → j ≡ Some who →
       (c : Call K V) × (o ≡ Some c)
   joined_live None a j who f e = absurd (false≢true (sym f.waiting ∙ ap is_some e))
   joined_live (Some c) a j who f e = (c, refl)
 
   module _ (s : State K V) (i : IsServed s) where
-    joined_numbered : (m o : ℕ) → s.world.desk.joined m ≡ Some o → m ≤ s.world.desk.last
+    pub joined_numbered : (m o : ℕ) → s.world.desk.joined m ≡ Some o → m ≤ s.world.desk.last
     joined_numbered m o j = let c = joined_live (s.calls m) _ _ o (i.fits m) j in i.balanced.numbered m c.0 c.1
 
-    enough_own : (n : ℕ) → n ≤ s.world.desk.last → (o : ℕ) → joins o (s.world.desk.joined n) ≤ s.world.desk.readers o
+    pub enough_own : (n : ℕ) → n ≤ s.world.desk.last → (o : ℕ) → joins o (s.world.desk.joined n) ≤ s.world.desk.readers o
     enough_own n l o = omega (arith, i.counted o, sum_holds s.world.desk.last (λ m. joins o (s.world.desk.joined m)) n l)
 
-    enough : (n : ℕ) → n ≤ s.world.desk.last → (m o : ℕ) → (n == m) ≡ false → s.world.desk.joined m ≡ Some o →
+    pub enough : (n : ℕ) → n ≤ s.world.desk.last → (m o : ℕ) → (n == m) ≡ false → s.world.desk.joined m ≡ Some o →
         joins o (s.world.desk.joined n) + 1 ≤ s.world.desk.readers o
     enough n l m o h j =
         let k = joined_numbered m o j in
@@ -147,7 +147,7 @@ module _ {K V : Type 0} (eq : K → K → Bool) where
       wait idle m o load j a false e = i.waits m o load j
           (ap (λ v. awaited (plan_left v)) (sym (put_there s.calls (s.world.desk.last + 1) (Some (fresh_call start)) m e)) ∙ a)
 
-  served_kept : IsKept eq IsServed
+  pub served_kept : IsKept eq IsServed
   served_kept = record {
     fresh = λ size has_log. record {
       balanced = (balanced_kept eq).fresh size has_log;
@@ -181,6 +181,9 @@ module _ {K V : Type 0} (eq : K → K → Bool) where
         ((balanced_kept eq).drop s n c live between i.balanced) ((answering_kept eq).drop s n c live between i.answering);
   }
 
+  pub in_served : (s : State K V) → IsReached eq s → IsServed s
+  in_served s h = in_reached eq IsServed served_kept s h
+
   -- an owner of a load is live
   owner_alike : (s : State K V) → IsServed s → (o : ℕ) (load : Load K) → OwnerOf eq s.world.desk.owning o load → OwnsAlike eq s o load
   owner_alike s i o load own = by (s.calls o) refl (i.fits o)
@@ -192,7 +195,7 @@ module _ {K V : Type 0} (eq : K → K → Bool) where
 
   pub waiters_served : WaitersHaveOwners K V eq
   waiters_served s n c load rest h live e =
-      let i : IsServed s = in_reached eq IsServed served_kept s h in
+      let i : IsServed s = in_served s h in
       let awaits : awaited (plan_left (s.calls n)) ≡ Some load = ap (λ v. awaited (plan_left v)) live ∙ ap awaited e in
       by i awaits (s.world.desk.joined n) refl (i.fits n).waiting
     where

@@ -14,7 +14,7 @@ use Rattle.moka_hist.specs.declared.visits.Settled.TheVariants as settled
 use Rattle.moka_laws.proofs.Counting.{none_some, some_same, put_here, put_there, other_number}
 use Rattle.moka_laws.proofs.Owning.{plan_left}
 use Rattle.moka_laws.proofs.Roles.{Fits, awaited}
-use Rattle.moka_laws.proofs.Readers.{joins, joins_self, fewer_readers, Answered, OwnerOf, answered_without, answered_with}
+use Rattle.moka_laws.proofs.Reading.{joins, joins_self, fewer_readers, Answered, OwnerOf, answered_without, answered_with}
 
 -- what the desk keeps of owners and of those that wait for them
 pub record Part (K V : Type 0) : Type 0 where

@@ -15,7 +15,7 @@ use Rattle.moka_laws.proofs.Outcomes.{Outcomes, outcomes}
 use Rattle.moka_laws.proofs.Answering.{HasAnswers, settlement_ready}
 use Rattle.moka_laws.proofs.Owning.{plan_left}
 use Rattle.moka_laws.proofs.Roles.{IsLast, owners, Fits, awaited, goes_fits, misses_fits, judge_fits, hits_fits, told_fits, read_fits, goes_awaits, misses_awaits, hits_awaits}
-use Rattle.moka_laws.proofs.Readers.{joins, Answered, OwnerOf}
+use Rattle.moka_laws.proofs.Reading.{joins, Answered, OwnerOf}
 use Rattle.moka_laws.proofs.Serving.{Serves, part, no_load, no_owner, at_most_one, keeps, keeps_none, claims, joins_owner, leaves_owner, ends_own}
 
 module _ {K V : Type 0} (eq : K → K → Bool) (w : World K V) (n : ℕ) (c : Call K V)

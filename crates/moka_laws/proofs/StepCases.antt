@@ -1,9 +1,9 @@
 -- One step, taken apart by the first item of the call's plan.
 use Rattle.std.proofs.Common.{ℕ, ◌<◌, Bool, List, [], ◌∷◌, sym, subst}
-use Rattle.moka_hist.specs.State.{State, Call, World}
+use Rattle.moka_hist.specs.State.{State, Call, TablePart, World}
 use Rattle.moka_hist.specs.Plan.{Item}
 use Rattle.moka_hist.specs.Visits.{finds, makes}
-use Rattle.moka_hist.specs.Tables.{table_answer, table_after}
+use Rattle.moka_hist.specs.Tables.{Operates}
 use Rattle.moka_hist.specs.Bound.{times_of, stayed, decided_by, most_undecided}
 use Rattle.moka_hist.specs.Next.{Next, waits}
 use Rattle.moka_hist.specs.Step.{Access, On_table, On_desk, access_for, access_of, after_table, after_visit, next_of, Gets, state_after, Step}
@@ -11,6 +11,7 @@ use Rattle.moka_hist.specs.declared.records.Mode.{Mode}
 use Rattle.moka_hist.specs.declared.accesses.Got.{Got}
 use Rattle.moka_hist.specs.declared.accesses.Got.TheVariants as got
 use Rattle.moka_hist.specs.declared.accesses.Turn.{Turn}
+use Rattle.moka_hist.specs.declared.tables.TableAnswer.{TableAnswer}
 use Rattle.moka_hist.specs.declared.tables.TableTurn.TheVariants as table
 
 module _ {K V : Type 0} (eq : K → K → Bool) where
@@ -18,8 +19,8 @@ module _ {K V : Type 0} (eq : K → K → Bool) where
   abbrev pub OnAccess : (World K V → Next K V → Type 0) → World K V → ℕ → Call K V → Item K V → List (Item K V) → Access K V → Type 0
   OnAccess M w n c item rest (On_table op) =
       (times_of w.stay n < most_undecided w.table → M (record w { stay = stayed w.stay n }) (after_table n c item rest table.Going)) ×
-      M (record w { table = table_after eq w.table op; stay = decided_by n })
-      (after_table n c item rest (table.Decided (table_answer w.table op)))
+      ((answer : TableAnswer K V) (t : TablePart K V) → Operates eq n w.table op answer t →
+      M (record w { table = t; stay = decided_by n }) (after_table n c item rest (table.Decided answer)))
   OnAccess M w n c item rest (On_desk made) =
       M (record w { desk = makes eq w.desk made }) (after_visit c item rest (finds w.desk made))
 
@@ -37,7 +38,8 @@ module _ {K V : Type 0} (eq : K → K → Bool) where
       (a : Access K V) (given : Got K V) (new : World K V) → Gets eq n w a given new → OnAccess M w n c item rest a → M new
       (after n c item rest given)
   by_access M w n c item rest (On_table op) (got.Table table.Going) new h m = subst (λ v. M v (after_table n c item rest table.Going)) (sym h.1) (m.0 h.0)
-  by_access M w n c item rest (On_table op) (got.Table (table.Decided answer)) new h m = rw (h.1, h.0) m.1
+  by_access M w n c item rest (On_table op) (got.Table (table.Decided answer)) new h m =
+      subst (λ v. M v (after_table n c item rest (table.Decided answer))) (sym h.2) (m.1 answer h.0 h.1)
   by_access M w n c item rest (On_desk made) (got.Desk f) new h m = rw (h.1, h.0) m
   by_access M w n c item rest (On_table op) (got.Desk f) new h m = absurd h
   by_access M w n c item rest (On_desk made) (got.Table turn) new h m = absurd h
@@ -56,7 +58,7 @@ module _ {K V : Type 0} (eq : K → K → Bool) where
   more_access : (M N : World K V → Next K V → Type 0) → ((w : World K V) (next : Next K V) → M w next → N w next) →
       (w : World K V) (n : ℕ) (c : Call K V) (item : Item K V) (rest : List (Item K V)) (a : Access K V) → OnAccess M w n c item rest a →
       OnAccess N w n c item rest a
-  more_access M N f w n c item rest (On_table op) m = (λ h. f _ _ (m.0 h), f _ _ m.1)
+  more_access M N f w n c item rest (On_table op) m = (λ h. f _ _ (m.0 h), λ answer t o. f _ _ (m.1 answer t o))
   more_access M N f w n c item rest (On_desk made) m = f _ _ m
 
   more_step : (M N : World K V → Next K V → Type 0) → ((w : World K V) (next : Next K V) → M w next → N w next) →

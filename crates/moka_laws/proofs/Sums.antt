@@ -16,6 +16,10 @@ pub sum_next : (k : ℕ) (f : ℕ → ℕ) → sum_to (k + 1) f ≡ sum_to k f +
 unfolding sum_to
 sum_next k f = rw add-one refl
 
+pub sum_suc : (k : ℕ) (f : ℕ → ℕ) → sum_to (suc k) f ≡ sum_to k f + f (suc k)
+unfolding sum_to
+sum_suc k f = refl
+
 -- sums of what is the same are the same
 pub sum_same : (k : ℕ) (f g : ℕ → ℕ) → ((m : ℕ) → m ≤ k → g m ≡ f m) → sum_to k g ≡ sum_to k f
 unfolding sum_to

@@ -11,7 +11,7 @@ use Rattle.moka_hist.specs.Next.{Next, goes}
 use Rattle.moka_hist.specs.Looking.{hits, misses}
 use Rattle.moka_hist.specs.Loading.{after_read, after_told, retries}
 use Rattle.moka_hist.specs.Step.{Step}
-use Rattle.moka_hist.specs.Run.{fresh_call}
+use Rattle.moka_hist.specs.Run.{IsReached, fresh_call}
 use Rattle.moka_hist.specs.declared.records.Mode.TheVariants as mode
 use Rattle.moka_hist.specs.declared.loads.Load.{Load}
 use Rattle.moka_hist.specs.declared.events.Start.{Start}
@@ -41,13 +41,13 @@ module _ {K V : Type 0} where
   of_turn _ = 0
 
   -- a plan that takes a turn takes it now: then it applies, and ends it, and takes no other
-  abbrev InTurn : List (Item K V) → Type 0
+  abbrev pub InTurn : List (Item K V) → Type 0
   InTurn [] = ⊥
   InTurn (plan.Apply ∷ rest) = InTurn rest
   InTurn (plan.End ∷ rest) = weigh of_turn rest ≡ 0
   InTurn (_ ∷ rest) = ⊥
 
-  abbrev TurnsFirst : List (Item K V) → Type 0
+  abbrev pub TurnsFirst : List (Item K V) → Type 0
   TurnsFirst [] = Unit {0}
   TurnsFirst (plan.Turn ∷ rest) = InTurn rest
   TurnsFirst (plan.Apply ∷ rest) = InTurn rest
@@ -257,7 +257,7 @@ module _ {K V : Type 0} (eq : K → K → Bool) where
       (on_plan eq s.world n c c.plan refl fits) (λ w next b. turns s n w next.left i b) in
       kept ((balanced_kept eq).step s t n turn i.balanced step)
 
-  turning_kept : IsKept eq (IsTurning {K = K} {V = V})
+  pub turning_kept : IsKept eq (IsTurning {K = K} {V = V})
   turning_kept = record {
     fresh = λ size has_log. record {
       balanced = (balanced_kept eq).fresh size has_log;
@@ -295,9 +295,12 @@ module _ {K V : Type 0} (eq : K → K → Bool) where
   holds s n None e t m = absurd t
   holds s n (Some c) e t m = record { call = c; live = e; between = m; applying = in_applies c.plan t }
 
+  pub in_turning : (s : State K V) → IsReached eq s → IsTurning s
+  in_turning s h = in_reached eq IsTurning turning_kept s h
+
   pub turn_held : TurnIsHeld K V eq
   turn_held s n h =
-      let i : IsTurning s = in_reached eq IsTurning turning_kept s h in (
+      let i : IsTurning s = in_turning s h in (
         λ e. let t = (i.fits n).has e in holds s n (s.calls n) refl t (i.mid n t),
         λ k.
             let f = subst (λ v. TurnFits s.world.desk.turn n (plan_left v)) k.live (i.fits n) in

@@ -21,6 +21,7 @@ use Rattle.moka_laws.proofs.Counting.{none_some}
 use Rattle.moka_laws.proofs.StepCases.{OnStep, step_cases}
 use Rattle.moka_laws.proofs.Outcomes.{Outcomes, outcomes}
 use Rattle.moka_laws.proofs.Answering.{HasAnswers, answering, settlement_ready}
+use Rattle.moka_laws.proofs.Asking.{AsksWhole, ask_open, ask_closed, in_asking, whole}
 
 not_none : {A : Type 0} {a : A} (o : Option A) → o ≡ Some a → ¬ IsNone o
 not_none None e = λ h. none_some e
@@ -75,29 +76,29 @@ module _ {K V : Type 0} where
     always : {Q : Type 0} → Q → Waits w c Q w (waits c)
     always q = record { cause = (λ e. q, λ q. refl); world = λ e. refl; left = λ e. refl }
 
-  module _ (eq : K → K → Bool) (w : World K V) (n : ℕ) (c : Call K V) (has : HasAnswers w.desk) where
-    on_item : (item : Item K V) (rest : List (Item K V)) → Outcomes eq (Waits w c (IsMissing w.desk n item)) w n c item rest
-    on_item plan.Drain rest = (λ e. never w c (λ q. q) (goes_on c rest), λ x xs e. never w c (λ q. q) (λ e. cc))
-    on_item (plan.Post write) rest = (λ e. never w c (λ q. q) (goes_on c rest), λ e. never w c (λ q. q) (λ e. cc))
-    on_item plan.Turn rest = (λ e. never w c (λ q. false≢true (sym q ∙ e)) (goes_on c rest), λ e. always w c e)
-    on_item plan.Apply rest = (λ e. never w c (λ q. q) (goes_on c rest), λ x xs e. never w c (λ q. q) (λ e. cc))
-    on_item plan.End rest = never w c (λ q. q) (goes_on c rest)
-    on_item (plan.Get aim key) rest = ((λ more. never w c (λ q. q) (λ e. cc)), never w c (λ q. q) (misses_on c aim), λ k stored. never w c (λ q. q) (λ e. cc))
-    on_item (plan.Judge aim key stored) rest = never w c (λ q. q) (hits_on c aim stored.value)
-    on_item (plan.Own load) rest = (λ e. never w c (λ q. q) (λ e. cc), λ owner e. never w c (λ q. q) (λ e. cc))
-    on_item (plan.Read load) rest = (
+  module _ (eq : K → K → Bool) (w : World K V) (n : ℕ) (c : Call K V) (has : HasAnswers w.desk) (asked : AsksWhole w.desk n c.plan) where
+    on_item : (item : Item K V) (rest : List (Item K V)) → c.plan ≡ item ∷ rest → Outcomes eq (Waits w c (IsMissing w.desk n item)) w n c item rest
+    on_item plan.Drain rest p = (λ e. never w c (λ q. q) (goes_on c rest), λ x xs e. never w c (λ q. q) (λ e. cc))
+    on_item (plan.Post write) rest p = (λ e. never w c (λ q. q) (goes_on c rest), λ e. never w c (λ q. q) (λ e. cc))
+    on_item plan.Turn rest p = (λ e. never w c (λ q. false≢true (sym q ∙ e)) (goes_on c rest), λ e. always w c e)
+    on_item plan.Apply rest p = (λ e. never w c (λ q. q) (goes_on c rest), λ x xs e. never w c (λ q. q) (λ e. cc))
+    on_item plan.End rest p = never w c (λ q. q) (goes_on c rest)
+    on_item (plan.Get aim key) rest p = ((λ more. never w c (λ q. q) (λ e. cc)), never w c (λ q. q) (misses_on c aim), λ k stored. never w c (λ q. q) (λ e. cc))
+    on_item (plan.Judge aim key stored) rest p = never w c (λ q. q) (hits_on c aim stored.value)
+    on_item (plan.Own load) rest p = (λ e. never w c (λ q. q) (λ e. cc), λ owner e. never w c (λ q. q) (λ e. cc))
+    on_item (plan.Read load) rest p = (
       λ e. always w c (ap is_some e),
       λ with e. never w c (not_none _ e) (read_on c load with (settlement_ready w.desk n with has e)),
     )
-    on_item (plan.Settle with) rest = never w c (λ q. q) (goes_on c rest)
-    on_item (plan.Ask load) rest = never w c (λ q. q) (λ e. cc)
-    on_item (plan.Told load) rest = (
-      λ e. always w c (ap is_some e),
-      λ given e. never w c (not_none _ e) (told_on c load given (λ h. has.told n (e ∙ h))),
+    on_item (plan.Settle with) rest p = never w c (λ q. q) (goes_on c rest)
+    on_item (plan.Ask load) rest p = never w c (λ q. q) (λ e. cc)
+    on_item (plan.Told load) rest p = (
+      λ e. always w c (ask_open w.desk n load rest (subst (AsksWhole w.desk n) p asked) (ap is_some e)),
+      λ given e. never w c (ask_closed w.desk n load rest (subst (AsksWhole w.desk n) p asked) (ap is_some e)) (told_on c load given (λ h. has.told n (e ∙ h))),
     )
-    on_item (plan.Moment key value) rest = never w c (λ q. q) (λ e. cc)
-    on_item (plan.Write key value moment) rest = ((λ more. never w c (λ q. q) (λ e. cc)), never w c (λ q. q) (λ e. cc))
-    on_item (plan.Reply answer) rest = never w c (λ q. q) (λ e. cc)
+    on_item (plan.Moment key value) rest p = never w c (λ q. q) (λ e. cc)
+    on_item (plan.Write key value moment) rest p = ((λ more. never w c (λ q. q) (λ e. cc)), never w c (λ q. q) (λ e. cc))
+    on_item (plan.Reply answer) rest p = never w c (λ q. q) (λ e. cc)
 
 module _ {K V : Type 0} (eq : K → K → Bool) where
   -- a call that a look-up gives is the one that another gives
@@ -109,7 +110,7 @@ module _ {K V : Type 0} (eq : K → K → Bool) where
       let M : World K V → Next K V → Type 0 = Waits s.world c (IsMissing s.world.desk n item) in
       let on_plan : OnStep eq M s.world n c c.plan =
       subst (λ p. OnStep eq M s.world n c p) (sym e)
-      (outcomes eq M s.world n c item rest (on_item eq s.world n c (answering eq s h).desk item rest)) in
+      (outcomes eq M s.world n c item rest (on_item eq s.world n c (answering eq s h).desk (whole s (in_asking eq s h) n c live) item rest e)) in
       step_cases eq M (λ v r. WaitsFor s n c item r v) s t n reply step
       (subst (λ v. OnStep eq M s.world n v v.plan) (one_call c step.call live step.live) on_plan)
       (λ w next m. record {

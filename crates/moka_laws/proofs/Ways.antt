@@ -8,7 +8,7 @@ use Rattle.moka_hist.specs.Run.{Goings, Happens, Refuses, Run, Steps, Any, IsRea
 use Rattle.moka_hist.specs.State.{Call, State, TablePart, World}
 use Rattle.moka_hist.specs.Step.{Access, Gets, Step, access_of, going_as, next_of, state_after}
 use Rattle.moka_hist.specs.Step as step
-use Rattle.moka_hist.specs.Tables.{table_after}
+use Rattle.moka_hist.specs.Tables.{Operates, written as written_to}
 use Rattle.moka_hist.specs.declared.accesses.Got.{Got}
 use Rattle.moka_hist.specs.declared.accesses.Got.TheVariants as got
 use Rattle.moka_hist.specs.declared.accesses.Turn.{Turn}
@@ -79,14 +79,14 @@ module _ {K V : Type 0} (eq : K → K → Bool) where
   abbrev KeysWerePeak : State K V → Type 0
   KeysWerePeak s = s.world.table.keys ≤ s.world.table.peak
 
-  operation_peak : (w : TablePart K V) (o : TableOp K V) → w.keys ≤ w.peak → (table_after eq w o).keys ≤ (table_after eq w o).peak
-  operation_peak w (op.Get key) h = h
-  operation_peak w (op.InsertOrModify key stored) h = omega arith
+  operation_peak : (n : ℕ) (w t : TablePart K V) (o : TableOp K V) (answer : TableAnswer K V) → Operates eq n w o answer t → w.keys ≤ w.peak → t.keys ≤ t.peak
+  operation_peak n w t (op.Get key) answer o h = subst (λ (v : TablePart K V). v.keys ≤ v.peak) (sym o.1) h
+  operation_peak n w t (op.InsertOrModify key stored) answer o h = subst (λ (v : TablePart K V). v.keys ≤ v.peak) (sym o.1) (omega arith)
 
   access_peak : (n : ℕ) (w new : World K V) (a : Access K V) (g : Got K V) → Gets eq n w a g new → w.table.keys ≤ w.table.peak → new.table.keys ≤ new.table.peak
   access_peak n w new (step.On_table o) (got.Table table.Going) gets h = subst (λ (v : World K V). v.table.keys ≤ v.table.peak) (sym gets.1) h
   access_peak n w new (step.On_table o) (got.Table (table.Decided answer)) gets h =
-      subst (λ (v : World K V). v.table.keys ≤ v.table.peak) (sym gets.1) (operation_peak w.table o h)
+      subst (λ (v : World K V). v.table.keys ≤ v.table.peak) (sym gets.2) (operation_peak n w.table gets.0 o answer gets.1 h)
   access_peak n w new (step.On_desk made) (got.Desk found) gets h = subst (λ (v : World K V). v.table.keys ≤ v.table.peak) (sym gets.1) h
   access_peak n w new _ _ gets h = absurd gets
 
@@ -105,8 +105,9 @@ module _ {K V : Type 0} (eq : K → K → Bool) where
   }
 
   -- how long operations stay undecided, after an access that is not the first of a write
-  written : (w : TablePart K V) (key : K) (stored : Stored V) → w.keys ≤ w.peak → most_undecided (table_after eq w (op.InsertOrModify key stored)) ≤ most_undecided w + 48
-  written w key stored h = by (is_some (w.stored key))
+  written : (n : ℕ) (w : TablePart K V) (key : K) (stored : Stored V) → w.keys ≤ w.peak →
+      most_undecided (written_to eq n w key stored) ≤ most_undecided w + 48
+  written n w key stored h = by (is_some (w.stored key))
     where
       by : (b : Bool) → 16 * (128 + 3 * max w.peak (cond b w.keys (w.keys + 1))) + 32 ≤ 16 * (128 + 3 * w.peak) + 32 + 48
       by true = omega (arith, h)
@@ -118,11 +119,17 @@ module _ {K V : Type 0} (eq : K → K → Bool) where
   decided_not : (g : TableAnswer K V) → ◌≡◌ {A = Got K V} (got.Table (table.Decided g)) (got.Table table.Going) → ⊥
   decided_not g e = cc
 
-  decided_shortens : (n : ℕ) (w : World K V) (o : TableOp K V) (g : TableAnswer K V) → w.table.keys ≤ w.table.peak →
-      Shortens (work_in n w) (work_in n (record w { table = table_after eq w.table o; stay = decided_by n })) (step.On_table o) (got.Table (table.Decided g))
-  decided_shortens n w (op.Get key) g h = record { within = omega arith; raises = omega arith; going = λ e. absurd (decided_not g e) }
-  decided_shortens n w (op.InsertOrModify key stored) g h =
-      record { within = omega arith; raises = written w.table key stored h; going = λ e. absurd (decided_not g e) }
+  decided_shortens : (n : ℕ) (w : World K V) (t : TablePart K V) (o : TableOp K V) (g : TableAnswer K V) → Operates eq n w.table o g t →
+      w.table.keys ≤ w.table.peak →
+      Shortens (work_in n w) (work_in n (record w { table = t; stay = decided_by n })) (step.On_table o) (got.Table (table.Decided g))
+  decided_shortens n w t (op.Get key) g o h =
+      subst (λ v. Shortens (work_in n w) (work_in n (record w { table = v; stay = decided_by n })) (step.On_table (op.Get key)) (got.Table (table.Decided g)))
+      (sym o.1) (record { within = omega arith; raises = omega arith; going = λ e. absurd (decided_not g e) })
+  decided_shortens n w t (op.InsertOrModify key stored) g o h =
+      subst
+      (λ v. Shortens (work_in n w) (work_in n (record w { table = v; stay = decided_by n })) (step.On_table (op.InsertOrModify key stored))
+      (got.Table (table.Decided g)))
+      (sym o.1) (record { within = omega arith; raises = written n w.table key stored h; going = λ e. absurd (decided_not g e) })
 
   shortens_in : (n : ℕ) (w new : World K V) (a : Access K V) (g : Got K V) → Gets eq n w a g new → w.table.keys ≤ w.table.peak →
       Shortens (work_in n w) (work_in n new) a g
@@ -131,7 +138,8 @@ module _ {K V : Type 0} (eq : K → K → Bool) where
       subst (λ v. Shortens (work_in n w) (work_in n v) (step.On_table o) (got.Table table.Going)) (sym gets.1)
       (record { within = omega arith; raises = omega arith; going = λ e. omega (arith, once, gets.0) })
   shortens_in n w new (step.On_table o) (got.Table (table.Decided answer)) gets h =
-      subst (λ v. Shortens (work_in n w) (work_in n v) (step.On_table o) (got.Table (table.Decided answer))) (sym gets.1) (decided_shortens n w o answer h)
+      subst (λ v. Shortens (work_in n w) (work_in n v) (step.On_table o) (got.Table (table.Decided answer))) (sym gets.2)
+      (decided_shortens n w gets.0 o answer gets.1 h)
   shortens_in n w new (step.On_desk made) (got.Desk found) gets h =
       subst (λ v. Shortens (work_in n w) (work_in n v) (step.On_desk made) (got.Desk found)) (sym gets.1)
       (record { within = omega arith; raises = omega arith; going = λ e. absurd (desk_not found e) })

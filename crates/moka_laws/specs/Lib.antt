@@ -1,8 +1,12 @@
 pub mod Reaching
-pub mod Holders
+pub mod Held
 pub mod Waiting
 pub mod Lawful
 pub mod Missing
 pub mod Moving
 pub mod OwnKeys
 pub mod Bounded
+pub mod Sound
+pub mod Readers
+pub mod Answered
+pub mod Alone

@@ -4,25 +4,36 @@
 //! Each law is the contract of a function that does nothing. To call it is to cite the law.
 #![tactic(auto)]
 
+mod alone;
+mod answered;
 mod bounded;
+mod held;
 mod lawful;
 mod missing;
 mod moving;
-mod places;
 mod reaching;
+mod readers;
+mod sound;
 mod stored;
 mod waiting;
 
+pub use alone::insert_then_get;
+pub use answered::{answered_is_posted, posted_stays, stored_is_committed};
 pub use bounded::{logs_have_room, step_events_are_bounded, steps_are_bounded};
+pub use held::held_are_known;
 pub use lawful::{
     event_is_lawful, lawful_run_goes_on, reached_is_lawful, run_is_lawful, steps_are_lawful,
 };
 pub use missing::{missing_can_come, turn_is_held, waiters_have_owners};
 pub use moving::{calls_are_safe, move_is_step, moves_are_steps, polled_is_poll};
-pub use places::holders_have_places;
 pub use reaching::{
     fresh_is_reached, reached_by_event, reached_by_run, reached_by_step, reached_by_steps,
     run_goes_on,
+};
+pub use readers::{nothing_unread_is_kept, readers_are_counted, waiters_answer_settled};
+pub use sound::{
+    clock_keeps_sound, deciding_keeps_sound, entering_keeps_sound, fresh_is_sound,
+    leaving_keeps_sound, reached_is_sound, telling_keeps_sound, visits_keep_sound,
 };
 pub use stored::{reached_by_lawful_run, stored_under_own_keys};
 pub use waiting::{live_calls_go_on, waits_by_cause};

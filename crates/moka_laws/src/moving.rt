@@ -19,7 +19,7 @@ pub fn polled_is_poll<K: Eq, V>()
 {}
 
 /// Cites the law that on a reached state the world has what a live call needs, however far it goes
-/// on by itself: where it is to post a write, the desk has a place for it.
+/// on by itself: the desk allows each visit that it makes.
 pub fn calls_are_safe<K: Eq, V>()
     ensures safe { CallsAreSafe K V K.eq }
 {}

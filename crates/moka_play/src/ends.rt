@@ -1,5 +1,9 @@
-//! A source over a reader and a sink over a writer of the system, whose bytes no proof knows.
-ghost use Rattle.std.specs.Prelude.{◌≡◌, None};
+//! A source over a reader and a sink over a writer. What the reader has left and the writer holds
+//! is told where it is known, as it is of those in memory; of the system's own no proof knows it.
+ghost use Rattle.std.specs.Prelude.{◌≡◌, ℕ, ◌+◌, ◌<◌, ◌≤◌, None, IfOk, OnErr, length, take};
+ghost use Rattle.std.specs.Io.KnownBytes.{Appends, Consumes, IsAtEnd, Keeps};
+ghost use Rattle.moka_ends.specs.Bytes.{Extends, Gives, IsSpent};
+ghost use Rattle.moka_ends.specs.Faults.{HasRisen};
 
 use moka_ends::{Failed, Sink, Source};
 use std::io::{Read, Write};
@@ -25,7 +29,23 @@ impl<R: Read> Source for ReadSource<R> {
 
     ghost faults = { λ s. s.faults };
 
-    fn read(&mut self, buf: &mut [u8]) -> Result<usize, Failed> {
+    fn read(&mut self, buf: &mut [u8]) -> Result<usize, Failed>
+        ensures within { IfOk result (λ n. n ≤ length buf.old) }
+        ensures next { IfOk result (λ n. Gives None (take n buf.new) None) }
+        ensures end { IfOk result (λ n. n ≡ 0 → 0 < length buf.old → IsSpent None) }
+        // what the reader had left, where that is known
+        ensures passed { IfOk result (λ n. Consumes (R.remaining self.old.input)
+            (R.remaining self.new.input) (take n buf.new)) }
+        ensures last { IfOk result (λ n. n ≡ 0 → 0 < length buf.old
+            → IsAtEnd (R.remaining self.new.input)) }
+        ensures held { OnErr result (Keeps (R.remaining self.old.input)
+            (R.remaining self.new.input)) }
+        // faults
+        ensures fault { OnErr result (HasRisen self.old.faults self.new.faults) }
+        ensures calm { IfOk result (λ n. self.new.faults ≡ self.old.faults) }
+        ensures faults { self.old.faults ≤ self.new.faults }
+        ensures once { self.new.faults ≤ self.old.faults + 1 }
+    {
         match self.input.read(buf) {
             Ok(count) => Ok(count),
             Err(_) => {
@@ -57,7 +77,21 @@ impl<W: Write> Sink for WriteSink<W> {
 
     ghost faults = { λ s. s.faults };
 
-    fn write(&mut self, bytes: &[u8]) -> Result<usize, Failed> {
+    fn write(&mut self, bytes: &[u8]) -> Result<usize, Failed>
+        ensures within { IfOk result (λ n. n ≤ length bytes.now) }
+        ensures some { IfOk result (λ n. 0 < length bytes.now → 0 < n) }
+        ensures next { IfOk result (λ n. Extends None (take n bytes.now) None) }
+        // what the writer holds, where that is known
+        ensures passed { IfOk result (λ n. Appends (W.contents self.old.output)
+            (W.contents self.new.output) (take n bytes.now)) }
+        ensures held { OnErr result (Keeps (W.contents self.old.output)
+            (W.contents self.new.output)) }
+        // faults
+        ensures fault { OnErr result (HasRisen self.old.faults self.new.faults) }
+        ensures calm { IfOk result (λ n. self.new.faults ≡ self.old.faults) }
+        ensures faults { self.old.faults ≤ self.new.faults }
+        ensures once { self.new.faults ≤ self.old.faults + 1 }
+    {
         match self.output.write(bytes) {
             Ok(count) if count > 0 || bytes.is_empty() => Ok(count),
             _ => {
@@ -71,7 +105,9 @@ impl<W: Write> Sink for WriteSink<W> {
 #[cfg(test)]
 mod tests {
     use super::*;
+    use moka_ends::write_all;
     use std::io;
+    use std::test::Fail;
 
     /// Fails each time.
     #[derive(Drop)]
@@ -95,6 +131,34 @@ mod tests {
         fn flush(&mut self) -> io::Result<()> {
             Ok(())
         }
+    }
+
+    /// Takes at most three bytes a call, and keeps them.
+    #[derive(Drop)]
+    struct Narrow {
+        bytes: Vec<u8>,
+    }
+
+    impl Write for Narrow {
+        fn write(&mut self, buf: &[u8]) -> io::Result<usize> {
+            let count = buf.len().min(3);
+            self.bytes.extend_from_slice(&buf[..count])?;
+            Ok(count)
+        }
+
+        fn flush(&mut self) -> io::Result<()> {
+            Ok(())
+        }
+    }
+
+    #[test]
+    fn short_writes_come_to_the_whole(rt: HostRuntime) -> Result<(), Fail> {
+        let bytes = Vec::new(rt.alloc());
+        let mut sink = WriteSink::new(Narrow { bytes });
+        assert_eq!(rt; write_all(&mut sink, b"answer none\n"), Ok(()));
+        assert_eq!(rt; sink.output.bytes.as_slice(), b"answer none\n".as_slice());
+        assert_eq!(rt; sink.faults, 0);
+        Ok(())
     }
 
     #[test]

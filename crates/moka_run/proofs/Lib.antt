@@ -1,6 +1,8 @@
-pub mod TableSteps
-pub mod Wanted
 pub mod Places
+pub mod Running
+pub mod Leaving
+pub mod OtherCalls
+pub mod Stepping
 pub mod Happening
 pub mod LiveCalls
 pub mod ReportPlaces
@@ -9,3 +11,4 @@ pub mod Needing
 pub mod ByKey
 pub mod OneWord
 pub mod Reported
+pub mod Due

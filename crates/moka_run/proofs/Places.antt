@@ -5,7 +5,7 @@ use Rattle.std.proofs.lemmas.Bool.Decides.{eqb_tells}
 use Rattle.moka_hist.specs.Finite.{put_at}
 use Rattle.moka_hist.specs.State.{Call}
 use Rattle.moka_run.specs.declared.calls.Running.{Running}
-use Rattle.moka_run.specs.Machine.{call_in, IsOf}
+use Rattle.moka_run.specs.Machine.{call_in}
 
 -- what is at the place that was set, or at another
 pub set_or_other : {A : Type 0} (f : ℕ → A) (n : ℕ) (a : A) (k : ℕ) → ((n ≡ k) × (put_at f n a k ≡ a)) ⊎ ((n ≢ k) × (put_at f n a k ≡ f k))
@@ -42,14 +42,14 @@ module _ {K V : Type 0} where
       by (inl e) = ap (option_map call_in) (news k ∙ ap (λ b. cond b o (old k)) e.0) ∙ is ∙ sym (ap (λ b. cond b out (others k)) e.0)
       by (inr e) = ap (option_map call_in) (news k ∙ ap (λ b. cond b o (old k)) e.0) ∙ olds k e.1 ∙ sym (ap (λ b. cond b out (others k)) e.0)
 
-  -- each running call is of its number, where one place was set
-  pub set_each : (old new : ℕ → Option (Running K V)) (n : ℕ) (o : Option (Running K V)) → ((x : Running K V) → o ≡ Some x → IsOf n x)
-      → ((k : ℕ) → new k ≡ put_at old n o k) → ((k : ℕ) (x : Running K V) → old k ≡ Some x → IsOf k x)
-      → (k : ℕ) (x : Running K V) → new k ≡ Some x → IsOf k x
-  set_each old new n o is news olds k x e = by (set_or_other old n o k)
+  -- what holds of each running call, where one place was set
+  pub set_each : (Q : ℕ → Running K V → Type 0) (old new : ℕ → Option (Running K V)) (n : ℕ) (o : Option (Running K V)) → ((x : Running K V) → o ≡ Some x → Q n x)
+      → ((k : ℕ) → new k ≡ put_at old n o k) → ((k : ℕ) (x : Running K V) → old k ≡ Some x → Q k x)
+      → (k : ℕ) (x : Running K V) → new k ≡ Some x → Q k x
+  set_each Q old new n o is news olds k x e = by (set_or_other old n o k)
     where
-      by : ((n ≡ k) × (put_at old n o k ≡ o)) ⊎ ((n ≢ k) × (put_at old n o k ≡ old k)) → IsOf k x
-      by (inl f) = subst (λ (m : ℕ). IsOf m x) f.0 (is x (sym f.1 ∙ sym (news k) ∙ e))
+      by : ((n ≡ k) × (put_at old n o k ≡ o)) ⊎ ((n ≢ k) × (put_at old n o k ≡ old k)) → Q k x
+      by (inl f) = subst (λ (m : ℕ). Q m x) f.0 (is x (sym f.1 ∙ sym (news k) ∙ e))
       by (inr f) = olds k x (sym f.1 ∙ sym (news k) ∙ e)
 
   -- taking what isn't there changes nothing

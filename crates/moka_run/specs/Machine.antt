@@ -1,22 +1,24 @@
 -- What a machine stands for, and what its calls do.
-use Rattle.std.specs.Prelude.{◌≡◌, ◌≢◌, ℕ, Bool, Option, Some}
+use Rattle.std.specs.Prelude.{◌≡◌, ◌≢◌, ◌≤◌, ℕ, Bool, Option, Some, None}
 use Rattle.std.specs.Option.{option_map}
 use Rattle.std.specs.declared.cmp.PartialEq as PartialEq
 use Rattle.std.specs.declared.hash.Hash as Hash
-use Rattle.moka_hist.specs.State.{Call, State, World}
+use Rattle.moka_hist.specs.State.{Call, State, Stay, TablePart, World}
 use Rattle.moka_hist.specs.Bound.{as_told}
 use Rattle.moka_hist.specs.Finite.{put_at}
 use Rattle.moka_hist.specs.Next.{Next}
 use Rattle.moka_hist.specs.Step.{May, Moves, MovesOn, Polled, IsSafe, access_of}
 use Rattle.moka_hist.specs.Run.{Any, Goings, Happens, IsReached, reply_of}
+use Rattle.moka_hist.specs.declared.accesses.Want.{Want}
 use Rattle.moka_hist.specs.declared.events.Event.{Event}
 use Rattle.moka_hist.specs.declared.events.Event.TheVariants as event
 use Rattle.moka_hist.specs.declared.replies.Reply.{Reply}
 use Rattle.moka_init.specs.declared.flow.Flow.{Flow}
-use Rattle.moka_init.specs.FlowPlan.{call_of}
-use Rattle.moka_init.specs.Grounds.{IsOn, access_at, NeedsMemory}
+use Rattle.moka_init.specs.FlowPlan.{call_of, IsLive}
+use Rattle.moka_init.specs.Grounds.{HasBegun, IsOn, MayWant, access_at, NeedsMemory}
+use Rattle.moka_layers.specs.Layers.{BegunIs, GroundIs, WorldIs, account_of, operation_in}
 use Rattle.moka_run.specs.Calls.{running_at}
-use Rattle.moka_run.specs.Layers.{WorldIs, operation_of}
+use Rattle.moka_run.specs.TheTable.{TheTable, the_table}
 use Rattle.moka_run.specs.declared.calls.Running.{Running}
 use Rattle.moka_run.specs.declared.machine.Machine.{Machine}
 
@@ -31,25 +33,38 @@ module _ {K V : Type 0} where
   Begins eq P s (Some (event.Poll n)) steps t = (made : ℕ) × (steps ≡ as_told made) × Goings eq P made s n t
   Begins eq P s _ steps t = (steps ≡ 0) × (t ≡ s)
 
-  -- the running call is of this number, and its flow on its ground
-  pub record IsOf (n : ℕ) (r : Running K V) : Type 0 where
-    pub number : r.flow.call ≡ n
-    pub on : IsOn (operation_of r.begun) r.flow
+-- The running call is of this number, which was given out. It has something left to do, and may go on with what it has begun
+-- on the table.
+pub record IsOf {K V : Type 0} (eq : K → K → Bool) (table : TheTable K V) (part : TablePart K V) (stay : Stay) (last n : ℕ) (r : Running K V) : Type 0 where
+  pub number : r.flow.call ≡ n
+  pub live : IsLive r.flow
+  pub on : HasBegun (operation_in (the_table eq) r.begun) r.flow
+  pub begun : BegunIs (the_table eq) table n r.begun part stay
+  pub given : n ≤ last
+
+module _ {K V : Type 0} {same : PartialEq.Ghosts K} {hash : Hash.Ghosts K} where
+  -- each call that runs is that of its number
+  abbrev pub EachIsOf : (K → K → Bool) → Machine K V same hash → World K V → Type 0
+  EachIsOf eq m w =
+      (n : ℕ) (r : Running K V) → running_at m.calls n ≡ Some r → IsOf eq m.layers.table w.table w.stay w.desk.last n r
 
 -- The machine stands for the state: its layers for the world, its running calls for the live ones.
 pub record StandsFor {K V : Type 0} {same : PartialEq.Ghosts K} {hash : Hash.Ghosts K} (eq : K → K → Bool) (m : Machine K V same hash) (s : State K V) : Type 0 where
-  pub world : WorldIs eq m.layers s.world
+  pub world : WorldIs eq (the_table eq) m.layers s.world
   pub calls : (n : ℕ) → option_map call_in (running_at m.calls n) ≡ s.calls n
-  pub each : (n : ℕ) (r : Running K V) → running_at m.calls n ≡ Some r → IsOf n r
+  pub each : EachIsOf eq m s.world
 
--- One call was taken out of the machine, and is this flow. The layers stand for the world, and the
--- other calls are these.
-pub record Without {K V : Type 0} {same : PartialEq.Ghosts K} {hash : Hash.Ghosts K} (eq : K → K → Bool) (m : Machine K V same hash) (n : ℕ) (flow : Flow K V) (others : ℕ → Option (Call K V)) (w : World K V) : Type 0 where
-  pub world : WorldIs eq m.layers w
+-- The machine stands for the world as the call reaches it that was taken out.
+pub record Reaches {K V : Type 0} {same : PartialEq.Ghosts K} {hash : Hash.Ghosts K} (eq : K → K → Bool) (m : Machine K V same hash) (w : World K V) : Type 0 where
+  pub layers : GroundIs eq (the_table eq) m.layers w
+  pub out : running_at m.calls m.layers.call ≡ None
+  pub each : EachIsOf eq m w
+
+-- The call of this number was taken out of the machine. It reaches the world, and the other calls are these.
+pub record Without {K V : Type 0} {same : PartialEq.Ghosts K} {hash : Hash.Ghosts K} (eq : K → K → Bool) (m : Machine K V same hash) (n : ℕ) (others : ℕ → Option (Call K V)) (w : World K V) : Type 0 where
+  pub reaches : Reaches eq m w
+  pub number : m.layers.call ≡ n
   pub calls : (k : ℕ) → n ≢ k → option_map call_in (running_at m.calls k) ≡ others k
-  pub each : (k : ℕ) (r : Running K V) → running_at m.calls k ≡ Some r → IsOf k r
-  pub number : flow.call ≡ n
-  pub on : IsOn (operation_of m.layers.begun) flow
 
 module _ {K V : Type 0} {same : PartialEq.Ghosts K} {hash : Hash.Ghosts K} where
   -- the machine stands for a state that a run can reach
@@ -61,7 +76,16 @@ module _ {K V : Type 0} {same : PartialEq.Ghosts K} {hash : Hash.Ghosts K} where
   -- the live call of this number is taken out of the state that the machine stood for
   pub record TakenOut (eq : K → K → Bool) (m : Machine K V same hash) (n : ℕ) (flow : Flow K V) (s : State K V) : Type 0 where
     pub live : s.calls n ≡ Some (call_of flow)
-    pub rest : Without eq m n flow s.calls s.world
+    pub rest : Without eq m n s.calls s.world
+
+  -- some world that the call reaches allows what is wanted
+  abbrev pub Allows : (K → K → Bool) → Machine K V same hash → Want K V → Type 0
+  Allows eq m wish = (w : World K V) × Reaches eq m w × MayWant w (operation_in (the_table eq) m.layers.begun) wish
+
+  -- this flow is that of the call that was taken out, which has something left to do
+  pub record IsOut (eq : K → K → Bool) (m : Machine K V same hash) (flow : Flow K V) : Type 0 where
+    pub on : IsOn (account_of (the_table eq) m.layers) flow
+    pub live : IsLive flow
 
   -- the event was carried out or refused with this reply, from whatever state the machine stood for
   abbrev pub Serves : (K → K → Bool) → Machine K V same hash → Event K V → Reply V → Machine K V same hash → Type 0
@@ -80,20 +104,20 @@ module _ {K V : Type 0} {same : PartialEq.Ghosts K} {hash : Hash.Ghosts K} where
   -- a step of a call that was taken out: the call made it, and was put back or has ended
   abbrev pub StepOut : (K → K → Bool) → Machine K V same hash → ℕ → Flow K V → Reply V → Machine K V same hash → Type 0
   StepOut eq old n flow r new =
-      (others : ℕ → Option (Call K V)) (w : World K V) → Without eq old n flow others w → May w (access_at flow)
+      (others : ℕ → Option (Call K V)) (w : World K V) → Without eq old n others w → May w (access_at flow)
       → (next : Next K V) × (after : World K V) × Moves eq n (call_of flow) w next after × (r ≡ reply_of next.turn)
       × StandsFor eq new (record { world = after; calls = put_at others n next.left })
 
   -- the call that was taken out was put back as it was
   abbrev pub KeepsOut : (K → K → Bool) → Machine K V same hash → ℕ → Flow K V → Machine K V same hash → Type 0
   KeepsOut eq old n flow new =
-      (others : ℕ → Option (Call K V)) (w : World K V) → Without eq old n flow others w
+      (others : ℕ → Option (Call K V)) (w : World K V) → Without eq old n others w
       → StandsFor eq new (record { world = w; calls = put_at others n (Some (call_of flow)) })
 
   -- a poll of a call that was taken out
   abbrev pub PollOut : (K → K → Bool) → Machine K V same hash → ℕ → Flow K V → Reply V → Machine K V same hash → Type 0
   PollOut eq old n flow r new =
-      (others : ℕ → Option (Call K V)) (w : World K V) → Without eq old n flow others w → IsSafe eq n (call_of flow) w
+      (others : ℕ → Option (Call K V)) (w : World K V) → Without eq old n others w → IsSafe eq n (call_of flow) w
       → (next : Next K V) × (after : World K V) × Polled eq n (call_of flow) w next after × (r ≡ reply_of next.turn)
       × StandsFor eq new (record { world = after; calls = put_at others n next.left })
 
@@ -101,6 +125,6 @@ module _ {K V : Type 0} {same : PartialEq.Ghosts K} {hash : Hash.Ghosts K} where
   abbrev pub UnfinishedOut : (K → K → Bool) → Machine K V same hash → ℕ → Flow K V → ℕ → Machine K V same hash → Type 0
   UnfinishedOut eq old n flow steps new =
       (made : ℕ) × (steps ≡ as_told made)
-      × ((others : ℕ → Option (Call K V)) (w : World K V) → Without eq old n flow others w → IsSafe eq n (call_of flow) w
+      × ((others : ℕ → Option (Call K V)) (w : World K V) → Without eq old n others w → IsSafe eq n (call_of flow) w
       → (d : Call K V) × (after : World K V) × MovesOn eq made n (call_of flow) w d after
       × StandsFor eq new (record { world = after; calls = put_at others n (Some d) }) × NeedsMemory (access_of n d))

@@ -1,5 +1,5 @@
 -- What `play` reads and writes.
-use Rattle.std.specs.Prelude.{◌≡◌, ℕ, ◌≤◌, List, [], ◌∷◌, map, length, take, nat_eq, codes, Option}
+use Rattle.std.specs.Prelude.{◌≡◌, ◌⊎◌, ℕ, ◌<◌, ◌≤◌, List, [], ◌∷◌, map, length, take, nat_eq, codes, Option}
 use Rattle.std.specs.List.Sorted.{IsStrictlyIncreasing}
 use Rattle.std.specs.Map.{lookup, keys_of}
 use Rattle.std.specs.Option.{option_map}
@@ -115,6 +115,27 @@ IsAfterReading status.Memory = Unit {0}
 IsAfterReading status.BadWords = ⊥
 IsAfterReading status.TooLong = ⊥
 IsAfterReading status.ReadFault = ⊥
+
+-- whatever the source gives, a play may end so: a call of its ends failed, or memory ran out
+abbrev pub IsBroken : Status → Type 0
+IsBroken status.ReadFault = Unit {0}
+IsBroken status.WriteFault = Unit {0}
+IsBroken status.Memory = Unit {0}
+IsBroken status.Done = ⊥
+IsBroken status.BadWords = ⊥
+IsBroken (status.BadLine line) = ⊥
+IsBroken status.TooLong = ⊥
+
+-- the play ended as was due, or it broke off
+abbrev pub EndsAs : Status → Status → Type 0
+EndsAs due ended = (ended ≡ due) ⊎ IsBroken ended
+
+-- How a play of these bytes is due to end: too long where they are, at the first bad line where there is one, and done where they
+-- say a schedule.
+pub record IsDue (bytes : List ℕ) (ended : Status) : Type 0 where
+  pub too_long : most_bytes < length bytes → EndsAs status.TooLong ended
+  pub bad_line : (line : ℕ) → length bytes ≤ most_bytes → IsFirstBad bytes line → EndsAs (status.BadLine line) ended
+  pub done : (log : ℕ) (events : List (Event ℕ ℕ)) → length bytes ≤ most_bytes → Says bytes log events → EndsAs status.Done ended
 
 -- the status after the source failed so
 abbrev pub status_of_read : ReadError → Status

@@ -22,15 +22,6 @@ module _ {V : Type 0} where
   ToldNeedsMemory told.Done = ⊥
 
 module _ {K V : Type 0} where
-  -- memory may be wanting in such an event. Moving the clock and dropping a call take none
-  abbrev pub TakesMemory : Event K V → Type 0
-  TakesMemory (event.At moment) = ⊥
-  TakesMemory (event.Start start) = Unit {0}
-  TakesMemory (event.Step n) = Unit {0}
-  TakesMemory (event.Poll n) = Unit {0}
-  TakesMemory (event.Tell n answer) = Unit {0}
-  TakesMemory (event.Drop n) = ⊥
-
   -- the call is live, and memory may be wanting for the access at which it stands
   abbrev pub CallNeedsMemory : State K V → ℕ → Type 0
   CallNeedsMemory s n = MatchOption (s.calls n) ⊥ (λ c. NeedsMemory (access_of n c))

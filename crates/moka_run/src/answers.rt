@@ -1,5 +1,5 @@
 //! The report of a schedule, from its text to its text.
-ghost use Rattle.std.specs.Prelude.{◌≡◌, ◌≤◌, ℕ, nat_eq, IfOk, IsErrOf, IsPermutation, IsSortedByKey};
+ghost use Rattle.std.specs.Prelude.{◌≡◌, ◌<◌, ◌≤◌, ℕ, length, nat_eq, IfOk, IsErrOf, IsPermutation, IsSortedByKey};
 ghost use Rattle.std.specs.Ordering.{nat_cmp};
 ghost use Rattle.std.specs.String.{string_bytes};
 ghost use Rattle.moka_text.specs.ScheduleText.{IsFirstBad, Says};
@@ -77,6 +77,7 @@ fn read_given(alloc: Global, bytes: Vec<u8>) -> Result<Schedule, ScheduleError>
     ensures found { IfOk result (λ s. Says bytes.items s.log s.events.items) }
     ensures bad_line { (line : ℕ) → IsErrOf result (ScheduleError.BadLine line)
         → IsFirstBad bytes.items line }
+    ensures memory { IsErrOf result ScheduleError.Memory → 0 < length bytes.items }
 {
     read_schedule(alloc, &bytes)
 }
@@ -89,6 +90,7 @@ pub(crate) fn answer(alloc: Global, bytes: Vec<u8>) -> Result<String, ScheduleEr
     ensures answers { IfOk result (λ text. IsReport bytes.items (string_bytes text)) }
     ensures bad_line { (line : ℕ) → IsErrOf result (ScheduleError.BadLine line)
         → IsFirstBad bytes.items line }
+    ensures memory { IsErrOf result ScheduleError.Memory → 0 < length bytes.items }
 {
     let schedule = read_given(alloc, bytes)?;
     match report_on(alloc, schedule.log, schedule.events) {

@@ -1,6 +1,6 @@
 //! The live calls, by number.
 ghost use Rattle.std.specs.Prelude.{◌≡◌, ℕ, ◌<◌, Some, None, IfOk, OnOk, OnSome};
-ghost use Rattle.std.specs.Option.{option_map, option_copied};
+ghost use Rattle.std.specs.Option.{option_map};
 ghost use Rattle.std.specs.HashMap.{spare};
 ghost use Rattle.moka_hist.specs.Finite.{put_at};
 ghost use Rattle.moka_run.specs.Calls.{running_at, held_in, HasPlace};
@@ -8,8 +8,8 @@ ghost use Rattle.moka_run.specs.Machine.{call_in};
 ghost use Rattle.moka_run.specs.Report.{AreHeld};
 
 use crate::lists::number_of;
+use crate::machine::TheCall;
 use moka_init::Flow;
-use moka_table::PlainCall;
 use std::alloc::{AllocError, Global};
 use std::collections::HashMap;
 
@@ -17,7 +17,7 @@ use std::collections::HashMap;
 #[derive(Drop)]
 pub(crate) struct Running<K, V> {
     pub(crate) flow: Flow<K, V>,
-    pub(crate) begun: Option<PlainCall<K, V>>,
+    pub(crate) begun: Option<TheCall<K, V>>,
 }
 
 /// The live calls, by number. A call that is being stepped is taken out, and its place stays.
@@ -47,21 +47,12 @@ impl<K: Drop, V: Drop> Calls<K, V> {
     /// A call starts to run. There is room, so it takes no memory.
     pub(crate) fn add(&mut self, call: u64, running: Running<K, V>)
         requires { 0 < spare self.old.places }
-        ensures { (n : ℕ) → running_at self.new n ≡ put_at (running_at self.old) call (Some running) n }
+        ensures { (n : ℕ) → running_at self.new n
+            ≡ put_at (running_at self.old) call (Some running) n }
     {
         match self.places.insert(call, Some(running)) {
             Ok(_) => {}
             Err(_) => unreachable!(),
-        }
-    }
-
-    /// The flow of a running call.
-    pub(crate) fn flow(&self, call: u64) -> Option<&Flow<K, V>>
-        ensures { option_copied result ≡ option_map (λ r. r.flow) (running_at self.now call) }
-    {
-        match self.places.get(&call) {
-            Some(Some(running)) => Some(&running.flow),
-            _ => None,
         }
     }
 
@@ -80,7 +71,8 @@ impl<K: Drop, V: Drop> Calls<K, V> {
     /// Puts a call back that was taken out. It takes no memory.
     pub(crate) fn put_back(&mut self, call: u64, running: Running<K, V>)
         requires { HasPlace self.old call }
-        ensures { (n : ℕ) → running_at self.new n ≡ put_at (running_at self.old) call (Some running) n }
+        ensures { (n : ℕ) → running_at self.new n
+            ≡ put_at (running_at self.old) call (Some running) n }
     {
         match self.places.get_mut(&call) {
             Some(place) => *place = Some(running),
@@ -97,7 +89,8 @@ impl<K: Drop, V: Drop> Calls<K, V> {
 
     /// Lists the numbers of the writes that running calls hold.
     pub(crate) fn held(&self, alloc: Global) -> Result<Vec<u64>, AllocError>
-        ensures { IfOk result (λ numbers. AreHeld numbers.items (λ n. option_map call_in (running_at self.now n))) }
+        ensures { IfOk result (λ numbers. AreHeld numbers.items
+            (λ n. option_map call_in (running_at self.now n))) }
     {
         let mut numbers = Vec::new(alloc);
         for place in self.places.values() {

@@ -1,14 +1,15 @@
 //! How many accesses a step makes, on a ground that counts them.
-ghost use Rattle.std.specs.Prelude.{◌≡◌, ◌∷◌, ◌++◌, [], List, Some, IfOk, OnErr, nat_eq};
+ghost use Rattle.std.specs.Prelude.{◌≡◌, IfOk, OnErr, nat_eq};
+ghost use Rattle.std.proofs.Common.{refl, ◌∙◌};
 ghost use Rattle.moka_hist.specs.Finite.{IsExact};
 ghost use Rattle.moka_hist.specs.State.{State};
 ghost use Rattle.moka_hist.specs.Step.{May};
 ghost use Rattle.moka_hist.specs.Run.{IsReached};
 ghost use Rattle.moka_init.specs.Grounds.{access_at};
 ghost use Rattle.moka_run.specs.Calls.{HasPlace};
-ghost use Rattle.moka_run.specs.Machine.{IsValid, TakenOut};
+ghost use Rattle.moka_layers.specs.Counted.{counted};
+ghost use Rattle.moka_run.specs.Machine.{IsOut, IsValid, TakenOut};
 
-use crate::layers::Layers;
 use crate::machine::Machine;
 use crate::runs::run;
 use moka_hist::{Event, Got, Refusal, Reply, Want};
@@ -19,53 +20,62 @@ use std::hash::Hash;
 use std::slice;
 use std::test::Fail;
 
-// The layers of a machine, and how many accesses were made on them.
+// A machine, and how many accesses were made on it.
 #[derive(Drop)]
 struct Counting<K: Eq + Hash, V> {
-    layers: Layers<K, V>,
+    machine: Machine<K, V>,
     accesses: u64,
 }
 
 impl<K: Eq + Hash + Clone + Drop, V: Clone + Drop> Ground<K, V> for Counting<K, V> {
     ghost use Rattle.moka_hist.specs.State.{World};
-    ghost use Rattle.moka_hist.specs.Step.{Access};
-    ghost use Rattle.moka_hist.specs.declared.accesses.Got.{Got};
-    ghost use Rattle.moka_bound.specs.Falling.{Counts, Shortens};
-    ghost use Rattle.moka_init.specs.Grounds.{wanted, still_begun, nothing_told, MayWant, NeedsMemory};
-    ghost use Rattle.moka_run.specs.Layers.{WorldIs, operation_of, work_of, Accesses, Keeps};
+    ghost use Rattle.moka_init.specs.Grounds.{Accesses, Gives, NeedsMemory, OfWanted};
+    ghost use Rattle.moka_layers.specs.Layers.{account_of};
+    ghost use Rattle.moka_run.specs.Machine.{Reaches, Allows};
+    ghost use Rattle.moka_run.specs.TheTable.{the_table};
 
-    ghost stands = { λ c w. WorldIs K.eq c.layers w };
+    ghost stands = { λ c w. Reaches K.eq c.machine w };
 
-    ghost begun = { λ c. operation_of c.layers.begun };
+    ghost fits = { λ c want. Allows K.eq c.machine want };
 
-    ghost made = { λ c. nothing_told K V };
-
-    ghost work = { λ c. work_of c.layers };
+    ghost account = { λ c. account_of (the_table K.eq) c.machine.layers };
 
     ghost needs = { NeedsMemory };
+
+    ghost keeps = { λ old new. new.machine.calls ≡ old.machine.calls };
+
+    ghost allows = { λ c w want stands may. (w, stands, may) };
+
+    ghost keeps_same = { λ c. refl };
+
+    ghost keeps_on = { λ a b c before after. after ∙ before };
+
+    ghost counts = { λ c w stands. counted (the_table K.eq) K.eq c.machine.layers w stands.layers };
 
     fn access(&mut self, want: Want<K, V>) -> Result<Got<K, V>, AllocError>
         requires keys { IsExact K.is_clone }
         requires values { IsExact V.is_clone }
-        requires may { (w : World K V) × WorldIs K.eq self.old.layers w × MayWant w (operation_of self.old.layers.begun) want }
-        ensures gives { IfOk result (λ given. (access : Access K V) → wanted (operation_of self.old.layers.begun) want ≡ Some access
-            → Accesses K.eq self.old.layers access given self.new.layers) }
-        ensures begins { IfOk result (λ given. (access : Access K V) → wanted (operation_of self.old.layers.begun) want ≡ Some access
-            → operation_of self.new.layers.begun ≡ still_begun access given) }
-        ensures tells { IfOk result (λ given. (access : Access K V) → wanted (operation_of self.old.layers.begun) want ≡ Some access
-            → (before : List (Access K V × Got K V)) → nothing_told K V ≡ Some before → nothing_told K V ≡ Some (before ++ (access, given) ∷ [])) }
-        ensures shortens { IfOk result (λ given. (access : Access K V) → wanted (operation_of self.old.layers.begun) want ≡ Some access
-            → Shortens (work_of self.old.layers) (work_of self.new.layers) access given) }
-        ensures counted { (w : World K V) → WorldIs K.eq self.old.layers w → Counts w (work_of self.old.layers) }
-        ensures counts { (w : World K V) → WorldIs K.eq self.new.layers w → Counts w (work_of self.new.layers) }
-        ensures err { OnErr result (Keeps K.eq self.old.layers self.new.layers) }
-        ensures err_needs { OnErr result ((access : Access K V) → wanted (operation_of self.old.layers.begun) want ≡ Some access → NeedsMemory access) }
-        ensures err_begun { OnErr result (operation_of self.new.layers.begun ≡ operation_of self.old.layers.begun) }
-        ensures err_made { OnErr result (nothing_told K V ≡ nothing_told K V) }
-        ensures err_work { OnErr result (work_of self.new.layers ≡ work_of self.old.layers) }
+        requires fits { Allows K.eq self.old.machine want }
+        // What it gives, and what is told then.
+        ensures gives { IfOk result (λ given.
+            OfWanted (account_of (the_table K.eq) self.old.machine.layers) want
+            (λ access. Gives K.eq self.old.machine.layers.call (Reaches K.eq self.old.machine)
+            access given (Reaches K.eq self.new.machine))) }
+        ensures tells { IfOk result (λ given.
+            OfWanted (account_of (the_table K.eq) self.old.machine.layers) want
+            (λ access. Accesses (account_of (the_table K.eq) self.old.machine.layers) access given
+            (account_of (the_table K.eq) self.new.machine.layers))) }
+        ensures keeps { self.new.machine.calls ≡ self.old.machine.calls }
+        // Without memory.
+        ensures err { OnErr result (account_of (the_table K.eq) self.new.machine.layers
+            ≡ account_of (the_table K.eq) self.old.machine.layers) }
+        ensures err_stands { OnErr result ((w : World K V) → Reaches K.eq self.old.machine w
+            → Reaches K.eq self.new.machine w) }
+        ensures err_needs { OnErr result
+            (OfWanted (account_of (the_table K.eq) self.old.machine.layers) want NeedsMemory) }
     {
         self.accesses = self.accesses.saturating_add(1);
-        self.layers.access(want)
+        self.machine.access(want)
     }
 }
 
@@ -88,19 +98,22 @@ fn step_out<K: Eq + Hash + Clone + Drop, V: Clone + Drop>(
     requires keys { IsExact K.is_clone }
     requires values { IsExact V.is_clone }
     requires place { HasPlace machine.calls call }
-    requires taken { (s : State K V) × TakenOut K.eq machine call flow s × IsReached K.eq s × May s.world (access_at flow) }
+    requires out { IsOut K.eq machine flow }
+    requires taken { (s : State K V) × TakenOut K.eq machine call flow s × IsReached K.eq s
+        × May s.world (access_at flow) }
     ensures { IsValid K.eq result.machine }
 {
     moka_laws::move_is_step::<K, V>();
     moka_laws::reached_by_step::<K, V>();
-    let Machine { layers, calls } = machine;
     let mut counting = Counting {
-        layers,
+        machine,
         accesses: 0,
     };
     let stepped = step(&mut flow, &mut counting);
-    let Counting { layers, accesses } = counting;
-    let mut machine = Machine { layers, calls };
+    let Counting {
+        mut machine,
+        accesses,
+    } = counting;
     match stepped {
         Ok(turn) => {
             let reply = Some(machine.after_step(call, flow, turn));

@@ -8,16 +8,15 @@ mod calls;
 #[cfg(test)]
 mod counting;
 mod laws;
-mod layers;
 mod lists;
 mod machine;
 mod playing;
+mod reaching;
 mod report;
 mod runs;
 mod serving;
 mod status;
 mod steps;
-mod visits;
 
 pub use laws::says_or_is_bad;
 pub use machine::Machine;

@@ -1,28 +1,40 @@
 //! The schedule machine: a table, a desk and the live calls.
-ghost use Rattle.std.specs.Prelude.{◌≡◌, ◌≤◌, ℕ, Some, None, IfOk, IfErr, OnErr, MatchOption};
+ghost use Rattle.std.specs.Prelude.{◌≤◌, IfOk, IfErr, OnErr};
 ghost use Rattle.moka_hist.specs.Finite.{IsExact};
 
-use crate::calls::{Calls, Running};
-use crate::layers::Layers;
+use crate::calls::Calls;
+use crate::serving::unpolled;
 use moka_desk::Desk;
-use moka_hist::{Event, Mode, Refusal, Reply, Start, Told, Turn};
-use moka_init::{Flow, Unfinished, poll, step};
-use moka_table::{PlainTable, Table};
+use moka_hist::{Event, Reply};
+use moka_init::Unfinished;
+use moka_layers::Layers;
+use moka_table::{PlainCall, PlainTable};
 use std::alloc::{AllocError, Global};
 use std::hash::Hash;
 
+/// The table of a machine, and an operation that was begun on it.
+pub(crate) type TheTable<K, V> = PlainTable<K, V>;
+
+pub(crate) type TheCall<K, V> = PlainCall<K, V>;
+
 /// A cache on one thread whose calls are driven event by event.
+///
+/// What `run` asks of keys and values is that a clone equals its original, as contracts see the two.
+/// It holds of numbers, `bool`, `char`, `&'static str`, the `ByteStr` and `Bytes` of the crate
+/// `bytes`, and of arrays, tuples, `Option`s and derived structs and enums of these; keys have
+/// equality and hash too. It doesn't of `String`, `Vec<u8>`, `Box<T>` and `Arc<T>`: of a `String` make
+/// a `ByteStr` (`ByteStr::from_string`), of a `Vec<u8>` a `Bytes`, and for an `Arc<T>` take the
+/// `Shared<T>` of `moka_uses`, whose callers show each.
 #[derive(Drop)]
 pub struct Machine<K: Eq + Hash, V> {
-    pub(crate) layers: Layers<K, V>,
+    pub(crate) layers: Layers<K, V, TheTable<K, V>, TheCall<K, V>>,
     pub(crate) calls: Calls<K, V>,
 }
 
 impl<K: Eq + Hash + Clone + Drop, V: Clone + Drop> Machine<K, V> {
     ghost use Rattle.moka_hist.specs.State.{State, fresh};
-    ghost use Rattle.moka_hist.specs.Run.{Any, Happens, IsReached};
-    ghost use Rattle.moka_hist.specs.declared.events.Event.{Event};
-    ghost use Rattle.moka_run.specs.Machine.{StandsFor, IsValid, Serves, Keeps};
+    ghost use Rattle.moka_run.specs.Machine.{StandsFor, IsValid, Serves, Stops};
+    ghost use Rattle.moka_run.specs.Running.{MayStopIn};
 
     /// A fresh cache, with a log of this many writes: 1 to 65536.
     pub fn build(alloc: Global, log: usize) -> Result<Self, AllocError>
@@ -34,11 +46,33 @@ impl<K: Eq + Hash + Clone + Drop, V: Clone + Drop> Machine<K, V> {
         let desk = Desk::new(alloc, log)?;
         Ok(Machine {
             layers: Layers {
-                table: PlainTable::new(alloc),
+                table: TheTable::new(alloc),
                 desk,
+                call: 0,
                 begun: None,
             },
             calls: Calls::new(alloc),
         })
+    }
+
+    /// Carries one event out, or refuses it. Want of memory tells how many steps of a poll were made;
+    /// of any other event nothing was done then.
+    pub fn serve(&mut self, event: &Event<K, V>) -> Result<Reply<V>, Unfinished>
+        requires keys { IsExact K.is_clone }
+        requires values { IsExact V.is_clone }
+        requires valid { IsValid K.eq self.old }
+        ensures serves { IfOk result (λ r. Serves K.eq self.old event.now r self.new) }
+        ensures stops { IfErr result (λ u. Stops K.eq self.old event.now u.steps self.new) }
+        ensures needs { OnErr result ((s : State K V) → StandsFor K.eq self.new s
+            → MayStopIn s event.now) }
+    {
+        match event {
+            Event::At { moment } => Ok(self.at(*moment)),
+            Event::Start { start } => unpolled(self.start(start)),
+            Event::Step { call } => unpolled(self.step(*call)),
+            Event::Poll { call } => self.poll(*call),
+            Event::Tell { call, answer } => unpolled(self.tell(*call, answer)),
+            Event::Drop { call } => Ok(self.drop_call(*call)),
+        }
     }
 }

@@ -1,14 +1,14 @@
 //! Playing a schedule: from the words of a command line, a source and a sink to a status.
-ghost use Rattle.std.specs.Prelude.{◌≡◌, ◌≢◌, ◌↔◌, ℕ, ◌≤◌, IsTrue, length};
+ghost use Rattle.std.specs.Prelude.{◌≡◌, ◌≢◌, ◌↔◌, ℕ, ◌<◌, ◌≤◌, IfSome, IsTrue, length};
 ghost use Rattle.moka_ends.specs.Bytes.{GivesSome, HasMoreThan};
 ghost use Rattle.moka_ends.specs.Faults.{HasRisen};
-ghost use Rattle.moka_run.specs.Playing.{IsPlay, IsAfterReading, WritesReport, WritesFront, Plays, BreaksOff, FindsBadLine, most_bytes, status_of_read, status_of_schedule};
+ghost use Rattle.moka_run.specs.Playing.{IsPlay, IsAfterReading, WritesReport, WritesFront, Plays, BreaksOff, FindsBadLine, IsDue, most_bytes, status_of_read, status_of_schedule};
 ghost use Rattle.moka_text.specs.ScheduleText.{IsFirstBad};
 
 use crate::answers::answer;
 use crate::status::Status;
 use moka_ends::{ReadError, Sink, Source, read_all, write_all};
-use moka_text::ScheduleError;
+use moka_text::{ScheduleError, schedule_text_round_trip};
 use std::alloc::Global;
 
 /// The most bytes that a schedule may have.
@@ -53,6 +53,7 @@ fn respond<Snk: Sink>(alloc: Global, bytes: Vec<u8>, sink: &mut Snk) -> Status
     ensures broken_off { result ≡ Status.WriteFault
         → WritesFront bytes.items (Snk.written sink.old) (Snk.written sink.new) }
     ensures read { IsAfterReading result }
+    ensures memory { result ≡ Status.Memory → 0 < length bytes.items }
     ensures unwritten { result ≢ Status.Done → result ≢ Status.WriteFault → sink.new ≡ sink.old }
     ensures fault { result ≡ Status.WriteFault → HasRisen (Snk.faults sink.old) (Snk.faults sink.new) }
     ensures calm { result ≢ Status.WriteFault → Snk.faults sink.new ≡ Snk.faults sink.old }
@@ -77,7 +78,10 @@ fn respond<Snk: Sink>(alloc: Global, bytes: Vec<u8>, sink: &mut Snk) -> Status
 /// - `BadLine`: the first line that is not in the grammar.
 /// - `TooLong`: the source gives more than 16,777,216 bytes.
 /// - `ReadFault`, `WriteFault`: a call of the source or of the sink failed. None did at any other status.
-/// - `Memory`: memory ran out.
+/// - `Memory`: memory ran out. Of an empty source it never does.
+///
+/// Where no call fails and memory lasts, a source that tells its bytes plays to `TooLong` where
+/// they are too many, to `BadLine` at their first bad line, and to `Done` where they say a schedule.
 ///
 /// But after `Done` and `WriteFault` the sink was not called, and after `WriteFault` it was written
 /// the beginning of the report.
@@ -100,6 +104,8 @@ pub fn play<Src: Source, Snk: Sink>(
         → HasRisen (Snk.faults sink.old) (Snk.faults sink.new) }
     ensures read_calm { result ≢ Status.ReadFault → Src.faults source.new ≡ Src.faults source.old }
     ensures write_calm { result ≢ Status.WriteFault → Snk.faults sink.new ≡ Snk.faults sink.old }
+    ensures memory { result ≡ Status.Memory → HasMoreThan 0 (Src.left source.old) }
+    ensures due { IsPlay words.now → IfSome (Src.left source.old) (λ bytes. IsDue bytes result) }
     ensures broken_off { result ≡ Status.WriteFault
         → BreaksOff (Src.left source.old) (Src.left source.new) (Snk.written sink.old) (Snk.written sink.new) }
     // what stays
@@ -107,6 +113,7 @@ pub fn play<Src: Source, Snk: Sink>(
     ensures unwritten { result ≢ Status.Done → result ≢ Status.WriteFault → sink.new ≡ sink.old }
     ensures front { GivesSome (Src.left source.old) (Src.left source.new) }
 {
+    schedule_text_round_trip();
     if !is_play(words) {
         return Status::BadWords;
     }

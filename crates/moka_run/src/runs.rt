@@ -4,7 +4,10 @@ ghost use Rattle.std.specs.Vec.{vec_capacity};
 ghost use Rattle.moka_hist.specs.Finite.{IsExact};
 ghost use Rattle.moka_hist.specs.State.{State};
 ghost use Rattle.moka_hist.specs.Run.{IsReached};
+ghost use Rattle.moka_laws.specs.Alone.{InsertThenGet};
+ghost use Rattle.moka_laws.specs.Answered.{AnsweredIsPosted, PostedStays, StoredIsCommitted};
 ghost use Rattle.moka_laws.specs.Bounded.{StepEventsAreBounded, StepsAreBounded};
+ghost use Rattle.moka_laws.specs.Readers.{NothingUnreadIsKept, ReadersAreCounted, WaitersAnswerSettled};
 ghost use Rattle.moka_laws.specs.Waiting.{WaitsByCause};
 ghost use Rattle.moka_run.specs.Machine.{StandsFor, IsValid};
 ghost use Rattle.moka_run.specs.Running.{Answers, StopsAt};
@@ -22,11 +25,15 @@ use std::hash::Hash;
 /// On Ok the replies answer every event in order, and they are, with the state left behind, a run of
 /// the reference cache, in which no key and kind has two open initializers and each committed write
 /// stands in exactly one place. The report's lists are those of the last state. `Memory` tells how far
-/// it came; the machine stands in that state, and can be run on.
+/// it came, with a reply for each event done; the machine stands in that state, and can be run on.
 ///
 /// A call that is stepped alone has another reply than Going after fewer steps than
 /// `64 * (4 + 128 + 3 * peak + owed + logged)`, where `peak` is the most keys that were ever stored, and
 /// the other two are the writes that are owed and logged as the first of these steps is made.
+///
+/// Of every state that a run reaches its last clauses say what a caller of the cache may count on: a step
+/// waits by its cause; a call that answers has its write logged or applied, for good; a waiter answers what
+/// its owner settled; and an insert and then a get, with no step of others between, give the value.
 pub fn run<K: Eq + Hash + Clone + Drop, V: Clone + Drop>(
     alloc: Global,
     cache: &mut Machine<K, V>,
@@ -40,15 +47,30 @@ pub fn run<K: Eq + Hash + Clone + Drop, V: Clone + Drop>(
     ensures answered { IfOk result (λ report. length report.replies ≡ length events.now) }
     ensures memory { IfErr result (λ m. (s : State K V) → StandsFor K.eq cache.old s → IsReached K.eq s
         → StopsAt K.eq events.now m.done m.steps m.replies cache.new s) }
+    ensures counted { IfErr result (λ m. length m.replies ≡ m.done) }
     ensures valid { IsValid K.eq cache.new }
     // of whatever state, not of this run alone
     ensures waits { WaitsByCause K V K.eq }
     ensures steps { StepsAreBounded K V K.eq }
     ensures events { StepEventsAreBounded K V K.eq }
+    ensures stored { StoredIsCommitted K V K.eq }
+    ensures posted { AnsweredIsPosted K V K.eq }
+    ensures stays { PostedStays K V K.eq }
+    ensures waiters { WaitersAnswerSettled K V K.eq }
+    ensures readers { ReadersAreCounted K V K.eq }
+    ensures unread { NothingUnreadIsKept K V K.eq }
+    ensures gives { InsertThenGet K V K.eq }
 {
     moka_laws::waits_by_cause::<K, V>();
     moka_laws::steps_are_bounded::<K, V>();
     moka_laws::step_events_are_bounded::<K, V>();
+    moka_laws::stored_is_committed::<K, V>();
+    moka_laws::answered_is_posted::<K, V>();
+    moka_laws::posted_stays::<K, V>();
+    moka_laws::waiters_answer_settled::<K, V>();
+    moka_laws::readers_are_counted::<K, V>();
+    moka_laws::nothing_unread_is_kept::<K, V>();
+    moka_laws::insert_then_get::<K, V>();
     let replies = run_events(alloc, cache, events)?;
     let replies = ReplyList::from_vec(replies);
     match lists(alloc, cache) {
@@ -79,6 +101,7 @@ fn run_events<K: Eq + Hash + Clone + Drop, V: Clone + Drop>(
     ensures answered { IfOk result (λ replies. length replies.items ≡ length events.now) }
     ensures memory { IfErr result (λ m. (s : State K V) → StandsFor K.eq cache.old s → IsReached K.eq s
         → StopsAt K.eq events.now m.done m.steps m.replies cache.new s) }
+    ensures counted { IfErr result (λ m. length m.replies ≡ m.done) }
     ensures valid { IsValid K.eq cache.new }
 {
     moka_laws::reached_by_event::<K, V>();

@@ -1,12 +1,12 @@
 //! The events of a schedule, one at a time.
-ghost use Rattle.std.specs.Prelude.{◌≡◌, ◌<◌, ℕ, Some, None, IsSome, IfOk, IfErr, is_ok, false, OnOk, OnErr, MatchResult};
+ghost use Rattle.std.specs.Prelude.{◌≡◌, ◌<◌, ℕ, Some, None, IfOk, is_ok, false, OnOk, OnErr, MatchResult};
 ghost use Rattle.std.specs.HashMap.{spare};
 ghost use Rattle.moka_hist.specs.Finite.{IsExact};
 ghost use Rattle.moka_run.specs.Running.{ToldNeedsMemory};
 
 use crate::calls::Running;
 use crate::machine::Machine;
-use moka_hist::{Event, Mode, Refusal, Reply, Start, Told};
+use moka_hist::{Mode, Refusal, Reply, Start, Told};
 use moka_init::{Flow, Unfinished};
 use std::alloc::AllocError;
 use std::hash::Hash;
@@ -14,37 +14,15 @@ use std::hash::Hash;
 impl<K: Eq + Hash + Clone + Drop, V: Clone + Drop> Machine<K, V> {
     ghost use Rattle.moka_hist.specs.declared.events.Event.{Event};
     ghost use Rattle.moka_hist.specs.Dropping.{dropped};
-    ghost use Rattle.moka_hist.specs.Places.{HoldersHavePlaces};
+    ghost use Rattle.moka_hist.specs.Places.{HeldAreKnown};
     ghost use Rattle.moka_hist.specs.Run.{Drops};
     ghost use Rattle.moka_hist.specs.State.{State};
     ghost use Rattle.moka_init.specs.FlowPlan.{call_of};
     ghost use Rattle.moka_run.specs.Calls.{HasPlace};
-    ghost use Rattle.moka_run.specs.Running.{TakesMemory, MayStopIn};
-    ghost use Rattle.moka_run.specs.Machine.{StandsFor, TakenOut, IsValid, Serves, Keeps, Stops};
-
-    /// Carries one event out, or refuses it. Want of memory tells how many steps of a poll were made;
-    /// of any other event nothing was done then.
-    pub fn serve(&mut self, event: &Event<K, V>) -> Result<Reply<V>, Unfinished>
-        requires keys { IsExact K.is_clone }
-        requires values { IsExact V.is_clone }
-        requires valid { IsValid K.eq self.old }
-        ensures serves { IfOk result (λ r. Serves K.eq self.old event.now r self.new) }
-        ensures stops { IfErr result (λ u. Stops K.eq self.old event.now u.steps self.new) }
-        ensures cause { OnErr result (TakesMemory event.now) }
-        ensures needs { OnErr result ((s : State K V) → StandsFor K.eq self.new s → MayStopIn s event.now) }
-    {
-        match event {
-            Event::At { moment } => Ok(self.at(*moment)),
-            Event::Start { start } => unpolled(self.start(start)),
-            Event::Step { call } => unpolled(self.step(*call)),
-            Event::Poll { call } => self.poll(*call),
-            Event::Tell { call, answer } => unpolled(self.tell(*call, answer)),
-            Event::Drop { call } => Ok(self.drop_call(*call)),
-        }
-    }
+    ghost use Rattle.moka_run.specs.Machine.{StandsFor, TakenOut, IsOut, IsValid, Serves, Keeps};
 
     /// Moves the clock on. It takes no memory.
-    fn at(&mut self, moment: u64) -> Reply<V>
+    pub(crate) fn at(&mut self, moment: u64) -> Reply<V>
         ensures { Serves K.eq self.old (Event.At moment) result self.new }
     {
         if self.layers.desk.at(moment) {
@@ -55,10 +33,11 @@ impl<K: Eq + Hash + Clone + Drop, V: Clone + Drop> Machine<K, V> {
     }
 
     /// Starts a call under the next number.
-    fn start(&mut self, start: &Start<K, V>) -> Result<Reply<V>, AllocError>
+    pub(crate) fn start(&mut self, start: &Start<K, V>) -> Result<Reply<V>, AllocError>
         requires keys { IsExact K.is_clone }
         requires values { IsExact V.is_clone }
-        ensures serves { IfOk result (λ r. Serves K.eq self.old (Event.Start start.now) r self.new) }
+        ensures serves { IfOk result (λ r.
+            Serves K.eq self.old (Event.Start start.now) r self.new) }
         ensures err { OnErr result (Keeps K.eq self.old self.new) }
     {
         let start = cloned_start(start)?;
@@ -90,9 +69,10 @@ impl<K: Eq + Hash + Clone + Drop, V: Clone + Drop> Machine<K, V> {
     }
 
     /// Answers the open ask of a call.
-    fn tell(&mut self, call: u64, answer: &Told<V>) -> Result<Reply<V>, AllocError>
+    pub(crate) fn tell(&mut self, call: u64, answer: &Told<V>) -> Result<Reply<V>, AllocError>
         requires { IsExact V.is_clone }
-        ensures serves { IfOk result (λ r. Serves K.eq self.old (Event.Tell call answer.now) r self.new) }
+        ensures serves { IfOk result (λ r.
+            Serves K.eq self.old (Event.Tell call answer.now) r self.new) }
         ensures err { OnErr result (Keeps K.eq self.old self.new) }
         ensures err_needs { OnErr result (ToldNeedsMemory answer.now) }
     {
@@ -105,11 +85,11 @@ impl<K: Eq + Hash + Clone + Drop, V: Clone + Drop> Machine<K, V> {
     }
 
     /// Drops a call where it stands, unless it is between two steps. It takes no memory.
-    fn drop_call(&mut self, call: u64) -> Reply<V>
+    pub(crate) fn drop_call(&mut self, call: u64) -> Reply<V>
         requires { IsValid K.eq self.old }
         ensures { Serves K.eq self.old (Event.Drop call) result self.new }
     {
-        moka_laws::holders_have_places::<K, V>();
+        moka_laws::held_are_known::<K, V>();
         match self.take_out(call) {
             None => Reply::Refused(Refusal::UnknownCall),
             Some(flow) => self.drop_out(call, flow),
@@ -119,9 +99,11 @@ impl<K: Eq + Hash + Clone + Drop, V: Clone + Drop> Machine<K, V> {
     // Drops the call that was taken out, or puts it back.
     fn drop_out(&mut self, call: u64, flow: Flow<K, V>) -> Reply<V>
         requires place { HasPlace self.old.calls call }
-        requires taken { (s : State K V) × TakenOut K.eq self.old call flow s × HoldersHavePlaces s }
-        ensures { (s : State K V) → TakenOut K.eq self.old call flow s → HoldersHavePlaces s
-            → (t : State K V) × Drops s call (call_of flow) flow.mode result t × StandsFor K.eq self.new t }
+        requires is { IsOut K.eq self.old flow }
+        requires taken { (s : State K V) × TakenOut K.eq self.old call flow s × HeldAreKnown s }
+        ensures { (s : State K V) → TakenOut K.eq self.old call flow s → HeldAreKnown s
+            → (t : State K V) × Drops s call (call_of flow) flow.mode result t
+            × StandsFor K.eq self.new t }
     {
         match flow.mode() {
             Mode::Mid => {
@@ -135,9 +117,9 @@ impl<K: Eq + Hash + Clone + Drop, V: Clone + Drop> Machine<K, V> {
 
     // Drops the call that was taken out: what it holds is left to others.
     fn leave(&mut self, call: u64, flow: Flow<K, V>) -> Reply<V>
-        requires taken { (s : State K V) × TakenOut K.eq self.old call flow s × HoldersHavePlaces s }
+        requires taken { (s : State K V) × TakenOut K.eq self.old call flow s × HeldAreKnown s }
         ensures reply { result ≡ Reply.Dropped }
-        ensures leaves { (s : State K V) → TakenOut K.eq self.old call flow s → HoldersHavePlaces s
+        ensures leaves { (s : State K V) → TakenOut K.eq self.old call flow s → HeldAreKnown s
             → StandsFor K.eq self.new (dropped s call (call_of flow)) }
     {
         let held = flow.held();
@@ -186,7 +168,7 @@ fn cloned_told<V: Clone + Drop>(answer: &Told<V>) -> Result<Told<V>, AllocError>
 }
 
 // An event that isn't a poll makes no steps.
-fn unpolled<V>(reply: Result<Reply<V>, AllocError>) -> Result<Reply<V>, Unfinished>
+pub(crate) fn unpolled<V>(reply: Result<Reply<V>, AllocError>) -> Result<Reply<V>, Unfinished>
     ensures { MatchResult result (λ r. reply ≡ Ok r) (λ u. (u.steps ≡ 0) × (is_ok reply ≡ false)) }
 {
     match reply {

@@ -13,15 +13,15 @@ impl<K: Eq + Hash + Clone + Drop, V: Clone + Drop> Machine<K, V> {
     ghost use Rattle.moka_hist.specs.State.{Call, State, World};
     ghost use Rattle.moka_hist.specs.Run.{reply_of};
     ghost use Rattle.moka_hist.specs.declared.events.Event.{Event};
-    ghost use Rattle.moka_init.specs.FlowPlan.{call_of, left_in};
-    ghost use Rattle.moka_init.specs.declared.flow.Flow.{Flow};
     ghost use Rattle.moka_hist.specs.Step.{May, IsSafe};
+    ghost use Rattle.moka_init.specs.FlowPlan.{Leaves, call_of, left_in};
     ghost use Rattle.moka_init.specs.Grounds.{IsOn, access_at, NeedsMemory};
-    ghost use Rattle.moka_run.specs.Layers.{WorldIs, operation_of};
+    ghost use Rattle.moka_layers.specs.Layers.{account_of};
     ghost use Rattle.moka_run.specs.Calls.{HasPlace};
+    ghost use Rattle.moka_run.specs.Machine.{StandsFor, Reaches, Without, TakenOut, IsOut, IsValid, Serves, Keeps};
+    ghost use Rattle.moka_run.specs.Machine.{Stops, StepOut, KeepsOut, PollOut, UnfinishedOut};
     ghost use Rattle.moka_run.specs.Running.{CallNeedsMemory};
-    ghost use Rattle.moka_run.specs.declared.calls.Running.{Running};
-    ghost use Rattle.moka_run.specs.Machine.{StandsFor, Without, TakenOut, IsValid, Serves, Keeps, Stops, StepOut, KeepsOut, PollOut, UnfinishedOut};
+    ghost use Rattle.moka_run.specs.TheTable.{the_table};
 
     /// Makes one step of a call. After want of memory nothing has changed.
     pub(crate) fn step(&mut self, call: u64) -> Result<Reply<V>, AllocError>
@@ -30,7 +30,8 @@ impl<K: Eq + Hash + Clone + Drop, V: Clone + Drop> Machine<K, V> {
         requires valid { IsValid K.eq self.old }
         ensures serves { IfOk result (λ r. Serves K.eq self.old (Event.Step call) r self.new) }
         ensures err { OnErr result (Keeps K.eq self.old self.new) }
-        ensures err_needs { OnErr result ((s : State K V) → StandsFor K.eq self.new s → CallNeedsMemory s call) }
+        ensures err_needs { OnErr result ((s : State K V) → StandsFor K.eq self.new s
+            → CallNeedsMemory s call) }
     {
         moka_laws::calls_are_safe::<K, V>();
         moka_laws::move_is_step::<K, V>();
@@ -47,8 +48,10 @@ impl<K: Eq + Hash + Clone + Drop, V: Clone + Drop> Machine<K, V> {
         requires values { IsExact V.is_clone }
         requires valid { IsValid K.eq self.old }
         ensures serves { IfOk result (λ r. Serves K.eq self.old (Event.Poll call) r self.new) }
-        ensures stops { IfErr result (λ u. Stops K.eq self.old (Event.Poll call) u.steps self.new) }
-        ensures needs { OnErr result ((s : State K V) → StandsFor K.eq self.new s → CallNeedsMemory s call) }
+        ensures stops { IfErr result (λ u.
+            Stops K.eq self.old (Event.Poll call) u.steps self.new) }
+        ensures needs { OnErr result ((s : State K V) → StandsFor K.eq self.new s
+            → CallNeedsMemory s call) }
     {
         moka_laws::calls_are_safe::<K, V>();
         moka_laws::moves_are_steps::<K, V>();
@@ -62,32 +65,39 @@ impl<K: Eq + Hash + Clone + Drop, V: Clone + Drop> Machine<K, V> {
 
     // Takes a live call out, with the table operation that it has begun.
     pub(crate) fn take_out(&mut self, call: u64) -> Option<Flow<K, V>>
-        ensures none { IfNone result ((s : State K V) → StandsFor K.eq self.old s → (s.calls call ≡ None)) }
+        ensures none { IfNone result ((s : State K V) → StandsFor K.eq self.old s
+            → (s.calls call ≡ None)) }
         ensures same { IfNone result (Keeps K.eq self.old self.new) }
-        ensures some { IfSome result (λ flow. (s : State K V) → StandsFor K.eq self.old s → TakenOut K.eq self.new call flow s) }
+        ensures some { IfSome result (λ flow. (s : State K V) → StandsFor K.eq self.old s
+            → TakenOut K.eq self.new call flow s × IsOut K.eq self.new flow) }
         ensures place { OnSome result (HasPlace self.new.calls call) }
     {
         match self.calls.take(call) {
-            Some(running) => Some(self.lend(running)),
+            Some(running) => Some(self.lend(call, running)),
             None => None,
         }
     }
 
     // The flow of a running call, whose table operation the layers take over.
-    fn lend(&mut self, running: Running<K, V>) -> Flow<K, V>
+    fn lend(&mut self, call: u64, running: Running<K, V>) -> Flow<K, V>
         ensures flow { result ≡ running.flow }
-        ensures machine { self.new ≡ record self.old { layers = record self.old.layers { begun = running.begun } } }
+        ensures machine { self.new ≡ record self.old {
+          layers = record self.old.layers { call = call; begun = running.begun };
+        } }
     {
         let Running { flow, begun } = running;
+        self.layers.call = call;
         self.layers.begun = begun;
         flow
     }
 
     // Puts the call back that was taken out.
     pub(crate) fn put_in(&mut self, call: u64, flow: Flow<K, V>)
-        requires { HasPlace self.old.calls call }
-        ensures { (others : ℕ → Option (Call K V)) (w : World K V) → Without K.eq self.old call flow others w
-            → StandsFor K.eq self.new (record { world = w; calls = put_at others call (Some (call_of flow)) }) }
+        requires place { HasPlace self.old.calls call }
+        ensures { (others : ℕ → Option (Call K V)) (w : World K V)
+            → Without K.eq self.old call others w → IsOut K.eq self.old flow
+            → StandsFor K.eq self.new
+            (record { world = w; calls = put_at others call (Some (call_of flow)) }) }
     {
         let begun = self.layers.begun.take();
         self.calls.put_back(call, Running { flow, begun });
@@ -95,7 +105,8 @@ impl<K: Eq + Hash + Clone + Drop, V: Clone + Drop> Machine<K, V> {
 
     // The call has ended, and gives its place up.
     pub(crate) fn end(&mut self, call: u64)
-        ensures stands { (flow : Flow K V) (others : ℕ → Option (Call K V)) (w : World K V) → Without K.eq self.old call flow others w
+        ensures stands { (others : ℕ → Option (Call K V)) (w : World K V)
+            → Without K.eq self.old call others w
             → StandsFor K.eq self.new (record { world = w; calls = put_at others call None }) }
         ensures begun { self.new.layers.begun ≡ None }
     {
@@ -105,10 +116,13 @@ impl<K: Eq + Hash + Clone + Drop, V: Clone + Drop> Machine<K, V> {
 
     // The call after a step: it is put back, or has ended.
     pub(crate) fn after_step(&mut self, call: u64, flow: Flow<K, V>, turn: Turn<V>) -> Reply<V>
-        requires { HasPlace self.old.calls call }
+        requires place { HasPlace self.old.calls call }
         ensures reply { result ≡ reply_of turn }
-        ensures stands { (others : ℕ → Option (Call K V)) (w : World K V) → Without K.eq self.old call flow others w
-            → StandsFor K.eq self.new (record { world = w; calls = put_at others call (left_in turn flow) }) }
+        ensures stands { (others : ℕ → Option (Call K V)) (w : World K V)
+            → Without K.eq self.old call others w
+            → IsOn (account_of (the_table K.eq) self.old.layers) flow → Leaves turn flow
+            → StandsFor K.eq self.new
+            (record { world = w; calls = put_at others call (left_in turn flow) }) }
     {
         match turn {
             Turn::Answer(answer) => {
@@ -135,13 +149,13 @@ impl<K: Eq + Hash + Clone + Drop, V: Clone + Drop> Machine<K, V> {
         requires keys { IsExact K.is_clone }
         requires values { IsExact V.is_clone }
         requires place { HasPlace self.old.calls call }
-        requires on { IsOn (operation_of self.old.layers.begun) flow }
-        requires may { (w : World K V) × WorldIs K.eq self.old.layers w × May w (access_at flow) }
+        requires out { IsOut K.eq self.old flow }
+        requires may { (w : World K V) × Reaches K.eq self.old w × May w (access_at flow) }
         ensures steps { IfOk result (λ r. StepOut K.eq self.old call flow r self.new) }
         ensures err { OnErr result (KeepsOut K.eq self.old call flow self.new) }
         ensures err_needs { OnErr result (NeedsMemory (access_at flow)) }
     {
-        match step(&mut flow, &mut self.layers) {
+        match step(&mut flow, self) {
             Ok(turn) => Ok(self.after_step(call, flow, turn)),
             Err(e) => {
                 self.put_in(call, flow);
@@ -156,12 +170,14 @@ impl<K: Eq + Hash + Clone + Drop, V: Clone + Drop> Machine<K, V> {
         requires keys { IsExact K.is_clone }
         requires values { IsExact V.is_clone }
         requires place { HasPlace self.old.calls call }
-        requires on { IsOn (operation_of self.old.layers.begun) flow }
-        requires safe { (w : World K V) × WorldIs K.eq self.old.layers w × IsSafe K.eq flow.call (call_of flow) w × (0 < w.desk.size) }
+        requires out { IsOut K.eq self.old flow }
+        requires safe { (w : World K V) × Reaches K.eq self.old w
+            × IsSafe K.eq flow.call (call_of flow) w × (0 < w.desk.size) }
         ensures polls { IfOk result (λ r. PollOut K.eq self.old call flow r self.new) }
-        ensures unfinished { IfErr result (λ u. UnfinishedOut K.eq self.old call flow u.steps self.new) }
+        ensures unfinished { IfErr result (λ u.
+            UnfinishedOut K.eq self.old call flow u.steps self.new) }
     {
-        match poll(&mut flow, &mut self.layers) {
+        match poll(&mut flow, self) {
             Ok(turn) => Ok(self.after_step(call, flow, turn)),
             Err(stopped) => {
                 self.put_in(call, flow);

@@ -1,8 +1,8 @@
 -- Other calls among those of a list.
 use Rattle.std.proofs.Common.{◌≡◌, ℕ, suc, ◌+◌, ◌==◌, ◌||◌, ltb, nat_lt, not, Bool, true, false, cond, List, [], ◌∷◌, length, Option, refl, sym, ◌∙◌, arith}
 use Rattle.std.proofs.lemmas.Bool.Decides.{nat_tests}
-use Rattle.moka_hist.specs.Finite.{times, without}
-use Rattle.moka_sync.specs.Waiting.{waits, AreOnce}
+use Rattle.moka_hist.specs.Finite.{times}
+use Rattle.moka_sync.specs.Waiting.{waits, AreOnce, without}
 use Rattle.moka_sync.specs.Holders.{RwState, has_others}
 use Rattle.moka_sync.proofs.Stands.{waits-times, length-without}
 

@@ -5,9 +5,9 @@ use Rattle.std.proofs.lemmas.List.Elements.{filter-append}
 use Rattle.std.proofs.lemmas.List.{map-append}
 use borrow.Author.Tests.{eqb-true}
 use Rattle.std.proofs.lemmas.Bool.Decides.{nat_tests}
-use Rattle.moka_hist.specs.Finite.{times, without}
+use Rattle.moka_hist.specs.Finite.{times}
 use Rattle.moka_sync.specs.declared.places.Place.{Place}
-use Rattle.moka_sync.specs.Waiting.{Waiting, waits, AreOnce}
+use Rattle.moka_sync.specs.Waiting.{Waiting, waits, AreOnce, without}
 use Rattle.moka_sync.specs.Standing.{is_standing, standing_places, standing, places_of, AreBelow, AreKept}
 
 -- how often numbers stand in lists

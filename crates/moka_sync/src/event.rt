@@ -1,8 +1,7 @@
 //! An event that calls listen for.
 
 ghost use Rattle.std.specs.Prelude.{◌≡◌, ◌+◌, ◌-◌, ◌<◌, true, false, [], ◌∷◌, ◌++◌, OnOk, OnErr, length};
-ghost use Rattle.moka_hist.specs.Finite.{without};
-ghost use Rattle.moka_sync.specs.Waiting.{Waiting, waits, IsListed};
+ghost use Rattle.moka_sync.specs.Waiting.{Waiting, waits, IsListed, without};
 
 use crate::{CallList, WaitList};
 use std::alloc::{AllocError, Global};

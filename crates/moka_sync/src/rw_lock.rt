@@ -2,8 +2,7 @@
 
 ghost use Rattle.std.specs.Prelude.{◌≡◌, ◌+◌, ◌<◌, ◌≤◌, true, false, not, is_none, Some, None, [], IsSome, IfOk, OnOk, OnErr};
 ghost use Rattle.std.specs.Bool.{OnTrue, OnFalse};
-ghost use Rattle.moka_hist.specs.Finite.{without};
-ghost use Rattle.moka_sync.specs.Waiting.{waits, IsListed};
+ghost use Rattle.moka_sync.specs.Waiting.{waits, IsListed, without};
 ghost use Rattle.moka_sync.specs.Holders.{RwState, is_holder, is_others, has_others, holds, is_held_by_others};
 
 use crate::{CallList, WaitList};

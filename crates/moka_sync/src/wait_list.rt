@@ -1,8 +1,7 @@
 //! A list of calls that wait.
 
 ghost use Rattle.std.specs.Prelude.{◌≡◌, ◌+◌, ◌-◌, ◌<◌, ◌↔◌, true, false, IsTrue, [], ◌∷◌, ◌++◌, length, IfOk, OnOk, OnErr};
-ghost use Rattle.moka_hist.specs.Finite.{without};
-ghost use Rattle.moka_sync.specs.Waiting.{Waiting, waits, IsListed, AreOnce};
+ghost use Rattle.moka_sync.specs.Waiting.{Waiting, waits, IsListed, AreOnce, without};
 
 use crate::CallList;
 use crate::places::{NOBODY, Place, forget, give_ticket, seat, sweep, sweep_stale};

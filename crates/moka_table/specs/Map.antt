@@ -1,5 +1,5 @@
 -- What a table means: a finite map from keys to stored pairs.
-use Rattle.std.specs.Prelude.{◌≡◌, ℕ, ◌+◌, Bool, cond, List, Option, is_some}
+use Rattle.std.specs.Prelude.{◌≡◌, ℕ, ◌+◌, ◌*◌, Bool, cond, List, Option, is_some}
 use Rattle.std.specs.Map.{values_of}
 use Rattle.moka_hist.specs.Finite.{Lists}
 use Rattle.moka_hist.specs.Tables.{answer_of, key_of, stored_with}
@@ -12,6 +12,10 @@ use Rattle.moka_hist.specs.declared.tables.TableTurn.TheVariants as turn
 -- the stored pair of each key, as a table has it
 abbrev pub Pairs : (K V : Type 0) → Type 0
 Pairs K V = K → Option (K × Stored V)
+
+-- at most so many steps an operation makes by itself, on a table whose first array was so long and that never had more keys at once
+abbrev pub most_steps : ℕ → ℕ → ℕ
+most_steps first peak = 16 * (first + 3 * peak) + 32
 
 module _ {K V : Type 0} where
   -- two maps are one

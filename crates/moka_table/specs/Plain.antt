@@ -1,9 +1,32 @@
 -- The plain table: a hash map from each key to its stored pair.
-use Rattle.std.specs.Prelude.{Bool}
-use Rattle.std.specs.HashMap.{get}
+use Rattle.std.specs.Prelude.{◌≢◌, ℕ, Bool, None}
+use Rattle.std.specs.HashMap.{get, hash_map_len}
 use Rattle.moka_table.specs.Map.{Pairs}
 use Rattle.moka_table.specs.declared.plain.PlainTable.{PlainTable}
+use Rattle.moka_table.specs.declared.plain.PlainCall.{PlainCall}
+use Rattle.moka_table.specs.declared.table.Table as Table
 
 -- the stored pair of each key
 abbrev pub map_of : {K V : Type 0} → (K → K → Bool) → PlainTable K V → Pairs K V
 map_of eq t q = get eq t.pairs q
+
+-- it has no arrays: the least that a first array may be
+abbrev pub plain_first : ℕ
+plain_first = 128
+
+-- an operation decides at its one step
+abbrev pub plain_left : ℕ
+plain_left = 1
+
+-- what contracts see of a plain table
+abbrev pub plain_table : {K V : Type 0} → (K → K → Bool) → Table.Ghosts (PlainTable K V) K V (PlainCall K V)
+plain_table eq =
+    record {
+      map = map_of eq;
+      count = λ t. hash_map_len t.pairs;
+      peak = λ t. hash_map_len t.pairs;
+      first = λ t. plain_first;
+      operation_of = λ c. c.operation;
+      fits = λ t c. c.operation ≢ None;
+      left = λ t c. plain_left;
+    }

@@ -5,6 +5,7 @@
 
 mod entries;
 mod plain;
+mod slow;
 mod table;
 #[cfg(test)]
 mod tests;

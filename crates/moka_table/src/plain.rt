@@ -1,12 +1,14 @@
 //! The plain table: one hash map, whose operations decide at their first step.
-ghost use Rattle.std.specs.Prelude.{◌≡◌, ◌≢◌, ℕ, ◌<◌, ◌≤◌, OnErr, OnOk, IfOk, IfErr, Some, None, is_some};
-ghost use Rattle.std.specs.HashMap.{get, hash_map_len, spare, values, IsEmpty, IsReordered, IsUnchanged};
+ghost use Rattle.std.specs.Prelude.{◌≡◌, ◌≢◌, ℕ, ◌<◌, ◌≤◌, max, OnErr, OnOk, IfOk, Some, None};
+ghost use Rattle.std.proofs.Common.{arith};
+ghost use Rattle.std.specs.HashMap.{hash_map_len, spare};
 ghost use Rattle.moka_hist.specs.Finite.{IsExact, put_key};
 ghost use Rattle.moka_hist.specs.Tables.{answer_of};
 ghost use Rattle.moka_hist.specs.declared.tables.TableOp.{TableOp};
 ghost use Rattle.moka_table.specs.declared.plain.PlainCall.{PlainCall};
-ghost use Rattle.moka_table.specs.Map.{Pairs, SameMap, Moves, ListsPairs, keys_after};
-ghost use Rattle.moka_table.specs.Plain.{map_of};
+ghost use Rattle.moka_table.specs.Empty.{IsEmptyTable};
+ghost use Rattle.moka_table.specs.Map.{SameMap, Moves, keys_after, most_steps};
+ghost use Rattle.moka_table.specs.Plain.{map_of, plain_first, plain_left, plain_table};
 
 use crate::{EntryList, Table};
 use moka_hist::{Stored, TableAnswer, TableOp, TableTurn};
@@ -29,8 +31,7 @@ pub struct PlainCall<K, V> {
 impl<K: Eq + Hash + Clone + Drop, V: Clone + Drop> PlainTable<K, V> {
     /// A table without keys. It takes no memory.
     pub fn new(alloc: Global) -> Self
-        ensures empty { (q : K) → map_of K.eq result q ≡ None }
-        ensures count { hash_map_len result.pairs ≡ 0 }
+        ensures empty { IsEmptyTable (plain_table K.eq) result }
     {
         PlainTable {
             pairs: HashMap::new(alloc),
@@ -63,8 +64,10 @@ impl<K: Eq + Hash + Clone + Drop, V: Clone + Drop> PlainTable<K, V> {
         requires room { 0 < spare self.old.pairs }
         requires place { place ≡ key }
         ensures answer { result ≡ answer_of (map_of K.eq self.old key) }
-        ensures map { (q : K) → map_of K.eq self.new q ≡ put_key K.eq (map_of K.eq self.old) key (Some (key, stored)) q }
-        ensures count { hash_map_len self.new.pairs ≡ keys_after (map_of K.eq self.old) (hash_map_len self.old.pairs) (TableOp.InsertOrModify key stored) }
+        ensures map { (q : K) → map_of K.eq self.new q
+            ≡ put_key K.eq (map_of K.eq self.old) key (Some (key, stored)) q }
+        ensures count { hash_map_len self.new.pairs ≡ keys_after (map_of K.eq self.old)
+            (hash_map_len self.old.pairs) (TableOp.InsertOrModify key stored) }
     {
         match self.pairs.insert(place, (key, stored)) {
             Ok(None) => TableAnswer::None,
@@ -79,7 +82,8 @@ impl<K: Eq + Hash + Clone + Drop, V: Clone + Drop> PlainTable<K, V> {
     fn step_look(&self, call: &mut PlainCall<K, V>, key: K) -> Result<TableTurn<K, V>, AllocError>
         requires keys { IsExact K.is_clone }
         requires values { IsExact V.is_clone }
-        ensures ok { IfOk result (λ t. t ≡ TableTurn.Decided (answer_of (map_of K.eq self.now key))) }
+        ensures ok { IfOk result (λ t.
+            t ≡ TableTurn.Decided (answer_of (map_of K.eq self.now key))) }
         ensures err { OnErr result (call.new.operation ≡ Some (TableOp.Get key)) }
     {
         match self.look(&key) {
@@ -99,11 +103,15 @@ impl<K: Eq + Hash + Clone + Drop, V: Clone + Drop> PlainTable<K, V> {
         stored: Stored<V>,
     ) -> Result<TableTurn<K, V>, AllocError>
         requires keys { IsExact K.is_clone }
-        ensures moves { IfOk result (λ turn. Moves K.eq (TableOp.InsertOrModify key stored) (map_of K.eq self.old) (hash_map_len self.old.pairs) turn (map_of K.eq self.new) (hash_map_len self.new.pairs)) }
+        ensures moves { IfOk result (λ turn. Moves K.eq (TableOp.InsertOrModify key stored)
+            (map_of K.eq self.old) (hash_map_len self.old.pairs) turn
+            (map_of K.eq self.new) (hash_map_len self.new.pairs)) }
         ensures decided { IfOk result (λ turn. turn ≢ TableTurn.Going) }
+        ensures peak { hash_map_len self.old.pairs ≤ hash_map_len self.new.pairs }
         ensures err { OnErr result (call.new.operation ≡ Some (TableOp.InsertOrModify key stored)) }
         ensures err_map { OnErr result (SameMap (map_of K.eq self.old) (map_of K.eq self.new)) }
-        ensures err_count { OnErr result (hash_map_len self.new.pairs ≡ hash_map_len self.old.pairs) }
+        ensures err_count { OnErr result
+            (hash_map_len self.new.pairs ≡ hash_map_len self.old.pairs) }
     {
         match self.place_for(&key) {
             Ok(place) => Ok(TableTurn::Decided(self.put(place, key, stored))),
@@ -134,9 +142,19 @@ impl<K: Eq + Hash + Clone + Drop, V: Clone + Drop> Table<K, V> for PlainTable<K,
 
     ghost count = { λ t. hash_map_len t.pairs };
 
-    ghost fits = { λ t c operation. c.operation ≡ Some operation };
+    ghost peak = { λ t. hash_map_len t.pairs };
 
-    ghost left = { λ t c. 1 };
+    ghost first = { λ t. plain_first };
+
+    ghost operation_of = { λ c. c.operation };
+
+    ghost fits = { λ t c. c.operation ≢ None };
+
+    ghost left = { λ t c. plain_left };
+
+    ghost peak_holds = { λ t. Prim.omega arith };
+
+    ghost first_holds = { λ t. Prim.omega arith };
 
     fn segments(&self) -> usize
         ensures some { 0 < result }
@@ -146,7 +164,9 @@ impl<K: Eq + Hash + Clone + Drop, V: Clone + Drop> Table<K, V> for PlainTable<K,
     }
 
     fn begin(&self, operation: TableOp<K, V>) -> PlainCall<K, V>
-        ensures { result.operation ≡ Some operation }
+        ensures operation { result.operation ≡ Some operation }
+        ensures fits { result.operation ≢ None }
+        ensures left { plain_left ≤ most_steps plain_first (hash_map_len self.now.pairs) }
     {
         PlainCall {
             operation: Some(operation),
@@ -156,15 +176,31 @@ impl<K: Eq + Hash + Clone + Drop, V: Clone + Drop> Table<K, V> for PlainTable<K,
     fn step(&mut self, call: &mut PlainCall<K, V>) -> Result<TableTurn<K, V>, AllocError>
         requires keys { IsExact K.is_clone }
         requires values { IsExact V.is_clone }
-        requires begun { (operation : TableOp K V) × (call.old.operation ≡ Some operation) }
-        ensures moves { IfOk result (λ turn. (operation : TableOp K V) → call.old.operation ≡ Some operation
-            → Moves K.eq operation (map_of K.eq self.old) (hash_map_len self.old.pairs) turn (map_of K.eq self.new) (hash_map_len self.new.pairs)) }
-        ensures going { IfOk result (λ turn. turn ≡ TableTurn.Going → (operation : TableOp K V) → call.old.operation ≡ Some operation
-            → (call.new.operation ≡ Some operation) × (1 < 1)) }
-        ensures err { OnErr result (SameMap (map_of K.eq self.old) (map_of K.eq self.new)) }
-        ensures err_count { OnErr result (hash_map_len self.new.pairs ≡ hash_map_len self.old.pairs) }
-        ensures err_call { OnErr result ((operation : TableOp K V) → call.old.operation ≡ Some operation → call.new.operation ≡ Some operation) }
-        ensures others { (other : PlainCall K V) (operation : TableOp K V) → other.operation ≡ Some operation → other.operation ≡ Some operation }
+        requires fits { call.old.operation ≢ None }
+        // What it gives, and what the table is after it.
+        ensures moves { IfOk result (λ turn. (o : TableOp K V) → call.old.operation ≡ Some o
+            → Moves K.eq o (map_of K.eq self.old) (hash_map_len self.old.pairs) turn
+            (map_of K.eq self.new) (hash_map_len self.new.pairs)) }
+        ensures peak { hash_map_len self.new.pairs
+            ≡ max (hash_map_len self.old.pairs) (hash_map_len self.new.pairs) }
+        ensures first { plain_first ≡ plain_first }
+        // An undecided call is still begun, and nearer to its end.
+        ensures undecided { IfOk result (λ turn. turn ≡ TableTurn.Going
+            → (call.new.operation ≡ call.old.operation) × (call.new.operation ≢ None)) }
+        ensures nears { IfOk result (λ turn. turn ≡ TableTurn.Going → plain_left < plain_left) }
+        // The other calls: they still fit, and are as far from their end as at their beginning.
+        ensures others { (other : PlainCall K V) → other.operation ≢ None
+            → other.operation ≢ None }
+        ensures others_left { (other : PlainCall K V) → other.operation ≢ None
+            → plain_left ≤ most_steps plain_first (hash_map_len self.new.pairs) }
+        // Without memory nothing has changed, for this call and for the others.
+        ensures err_map { OnErr result (SameMap (map_of K.eq self.old) (map_of K.eq self.new)) }
+        ensures err_count { OnErr result
+            (hash_map_len self.new.pairs ≡ hash_map_len self.old.pairs) }
+        ensures err_call { OnErr result ((call.new.operation ≡ call.old.operation)
+            × (call.new.operation ≢ None) × (plain_left ≡ plain_left)) }
+        ensures err_others { OnErr result ((other : PlainCall K V) → other.operation ≢ None
+            → plain_left ≤ plain_left) }
     {
         match call.operation.take() {
             Some(TableOp::Get { key }) => self.step_look(call, key),

@@ -1,9 +1,9 @@
 //! What a cache needs of a table.
-ghost use Rattle.std.specs.Prelude.{◌≡◌, ℕ, ◌<◌, ◌≤◌, IfOk, OnErr};
+ghost use Rattle.std.specs.Prelude.{◌≡◌, ℕ, ◌<◌, ◌≤◌, max, Option, Some, IfOk, OnErr};
 ghost use Rattle.moka_hist.specs.Finite.{IsExact};
-ghost use Rattle.moka_hist.specs.declared.records.Stored.{Stored};
 ghost use Rattle.moka_hist.specs.declared.tables.TableOp.{TableOp};
-ghost use Rattle.moka_table.specs.Map.{Pairs, SameMap, Moves, ListsPairs};
+ghost use Rattle.moka_hist.specs.declared.tables.TableTurn.{TableTurn};
+ghost use Rattle.moka_table.specs.Map.{Pairs, SameMap, Moves, ListsPairs, most_steps};
 
 use crate::EntryList;
 use moka_hist::{TableOp, TableTurn};
@@ -14,7 +14,7 @@ use std::hash::Hash;
 ///
 /// A step is undecided, which leaves the map, or it decides with the map's answer at that step and
 /// makes its change. Steps of different calls may be mixed freely: what fits a table still fits it
-/// after the steps of others.
+/// after the steps of others, and then decides within `most_steps` steps of its own.
 pub trait Table<K: Eq + Hash + Clone, V: Clone> {
     /// An operation that was begun.
     type Call;
@@ -22,13 +22,21 @@ pub trait Table<K: Eq + Hash + Clone, V: Clone> {
     /// The stored pair of each key.
     ghost map: { Self → Pairs K V };
 
-    /// How many keys there are.
+    /// How many keys there are, and the most that there ever were.
     ghost count: { Self → ℕ };
 
-    /// The call is of this operation, was begun on this table and has not decided.
-    ghost fits: { Self → Self.Call → TableOp K V → Type 0 };
+    ghost peak: { Self → ℕ };
 
-    /// How many steps the call may still make by itself before it decides.
+    /// How long its first array was, at least 128.
+    ghost first: { Self → ℕ };
+
+    /// The operation that a call was begun for, until it has decided.
+    ghost operation_of: { Self.Call → Option (TableOp K V) };
+
+    /// The call was begun on this table, and has not decided.
+    ghost fits: { Self → Self.Call → Type 0 };
+
+    /// How many steps the call may still make before it decides, where no other call steps in between.
     ghost left: { Self → Self.Call → ℕ };
 
     /// How many segments the keys are spread over: at least one.
@@ -37,21 +45,36 @@ pub trait Table<K: Eq + Hash + Clone, V: Clone> {
 
     /// Begins an operation. It touches nothing, and takes no memory.
     fn begin(&self, operation: TableOp<K, V>) -> Self::Call
-        ensures { fits self.now result operation };
+        ensures operation { operation_of result ≡ Some operation }
+        ensures fits { fits self.now result }
+        ensures left { left self.now result ≤ most_steps (first self.now) (peak self.now) };
 
     /// Makes one step of a call that fits. After want of memory map and call are as before.
     fn step(&mut self, call: &mut Self::Call) -> Result<TableTurn<K, V>, AllocError>
         requires keys { IsExact K.is_clone }
         requires values { IsExact V.is_clone }
-        requires begun { (operation : TableOp K V) × fits self.old call.old operation }
-        ensures moves { IfOk result (λ turn. (operation : TableOp K V) → fits self.old call.old operation
-            → Moves K.eq operation (map self.old) (count self.old) turn (map self.new) (count self.new)) }
-        ensures going { IfOk result (λ turn. turn ≡ TableTurn.Going → (operation : TableOp K V) → fits self.old call.old operation
-            → fits self.new call.new operation × (left self.new call.new < left self.old call.old)) }
-        ensures err { OnErr result (SameMap (map self.old) (map self.new)) }
+        requires fits { fits self.old call.old }
+        // What it gives, and what the table is after it.
+        ensures moves { IfOk result (λ turn. (o : TableOp K V) → operation_of call.old ≡ Some o
+            → Moves K.eq o (map self.old) (count self.old) turn (map self.new) (count self.new)) }
+        ensures peak { peak self.new ≡ max (peak self.old) (count self.new) }
+        ensures first { first self.new ≡ first self.old }
+        // An undecided call is still begun, and nearer to its end.
+        ensures undecided { IfOk result (λ turn. turn ≡ TableTurn.Going
+            → (operation_of call.new ≡ operation_of call.old) × fits self.new call.new) }
+        ensures nears { IfOk result (λ turn. turn ≡ TableTurn.Going
+            → left self.new call.new < left self.old call.old) }
+        // The other calls: they still fit, and are as far from their end at most as at their beginning.
+        ensures others { (other : Self.Call) → fits self.old other → fits self.new other }
+        ensures others_left { (other : Self.Call) → fits self.old other
+            → left self.new other ≤ most_steps (first self.new) (peak self.new) }
+        // Without memory nothing has changed, for this call and for the others.
+        ensures err_map { OnErr result (SameMap (map self.old) (map self.new)) }
         ensures err_count { OnErr result (count self.new ≡ count self.old) }
-        ensures err_call { OnErr result ((operation : TableOp K V) → fits self.old call.old operation → fits self.new call.new operation) }
-        ensures others { (other : Self.Call) (operation : TableOp K V) → fits self.old other operation → fits self.new other operation };
+        ensures err_call { OnErr result ((operation_of call.new ≡ operation_of call.old)
+            × fits self.new call.new × (left self.new call.new ≡ left self.old call.old)) }
+        ensures err_others { OnErr result ((other : Self.Call) → fits self.old other
+            → left self.new other ≤ left self.old other) };
 
     /// Lists each pair of the map once, in any order.
     fn pairs(&self, alloc: Global) -> Result<EntryList<K, V>, AllocError>
@@ -62,4 +85,9 @@ pub trait Table<K: Eq + Hash + Clone, V: Clone> {
     /// How many keys there are.
     fn len(&self) -> usize
         ensures { result ≡ count self.now };
+
+    /// There were never fewer keys at once than now, and the first array is no shorter than 128.
+    ghost peak_holds: { (t : Self) → count t ≤ peak t };
+
+    ghost first_holds: { (t : Self) → 128 ≤ first t };
 }

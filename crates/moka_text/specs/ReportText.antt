@@ -54,7 +54,7 @@ reply_line r = ended (reply_words r)
 abbrev pub entry_line : ℕ × Stored ℕ → List ℕ
 entry_line e =
     ended (codes "entry " ++ decimal e.0 ++ 32 ∷ decimal e.1.value
-      ++ codes " stamp " ++ decimal e.1.stamp ++ codes " at " ++ decimal e.1.modified)
+    ++ codes " stamp " ++ decimal e.1.stamp ++ codes " at " ++ decimal e.1.modified)
 
 abbrev pub place_word : Place → List ℕ
 place_word place.Held = codes "held"

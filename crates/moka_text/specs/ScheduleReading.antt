@@ -64,7 +64,7 @@ unfoldable pub log_of : List ℕ → Option ℕ
 log_of line =
     if bytes_eq line (codes "cache") then Some 384
     else (call_after (codes "cache log=") line >>=
-      λ log. if nat_le 1 log && nat_le log 65536 then Some log else None)
+    λ log. if nat_le 1 log && nat_le log 65536 then Some log else None)
 
 -- what was read goes before what is read
 abbrev pub with_front : List (Event ℕ ℕ) → Result (List (Event ℕ ℕ)) ℕ → Result (List (Event ℕ ℕ)) ℕ

@@ -12,6 +12,15 @@ pub struct Played {
     pub bytes: Vec<u8>,
 }
 
+impl Played {
+    /// Whether it ended with this status, whose number is this, and wrote just this.
+    pub fn came_to(&self, status: Status, code: u8, written: &str) -> bool {
+        self.status == status
+            && self.status.code() == code
+            && self.bytes.as_slice() == written.as_bytes()
+    }
+}
+
 /// The text whose lines the row has, parted by ` / `, each with a line end. An empty row has none.
 pub fn text_of(alloc: Global, row: &str) -> Result<String, AllocError> {
     let mut text = String::new(alloc);
@@ -74,4 +83,21 @@ pub fn play_pieces(
     let source = ListSource::new(bytes.to_vec(alloc)?, read, Vec::new(alloc));
     let sink = ListSink::new(alloc, write, Vec::new(alloc));
     play_between(alloc, &["play"], source, sink)
+}
+
+/// The first of the schedules that isn't played to the report beside it, by its place among them.
+/// ` / ` parts lines.
+pub fn first_misreported(
+    alloc: Global,
+    rows: &[(&str, &str)],
+) -> Result<Option<usize>, AllocError> {
+    for (place, row) in rows.iter().enumerate() {
+        let bytes = text_of(alloc, row.0)?;
+        let want = text_of(alloc, row.1)?;
+        let ended = play_bytes(alloc, &["play"], bytes.as_bytes(), &[], &[])?;
+        if !ended.came_to(Status::Done, 0, &want) {
+            return Ok(Some(place));
+        }
+    }
+    Ok(None)
 }

@@ -1,18 +1,9 @@
-//! Worked schedules with their reports, which the tests play from a source in memory to a sink in
-//! memory.
+//! Worked schedules with their reports, played from a source in memory to a sink in memory. The
+//! crates with the other tests play so too.
 #![tactic(auto)]
 
-#[cfg(test)]
-mod drops;
-#[cfg(test)]
-mod faults;
-#[cfg(test)]
 mod in_memory;
 #[cfg(test)]
-mod memory;
-#[cfg(test)]
-mod pieces;
-#[cfg(test)]
 mod rows;
-#[cfg(test)]
-mod stepping;
+
+pub use in_memory::{Played, first_misreported, play_bytes, play_pieces, text_of, words_of};

@@ -2,7 +2,7 @@ use Rattle.std.proofs.Common.{◌==◌, Some, None, cond, ap, sym, ◌≡◌, �
 use Rattle.std.specs.HashMap.{get}
 use Rattle.moka_hist.specs.Finite.{load_eq}
 use Rattle.moka_desk.proofs.SameLoads.{derived, load_same, get_same, get_alike, load_laws}
-use Rattle.moka_desk.proofs.Owners.{is_none_of, owns_more, owned_more}
+use Rattle.moka_hist.proofs.Owners.{owns_more, owned_more}
 use Rattle.moka_desk.proofs.loads.Loads.own.Goals as goal
 
 pub returns-clause-ok : goal.returns-clause-ok
@@ -13,7 +13,7 @@ returns-clause-ok g c = λ p h.
     let load = c.args.load in
     let mid = c.make_room.new.self.owners in
     let copy : c.in_ok-own.own ≡ load = c.in_ok-own.ensures in
-    let none : p.owning c.args.call ≡ None = sym (h.owning c.args.call) ∙ is_none_of _ (sym c.contains_key.ensures ∙ c.if-contains_key.false) in
+    let none : p.owning c.args.call ≡ None = sym (h.owning c.args.call) ∙ c.requires.idle in
     let free : p.owners load ≡ None = sym (h.owners load) ∙ c.requires.free in
     record {
       owners = λ l.

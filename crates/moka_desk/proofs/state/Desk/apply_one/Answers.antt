@@ -2,15 +2,13 @@ use Rattle.moka_desk.specs.Writes.{write_part}
 use Rattle.moka_desk.proofs.state.Desk.apply_one.Goals as goal
 
 pub returns-clause-makes : goal.returns-clause-makes
-returns-clause-makes g c = λ w h. record {
+returns-clause-makes g c = λ w h may. record {
   clock = h.clock;
   accessed = h.accessed;
-  pending = h.pending;
   turn = h.turn;
   published = h.published;
   last = h.last;
   writes = c.apply_one.ensures.makes (write_part w) h.writes;
   loads = h.loads;
   asks = h.asks;
-  stamped = h.stamped;
 }

@@ -1,5 +1,5 @@
 -- A machine that was just built stands for the fresh state, which is reached.
-use Rattle.std.proofs.Common.{◌≡◌, Some, None, [], refl, sym, ap, ◌∙◌}
+use Rattle.std.proofs.Common.{◌≡◌, Some, None, [], refl, sym, ap, ◌∙◌, arith}
 use Rattle.std.specs.Option.{option_map}
 use Rattle.moka_hist.specs.State.{fresh}
 use Rattle.moka_run.specs.Machine.{call_in}
@@ -7,8 +7,14 @@ use Rattle.moka_run.proofs.machine.Machine.build.Goals as goal
 
 pub returns-clause-fresh : goal.returns-clause-fresh
 returns-clause-fresh g c =
+    let empty = c.new-2.ensures.empty in
+    let none = empty.peak in
     record {
-      world = record { table = record { map = c.new-2.ensures.empty; keys = c.new-2.ensures.count }; desk = c.in_ok-desk.ensures };
+      world = record {
+        table = record { map = empty.map; keys = empty.count; peak = omega (arith, none); first = empty.first };
+        desk = c.in_ok-desk.ensures;
+        stay = omega arith;
+      };
       calls = λ n. ap (option_map call_in) (c.new-3.ensures n);
       each = λ n r e. let f : None ≡ Some r = sym (c.new-3.ensures n) ∙ e in absurd (cc);
     }

@@ -17,7 +17,7 @@ returns-in-Mid g c = λ s t places.
       s,
       subst (λ (m : Mode). Drops s c.args.call d m (reply.Refused refusal.NotParked) s) c.in-Mid.ensures (record { reply = refl; same = refl }),
       subst (λ (u : State g.row.K.Denot g.row.V.Denot). StandsFor g.K.PartialEq.eq c.put_in.new.self u)
-          (ap (λ f. record s { calls = f }) (put_same s.calls c.args.call (Some d) t.live)) (c.put_in.ensures s.calls s.world t.rest),
+          (ap (λ f. record s { calls = f }) (put_same s.calls c.args.call (Some d) t.live)) (c.put_in.ensures s.calls s.world t.rest c.requires.is),
     )
 
 pub returns-in-Fresh : goal.returns-in-Fresh

@@ -1,5 +1,5 @@
 -- A step of a live call is the reference's, and without memory the call is back as it was.
-use Rattle.std.proofs.Common.{ℕ, Some, sym, ap, subst}
+use Rattle.std.proofs.Common.{◌≡◌, ℕ, Some, sym, ap, subst, ◌∙◌}
 use Rattle.std.proofs.lemmas.Result.{IfOk-weaker, on_err_weaker}
 use Rattle.moka_hist.specs.State.{State}
 use Rattle.moka_hist.specs.Step.{May, access_of, state_after}
@@ -12,36 +12,41 @@ use Rattle.moka_run.proofs.Happening.{happens_step, on_err_both}
 use Rattle.moka_run.proofs.Needing.{call_needs}
 use Rattle.moka_run.proofs.machine.Machine.step.Goals as goal
 
+pub step_out-requires-clause-out : goal.step_out-requires-clause-out
+step_out-requires-clause-out g c =
+    let v = c.requires.valid in
+    (c.in-Some.ensures.some v.state v.stands).1
+
 pub step_out-requires-clause-may : goal.step_out-requires-clause-may
 step_out-requires-clause-may g c =
     let v = c.requires.valid in
     let t = c.in-Some.ensures.some v.state v.stands in
-    let safe = c.calls_are_safe.ensures.safe v.state c.args.call (call_of c.in-Some.flow) v.reached t.live in (
-      v.state.world,
-      t.rest.world,
-      subst (λ (n : ℕ). May v.state.world (access_of n (call_of c.in-Some.flow))) (sym t.rest.number)
-          (safe 0 (call_of c.in-Some.flow) v.state.world (moves_none g.K.PartialEq.eq c.args.call (call_of c.in-Some.flow) v.state.world)),
-    )
+    let n = c.args.call in
+    let d = call_of c.in-Some.flow in
+    let number : c.in-Some.flow.call ≡ n = sym t.1.on.call ∙ t.0.rest.number in
+    let safe = c.calls_are_safe.ensures.safe v.state n d v.reached t.0.live in
+    (v.state.world, t.0.rest.reaches, subst (λ (k : ℕ). May v.state.world (access_of k d)) (sym number) (safe 0 d v.state.world (moves_none g.K.PartialEq.eq n d v.state.world)))
 
 pub returns-in-Some-clause-serves : goal.returns-in-Some-clause-serves
 returns-in-Some-clause-serves g c = IfOk-weaker c.step_out.result _ _ (λ r steps s stands reached.
     let n = c.args.call in
     let d = call_of c.in-Some.flow in
     let t = c.in-Some.ensures.some s stands in
-    let safe = c.calls_are_safe.ensures.safe s n d reached t.live in
+    let number : c.in-Some.flow.call ≡ n = sym t.1.on.call ∙ t.0.rest.number in
+    let safe = c.calls_are_safe.ensures.safe s n d reached t.0.live in
     let may : May s.world (access_at c.in-Some.flow) =
-    subst (λ (m : ℕ). May s.world (access_of m d)) (sym t.rest.number) (safe 0 d s.world (moves_none g.K.PartialEq.eq n d s.world)) in
-    let m = steps s.calls s.world t.rest may in
+    subst (λ (m : ℕ). May s.world (access_of m d)) (sym number) (safe 0 d s.world (moves_none g.K.PartialEq.eq n d s.world)) in
+    let m = steps s.calls s.world t.0.rest may in
     let after = state_after s n m.1 m.0 in
-    (after, happens_step g.K.PartialEq.eq s n d r after t.live (record { turn = m.0.turn; step = c.move_is_step.ensures.step s n d m.0 m.1 t.live m.2; reply = m.3 }), m.4))
+    (after, happens_step g.K.PartialEq.eq s n d r after t.0.live (record { turn = m.0.turn; step = c.move_is_step.ensures.step s n d m.0 m.1 t.0.live m.2; reply = m.3 }), m.4))
     c.step_out.ensures.steps
 
 pub returns-in-Some-clause-err : goal.returns-in-Some-clause-err
 returns-in-Some-clause-err g c = on_err_weaker c.step_out.result (λ keeps s stands.
     let t = c.in-Some.ensures.some s stands in
     subst (λ (u : State g.row.K.Denot g.row.V.Denot). StandsFor g.K.PartialEq.eq c.step_out.new.self u)
-    (ap (λ f. record s { calls = f }) (put_same s.calls c.args.call (Some (call_of c.in-Some.flow)) t.live))
-    (keeps s.calls s.world t.rest))
+    (ap (λ f. record s { calls = f }) (put_same s.calls c.args.call (Some (call_of c.in-Some.flow)) t.0.live))
+    (keeps s.calls s.world t.0.rest))
     c.step_out.ensures.err
 
 pub returns-in-Some-clause-err_needs : goal.returns-in-Some-clause-err_needs
@@ -50,7 +55,8 @@ returns-in-Some-clause-err_needs g c =
     let n = c.args.call in
     let d = call_of c.in-Some.flow in
     let t = c.in-Some.ensures.some v.state v.stands in
+    let number : c.in-Some.flow.call ≡ n = sym t.1.on.call ∙ t.0.rest.number in
     on_err_weaker c.step_out.result (λ both s stands.
     call_needs g.K.PartialEq.eq c.step_out.new.self n d v.state.calls v.state.world s
-    (both.0 v.state.calls v.state.world t.rest) stands (subst (λ (m : ℕ). NeedsMemory (access_of m d)) t.rest.number both.1))
+    (both.0 v.state.calls v.state.world t.0.rest) stands (subst (λ (m : ℕ). NeedsMemory (access_of m d)) number both.1))
     (on_err_both c.step_out.result _ _ c.step_out.ensures.err c.step_out.ensures.err_needs)

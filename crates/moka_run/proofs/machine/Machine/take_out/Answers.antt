@@ -1,33 +1,44 @@
 -- The call is out of its place, and its operation with the layers.
-use Rattle.std.proofs.Common.{◌≡◌, Some, None, sym, ap, subst, ◌∙◌}
+use Rattle.std.proofs.Common.{◌≡◌, Some, None, refl, sym, ap, subst, ◌∙◌}
 use Rattle.std.specs.Option.{option_map}
 use Rattle.moka_init.specs.declared.flow.Flow.{Flow}
 use Rattle.moka_run.specs.declared.machine.Machine.{Machine}
 use Rattle.moka_run.specs.Calls.{running_at}
-use Rattle.moka_run.specs.Machine.{TakenOut, call_in, IsOf}
-use Rattle.moka_run.proofs.Places.{other_at, set_each, unset_same}
+use Rattle.moka_run.specs.Machine.{TakenOut, IsOut, IsOf, call_in}
+use Rattle.moka_run.proofs.Places.{other_at, set_at, set_each, unset_same}
 use Rattle.moka_run.proofs.machine.Machine.take_out.Goals as goal
 
 pub returns-in-Some-clause-some : goal.returns-in-Some-clause-some
 returns-in-Some-clause-some g c = λ s h.
+    let eq = g.K.PartialEq.eq in
     let old = running_at c.args.self.now.calls in
     let n = c.args.call in
     let r = c.in-Some.running in
     let there : old n ≡ Some r = sym c.in-Some.ensures.taken in
-    let is : IsOf n r = h.each n r there in
-    let taken : TakenOut g.K.PartialEq.eq (record { layers = record c.args.self.now.layers { begun = r.begun }; calls = c.take.new.self }) n r.flow s =
-    record {
-      live = sym (h.calls n) ∙ ap (option_map call_in) there;
-      rest = record {
-        world = record { table = h.world.table; desk = h.world.desk };
-        calls = λ k ne. ap (option_map call_in) (c.take.ensures.rest k ∙ other_at old n None k ne) ∙ h.calls k;
-        each = set_each old (running_at c.take.new.self) n None (λ x e. absurd (cc)) c.take.ensures.rest h.each;
-        number = is.number;
-        on = is.on;
-      };
-    } in
-    subst (λ (m : Machine g.row.K.Denot g.row.V.Denot g.K.PartialEq g.K.Hash). TakenOut g.K.PartialEq.eq m n c.lend.result s) (sym c.lend.ensures.machine)
-    (subst (λ (f : Flow g.row.K.Denot g.row.V.Denot). TakenOut g.K.PartialEq.eq (record { layers = record c.args.self.now.layers { begun = r.begun }; calls = c.take.new.self }) n f s) (sym c.lend.ensures.flow) taken)
+    let is = h.each n r there in
+    let m : Machine g.row.K.Denot g.row.V.Denot g.K.PartialEq g.K.Hash =
+    record { layers = record c.args.self.now.layers { call = n; begun = r.begun }; calls = c.take.new.self } in
+    let taken : TakenOut eq m n r.flow s × IsOut eq m r.flow = (
+      record {
+        live = sym (h.calls n) ∙ ap (option_map call_in) there;
+        rest = record {
+          reaches = record {
+            layers = record {
+              world = record { table = h.world.table; desk = h.world.desk; stay = h.world.stay };
+              begun = is.begun;
+              given = is.given;
+            };
+            out = c.take.ensures.rest n ∙ set_at old n None;
+            each = set_each (IsOf eq m.layers.table s.world.table s.world.stay s.world.desk.last) old (running_at c.take.new.self) n None (λ x e. absurd (cc)) c.take.ensures.rest h.each;
+          };
+          number = refl;
+          calls = λ k ne. ap (option_map call_in) (c.take.ensures.rest k ∙ other_at old n None k ne) ∙ h.calls k;
+        };
+      },
+      record { on = record { call = sym is.number; begun = is.on }; live = is.live },
+    ) in
+    subst (λ (v : Machine g.row.K.Denot g.row.V.Denot g.K.PartialEq g.K.Hash). TakenOut eq v n c.lend.result s × IsOut eq v c.lend.result) (sym c.lend.ensures.machine)
+    (subst (λ (f : Flow g.row.K.Denot g.row.V.Denot). TakenOut eq m n f s × IsOut eq m f) (sym c.lend.ensures.flow) taken)
 
 pub returns-in-None-clause-same : goal.returns-in-None-clause-same
 returns-in-None-clause-same g c = λ s h.

@@ -18,6 +18,7 @@ returns-then-tell-clause-serves g c = λ s h reached.
       record {
         world = record {
           table = h.world.table;
+          stay = h.world.stay;
           desk = subst (λ (a : Told g.row.V.Denot). desk.StandsFor g.K.PartialEq.eq c.tell.new.self (told w c.args.call a)) same (c.if-tell.ensures.makes w h.world.desk);
         };
         calls = h.calls;

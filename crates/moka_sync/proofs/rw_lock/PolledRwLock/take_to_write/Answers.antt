@@ -1,7 +1,6 @@
 -- No other call reads, so nobody does once the call is off.
 use Rattle.std.proofs.Common.{◌≡◌, ◌∙◌, ap, [], min}
-use Rattle.moka_hist.specs.Finite.{without}
-use Rattle.moka_sync.specs.Waiting.{Waiting}
+use Rattle.moka_sync.specs.Waiting.{Waiting, without}
 use Rattle.moka_sync.specs.Holders.{RwState, is_others, has_others}
 use Rattle.moka_sync.proofs.Others.{right-false, without-alone, RwState-same}
 use Rattle.moka_sync.proofs.rw_lock.PolledRwLock.take_to_write.Goals as goal

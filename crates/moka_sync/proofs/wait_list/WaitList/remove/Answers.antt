@@ -1,9 +1,8 @@
 -- The call loses its ticket, and its place stands no more.
 use Rattle.std.proofs.Common.{◌≡◌, ◌∙◌, ℕ, cond, None, length, map, ap, nat_eq, arith}
 use Rattle.std.specs.HashMap.{get}
-use Rattle.moka_hist.specs.Finite.{without}
 use Rattle.moka_sync.specs.declared.places.Place.{Place}
-use Rattle.moka_sync.specs.Waiting.{Waiting}
+use Rattle.moka_sync.specs.Waiting.{Waiting, without}
 use Rattle.moka_sync.specs.Standing.{standing}
 use Rattle.moka_sync.proofs.Stands.{AreKept-lost, AreKept-moved, standing-lost, length-lost, Waiting-same}
 use Rattle.moka_sync.proofs.wait_list.WaitList.remove.Goals as goal

@@ -1,0 +1,83 @@
+//! Worked schedules in which calls are dropped. ` / ` parts lines.
+
+use moka_vectors::first_misreported;
+use std::test::Fail;
+
+const DROPPED_OWNERS: [(&str, &str); 3] = [
+    (
+        "cache log=8 / start get_with 1 / start get_with 1 / poll 1 / poll 2 / drop 1 / poll 2 / tell 2 value 9 / poll 2",
+        "call 1 / call 2 / ask init / wait / dropped / ask init / told / answer value 9 fresh / entry 1 9 stamp 2 at 0 / write 2 logged",
+    ),
+    (
+        "cache log=8 / start get_with 1 / start get_with 1 / start get_with 1 / start get_with 1 / poll 1 / poll 2 / poll 3 / poll 4 / drop 1 / poll 2 / poll 3 / drop 2 / poll 3 / poll 4 / tell 3 value 9 / poll 3 / poll 4",
+        "call 1 / call 2 / call 3 / call 4 / ask init / wait / wait / wait / dropped / ask init / wait / dropped / ask init / wait / told / answer value 9 fresh / answer value 9 / entry 1 9 stamp 3 at 0 / write 3 logged",
+    ),
+    (
+        "cache log=8 / start get_with 1 / poll 1 / start get_with 1 / poll 2 / tell 1 value 7 / drop 1 / poll 2 / tell 2 value 8 / poll 2",
+        "call 1 / ask init / call 2 / wait / told / dropped / ask init / told / answer value 8 fresh / entry 1 8 stamp 2 at 0 / write 2 logged",
+    ),
+];
+
+#[test]
+fn a_dropped_owner_leaves_the_load_to_one_that_waits(rt: HostRuntime) -> Result<(), Fail> {
+    assert_eq!(rt; first_misreported(rt.alloc(), &DROPPED_OWNERS)?, None);
+    Ok(())
+}
+
+const DROPPED_WAITER: [(&str, &str); 1] = [(
+    "cache log=8 / start get_with 1 / poll 1 / start get_with 1 / poll 2 / drop 2 / poll 2 / tell 1 value 7 / poll 1",
+    "call 1 / ask init / call 2 / wait / dropped / refused UnknownCall / told / answer value 7 fresh / entry 1 7 stamp 1 at 0 / write 1 logged",
+)];
+
+#[test]
+fn a_dropped_waiter_leaves_the_owner(rt: HostRuntime) -> Result<(), Fail> {
+    assert_eq!(rt; first_misreported(rt.alloc(), &DROPPED_WAITER)?, None);
+    Ok(())
+}
+
+#[test]
+fn a_dropped_write_is_owed_and_drained_by_the_next_call(rt: HostRuntime) -> Result<(), Fail> {
+    let schedule =
+        "cache log=1 / start insert 1 5 / poll 1 / start insert 2 6 / start insert 3 7 / step 2 / step 2 / step 2 / step 2 / step 3 / step 3 / step 3 / step 3 / step 3 / step 2 / drop 2 / poll 3";
+    let replies =
+        "call 1 / answer done / call 2 / call 3 / going / going / going / going / going / going / going / going / going / wait / dropped / answer done";
+    let entries = "entry 1 5 stamp 1 at 0 / entry 2 6 stamp 2 at 0 / entry 3 7 stamp 3 at 0";
+    let owed = format!(in rt.alloc();
+        "{replies} / {entries} / write 1 applied / write 2 owed / write 3 logged"
+    )?;
+    let drains = format!(in rt.alloc(); "{schedule} / start get 2 / poll 4")?;
+    let drained = format!(in rt.alloc();
+        "{replies} / call 4 / answer some 6 / {entries} / write 1 applied / write 2 logged / write 3 applied"
+    )?;
+    let rows = [
+        (
+            "cache log=8 / start insert 1 5 / step 1 / step 1 / step 1",
+            "call 1 / going / going / going / entry 1 5 stamp 1 at 0 / write 1 held",
+        ),
+        (schedule, owed.as_str()),
+        (drains.as_str(), drained.as_str()),
+    ];
+    assert_eq!(rt; first_misreported(rt.alloc(), &rows)?, None);
+    Ok(())
+}
+
+#[test]
+fn a_load_gives_up_at_the_200th_dropped_owner(rt: HostRuntime) -> Result<(), Fail> {
+    let mut schedule = String::from_str(
+        rt.alloc(),
+        "cache log=8 / start get_with 1 / poll 1 / start get_with 1 / poll 2 / drop 1",
+    )?;
+    let mut report = String::from_str(rt.alloc(), "call 1 / ask init / call 2 / wait / dropped")?;
+    for owner in 3..202 {
+        write!(
+            schedule,
+            " / start get_with 1 / poll {owner} / poll 2 / drop {owner}"
+        )?;
+        write!(report, " / call {owner} / ask init / wait / dropped")?;
+    }
+    schedule.push_str(" / poll 2")?;
+    report.push_str(" / answer exhausted")?;
+    let rows = [(schedule.as_str(), report.as_str())];
+    assert_eq!(rt; first_misreported(rt.alloc(), &rows)?, None);
+    Ok(())
+}

@@ -1,0 +1,114 @@
+//! Schedules driven by single steps come to what they come to by polls.
+ghost use Rattle.std.specs.Prelude.{nat_eq};
+ghost use Rattle.moka_run.specs.Machine.{IsValid};
+
+use moka_hist::{Event, Place, Reply, Stored};
+use moka_run::{Machine, run};
+use moka_text::read_schedule;
+use moka_vectors::text_of;
+use std::alloc::{AllocError, Global};
+use std::slice;
+use std::test::Fail;
+
+/// What a schedule came to: the replies, what is stored by key, and where the writes stand.
+#[derive(PartialEq, Debug, Drop)]
+struct Outcome {
+    replies: Vec<Reply<u32>>,
+    entries: Vec<(u32, Stored<u32>)>,
+    places: Vec<(u64, Place)>,
+}
+
+/// Ten schedules without single steps. ` / ` parts lines.
+const SCHEDULES: [&str; 10] = [
+    "cache / start get 1 / poll 1",
+    "cache log=8 / start insert 1 5 / poll 1 / start get 1 / poll 2",
+    "cache log=8 / start insert 1 5 / poll 1 / start insert 1 6 / poll 2 / start get 1 / poll 3",
+    "cache log=1 / start insert 1 5 / poll 1 / start insert 2 6 / poll 2 / start insert 3 7 / poll 3",
+    "cache log=2 / at 3 / start insert 1 5 / start insert 2 6 / poll 2 / poll 1 / at 9 / start get 1 / poll 3",
+    "cache log=8 / start get_with 1 / poll 1 / tell 1 value 7 / poll 1 / start get_with 1 / poll 2",
+    "cache log=8 / start get_with 1 / start get_with 1 / poll 1 / poll 2 / tell 1 value 7 / poll 2 / poll 1 / poll 2",
+    "cache log=8 / start get_with 1 / start get_with 1 / poll 1 / poll 2 / drop 1 / poll 2 / tell 2 value 9 / poll 2",
+    "cache log=1 / start get_with 1 / start get_with 2 / poll 1 / poll 2 / tell 2 value 4 / tell 1 value 3 / poll 1 / poll 2",
+    "cache log=8 / start get_with 1 / poll 1 / start insert 1 5 / poll 2 / tell 1 done / tell 1 value 6 / drop 2 / poll 1",
+];
+
+/// The reply to one event. None where memory is wanting.
+fn reply_to(
+    alloc: Global,
+    machine: &mut Machine<u32, u32>,
+    event: &Event<u32, u32>,
+) -> Option<Reply<u32>>
+    requires { IsValid nat_eq machine.old }
+    ensures { IsValid nat_eq machine.new }
+{
+    let report = match run(alloc, machine, slice::from_ref(event)) {
+        Ok(report) => report,
+        Err(_) => return None,
+    };
+    match report.replies.as_slice() {
+        [reply] => reply.clone().ok(),
+        _ => None,
+    }
+}
+
+/// The reply that a poll gives, by single steps, of which there are at most a hundred.
+fn reply_by_steps(alloc: Global, machine: &mut Machine<u32, u32>, call: u64) -> Option<Reply<u32>>
+    requires { IsValid nat_eq machine.old }
+    ensures { IsValid nat_eq machine.new }
+{
+    for _step in 0..100 {
+        let reply = reply_to(alloc, machine, &Event::Step { call })?;
+        if reply != Reply::Going {
+            return Some(reply);
+        }
+    }
+    None
+}
+
+/// What the schedule comes to, its polls made by single steps where so is asked.
+fn comes_to(alloc: Global, row: &str, by_steps: bool) -> Result<Outcome, AllocError> {
+    let text = text_of(alloc, row)?;
+    let schedule = read_schedule(alloc, text.as_bytes()).map_err(|_| AllocError)?;
+    if schedule.log < 1 || schedule.log > 65536 {
+        return Err(AllocError);
+    }
+    let mut machine = Machine::build(alloc, schedule.log)?;
+    let mut replies = Vec::new(alloc);
+    for event in &schedule.events {
+        replies.push(served(alloc, &mut machine, event, by_steps)?)?;
+    }
+    let mut entries = machine.entries(alloc)?.into_vec();
+    entries.sort_unstable_by_key(|entry| entry.0);
+    let places = machine.places(alloc)?.as_slice().to_vec(alloc)?;
+    Ok(Outcome {
+        replies,
+        entries,
+        places,
+    })
+}
+
+fn served(
+    alloc: Global,
+    machine: &mut Machine<u32, u32>,
+    event: &Event<u32, u32>,
+    by_steps: bool,
+) -> Result<Reply<u32>, AllocError>
+    requires { IsValid nat_eq machine.old }
+    ensures { IsValid nat_eq machine.new }
+{
+    let reply = match event {
+        Event::Poll { call } if by_steps => reply_by_steps(alloc, machine, *call),
+        _ => reply_to(alloc, machine, event),
+    };
+    reply.ok_or(AllocError)
+}
+
+#[test]
+fn single_steps_come_to_what_polls_do_in_ten_schedules(rt: HostRuntime) -> Result<(), Fail> {
+    for row in SCHEDULES {
+        let polled = comes_to(rt.alloc(), row, false)?;
+        let stepped = comes_to(rt.alloc(), row, true)?;
+        assert_eq!(rt; stepped, polled, "{row}");
+    }
+    Ok(())
+}

@@ -1,0 +1,186 @@
+//! Runs that are run on wherever memory was wanting. `tools/fail-alloc` makes each allocation of the
+//! test fail in turn, and reads on standard error in which row. ` / ` parts lines.
+//!
+//! One allocation fails at most, so what the test takes beside the run is tried twice.
+ghost use Rattle.std.specs.Prelude.{nat_eq, IfOk};
+ghost use Rattle.moka_run.specs.Machine.{IsValid};
+
+use moka_hist::{Event, Reply};
+use moka_run::{Machine, Memory, Report, run};
+use moka_text::{read_schedule, write_report};
+use moka_vectors::text_of;
+use std::alloc::{AllocError, Global};
+use std::io::Eprint;
+use std::process::Abort;
+use std::test::Fail;
+
+/// How often the events are run on.
+const TRIES: usize = 3;
+
+/// What a row needs before it is run: its events, a fresh machine, room for its replies, and the
+/// report that it is to come to.
+#[derive(Drop)]
+struct Row {
+    events: Vec<Event<u32, u32>>,
+    machine: Machine<u32, u32>,
+    replies: Vec<Reply<u32>>,
+    report: String,
+}
+
+fn made(alloc: Global, schedule: &str, report: &str) -> Result<Row, AllocError>
+    ensures { IfOk result (λ row. IsValid nat_eq row.machine) }
+{
+    let text = text_of(alloc, schedule)?;
+    let report = text_of(alloc, report)?;
+    let schedule = read_schedule(alloc, text.as_bytes()).map_err(|_| AllocError)?;
+    if schedule.log < 1 || schedule.log > 65536 {
+        return Err(AllocError);
+    }
+    let machine = Machine::build(alloc, schedule.log)?;
+    let replies = Vec::with_capacity(alloc, schedule.events.len())?;
+    Ok(Row {
+        events: schedule.events,
+        machine,
+        replies,
+        report,
+    })
+}
+
+/// Appends the replies, for which there is room.
+fn keep(replies: &mut Vec<Reply<u32>>, more: &[Reply<u32>]) -> Result<(), AllocError> {
+    for reply in more {
+        replies.push(reply.clone()?)?;
+    }
+    Ok(())
+}
+
+/// The events after those that were done, of which each has its reply.
+fn rest_after<'a>(
+    events: &'a [Event<u32, u32>],
+    memory: &Memory<u32>,
+) -> Option<&'a [Event<u32, u32>]> {
+    if memory.replies.len() as u64 != memory.done {
+        return None;
+    }
+    events.get(memory.replies.len()..)
+}
+
+/// Runs the events to the last, and runs on where memory was wanting.
+fn run_on(
+    rt: &(impl AllocGlobal + Eprint),
+    name: &str,
+    machine: &mut Machine<u32, u32>,
+    events: &[Event<u32, u32>],
+    replies: &mut Vec<Reply<u32>>,
+) -> Result<Report<u32, u32>, Fail>
+    requires { IsValid nat_eq machine.old }
+{
+    let mut rest = events;
+    for _try in 0..TRIES {
+        match run(rt.alloc(), machine, rest) {
+            Ok(report) => {
+                keep(replies, report.replies.as_slice())?;
+                return Ok(report);
+            }
+            Err(memory) => {
+                eprintln!(rt;
+                    "wanting in {name}: event {}, step {}",
+                    memory.done, memory.steps
+                )?;
+                keep(replies, memory.replies.as_slice())?;
+                rest = rest_after(rest, &memory).ok_or(AllocError)?;
+            }
+        }
+    }
+    Err(Fail::from(AllocError))
+}
+
+/// Runs a schedule, and compares what it comes to.
+fn comes_to(
+    rt: &(impl AllocGlobal + Abort + Eprint),
+    name: &str,
+    schedule: &str,
+    report: &str,
+) -> Result<(), Fail> {
+    let mut row = match made(rt.alloc(), schedule, report) {
+        Ok(row) => row,
+        Err(_) => {
+            eprintln!(rt; "wanting in {name}: before the run")?;
+            made(rt.alloc(), schedule, report)?
+        }
+    };
+    let ended = run_on(rt, name, &mut row.machine, &row.events, &mut row.replies)?;
+    let text = text_of_report(rt, name, &row.replies, ended)?;
+    assert_eq!(rt; text.as_str(), row.report.as_str(), "{name}");
+    Ok(())
+}
+
+fn text_of_report(
+    rt: &(impl AllocGlobal + Eprint),
+    name: &str,
+    replies: &[Reply<u32>],
+    report: Report<u32, u32>,
+) -> Result<String, Fail> {
+    let mut entries = report.entries.into_vec();
+    entries.sort_unstable_by_key(|entry| entry.0);
+    let places = report.places.as_slice();
+    match write_report(rt.alloc(), replies, &entries, places) {
+        Ok(text) => Ok(text),
+        Err(_) => {
+            eprintln!(rt; "wanting in {name}: after the run")?;
+            Ok(write_report(rt.alloc(), replies, &entries, places)?)
+        }
+    }
+}
+
+/// Schedules with their reports, and a name for each.
+const ROWS: [(&str, &str, &str); 8] = [
+    (
+        "a_get",
+        "cache log=8 / start get 1 / poll 1",
+        "call 1 / answer none",
+    ),
+    (
+        "an_insert_and_a_get",
+        "cache log=8 / start insert 1 5 / poll 1 / start get 1 / poll 2",
+        "call 1 / answer done / call 2 / answer some 5 / entry 1 5 stamp 1 at 0 / write 1 logged",
+    ),
+    (
+        "two_loads",
+        "cache log=8 / start get_with 1 / start get_with 1 / poll 1 / poll 2 / tell 1 value 7 / poll 1 / poll 2",
+        "call 1 / call 2 / ask init / wait / told / answer value 7 fresh / answer value 7 / entry 1 7 stamp 1 at 0 / write 1 logged",
+    ),
+    (
+        "two_loads_the_first_dropped",
+        "cache log=8 / start get_with 1 / start get_with 1 / poll 1 / poll 2 / drop 1 / poll 2 / tell 2 value 9 / poll 2",
+        "call 1 / call 2 / ask init / wait / dropped / ask init / told / answer value 9 fresh / entry 1 9 stamp 2 at 0 / write 2 logged",
+    ),
+    (
+        "a_full_log",
+        "cache log=1 / start insert 1 5 / poll 1 / start insert 2 6 / poll 2",
+        "call 1 / answer done / call 2 / answer done / entry 1 5 stamp 1 at 0 / entry 2 6 stamp 2 at 0 / write 1 applied / write 2 logged",
+    ),
+    (
+        "refusals",
+        "cache log=8 / start get 1 / poll 1 / drop 1 / start get_with 1 / poll 2 / tell 2 done / tell 9 value 1 / at 5 / at 4 / start get 1 / step 3 / drop 3 / poll 3",
+        "call 1 / answer none / refused UnknownCall / call 2 / ask init / refused NotAsked / refused NotAsked / at / refused ClockBack / call 3 / going / refused NotParked / answer none",
+    ),
+    (
+        "single_steps",
+        "cache log=1 / start insert 1 5 / step 1 / step 1 / step 1 / step 1 / start insert 2 6 / step 2 / step 2 / step 2 / step 2 / step 2 / step 2 / step 2 / step 2 / step 2 / start get 2 / step 3 / step 3 / step 3",
+        "call 1 / going / going / going / answer done / call 2 / going / going / going / going / going / going / going / going / answer done / call 3 / going / going / answer some 6 / entry 1 5 stamp 1 at 0 / entry 2 6 stamp 2 at 0 / write 1 applied / write 2 logged",
+    ),
+    (
+        "an_owed_write",
+        "cache log=1 / start insert 1 5 / poll 1 / start insert 2 6 / start insert 3 7 / step 2 / step 2 / step 2 / step 2 / step 3 / step 3 / step 3 / step 3 / step 3 / step 2 / drop 2 / poll 3 / start get 2 / poll 4",
+        "call 1 / answer done / call 2 / call 3 / going / going / going / going / going / going / going / going / going / wait / dropped / answer done / call 4 / answer some 6 / entry 1 5 stamp 1 at 0 / entry 2 6 stamp 2 at 0 / entry 3 7 stamp 3 at 0 / write 1 applied / write 2 logged / write 3 applied",
+    ),
+];
+
+#[test]
+fn a_run_goes_on_where_memory_was_wanting(rt: HostRuntime) -> Result<(), Fail> {
+    for (name, schedule, report) in ROWS {
+        comes_to(&rt, name, schedule, report)?;
+    }
+    Ok(())
+}

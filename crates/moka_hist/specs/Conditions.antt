@@ -1,0 +1,68 @@
+-- What each visit of a call needs of the desk.
+use Rattle.std.specs.Prelude.{◌≡◌, ◌≢◌, ℕ, Bool, true, false, ◌||◌, List, ◌++◌, map, Option, Some, None, is_some, IsSome, IsNone, IsSomeAnd}
+use Rattle.moka_hist.specs.Finite.{times}
+use Rattle.moka_hist.specs.State.{DeskPart}
+use Rattle.moka_hist.specs.Visits.{number_of}
+use Rattle.moka_hist.specs.declared.loads.Kind.{Kind}
+use Rattle.moka_hist.specs.declared.loads.Kind.TheVariants as kind
+use Rattle.moka_hist.specs.declared.visits.Settled.{Settled}
+use Rattle.moka_hist.specs.declared.visits.Settled.TheVariants as settled
+use Rattle.moka_hist.specs.declared.visits.Visit.{Visit}
+use Rattle.moka_hist.specs.declared.visits.Visit.TheVariants as visit
+use Rattle.moka_hist.specs.declared.writes.Holding.{Holding}
+use Rattle.moka_hist.specs.declared.writes.Holding.TheVariants as holding
+use Rattle.moka_hist.specs.declared.writes.Write.{Write}
+
+-- the number of the write that a call holds: its own, or that of the write that it took up
+abbrev pub held_number : ℕ → Holding → ℕ
+held_number call (holding.Own pending) = call
+held_number call (holding.TookUp write) = number_of write
+
+-- what the call holds is the place of this write
+abbrev pub IsPlaceOf : Option Holding → ℕ → Write → Type 0
+IsPlaceOf None call write = ⊥
+IsPlaceOf (Some (holding.Own pending)) call write = number_of write ≡ call
+IsPlaceOf (Some (holding.TookUp held)) call write = write ≡ held
+
+-- an owner of a load of this kind may end so
+abbrev pub may_end : {V : Type 0} → Kind → Settled V → Bool
+may_end kind.GetWith settled.NotYet = false
+may_end kind.GetWith (settled.Ready value) = true
+may_end kind.GetWith settled.Aborted = true
+
+module _ {K V : Type 0} where
+  -- the call holds this write: it took it up, or has a place for the write of its own number
+  abbrev pub HoldsWrite : DeskPart K V → ℕ → Write → Type 0
+  HoldsWrite w call write = IsPlaceOf (w.holding call) call write
+
+  -- the numbers of the writes that stand with the desk: owed, logged or applied
+  abbrev pub numbers_of : DeskPart K V → List ℕ
+  numbers_of w = map number_of (w.owed ++ w.log ++ w.applied)
+
+  -- no write of the number is owed, logged, applied or held
+  pub record IsUnused (w : DeskPart K V) (number : ℕ) : Type 0 where
+    pub stands : times number (numbers_of w) ≡ 0
+    pub held : (n : ℕ) (h : Holding) → w.holding n ≡ Some h → held_number n h ≢ number
+
+  -- The desk allows the visit. A call holds one write at a time, and owns or awaits one load at a
+  -- time; it settles what it owns, posts what it holds, and applies the log while it has the turn.
+  abbrev pub MayVisit : DeskPart K V → Visit K V → Type 0
+  MayVisit w (visit.Clock call) = Unit {0}
+  MayVisit w (visit.TakeOwed call) = IsNone (w.holding call)
+  MayVisit w (visit.StampMoment call) = IsNone (w.holding call) × IsUnused w call
+  MayVisit w (visit.Judge key stored) = Unit {0}
+  MayVisit w (visit.WaitOrOwn call key kind) = IsNone (w.owning call) × IsNone (w.joined call)
+  MayVisit w (visit.ReadSettled call) = IsSome (w.joined call)
+  MayVisit w (visit.Settle call with) =
+      IsSomeAnd (w.owning call) (λ load. may_end load.kind with ≡ true)
+  MayVisit w (visit.OpenAsk call takes) = IsNone (w.asks call) × IsNone (w.told call)
+  MayVisit w (visit.TakeTold call) = (is_some (w.asks call) || is_some (w.told call)) ≡ true
+  MayVisit w (visit.PostWrite call write) = HoldsWrite w call write
+  MayVisit w (visit.TakeTurn call) = w.turn ≢ Some call
+  MayVisit w (visit.ApplyOne call) = w.turn ≡ Some call
+  MayVisit w (visit.EndTurn call) = w.turn ≡ Some call
+
+  -- the desk allows the call to leave this write to others, if any: it holds it
+  abbrev pub MayLeave : DeskPart K V → ℕ → Option Write → Type 0
+  MayLeave w call None = Unit {0}
+  MayLeave w call (Some write) = HoldsWrite w call write

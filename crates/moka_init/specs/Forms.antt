@@ -1,0 +1,49 @@
+-- The form of an answer, which belongs to its access.
+use Rattle.std.specs.Prelude.{◌≡◌, ℕ, Bool, Option}
+use Rattle.moka_hist.specs.Step.{Access}
+use Rattle.moka_hist.specs.Step as step
+use Rattle.moka_hist.specs.declared.accesses.Got.{Got}
+use Rattle.moka_hist.specs.declared.accesses.Got.TheVariants as got
+use Rattle.moka_hist.specs.declared.accesses.Want.{Want}
+use Rattle.moka_hist.specs.declared.accesses.Want.TheVariants as want
+use Rattle.moka_hist.specs.declared.events.Told.{Told}
+use Rattle.moka_hist.specs.declared.visits.Claim.{Claim}
+use Rattle.moka_hist.specs.declared.visits.Found.{Found}
+use Rattle.moka_hist.specs.declared.visits.Found.TheVariants as found
+use Rattle.moka_hist.specs.declared.visits.Settled.{Settled}
+use Rattle.moka_hist.specs.declared.visits.Visit.{Visit}
+use Rattle.moka_hist.specs.declared.visits.Visit.TheVariants as visit
+use Rattle.moka_hist.specs.declared.writes.Write.{Write}
+
+module _ {K V : Type 0} where
+  -- what such a visit finds: the variant of its name
+  abbrev pub IsFoundBy : Visit K V → Found V → Type 0
+  IsFoundBy (visit.Clock n) f = (moment : ℕ) × (f ≡ found.Clock moment)
+  IsFoundBy (visit.TakeOwed n) f = (owed : Option Write) × (f ≡ found.TakeOwed owed)
+  IsFoundBy (visit.StampMoment n) f = (moment : ℕ) × (f ≡ found.StampMoment moment)
+  IsFoundBy (visit.Judge key stored) f = (seen : Bool) × (f ≡ found.Judge seen)
+  IsFoundBy (visit.WaitOrOwn n key kind) f = (claim : Claim) × (f ≡ found.WaitOrOwn claim)
+  IsFoundBy (visit.ReadSettled n) f = (settled : Settled V) × (f ≡ found.ReadSettled settled)
+  IsFoundBy (visit.Settle n with) f = f ≡ found.Settle
+  IsFoundBy (visit.OpenAsk n takes) f = f ≡ found.OpenAsk
+  IsFoundBy (visit.TakeTold n) f = (answer : Option (Told V)) × (f ≡ found.TakeTold answer)
+  IsFoundBy (visit.PostWrite n write) f = (posted : Bool) × (f ≡ found.PostWrite posted)
+  IsFoundBy (visit.TakeTurn n) f = (taken : Bool) × (f ≡ found.TakeTurn taken)
+  IsFoundBy (visit.ApplyOne n) f = (applied : Bool) × (f ≡ found.ApplyOne applied)
+  IsFoundBy (visit.EndTurn n) f = f ≡ found.EndTurn
+
+  -- a table operation gives a turn of the table, a visit what such a visit finds
+  abbrev pub HasForm : Access K V → Got K V → Type 0
+  HasForm (step.On_table operation) (got.Table turn) = Unit {0}
+  HasForm (step.On_table operation) (got.Desk f) = ⊥
+  HasForm (step.On_desk made) (got.Table turn) = ⊥
+  HasForm (step.On_desk made) (got.Desk f) = IsFoundBy made f
+
+  -- the same of an access as it is wanted
+  abbrev pub FitsWant : Want K V → Got K V → Type 0
+  FitsWant (want.Begin operation) (got.Table turn) = Unit {0}
+  FitsWant (want.Begin operation) (got.Desk f) = ⊥
+  FitsWant want.Table (got.Table turn) = Unit {0}
+  FitsWant want.Table (got.Desk f) = ⊥
+  FitsWant (want.Desk made) (got.Table turn) = ⊥
+  FitsWant (want.Desk made) (got.Desk f) = IsFoundBy made f

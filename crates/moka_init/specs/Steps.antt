@@ -1,0 +1,46 @@
+-- What the steps of a flow do to the worlds that its ground stands for.
+use Rattle.std.specs.Prelude.{◌≡◌, ◌<◌, ℕ, Bool, List, Option, Some}
+use Rattle.moka_hist.specs.Bound.{as_told}
+use Rattle.moka_hist.specs.Next.{Next}
+use Rattle.moka_hist.specs.State.{World}
+use Rattle.moka_hist.specs.Step.{Moves, MovesOn, Polled, IsSafe, May}
+use Rattle.moka_bound.specs.Ahead.{ahead}
+use Rattle.moka_init.specs.FlowPlan.{call_of}
+use Rattle.moka_init.specs.Grounds.{Account, access_at}
+use Rattle.moka_init.specs.Telling.{Made, TellsSteps}
+use Rattle.moka_init.specs.declared.flow.Flow.{Flow}
+
+-- the worlds that a ground stands for
+abbrev pub Worlds : (K V : Type 0) → Type 1
+Worlds K V = World K V → Type 0
+
+module _ {K V : Type 0} where
+  -- the call moves by one step in each of these worlds that has what the step needs
+  abbrev pub MovesThere : (K → K → Bool) → Worlds K V → Flow K V → Next K V → Worlds K V → Type 0
+  MovesThere eq stood flow next stands =
+      (w : World K V) → stood w → May w (access_at flow)
+      → (new : World K V) × Moves eq flow.call (call_of flow) w next new × stands new
+
+  -- it moves up to the first turn that isn't Going, in each of these worlds that has what its steps need
+  abbrev pub PolledThere : (K → K → Bool) → Worlds K V → Flow K V → Next K V → Worlds K V → Type 0
+  PolledThere eq stood flow next stands =
+      (w : World K V) → stood w → IsSafe eq flow.call (call_of flow) w
+      → (new : World K V) × Polled eq flow.call (call_of flow) w next new × stands new
+
+  -- it moves by so many steps, each of which leaves it going
+  abbrev pub GoesThere : (K → K → Bool) → ℕ → Worlds K V → Flow K V → Flow K V → Worlds K V → Type 0
+  GoesThere eq steps stood flow on stands =
+      (w : World K V) → stood w → IsSafe eq flow.call (call_of flow) w
+      → (new : World K V) × MovesOn eq steps flow.call (call_of flow) w (call_of on) new × stands new
+
+  -- so many steps were made, as it is told, each of which left the call going, and just these are told
+  abbrev pub Unended : (K → K → Bool) → ℕ → Worlds K V → Account K V → Flow K V → Flow K V → Worlds K V → Account K V → Type 0
+  Unended eq told stood old flow on stands new =
+      (steps : ℕ) × (told ≡ as_told steps) × GoesThere eq steps stood flow on stands
+      × ((before : List (Made K V)) → old.made ≡ Some before → TellsSteps steps flow.call (call_of flow) (call_of on) before new.made)
+
+  -- the call may still make fewer steps, in each of these worlds that has what the step needed and whose log has room for a write at all
+  abbrev pub Nears : Worlds K V → Account K V → Flow K V → Account K V → Flow K V → Type 0
+  Nears stood old flow new on =
+      (w : World K V) → stood w → May w (access_at flow) → 0 < w.desk.size
+      → ahead new.work (call_of on) < ahead old.work (call_of flow)

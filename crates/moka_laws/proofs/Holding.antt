@@ -1,0 +1,321 @@
+-- What a call holds, by its plan.
+use Rattle.std.proofs.Common.{◌≡◌, ℕ, ◌+◌, ◌<◌, ◌≤◌, ◌==◌, Bool, true, false, cond, List, [], ◌∷◌, ◌++◌, Option, Some, None, ◌⊎◌, inl, inr, refl, sym, ap, ◌∙◌, subst, arith}
+use Rattle.std.proofs.lemmas.Bool.{eqb-true}
+use Rattle.std.specs.Option.{option_map}
+use Rattle.moka_hist.specs.Finite.{put_at, times}
+use Rattle.moka_hist.specs.State.{State, World, Call, DeskPart}
+use Rattle.moka_hist.specs.Plan.{Item, Aim, held_by, plan_of}
+use Rattle.moka_hist.specs.Plan as plan
+use Rattle.moka_hist.specs.Visits.{number_of, without_moment}
+use Rattle.moka_hist.specs.Conditions.{held_number, numbers_of, IsPlaceOf, IsUnused}
+use Rattle.moka_hist.specs.Next.{Next, goes}
+use Rattle.moka_hist.specs.Looking.{hits, misses}
+use Rattle.moka_hist.specs.Loading.{after_read, after_told, retries}
+use Rattle.moka_hist.specs.Step.{Step}
+use Rattle.moka_hist.specs.Run.{IsReached, started, fresh_call}
+use Rattle.moka_hist.specs.Places.{HeldAreKnown}
+use Rattle.moka_hist.specs.declared.events.Start.{Start}
+use Rattle.moka_hist.specs.declared.events.Start.TheVariants as start
+use Rattle.moka_hist.specs.declared.events.Told.{Told}
+use Rattle.moka_hist.specs.declared.events.Told.TheVariants as answer
+use Rattle.moka_hist.specs.declared.loads.Load.{Load}
+use Rattle.moka_hist.specs.declared.visits.Settled.{Settled}
+use Rattle.moka_hist.specs.declared.visits.Settled.TheVariants as settled
+use Rattle.moka_hist.specs.declared.visits.Found.TheVariants as found
+use Rattle.moka_hist.specs.declared.accesses.Turn.{Turn}
+use Rattle.moka_hist.specs.declared.writes.Holding.{Holding}
+use Rattle.moka_hist.specs.declared.writes.Holding.TheVariants as holding
+use Rattle.moka_hist.specs.declared.writes.Write.{Write}
+use Rattle.moka_hist.specs.declared.writes.Write.TheVariants.{Upsert}
+use Rattle.moka_laws.proofs.Counting.{none_some, some_same, put_here, put_there, same_number}
+use Rattle.moka_laws.proofs.Sums.{sum_holds}
+use Rattle.moka_laws.proofs.Weights.{weigh, weigh_call}
+use Rattle.moka_laws.proofs.Posts.{among, may_write, once, post_of}
+use Rattle.moka_laws.proofs.Balance.{IsBalanced, among_append, on_desk}
+use Rattle.moka_laws.proofs.Balanced.{balanced_kept, next_free}
+use Rattle.moka_laws.proofs.Owning.{plan_left}
+use Rattle.moka_laws.proofs.Kept.{IsKept, in_reached}
+use Rattle.moka_laws.proofs.StepCases.{OnStep, step_cases}
+use Rattle.moka_laws.proofs.Outcomes.{Outcomes, outcomes}
+
+-- the call holds the place of a write of its own
+abbrev IsOwn : Option Holding → Type 0
+IsOwn h = (pending : Option ℕ) × (h ≡ Some (holding.Own pending))
+
+-- what a call holds is still the place of the write, once no moment is pending
+still_place : (h : Option Holding) (n : ℕ) (write : Write) → IsPlaceOf h n write → IsPlaceOf (option_map without_moment h) n write
+still_place None n write place = place
+still_place (Some (holding.Own pending)) n write place = place
+still_place (Some (holding.TookUp held)) n write place = place
+
+-- the place of a call's own write is that of any of its number
+own_place : (h : Option Holding) (n : ℕ) (old : Option ℕ) → IsOwn h → IsPlaceOf h n (Upsert n old)
+own_place h n old own = subst (λ v. IsPlaceOf v n (Upsert n old)) (sym own.1) refl
+
+pub place_number : (x : Holding) (n : ℕ) (write : Write) → IsPlaceOf (Some x) n write → held_number n x ≡ number_of write
+place_number (holding.Own pending) n write place = sym place
+place_number (holding.TookUp held) n write place = ap number_of (sym place)
+
+module _ {K V : Type 0} where
+  -- the item needs the place of a write
+  abbrev held : Item K V → ℕ
+  held (plan.Post write) = 1
+  held (plan.Write key value moment) = 1
+  held _ = 0
+
+  -- what the call with this plan holds: the place of the write that it is to post or make first, and else nothing
+  abbrev pub HoldsAs : ℕ → Option Holding → List (Item K V) → Type 0
+  HoldsAs n h [] = h ≡ None
+  HoldsAs n h (plan.Post write ∷ rest) = IsPlaceOf h n write × (weigh held rest ≡ 0)
+  HoldsAs n h (plan.Write key value moment ∷ rest) = IsOwn h × (weigh held rest ≡ 0)
+  HoldsAs n h (plan.Turn ∷ rest) = HoldsAs n h rest
+  HoldsAs n h (plan.Apply ∷ rest) = HoldsAs n h rest
+  HoldsAs n h (plan.End ∷ rest) = HoldsAs n h rest
+  HoldsAs n h (_ ∷ rest) = (h ≡ None) × (weigh held rest ≡ 0)
+
+  -- ---- plans that need no place
+
+  fresh_weighs : (start : Start K V) → weigh held (plan_of start) ≡ 0
+  fresh_weighs (start.Get key) = refl
+  fresh_weighs (start.Insert key value) = refl
+  fresh_weighs (start.GetWith key) = refl
+
+  misses_weigh : (c : Call K V) (aim : Aim K) → weigh_call held (misses c aim).left ≡ 0
+  misses_weigh c plan.To_answer = refl
+  misses_weigh c (plan.To_load load) = refl
+  misses_weigh c (plan.To_own load) = refl
+
+  hits_weigh : (c : Call K V) (aim : Aim K) (value : V) → weigh_call held (hits c aim value).left ≡ 0
+  hits_weigh c plan.To_answer value = refl
+  hits_weigh c (plan.To_load load) value = refl
+  hits_weigh c (plan.To_own load) value = refl
+
+  either_weighs : (b : Bool) (x y : Next K V) → weigh_call held x.left ≡ 0 → weigh_call held y.left ≡ 0 → weigh_call held (cond b x y).left ≡ 0
+  either_weighs true x y h k = h
+  either_weighs false x y h k = k
+
+  module _ (n : ℕ) (h : Option Holding) where
+    free_holds : (rest : List (Item K V)) → weigh held rest ≡ 0 → h ≡ None → HoldsAs n h rest
+    free_holds [] e none = none
+    free_holds (plan.Post write ∷ rest) e none = absurd (omega arith)
+    free_holds (plan.Write key value moment ∷ rest) e none = absurd (omega arith)
+    free_holds (plan.Turn ∷ rest) e none = free_holds rest (omega arith) none
+    free_holds (plan.Apply ∷ rest) e none = free_holds rest (omega arith) none
+    free_holds (plan.End ∷ rest) e none = free_holds rest (omega arith) none
+    free_holds (_ ∷ rest) e none = (none, omega arith)
+
+    left_holds : (left : Option (Call K V)) → weigh_call held left ≡ 0 → h ≡ None → HoldsAs n h (plan_left left)
+    left_holds None e none = none
+    left_holds (Some c) e none = free_holds c.plan e none
+
+    goes_holds : (c : Call K V) (rest : List (Item K V)) → HoldsAs n h rest → HoldsAs n h (plan_left (goes c rest).left)
+    goes_holds c (plan.Reply a ∷ []) q = q.0
+    goes_holds c (plan.Reply a ∷ x ∷ rest) q = q
+    goes_holds c [] q = q
+    goes_holds c (_ ∷ rest) q = q
+
+    read_holds : (c : Call K V) (load : Load K) (with : Settled V) → HoldsAs n h c.plan → h ≡ None →
+        HoldsAs n h (plan_left (after_read c load (found.ReadSettled with)).left)
+    read_holds c load (settled.Ready value) p none = none
+    read_holds c load settled.NotYet p none = p
+    read_holds c load settled.Aborted p none =
+        left_holds _ (either_weighs (c.aborts + 1 == retries) _ _ refl refl) none
+
+    told_holds : (c : Call K V) (load : Load K) (given : Told V) → HoldsAs n h c.plan → h ≡ None →
+        HoldsAs n h (plan_left (after_told c load (found.TakeTold (Some given))).left)
+    told_holds c load (answer.Value value) p none = (none, refl)
+    told_holds c load answer.Done p none = p
+
+  -- what a step has to show: what this call holds then, and that the others hold what they held
+  record Leaves (d : DeskPart K V) (n : ℕ) (held : ℕ → Option Holding) (left : Option (Call K V)) : Type 0 where
+    own : HoldsAs n (held n) (plan_left left)
+    others : (m : ℕ) → (n == m) ≡ false → held m ≡ d.holding m
+
+  module _ (d : DeskPart K V) (n : ℕ) where
+    -- nothing has changed of what calls hold, or of what this one holds alone
+    keeps : {left : Option (Call K V)} → HoldsAs n (d.holding n) (plan_left left) → Leaves d n d.holding left
+    keeps q = record { own = q; others = λ m e. refl }
+
+    holds_now : {left : Option (Call K V)} (h : Option Holding) → HoldsAs n h (plan_left left) → Leaves d n (put_at d.holding n h) left
+    holds_now {left} h q = record {
+      own = subst (λ v. HoldsAs n v (plan_left left)) (sym (put_here d.holding n h)) q;
+      others = λ m e. put_there d.holding n h m e;
+    }
+
+  module _ (eq : K → K → Bool) (w : World K V) (n : ℕ) (c : Call K V) where
+    abbrev After : World K V → Next K V → Type 0
+    After new next = Leaves w.desk n new.desk.holding next.left
+
+    on_item : (item : Item K V) (rest : List (Item K V)) → HoldsAs n (w.desk.holding n) c.plan → HoldsAs n (w.desk.holding n) (item ∷ rest) →
+        Outcomes eq After w n c item rest
+    on_item plan.Drain rest p q = (
+      λ e. keeps w.desk n (goes_holds n _ c rest (free_holds n _ rest q.1 q.0)),
+      λ x xs e. holds_now w.desk n (Some (holding.TookUp x)) (refl, omega (arith, q.1)),
+    )
+    on_item (plan.Post write) rest p q = (
+      λ e. holds_now w.desk n None (goes_holds n None c rest (free_holds n None rest q.1 refl)),
+      λ e. holds_now w.desk n _ (still_place (w.desk.holding n) n write q.0, q.1),
+    )
+    on_item plan.Turn rest p q = (λ e. keeps w.desk n (goes_holds n _ c rest q), λ e. keeps w.desk n p)
+    on_item plan.Apply rest p q = (λ e. keeps w.desk n (goes_holds n _ c rest q), λ x xs e. keeps w.desk n q)
+    on_item plan.End rest p q = keeps w.desk n (goes_holds n _ c rest q)
+    on_item (plan.Get aim key) rest p q =
+        ((λ more. keeps w.desk n p), keeps w.desk n (left_holds n _ _ (misses_weigh c aim) q.0), λ k stored. keeps w.desk n (q.0, refl))
+    on_item (plan.Judge aim key stored) rest p q = keeps w.desk n (left_holds n _ _ (hits_weigh c aim stored.value) q.0)
+    on_item (plan.Own load) rest p q = (λ e. keeps w.desk n (q.0, refl), λ owner e. keeps w.desk n (q.0, refl))
+    on_item (plan.Read load) rest p q = (λ e. keeps w.desk n p, λ with e. keeps w.desk n (read_holds n _ c load with p q.0))
+    on_item (plan.Settle with) rest p q = keeps w.desk n (goes_holds n _ c rest (free_holds n _ rest q.1 q.0))
+    on_item (plan.Ask load) rest p q = keeps w.desk n (q.0, refl)
+    on_item (plan.Told load) rest p q = (λ e. keeps w.desk n p, λ given e. keeps w.desk n (told_holds n _ c load given p q.0))
+    on_item (plan.Moment key value) rest p q = holds_now w.desk n (Some (holding.Own (Some w.desk.clock))) ((Some w.desk.clock, refl), q.1)
+    on_item (plan.Write key value moment) rest p q =
+        ((λ more. keeps w.desk n p), keeps w.desk n (own_place (w.desk.holding n) n _ q.0, q.1))
+    on_item (plan.Reply answer) rest p q = keeps w.desk n q.0
+
+    on_plan : (plan : List (Item K V)) → c.plan ≡ plan → HoldsAs n (w.desk.holding n) c.plan → OnStep eq After w n c plan
+    on_plan [] e p = keeps w.desk n p
+    on_plan (item ∷ rest) e p = outcomes eq After w n c item rest (on_item item rest p (subst (HoldsAs n (w.desk.holding n)) e p))
+
+  -- ---- of a state
+
+  -- What each call holds is what its plan needs, and a call that isn't live holds nothing.
+  pub record IsHolding (s : State K V) : Type 0 where
+    pub balanced : IsBalanced s
+    pub holds : (n : ℕ) → HoldsAs n (s.world.desk.holding n) (plan_left (s.calls n))
+
+  holds_on : (s : State K V) (n : ℕ) (w : World K V) (left : Option (Call K V)) → IsHolding s → Leaves s.world.desk n w.desk.holding left →
+      let t : State K V = record { world = w; calls = put_at s.calls n left } in
+      IsBalanced t → IsHolding t
+  holds_on s n w left i l balanced = record { balanced = balanced; holds = λ m. by m (n == m) refl }
+    where
+      by : (m : ℕ) (b : Bool) → (n == m) ≡ b → HoldsAs m (w.desk.holding m) (plan_left (put_at s.calls n left m))
+      by m true e =
+          subst (λ v. HoldsAs v (w.desk.holding v) (plan_left (put_at s.calls n left v))) (eqb-true n m e)
+          (subst (λ v. HoldsAs n (w.desk.holding n) (plan_left v)) (sym (put_here s.calls n left)) l.own)
+      by m false e =
+          subst (λ v. HoldsAs m (w.desk.holding m) (plan_left v)) (sym (put_there s.calls n left m e))
+          (subst (λ v. HoldsAs m v (plan_left (s.calls m))) (sym (l.others m e)) (i.holds m))
+
+module _ {K V : Type 0} where
+  -- the numbers that stand with the desk
+  pub numbers_stand : (x : ℕ) (d : DeskPart K V) → times x (numbers_of d) ≡ on_desk x d
+  numbers_stand x d =
+      let all : times x (numbers_of d) ≡ among x (d.owed ++ d.log) + among x d.applied = among_append x (d.owed ++ d.log) d.applied in
+      omega (arith, among_append x d.owed d.log)
+
+module _ {K V : Type 0} (eq : K → K → Bool) where
+  holding_step : (s t : State K V) (n : ℕ) (turn : Turn V) → IsHolding s → Step eq s n turn t → IsHolding t
+  holding_step s t n turn i step =
+      let c : Call K V = step.call in
+      let p : HoldsAs n (s.world.desk.holding n) c.plan =
+      subst (λ v. HoldsAs n (s.world.desk.holding n) (plan_left v)) step.live (i.holds n) in
+      let kept : IsBalanced t → IsHolding t =
+      step_cases eq (λ new next. Leaves s.world.desk n new.desk.holding next.left) (λ v _. IsBalanced v → IsHolding v) s t n turn step
+      (on_plan eq s.world n c c.plan refl p) (λ w next l. holds_on s n w next.left i l) in
+      kept ((balanced_kept eq).step s t n turn i.balanced step)
+
+  holding_start : (s : State K V) (start : Start K V) → IsHolding s → IsHolding (started s start)
+  holding_start s start i =
+      let new : ℕ = s.world.desk.last + 1 in
+      let none : s.world.desk.holding new ≡ None =
+      subst (λ v. HoldsAs new (s.world.desk.holding new) (plan_left v)) (next_free s i.balanced) (i.holds new) in
+      holds_on s new _ (Some (fresh_call start)) i (record { own = free_holds new _ (plan_of start) (fresh_weighs start) none; others = λ m e. refl })
+      ((balanced_kept eq).start s start i.balanced)
+
+  pub holding_kept : IsKept eq (IsHolding {K = K} {V = V})
+  holding_kept = record {
+    fresh = λ size has_log. record { balanced = (balanced_kept eq).fresh size has_log; holds = λ n. refl };
+    at = λ s moment i. record { balanced = (balanced_kept eq).at s moment i.balanced; holds = i.holds };
+    start = holding_start;
+    step = holding_step;
+    tell = λ s n given asked i. record { balanced = (balanced_kept eq).tell s n given asked i.balanced; holds = i.holds };
+    drop = λ s n c live between i.
+        holds_on s n _ None i (record { own = put_here s.world.desk.holding n None; others = λ m e. put_there s.world.desk.holding n None m e })
+        ((balanced_kept eq).drop s n c live between i.balanced);
+  }
+
+  pub in_holding : (s : State K V) → IsReached eq s → IsHolding s
+  in_holding s h = in_reached eq IsHolding holding_kept s h
+
+  -- ---- what follows
+
+  free_by : (rest : List (Item K V)) → weigh held rest ≡ 0 → held_by rest ≡ None
+  free_by [] e = refl
+  free_by (plan.Post write ∷ rest) e = absurd (omega arith)
+  free_by (plan.Write key value moment ∷ rest) e = absurd (omega arith)
+  free_by (_ ∷ rest) e = free_by rest (omega arith)
+
+  place_of : (n : ℕ) (h : Option Holding) (write : Write) (plan : List (Item K V)) → HoldsAs n h plan → held_by plan ≡ Some write → IsPlaceOf h n write
+  place_of n h write [] q e = absurd (none_some e)
+  place_of n h write (plan.Post held ∷ rest) q e = subst (IsPlaceOf h n) (some_same e) q.0
+  place_of n h write (plan.Turn ∷ rest) q e = place_of n h write rest q e
+  place_of n h write (plan.Apply ∷ rest) q e = place_of n h write rest q e
+  place_of n h write (plan.End ∷ rest) q e = place_of n h write rest q e
+  place_of n h write (_ ∷ rest) q e = absurd (none_some (sym (free_by rest q.1) ∙ e))
+
+  -- the desk knows each write that a live call holds
+  pub known_held : (s : State K V) → IsHolding s → HeldAreKnown s
+  known_held s i n c write live e =
+      place_of n (s.world.desk.holding n) write c.plan
+      (subst (λ v. HoldsAs n (s.world.desk.holding n) (plan_left v)) live (i.holds n)) e
+
+  pub held_known : (s : State K V) → IsReached eq s → HeldAreKnown s
+  held_known s h = known_held s (in_holding s h)
+
+  -- a call that holds something posts the write of that number, or has still to make its own
+  held_way : (n : ℕ) (x : Holding) (plan : List (Item K V)) → HoldsAs n (Some x) plan →
+      (0 < weigh (post_of (held_number n x)) plan) ⊎ ((held_number n x ≡ n) × (0 < weigh may_write plan))
+  held_way n x [] q = absurd (none_some (sym q))
+  held_way n x (plan.Post write ∷ rest) q =
+      let one : once (held_number n x) (number_of write) ≡ 1 =
+      ap (λ v. once v (number_of write)) (place_number x n write q.0) ∙ ap (λ b. cond {A = ℕ} b 1 0) (same_number (number_of write)) in
+      inl (omega arith)
+  held_way n x (plan.Write key value moment ∷ rest) q =
+      inr (ap (held_number n) (some_same q.0.1), omega arith)
+  held_way n x (plan.Turn ∷ rest) q = by (held_way n x rest q)
+    where
+      by : (0 < weigh (post_of (held_number n x)) rest) ⊎ ((held_number n x ≡ n) × (0 < weigh may_write rest)) →
+          (0 < weigh (post_of (held_number n x)) (plan.Turn ∷ rest)) ⊎ ((held_number n x ≡ n) × (0 < weigh may_write (plan.Turn ∷ rest)))
+      by (inl h) = inl (omega arith)
+      by (inr h) = inr (h.0, omega (arith, h.1))
+  held_way n x (plan.Apply ∷ rest) q = by (held_way n x rest q)
+    where
+      by : (0 < weigh (post_of (held_number n x)) rest) ⊎ ((held_number n x ≡ n) × (0 < weigh may_write rest)) →
+          (0 < weigh (post_of (held_number n x)) (plan.Apply ∷ rest)) ⊎ ((held_number n x ≡ n) × (0 < weigh may_write (plan.Apply ∷ rest)))
+      by (inl h) = inl (omega arith)
+      by (inr h) = inr (h.0, omega (arith, h.1))
+  held_way n x (plan.End ∷ rest) q = by (held_way n x rest q)
+    where
+      by : (0 < weigh (post_of (held_number n x)) rest) ⊎ ((held_number n x ≡ n) × (0 < weigh may_write rest)) →
+          (0 < weigh (post_of (held_number n x)) (plan.End ∷ rest)) ⊎ ((held_number n x ≡ n) × (0 < weigh may_write (plan.End ∷ rest)))
+      by (inl h) = inl (omega arith)
+      by (inr h) = inr (h.0, omega (arith, h.1))
+  held_way n x (_ ∷ rest) q = absurd (none_some (sym q.0))
+
+  module _ (s : State K V) (i : IsHolding s) where
+    live_posts : (m x : ℕ) (o : Option (Call K V)) → s.calls m ≡ o → 0 < weigh (post_of x) (plan_left o) → 0 < weigh_call (post_of x) (s.calls m) × (m ≤ s.world.desk.last)
+    live_posts m x None e h = absurd (omega arith)
+    live_posts m x (Some c) e h = (omega (arith, h, ap (weigh_call (post_of x)) e), i.balanced.numbered m c e)
+
+    -- a call that is to take the moment of its write holds none, and no write of its number is anywhere
+    pub is_unused : (n : ℕ) (c : Call K V) (key : K) (value : V) (rest : List (Item K V)) → s.calls n ≡ Some c → c.plan ≡ plan.Moment key value ∷ rest →
+        (s.world.desk.holding n ≡ None) × IsUnused s.world.desk n
+    is_unused n c key value rest live e =
+        let q : HoldsAs n (s.world.desk.holding n) (plan.Moment key value ∷ rest) =
+        subst (HoldsAs n (s.world.desk.holding n)) e (subst (λ v. HoldsAs n (s.world.desk.holding n) (plan_left v)) live (i.holds n)) in
+        let spent : times n s.world.table.committed ≡ 0 = omega (arith, i.balanced.unspent n c live, ap (weigh may_write) e) in (
+          q.0,
+          record {
+            stands = omega (arith, numbers_stand n s.world.desk, i.balanced.balance n);
+            held = λ m x h is. apart q.0 spent m x h is;
+          },
+        )
+      where
+        apart : s.world.desk.holding n ≡ None → times n s.world.table.committed ≡ 0 → (m : ℕ) (x : Holding) → s.world.desk.holding m ≡ Some x → held_number m x ≡ n → ⊥
+        apart none spent m x h is = by (held_way m x (plan_left (s.calls m)) (subst (λ v. HoldsAs m v (plan_left (s.calls m))) h (i.holds m)))
+          where
+            by : (0 < weigh (post_of (held_number m x)) (plan_left (s.calls m))) ⊎ ((held_number m x ≡ m) × (0 < weigh may_write (plan_left (s.calls m)))) → ⊥
+            by (inl posts) =
+                let one = live_posts m n (s.calls m) refl (subst (λ v. 0 < weigh (post_of v) (plan_left (s.calls m))) is posts) in
+                omega (arith, one.0, i.balanced.balance n, sum_holds s.world.desk.last (λ v. weigh_call (post_of n) (s.calls v)) m one.1)
+            by (inr own) = none_some (sym none ∙ ap s.world.desk.holding (sym is ∙ own.0) ∙ h)

@@ -1,0 +1,162 @@
+-- What the desk needs for the next visit of a live call it has.
+use Rattle.std.proofs.Common.{◌≡◌, ◌≢◌, ℕ, ◌+◌, ◌||◌, Bool, true, false, cond, List, [], ◌∷◌, Option, Some, None, is_some, IsSome, IsNone, IsSomeAnd, refl, ap, ◌∙◌, subst, arith}
+use Rattle.moka_hist.specs.State.{State, Call, DeskPart}
+use Rattle.moka_hist.specs.Plan.{Item, Aim}
+use Rattle.moka_hist.specs.Plan as plan
+use Rattle.moka_hist.specs.Conditions.{may_end}
+use Rattle.moka_hist.specs.Step.{May, access_for, access_of}
+use Rattle.moka_hist.specs.Run.{IsReached}
+use Rattle.moka_hist.specs.declared.records.Mode.{Mode}
+use Rattle.moka_hist.specs.declared.loads.Load.{Load}
+use Rattle.moka_hist.specs.declared.loads.Kind.{Kind}
+use Rattle.moka_hist.specs.declared.loads.Kind.TheVariants as kind
+use Rattle.moka_hist.specs.declared.visits.Settled.{Settled}
+use Rattle.moka_hist.specs.declared.visits.Settled.TheVariants as settled
+use Rattle.moka_laws.proofs.Weights.{weigh}
+use Rattle.moka_laws.proofs.Answering.{EndsWell, some_ready}
+use Rattle.moka_laws.proofs.Asking.{AsksWhole, IsAsking, asking_kept, ask_open, none_asked, whole}
+use Rattle.moka_laws.proofs.Holding.{IsHolding, HoldsAs, holding_kept, is_unused}
+use Rattle.moka_laws.proofs.Owning.{plan_left}
+use Rattle.moka_laws.proofs.Roles.{Fits, owners}
+use Rattle.moka_laws.proofs.Served.{IsServed, served_kept}
+use Rattle.moka_laws.proofs.Turns.{TurnFits, IsTurning, turning_kept}
+use Rattle.moka_laws.proofs.Kept.{IsKept, in_reached}
+
+-- an answer is one that an owner of any kind may end with
+ends : {V : Type 0} (k : Kind) (with : Settled V) → Some with ≢ Some settled.NotYet → may_end k with ≡ true
+ends kind.GetWith (settled.Ready value) not = refl
+ends kind.GetWith settled.Aborted not = refl
+ends kind.GetWith settled.NotYet not = absurd (not refl)
+
+none_is : {A : Type 0} (o : Option A) → o ≡ None → IsNone o
+none_is o e = ap is_some e
+
+module _ {K : Type 0} where
+  -- a call whose plan has no item of an owner owns nothing
+  owns_none : (o : Option (Load K)) → 0 ≡ cond {A = ℕ} (is_some o) 1 0 → IsNone o
+  owns_none None e = refl
+  owns_none (Some l) e = absurd (omega (arith, e))
+
+-- one with such an item owns something
+owns_some : {K V : Type 0} (o : Option (Load K)) (k : ℕ) → k + 1 ≡ cond {A = ℕ} (is_some o) 1 0 → (with : Settled V) → Some with ≢ Some settled.NotYet →
+    IsSomeAnd o (λ load. may_end load.kind with ≡ true)
+owns_some None k e with not = absurd (omega (arith, e))
+owns_some (Some l) k e with not = ends l.kind with not
+
+module _ {K V : Type 0} where
+  either_asked : (d : DeskPart K V) (n : ℕ) → (is_some (d.told n) ≡ false → IsSome (d.asks n)) → is_some (d.asks n) || is_some (d.told n) ≡ true
+  either_asked d n opens = by (is_some (d.told n)) refl
+    where
+      left : (b : Bool) → is_some (d.asks n) ≡ true → is_some (d.asks n) || b ≡ true
+      left b e = ap (λ v. v || b) e
+
+      right : (a : Bool) → a || true ≡ true
+      right true = refl
+      right false = refl
+
+      by : (t : Bool) → is_some (d.told n) ≡ t → is_some (d.asks n) || is_some (d.told n) ≡ true
+      by false e = left (is_some (d.told n)) (opens e)
+      by true e = ap (λ v. is_some (d.asks n) || v) e ∙ right (is_some (d.asks n))
+
+  -- What is known of a live call with this plan.
+  record Stands (d : DeskPart K V) (n : ℕ) (plan : List (Item K V)) : Type 0 where
+    holds : HoldsAs n (d.holding n) plan
+    fits : Fits (d.owning n) (d.joined n) plan
+    asks : AsksWhole d n plan
+    turns : TurnFits d.turn n plan
+
+module _ {K V : Type 0} (eq : K → K → Bool) where
+  -- What is known of a state by the plans of its calls.
+  pub record IsWell (s : State K V) : Type 0 where
+    pub holding : IsHolding s
+    pub served : IsServed eq s
+    pub asking : IsAsking s
+    pub turning : IsTurning s
+
+  pub well_kept : IsKept eq IsWell
+  well_kept = record {
+    fresh = λ size has_log. record {
+      holding = (holding_kept eq).fresh size has_log;
+      served = (served_kept eq).fresh size has_log;
+      asking = (asking_kept eq).fresh size has_log;
+      turning = (turning_kept eq).fresh size has_log;
+    };
+    at = λ s moment i. record {
+      holding = (holding_kept eq).at s moment i.holding;
+      served = (served_kept eq).at s moment i.served;
+      asking = (asking_kept eq).at s moment i.asking;
+      turning = (turning_kept eq).at s moment i.turning;
+    };
+    start = λ s start i. record {
+      holding = (holding_kept eq).start s start i.holding;
+      served = (served_kept eq).start s start i.served;
+      asking = (asking_kept eq).start s start i.asking;
+      turning = (turning_kept eq).start s start i.turning;
+    };
+    step = λ s t n turn i step. record {
+      holding = (holding_kept eq).step s t n turn i.holding step;
+      served = (served_kept eq).step s t n turn i.served step;
+      asking = (asking_kept eq).step s t n turn i.asking step;
+      turning = (turning_kept eq).step s t n turn i.turning step;
+    };
+    tell = λ s n given asked i. record {
+      holding = (holding_kept eq).tell s n given asked i.holding;
+      served = (served_kept eq).tell s n given asked i.served;
+      asking = (asking_kept eq).tell s n given asked i.asking;
+      turning = (turning_kept eq).tell s n given asked i.turning;
+    };
+    drop = λ s n c live between i. record {
+      holding = (holding_kept eq).drop s n c live between i.holding;
+      served = (served_kept eq).drop s n c live between i.served;
+      asking = (asking_kept eq).drop s n c live between i.asking;
+      turning = (turning_kept eq).drop s n c live between i.turning;
+    };
+  }
+
+  pub in_well : (s : State K V) → IsReached eq s → IsWell s
+  in_well s h = in_reached eq IsWell well_kept s h
+
+module _ {K V : Type 0} (eq : K → K → Bool) (s : State K V) (well : IsWell eq s) (n : ℕ) (c : Call K V) (live : s.calls n ≡ Some c) where
+  abbrev May_for : Item K V → Type 0
+  May_for item = May s.world (access_for n item)
+
+  may_item : (item : Item K V) (rest : List (Item K V)) → c.plan ≡ item ∷ rest → Stands s.world.desk n (item ∷ rest) → May_for item
+  may_item plan.Drain rest e k = none_is _ k.holds.0
+  may_item (plan.Post write) rest e k = k.holds.0
+  may_item plan.Turn rest e k = λ has. k.turns.has has
+  may_item plan.Apply rest e k = k.turns.applies k.turns.first
+  may_item plan.End rest e k = k.turns.applies k.turns.first
+  may_item (plan.Get aim key) rest e k = tt
+  may_item (plan.Judge aim key stored) rest e k = tt
+  may_item (plan.Own load) rest e k =
+      let alone : Fits (s.world.desk.owning n) (s.world.desk.joined n) (plan.Own load ∷ []) =
+      subst (λ v. Fits (s.world.desk.owning n) (s.world.desk.joined n) (plan.Own load ∷ v)) k.fits.last k.fits in
+      (owns_none (s.world.desk.owning n) alone.owning, alone.waiting)
+  may_item (plan.Read load) rest e k = k.fits.waiting
+  may_item (plan.Settle with) rest e k =
+      let ready = some_ready with rest (subst EndsWell e (well.asking.answering.calls n c live)) in
+      owns_some (s.world.desk.owning n) (weigh owners rest) (omega (arith, k.fits.owning)) with ready.0
+  may_item (plan.Ask load) rest e k =
+      let alone : AsksWhole s.world.desk n (plan.Ask load ∷ []) = subst (λ v. AsksWhole s.world.desk n (plan.Ask load ∷ v)) k.fits.last k.asks in
+      none_asked s.world.desk n (plan.Ask load ∷ []) alone.asked refl
+  may_item (plan.Told load) rest e k = either_asked s.world.desk n (ask_open s.world.desk n load rest k.asks)
+  may_item (plan.Moment key value) rest e k =
+      let free = is_unused eq s well.holding n c key value rest live e in
+      (none_is _ free.0, free.1)
+  may_item (plan.Write key value moment) rest e k = tt
+  may_item (plan.Reply answer) rest e k = tt
+
+  stands : Stands s.world.desk n c.plan
+  stands = record {
+    holds = subst (λ v. HoldsAs n (s.world.desk.holding n) (plan_left v)) live (well.holding.holds n);
+    fits = subst (λ v. Fits (s.world.desk.owning n) (s.world.desk.joined n) (plan_left v)) live (well.served.fits n);
+    asks = whole s well.asking n c live;
+    turns = subst (λ v. TurnFits s.world.desk.turn n (plan_left v)) live (well.turning.fits n);
+  }
+
+  by_plan : (mode : Mode) (plan : List (Item K V)) (aborts : ℕ) → c.plan ≡ plan → May s.world (access_of n (record { mode = mode; plan = plan; aborts = aborts }))
+  by_plan mode [] aborts e = tt
+  by_plan mode (item ∷ rest) aborts e = may_item item rest e (subst (Stands s.world.desk n) e stands)
+
+  pub may_step : May s.world (access_of n c)
+  may_step = by_plan c.mode c.plan c.aborts refl

@@ -1,0 +1,305 @@
+-- A sound desk stays sound, visit by visit.
+use Rattle.std.proofs.Common.{◌≡◌, ℕ, ◌+◌, ◌≤◌, ◌==◌, Bool, true, false, cond, List, [], ◌∷◌, ◌++◌, map, append-nil, Option, Some, None, is_some, refl, sym, ap, ◌∙◌, subst, arith}
+use Rattle.std.proofs.lemmas.Bool.{eqb-true, false≢true}
+use Rattle.std.specs.Cmp.{IsEquivalence}
+use Rattle.std.specs.Option.{option_map, option_map_or}
+use Rattle.moka_hist.specs.Finite.{load_eq, put_at, put_key, times}
+use Rattle.moka_hist.specs.State.{DeskPart}
+use Rattle.moka_hist.specs.Visits.{claimed, decided, has_room, makes, number_of, owners_without, posted, settlement_for, took_owed, without_moment}
+use Rattle.moka_hist.specs.Conditions.{held_number, numbers_of, HoldsWrite, IsPlaceOf, IsUnused}
+use Rattle.moka_hist.specs.SoundDesk.{SoundDesk}
+use Rattle.moka_hist.specs.Dropping.{left}
+use Rattle.moka_hist.specs.Telling.{told}
+use Rattle.moka_hist.specs.declared.loads.Load.{Load}
+use Rattle.moka_hist.specs.declared.visits.Visit.TheVariants as visit
+use Rattle.moka_hist.specs.declared.writes.Holding.{Holding}
+use Rattle.moka_hist.specs.declared.writes.Holding.TheVariants as holding
+use Rattle.moka_hist.specs.declared.writes.Write.{Write}
+use Rattle.moka_hist.proofs.Owners.{Owns, Owned, is_none_of, owns_more, owned_more, owns_fewer, owned_fewer}
+use Rattle.moka_laws.specs.Sound.{FreshIsSound, VisitsKeepSound, LeavingKeepsSound, DecidingKeepsSound, TellingKeepsSound, EnteringKeepsSound, ClockKeepsSound}
+use Rattle.moka_laws.proofs.Counting.{none_some, some_same, put_cases, same_number}
+use Rattle.moka_laws.proofs.Posts.{among, once}
+use Rattle.moka_laws.proofs.Balance.{times_first, among_last}
+use Rattle.moka_laws.proofs.Holding.{numbers_stand, place_number}
+use Rattle.moka_laws.proofs.Owning.{loads_self, loads_alike}
+
+-- ---- writes: what calls hold, and how often each number stands with the desk
+
+record Apart (held : ℕ → Option Holding) (stands : ℕ → ℕ) : Type 0 where
+  once : (x : ℕ) → stands x ≤ 1
+  held_apart : (n : ℕ) (h : Holding) → held n ≡ Some h → stands (held_number n h) ≡ 0
+  one_holder : (n m : ℕ) (g h : Holding) → held n ≡ Some g → held m ≡ Some h → held_number n g ≡ held_number m h → n ≡ m
+
+once_other : (x y : ℕ) → (x ≡ y → ⊥) → once x y ≡ 0
+once_other x y apart = by (x == y) refl
+  where
+    by : (b : Bool) → (x == y) ≡ b → cond {A = ℕ} b 1 0 ≡ 0
+    by true e = absurd (apart (eqb-true x y e))
+    by false e = refl
+
+once_same : (x : ℕ) → once x x ≡ 1
+once_same x = ap (λ b. cond {A = ℕ} b 1 0) (same_number x)
+
+module _ (held : ℕ → Option Holding) (stands after : ℕ → ℕ) (call : ℕ) where
+  -- a call holds nothing any more, and nothing else has changed
+  clears : Apart held stands → ((x : ℕ) → after x ≡ stands x) → Apart (put_at held call None) after
+  clears a same = record {
+    once = λ x. omega (arith, a.once x, same x);
+    held_apart = λ n h e. put_cases held call None n (Some h) (after (held_number n h) ≡ 0) e (λ here is. absurd (none_some is))
+        (λ there is. same (held_number n h) ∙ a.held_apart n h is);
+    one_holder = λ n m g h e f k. put_cases held call None n (Some g) (n ≡ m) e (λ here is. absurd (none_some is))
+        (λ there is. put_cases held call None m (Some h) (n ≡ m) f (λ here no. absurd (none_some no)) (λ there yes. a.one_holder n m g h is yes k));
+  }
+
+  -- a call gives the write that it held to the desk
+  gives : (x : Holding) → held call ≡ Some x → Apart held stands → ((y : ℕ) → after y ≡ stands y + once y (held_number call x)) →
+      Apart (put_at held call None) after
+  gives x holds a more = record {
+    once = λ y. by y (y == held_number call x) refl;
+    held_apart = λ n h e. put_cases held call None n (Some h) (after (held_number n h) ≡ 0) e (λ here is. absurd (none_some is))
+        (λ there is. omega (
+          arith,
+          more (held_number n h),
+          a.held_apart n h is,
+          once_other (held_number n h) (held_number call x)
+              (λ same. false≢true (sym there ∙ ap (λ v. call == v) (a.one_holder n call h x is holds same) ∙ same_number call)),
+        ));
+    one_holder = λ n m g h e f k. put_cases held call None n (Some g) (n ≡ m) e (λ here is. absurd (none_some is))
+        (λ there is. put_cases held call None m (Some h) (n ≡ m) f (λ here no. absurd (none_some no)) (λ there yes. a.one_holder n m g h is yes k));
+  }
+    where
+      by : (y : ℕ) (b : Bool) → (y == held_number call x) ≡ b → after y ≤ 1
+      by y true e =
+          let none : stands y ≡ 0 = ap stands (eqb-true y (held_number call x) e) ∙ a.held_apart call x holds in
+          let one : once y (held_number call x) ≡ 1 = ap (λ b. cond {A = ℕ} b 1 0) e in
+          omega (arith, more y)
+      by y false e =
+          let none : once y (held_number call x) ≡ 0 = ap (λ b. cond {A = ℕ} b 1 0) e in
+          omega (arith, more y, a.once y)
+
+  -- a call that held nothing holds this now; no other call holds its number, and what stands with the desk is fewer by what it took up
+  takes : (x : Holding) → held call ≡ None → Apart held stands → ((y : ℕ) → after y ≤ stands y) → after (held_number call x) ≡ 0 →
+      ((n : ℕ) (h : Holding) → held n ≡ Some h → held_number n h ≡ held_number call x → ⊥) → Apart (put_at held call (Some x)) after
+  takes x none a fewer gone alone = record {
+    once = λ y. omega (arith, fewer y, a.once y);
+    held_apart = λ n h e. put_cases held call (Some x) n (Some h) (after (held_number n h) ≡ 0) e
+        (λ here is. subst (λ v. after (held_number v h) ≡ 0) here (ap (λ v. after (held_number call v)) (sym (some_same is)) ∙ gone))
+        (λ there is. omega (arith, fewer (held_number n h), a.held_apart n h is));
+    one_holder = λ n m g h e f k. put_cases held call (Some x) n (Some g) (n ≡ m) e
+        (λ here is. put_cases held call (Some x) m (Some h) (n ≡ m) f (λ there no. sym here ∙ there)
+        (λ there no. absurd (alone m h no (sym k ∙ own n g here is))))
+        (λ there is. put_cases held call (Some x) m (Some h) (n ≡ m) f (λ here no. absurd (alone n g is (k ∙ own m h here no)))
+        (λ apart yes. a.one_holder n m g h is yes k));
+  }
+    where
+      own : (n : ℕ) (g : Holding) → call ≡ n → Some x ≡ Some g → held_number n g ≡ held_number call x
+      own n g here is = ap (λ v. held_number v g) (sym here) ∙ ap (held_number call) (sym (some_same is))
+
+  -- no moment is pending with what a call holds, and nothing else has changed
+  decides : Apart held stands → Apart (put_at held call (option_map without_moment (held call))) stands
+  decides a = by (held call) refl
+    where
+      number : (n : ℕ) (x : Holding) → held_number n (without_moment x) ≡ held_number n x
+      number n (holding.Own pending) = refl
+      number n (holding.TookUp write) = refl
+
+      by : (o : Option Holding) → held call ≡ o → Apart (put_at held call (option_map without_moment o)) stands
+      by None e = record {
+        once = a.once;
+        held_apart = λ n h f. put_cases held call None n (Some h) (stands (held_number n h) ≡ 0) f (λ here is. absurd (none_some is))
+            (λ there is. a.held_apart n h is);
+        one_holder = λ n m g h f k same. put_cases held call None n (Some g) (n ≡ m) f (λ here is. absurd (none_some is))
+            (λ there is. put_cases held call None m (Some h) (n ≡ m) k (λ here no. absurd (none_some no)) (λ there yes. a.one_holder n m g h is yes same));
+      }
+      by (Some x) e = record {
+        once = a.once;
+        held_apart = λ n h f. (was n h f).1.1 ∙ refl;
+        one_holder = λ n m g h f k same.
+            let p = was n g f in
+            let q = was m h k in
+            a.one_holder n m p.0 q.0 p.1.0 q.1.0 (p.1.2 ∙ same ∙ sym q.1.2);
+      }
+        where
+          -- what a call holds now it held before, with the same number
+          was : (n : ℕ) (h : Holding) → put_at held call (Some (without_moment x)) n ≡ Some h →
+              (g : Holding) × ((held n ≡ Some g) × (stands (held_number n h) ≡ 0) × (held_number n g ≡ held_number n h))
+          was n h f = put_cases held call (Some (without_moment x)) n (Some h)
+              ((g : Holding) × ((held n ≡ Some g) × (stands (held_number n h) ≡ 0) × (held_number n g ≡ held_number n h))) f
+              (λ here is.
+              let same : held_number n x ≡ held_number n h = sym (number n x) ∙ ap (held_number n) (some_same is) in
+              let holds : held n ≡ Some x = ap held (sym here) ∙ e in
+              (x, (holds, ap stands (sym same) ∙ a.held_apart n x holds, same)))
+              (λ there is. (h, (is, a.held_apart n h is, refl)))
+
+-- ---- of a desk
+
+-- equal loads have one owner, and what is owned and who owns are one to one
+record OneToOne {K : Type 0} (eq : K → K → Bool) (owners : Load K → Option ℕ) (owning : ℕ → Option (Load K)) : Type 0 where
+  one_owner : (a b : Load K) → load_eq eq a b ≡ true → owners a ≡ owners b
+  owns : Owns (load_eq eq) owners owning
+  owned : Owned owners owning
+
+module _ {K V : Type 0} where
+  -- how often a number stands with the desk
+  abbrev stands : DeskPart K V → ℕ → ℕ
+  stands w x = times x (numbers_of w)
+
+  module _ (eq : K → K → Bool) where
+    both : (w : DeskPart K V) → Apart w.holding (stands w) → OneToOne eq w.owners w.owning → SoundDesk eq w
+    both w a o = record {
+      once = a.once;
+      held_apart = a.held_apart;
+      one_holder = a.one_holder;
+      one_owner = o.one_owner;
+      owns = o.owns;
+      owned = o.owned;
+    }
+
+    apart_in : (w : DeskPart K V) → SoundDesk eq w → Apart w.holding (stands w)
+    apart_in w h = record { once = h.once; held_apart = h.held_apart; one_holder = h.one_holder }
+
+    loads_in : (w : DeskPart K V) → SoundDesk eq w → OneToOne eq w.owners w.owning
+    loads_in w h = record { one_owner = h.one_owner; owns = h.owns; owned = h.owned }
+
+    -- ---- loads
+
+    without_call : (w : DeskPart K V) (call : ℕ) → OneToOne eq w.owners w.owning → OneToOne eq (owners_without w call) (put_at w.owning call None)
+    without_call w call o = record {
+      one_owner = λ a b e. ap (λ v. cond (option_map_or (λ n. n == call) v false) None v) (o.one_owner a b e);
+      owns = owns_fewer (load_eq eq) w.owners w.owning call o.owns;
+      owned = owned_fewer (load_eq eq) w.owners w.owning call o.owned;
+    }
+
+    claims : IsEquivalence eq → (w : DeskPart K V) (call : ℕ) (load : Load K) → w.owning call ≡ None → w.owners load ≡ None → OneToOne eq w.owners w.owning →
+        OneToOne eq (put_key (load_eq eq) w.owners load (Some call)) (put_at w.owning call (Some load))
+    claims laws w call load idle free o = record {
+      one_owner = λ a b e. by a b (load_eq eq load a) (load_eq eq load b) (loads_alike eq laws load a b e) e;
+      owns = owns_more (load_eq eq) w.owners w.owning call load idle o.owns;
+      owned = owned_more (load_eq eq) w.owners w.owning call load (loads_self eq laws load) free (λ l e. o.one_owner load l e) o.owned;
+    }
+      where
+        by : (a b : Load K) (x y : Bool) → x ≡ y → load_eq eq a b ≡ true → cond x (Some call) (w.owners a) ≡ cond y (Some call) (w.owners b)
+        by a b true true h e = refl
+        by a b false false h e = o.one_owner a b e
+        by a b true false h e = absurd (false≢true (sym h))
+        by a b false true h e = absurd (false≢true h)
+
+    -- ---- each visit, in the order of their conditions
+
+    pub fresh_sound : FreshIsSound K V eq
+    fresh_sound size = record {
+      once = λ x. omega arith;
+      held_apart = λ n h e. absurd (none_some e);
+      one_holder = λ n m g h e f k. absurd (none_some e);
+      one_owner = λ a b e. refl;
+      owns = λ l n e. absurd (none_some e);
+      owned = λ l n e. absurd (none_some e);
+    }
+
+    took_sound : (w : DeskPart K V) (call : ℕ) → w.holding call ≡ None → SoundDesk eq w → SoundDesk eq (took_owed w call)
+    took_sound w call none h = by w.owed refl
+      where
+        by : (owed : List Write) → w.owed ≡ owed → SoundDesk eq (took_owed w call)
+        by [] e =
+            let same : SoundDesk eq (record w { owed = [] }) = subst (λ v. SoundDesk eq (record w { owed = v })) e h in
+            rw e same
+        by (x ∷ xs) e =
+            let less : (y : ℕ) → stands w y ≡ stands (record w { owed = xs }) y + once y (number_of x) = λ y. omega
+            (arith, numbers_stand y w, numbers_stand y (record w { owed = xs }), ap (among y) e, times_first y (number_of x) (map number_of xs)) in
+            rw e (both (record w { holding = put_at w.holding call (Some (holding.TookUp x)); owed = xs })
+            (takes w.holding (stands w) (stands (record w { owed = xs })) call (holding.TookUp x) none (apart_in w h) (λ y. omega (arith, less y))
+            (omega (arith, less (number_of x), h.once (number_of x), once_same (number_of x)))
+            (λ n g is same. omega (arith, ap (stands w) same, h.held_apart n g is, less (number_of x), once_same (number_of x))))
+            (loads_in w h))
+
+    stamped_sound : (w : DeskPart K V) (call : ℕ) → w.holding call ≡ None → IsUnused w call → SoundDesk eq w → SoundDesk eq (makes eq w (visit.StampMoment call))
+    stamped_sound w call none unused h =
+        both (makes eq w (visit.StampMoment call))
+        (takes w.holding (stands w) (stands w) call (holding.Own (Some w.clock)) none (apart_in w h) (λ y. omega arith) unused.stands (λ n g is same. unused.held n g is same))
+        (loads_in w h)
+
+    pub decided_sound : DecidingKeepsSound K V eq
+    decided_sound w call h = both (decided w call) (decides w.holding (stands w) (stands w) call (apart_in w h)) (loads_in w h)
+
+    -- the call hands in a write that it holds
+    given : (w v : DeskPart K V) (call : ℕ) (write : Write) (o : Option Holding) → w.holding call ≡ o → IsPlaceOf o call write → SoundDesk eq w →
+        ((y : ℕ) → stands v y ≡ stands w y + once y (number_of write)) → Apart (put_at w.holding call None) (stands v)
+    given w v call write None e place h more = absurd place
+    given w v call write (Some x) e place h more =
+        gives w.holding (stands w) (stands v) call x e (apart_in w h) (λ y. more y ∙ ap (λ k. stands w y + once y k) (sym (place_number x call write place)))
+
+    posted_sound : (w : DeskPart K V) (call : ℕ) (write : Write) → HoldsWrite w call write → SoundDesk eq w → SoundDesk eq (posted w call write)
+    posted_sound w call write holds h = by (has_room w) refl
+      where
+        by : (b : Bool) → has_room w ≡ b → SoundDesk eq (posted w call write)
+        by true e =
+            let v : DeskPart K V = record w { log = w.log ++ write ∷ [] } in
+            rw e (both (record v { holding = put_at w.holding call None })
+            (given w v call write (w.holding call) refl holds h
+            (λ y. omega (arith, numbers_stand y v, numbers_stand y w, among_last y write w.log))) (loads_in w h))
+        by false e = rw e (decided_sound w call h)
+
+    applied_sound : (w : DeskPart K V) (call : ℕ) → SoundDesk eq w → SoundDesk eq (makes eq w (visit.ApplyOne call))
+    applied_sound w call h = by w.log refl
+      where
+        by : (log : List Write) → w.log ≡ log → SoundDesk eq (makes eq w (visit.ApplyOne call))
+        by [] e =
+            let same : SoundDesk eq (record w { log = [] }) = subst (λ v. SoundDesk eq (record w { log = v })) e h in
+            rw (e, append-nil w.applied) same
+        by (x ∷ xs) e =
+            let v : DeskPart K V = record w { log = xs; applied = w.applied ++ x ∷ [] } in
+            let same : (y : ℕ) → stands v y ≡ stands w y = λ y. omega
+            (arith, numbers_stand y v, numbers_stand y w, ap (among y) e, times_first y (number_of x) (map number_of xs), among_last y x w.applied) in
+            rw e (both v (record {
+              once = λ y. omega (arith, same y, h.once y);
+              held_apart = λ n g is. same (held_number n g) ∙ h.held_apart n g is;
+              one_holder = h.one_holder;
+            }) (loads_in w h))
+
+    claimed_sound : IsEquivalence eq → (w : DeskPart K V) (call : ℕ) (load : Load K) → w.owning call ≡ None → (o : Option ℕ) → w.owners load ≡ o → SoundDesk eq w →
+        SoundDesk eq (claimed eq w call load o)
+    claimed_sound laws w call load idle None e h = both (claimed eq w call load None) (apart_in w h) (claims laws w call load idle e (loads_in w h))
+    claimed_sound laws w call load idle (Some owner) e h = both (claimed eq w call load (Some owner)) (apart_in w h) (loads_in w h)
+
+    read_sound : (w : DeskPart K V) (call : ℕ) → SoundDesk eq w → SoundDesk eq (makes eq w (visit.ReadSettled call))
+    read_sound w call h = by (is_some (settlement_for w call)) refl
+      where
+        by : (b : Bool) → is_some (settlement_for w call) ≡ b → SoundDesk eq (makes eq w (visit.ReadSettled call))
+        by true e = rw e (both _ (apart_in w h) (loads_in w h))
+        by false e = rw e h
+
+    pub left_sound : LeavingKeepsSound K V eq
+    left_sound w call None h may =
+        both (left w call None)
+        (clears w.holding (stands w) (stands (left w call None)) call (apart_in w h)
+        (λ y. ap (λ l. times y (numbers_of (record w { owed = l }))) (append-nil w.owed))) (without_call w call (loads_in w h))
+    left_sound w call (Some write) h may =
+        both (left w call (Some write))
+        (given w (left w call (Some write)) call write (w.holding call) refl may h
+        (λ y. omega (arith, numbers_stand y (left w call (Some write)), numbers_stand y w, among_last y write w.owed))) (without_call w call (loads_in w h))
+
+    pub told_sound : TellingKeepsSound K V eq
+    told_sound w call answer h = both (told w call answer) (apart_in w h) (loads_in w h)
+
+    pub entered_sound : EnteringKeepsSound K V eq
+    entered_sound w n h = both (record w { last = n }) (apart_in w h) (loads_in w h)
+
+    pub clock_sound : ClockKeepsSound K V eq
+    clock_sound w moment h = both (record w { clock = moment }) (apart_in w h) (loads_in w h)
+
+    pub visit_sound : IsEquivalence eq → VisitsKeepSound K V eq
+    visit_sound laws w (visit.Clock call) h may = h
+    visit_sound laws w (visit.TakeOwed call) h may = took_sound w call (is_none_of (w.holding call) may) h
+    visit_sound laws w (visit.StampMoment call) h may = stamped_sound w call (is_none_of (w.holding call) may.0) may.1 h
+    visit_sound laws w (visit.Judge key stored) h may = both (makes eq w (visit.Judge key stored)) (apart_in w h) (loads_in w h)
+    visit_sound laws w (visit.WaitOrOwn call key kind) h may =
+        let load : Load K = record { key = key; kind = kind } in
+        claimed_sound laws w call load (is_none_of (w.owning call) may.0) (w.owners load) refl h
+    visit_sound laws w (visit.ReadSettled call) h may = read_sound w call h
+    visit_sound laws w (visit.Settle call with) h may = both (makes eq w (visit.Settle call with)) (apart_in w h) (without_call w call (loads_in w h))
+    visit_sound laws w (visit.OpenAsk call takes) h may = both (makes eq w (visit.OpenAsk call takes)) (apart_in w h) (loads_in w h)
+    visit_sound laws w (visit.TakeTold call) h may = both (makes eq w (visit.TakeTold call)) (apart_in w h) (loads_in w h)
+    visit_sound laws w (visit.PostWrite call write) h may = posted_sound w call write may h
+    visit_sound laws w (visit.TakeTurn call) h may = both (makes eq w (visit.TakeTurn call)) (apart_in w h) (loads_in w h)
+    visit_sound laws w (visit.ApplyOne call) h may = applied_sound w call h
+    visit_sound laws w (visit.EndTurn call) h may = both (makes eq w (visit.EndTurn call)) (apart_in w h) (loads_in w h)

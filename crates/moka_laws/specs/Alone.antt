@@ -1,0 +1,26 @@
+-- What a call gives that is stepped with no step of others between.
+use Rattle.std.specs.Prelude.{◌≡◌, ℕ, ◌+◌, Bool, true, Some}
+use Rattle.moka_hist.specs.State.{State}
+use Rattle.moka_hist.specs.Step.{Step}
+use Rattle.moka_hist.specs.Run.{Goings, Any, IsReached, started, fresh_call}
+use Rattle.moka_hist.specs.declared.accesses.Turn.TheVariants as turn
+use Rattle.moka_hist.specs.declared.events.Start.TheVariants as start
+use Rattle.moka_hist.specs.declared.replies.Answer.{Answer}
+use Rattle.moka_hist.specs.declared.replies.Answer.TheVariants as answer
+
+-- The call makes steps, one after the other, by the last of which it answers.
+pub record AnswersAlone {K V : Type 0} (eq : K → K → Bool) (s : State K V) (n : ℕ) (a : Answer V) (t : State K V) : Type 0 where
+  pub going : ℕ
+  pub mid : State K V
+  pub goes : Goings eq Any going s n mid
+  pub last : Step eq mid n (turn.Answer a) t
+
+-- an insert, and then a get of an equal key, give the inserted value, where no other call makes a step
+-- between
+abbrev pub InsertThenGet : (K V : Type 0) → (K → K → Bool) → Type 0
+InsertThenGet K V eq =
+    (s t u : State K V) (n : ℕ) (key q : K) (value : V) (a : Answer V) →
+    IsReached eq s → s.calls n ≡ Some (fresh_call (start.Insert key value)) →
+    AnswersAlone eq s n answer.Done t →
+    eq key q ≡ true → AnswersAlone eq (started t (start.Get q)) (t.world.desk.last + 1) a u →
+    a ≡ answer.Found (Some value)

@@ -1,0 +1,41 @@
+-- What becomes of the write of a call that has answered.
+use Rattle.std.specs.Prelude.{◌≡◌, ◌⊎◌, ℕ, Bool, true, false, List, Contains}
+use Rattle.moka_hist.specs.State.{State}
+use Rattle.moka_hist.specs.Step.{Step}
+use Rattle.moka_hist.specs.Run.{Run, IsReached}
+use Rattle.moka_hist.specs.Places.{IsLawful, StandsAt}
+use Rattle.moka_hist.specs.declared.accesses.Turn.TheVariants as turn
+use Rattle.moka_hist.specs.declared.events.Event.{Event}
+use Rattle.moka_hist.specs.declared.replies.Answer.{Answer}
+use Rattle.moka_hist.specs.declared.replies.Answer.TheVariants as answer
+use Rattle.moka_hist.specs.declared.replies.Reply.{Reply}
+use Rattle.moka_hist.specs.declared.writes.Place.TheVariants as place
+
+-- the answer says that its call has stored a value: an insert's, and a load's whose own initializer
+-- gave the value
+abbrev pub says_stored : {V : Type 0} → Answer V → Bool
+says_stored answer.Done = true
+says_stored (answer.Loaded value fresh) = fresh
+says_stored _ = false
+
+-- the write of this number is in the log, or applied
+abbrev pub IsPosted : {K V : Type 0} → State K V → ℕ → Type 0
+IsPosted s n = StandsAt s place.Logged n ⊎ StandsAt s place.Applied n
+
+-- a call whose answer says that it has stored a value has committed its write
+abbrev pub StoredIsCommitted : (K V : Type 0) → (K → K → Bool) → Type 0
+StoredIsCommitted K V eq =
+    (s t : State K V) (n : ℕ) (a : Answer V) → IsReached eq s → Step eq s n (turn.Answer a) t →
+    says_stored a ≡ true → Contains t.world.table.committed n
+
+-- where a call answers that has committed a write, that is logged or applied
+abbrev pub AnsweredIsPosted : (K V : Type 0) → (K → K → Bool) → Type 0
+AnsweredIsPosted K V eq =
+    (s t : State K V) (n : ℕ) (a : Answer V) → IsReached eq s → Step eq s n (turn.Answer a) t →
+    Contains t.world.table.committed n → IsPosted t n
+
+-- a write that is logged or applied stays so
+abbrev pub PostedStays : (K V : Type 0) → (K → K → Bool) → Type 0
+PostedStays K V eq =
+    (s t : State K V) (es : List (Event K V)) (rs : List (Reply V)) (n : ℕ) →
+    IsReached eq s → Run eq (IsLawful eq) s es rs t → IsPosted s n → IsPosted t n

@@ -1,0 +1,57 @@
+-- Those that wait for an owner, and what is kept for them.
+use Rattle.std.specs.Prelude.{◌≡◌, ℕ, zero, suc, ◌+◌, ◌≤◌, Bool, false, cond, List, ◌∷◌, Some, IsSome}
+use Rattle.moka_hist.specs.State.{Call, State}
+use Rattle.moka_hist.specs.Plan.{Item}
+use Rattle.moka_hist.specs.Plan as plan
+use Rattle.moka_hist.specs.Step.{Step}
+use Rattle.moka_hist.specs.Places.{IsLawful}
+use Rattle.moka_hist.specs.Visits.{is_reader_of}
+use Rattle.moka_hist.specs.Run.{Run, IsReached}
+use Rattle.moka_hist.specs.declared.accesses.Turn.{Turn}
+use Rattle.moka_hist.specs.declared.accesses.Turn.TheVariants as turn
+use Rattle.moka_hist.specs.declared.events.Event.{Event}
+use Rattle.moka_hist.specs.declared.replies.Answer.TheVariants as answer
+use Rattle.moka_hist.specs.declared.replies.Reply.{Reply}
+use Rattle.moka_hist.specs.declared.visits.Settled.TheVariants as settled
+
+-- how many of the numbers up to the last pass the test
+abbrev pub how_many : ℕ → (ℕ → Bool) → ℕ
+how_many zero test = cond (test 0) 1 0
+how_many (suc k) test = how_many k test + cond (test (suc k)) 1 0
+
+-- `readers` counts the calls that wait for the owner, each of which is live and has a number that was
+-- given out.
+pub record AreCounted {K V : Type 0} (s : State K V) (owner : ℕ) : Type 0 where
+  pub count :
+      s.world.desk.readers owner
+      ≡ how_many s.world.desk.last (λ n. is_reader_of s.world.desk n owner)
+  pub live : (n : ℕ) → s.world.desk.joined n ≡ Some owner → IsSome (s.calls n)
+  pub numbered : (n : ℕ) → s.world.desk.joined n ≡ Some owner → n ≤ s.world.desk.last
+
+-- in every reached state `readers` counts exactly those that wait
+abbrev pub ReadersAreCounted : (K V : Type 0) → (K → K → Bool) → Type 0
+ReadersAreCounted K V eq = (s : State K V) (owner : ℕ) → IsReached eq s → AreCounted s owner
+
+-- in every reached state how an owner ended is kept only where a call has still to read it
+abbrev pub NothingUnreadIsKept : (K V : Type 0) → (K → K → Bool) → Type 0
+NothingUnreadIsKept K V eq =
+    (s : State K V) (owner : ℕ) → IsReached eq s → IsSome (s.world.desk.settled owner) →
+    (n : ℕ) × (s.world.desk.joined n ≡ Some owner)
+
+-- the step by which a live call ends its load with this value
+pub record Settles {K V : Type 0} (eq : K → K → Bool) (s : State K V) (owner : ℕ) (value : V) (t : State K V) : Type 0 where
+  pub call : Call K V
+  pub rest : List (Item K V)
+  pub live : s.calls owner ≡ Some call
+  pub settling : call.plan ≡ plan.Settle (settled.Ready value) ∷ rest
+  pub turn : Turn V
+  pub step : Step eq s owner turn t
+
+-- a call that waits for an owner as that ends its load with a value answers that value with its next
+-- step, whatever other calls do before
+abbrev pub WaitersAnswerSettled : (K V : Type 0) → (K → K → Bool) → Type 0
+WaitersAnswerSettled K V eq =
+    (s t u v : State K V) (es : List (Event K V)) (rs : List (Reply V)) (owner n : ℕ) (value : V) (reply : Turn V) →
+    IsReached eq s → s.world.desk.joined n ≡ Some owner → Settles eq s owner value t →
+    Run eq (IsLawful eq) t es rs u → u.world.desk.joined n ≡ Some owner →
+    Step eq u n reply v → reply ≡ turn.Answer (answer.Loaded value false)

@@ -1,0 +1,51 @@
+-- The desk stays sound.
+use Rattle.std.specs.Prelude.{ℕ, Bool, Option}
+use Rattle.moka_hist.specs.State.{DeskPart, State, fresh_desk}
+use Rattle.moka_hist.specs.Visits.{decided, makes}
+use Rattle.moka_hist.specs.Conditions.{MayLeave, MayVisit}
+use Rattle.moka_hist.specs.SoundDesk.{SoundDesk}
+use Rattle.moka_hist.specs.Dropping.{left}
+use Rattle.moka_hist.specs.Telling.{told}
+use Rattle.moka_hist.specs.Run.{IsReached}
+use Rattle.moka_hist.specs.declared.events.Told.{Told}
+use Rattle.moka_hist.specs.declared.visits.Visit.{Visit}
+use Rattle.moka_hist.specs.declared.writes.Write.{Write}
+
+-- a desk where nothing has happened is sound
+abbrev pub FreshIsSound : (K V : Type 0) → (K → K → Bool) → Type 0
+FreshIsSound K V eq = (size : ℕ) → SoundDesk eq (fresh_desk K V size)
+
+-- each visit that a sound desk allows leaves it sound
+abbrev pub VisitsKeepSound : (K V : Type 0) → (K → K → Bool) → Type 0
+VisitsKeepSound K V eq =
+    (w : DeskPart K V) (made : Visit K V) → SoundDesk eq w → MayVisit w made →
+    SoundDesk eq (makes eq w made)
+
+-- so does a call that leaves, with no write but one that it holds
+abbrev pub LeavingKeepsSound : (K V : Type 0) → (K → K → Bool) → Type 0
+LeavingKeepsSound K V eq =
+    (w : DeskPart K V) (call : ℕ) (held : Option Write) → SoundDesk eq w → MayLeave w call held →
+    SoundDesk eq (left w call held)
+
+-- so does a write that is decided, an answer that is told, a number that is given out, and a clock
+-- that moves on
+abbrev pub DecidingKeepsSound : (K V : Type 0) → (K → K → Bool) → Type 0
+DecidingKeepsSound K V eq =
+    (w : DeskPart K V) (call : ℕ) → SoundDesk eq w → SoundDesk eq (decided w call)
+
+abbrev pub TellingKeepsSound : (K V : Type 0) → (K → K → Bool) → Type 0
+TellingKeepsSound K V eq =
+    (w : DeskPart K V) (call : ℕ) (given : Told V) → SoundDesk eq w →
+    SoundDesk eq (told w call given)
+
+abbrev pub EnteringKeepsSound : (K V : Type 0) → (K → K → Bool) → Type 0
+EnteringKeepsSound K V eq =
+    (w : DeskPart K V) (n : ℕ) → SoundDesk eq w → SoundDesk eq (record w { last = n })
+
+abbrev pub ClockKeepsSound : (K V : Type 0) → (K → K → Bool) → Type 0
+ClockKeepsSound K V eq =
+    (w : DeskPart K V) (moment : ℕ) → SoundDesk eq w → SoundDesk eq (record w { clock = moment })
+
+-- in every reached state the desk is sound
+abbrev pub ReachedIsSound : (K V : Type 0) → (K → K → Bool) → Type 0
+ReachedIsSound K V eq = (s : State K V) → IsReached eq s → SoundDesk eq s.world.desk

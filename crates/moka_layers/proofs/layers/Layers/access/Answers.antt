@@ -1,0 +1,40 @@
+-- Each way of an access makes the one that is wanted.
+use Rattle.std.proofs.Common.{subst}
+use Rattle.std.proofs.lemmas.Result.{IfOk-weaker}
+use Rattle.moka_hist.specs.Step.{Access}
+use Rattle.moka_init.specs.Grounds.{Accesses}
+use Rattle.moka_layers.specs.Layers.{Serves, account_of, operation_in}
+use Rattle.moka_layers.proofs.Wanted.{wanted_begin, wanted_table, wanted_visit}
+use Rattle.moka_layers.proofs.layers.Layers.access.Goals as goal
+
+pub returns-in-Begin-clause-serves : goal.returns-in-Begin-clause-serves
+returns-in-Begin-clause-serves g c =
+    let t = g.T.Table in
+    IfOk-weaker c.begin.result _ _ (λ given serves access is.
+    subst (λ (a : Access g.row.K.Denot g.row.V.Denot). Serves g.K.PartialEq.eq t c.args.self.now a given c.begin.new.self)
+    (wanted_begin (operation_in t c.args.self.now.begun) c.args.want access c.in-Begin.operation c.in-Begin.is is) serves)
+    c.begin.ensures.serves
+
+pub returns-in-Table-clause-serves : goal.returns-in-Table-clause-serves
+returns-in-Table-clause-serves g c =
+    let t = g.T.Table in
+    IfOk-weaker c.resume.result _ _ (λ given serves access is.
+    let o = wanted_table (operation_in t c.args.self.now.begun) c.args.want access c.in-Table.is is in
+    subst (λ (a : Access g.row.K.Denot g.row.V.Denot). Serves g.K.PartialEq.eq t c.args.self.now a given c.resume.new.self) o.2 (serves o.0 o.1))
+    c.resume.ensures.serves
+
+pub returns-in-Table-clause-tells : goal.returns-in-Table-clause-tells
+returns-in-Table-clause-tells g c =
+    let t = g.T.Table in
+    IfOk-weaker c.resume.result _ _ (λ given tells access is.
+    let o = wanted_table (operation_in t c.args.self.now.begun) c.args.want access c.in-Table.is is in
+    subst (λ (a : Access g.row.K.Denot g.row.V.Denot). Accesses (account_of t c.args.self.now) a given (account_of t c.resume.new.self)) o.2 (tells o.0 o.1))
+    c.resume.ensures.tells
+
+pub returns-in-Desk-clause-serves : goal.returns-in-Desk-clause-serves
+returns-in-Desk-clause-serves g c =
+    let t = g.T.Table in
+    IfOk-weaker c.visit.result _ _ (λ given serves access is.
+    subst (λ (a : Access g.row.K.Denot g.row.V.Denot). Serves g.K.PartialEq.eq t c.args.self.now a given c.visit.new.self)
+    (wanted_visit (operation_in t c.args.self.now.begun) c.args.want access c.in-Desk.visit c.in-Desk.is is) serves)
+    c.visit.ensures.serves

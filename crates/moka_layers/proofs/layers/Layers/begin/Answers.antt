@@ -1,0 +1,16 @@
+-- The operation begins on layers where none was begun.
+use Rattle.std.proofs.lemmas.Result.{IfOk-weaker}
+use Rattle.std.proofs.Common.{◌≡◌, Some}
+use Rattle.moka_layers.specs.Layers.{Serves, account_of}
+use Rattle.moka_layers.proofs.Wanted.{begins, begin_tells}
+use Rattle.moka_layers.proofs.layers.Layers.begin.Goals as goal
+
+pub returns-in-Ok-clause-serves : goal.returns-in-Ok-clause-serves
+returns-in-Ok-clause-serves g c = λ w h may.
+    c.in-Ok.ensures.serves c.args.operation c.begin-call.ensures.operation w
+    (begins g.T.Table g.K.PartialEq.eq c.args.self.now c.begin-call.result c.args.operation w c.requires.none c.begin-call.ensures.operation c.begin-call.ensures.fits c.begin-call.ensures.left h) may
+
+pub returns-in-Ok-clause-tells : goal.returns-in-Ok-clause-tells
+returns-in-Ok-clause-tells g c =
+    begin_tells g.T.Table g.K.PartialEq.eq c.args.self.now c.begin-call.result c.args.operation c.in-Ok.given c.go_on.new.self c.requires.none c.begin-call.ensures.left
+    (c.in-Ok.ensures.tells c.args.operation c.begin-call.ensures.operation)

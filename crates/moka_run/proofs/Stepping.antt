@@ -1,0 +1,37 @@
+-- The machine after accesses of the call that was taken out.
+use Rattle.std.proofs.Common.{◌≡◌, ◌≢◌, ℕ, Bool, Option, sym, subst, ◌∙◌}
+use Rattle.std.specs.declared.cmp.PartialEq as PartialEq
+use Rattle.std.specs.declared.hash.Hash as Hash
+use Rattle.std.specs.Option.{option_map}
+use Rattle.moka_hist.specs.State.{Call, World}
+use Rattle.moka_init.specs.declared.flow.Flow.{Flow}
+use Rattle.moka_init.specs.FlowPlan.{IsLive}
+use Rattle.moka_init.specs.Grounds.{Account, IsOn}
+use Rattle.moka_layers.specs.Layers.{account_of}
+use Rattle.moka_run.specs.Calls.{running_at}
+use Rattle.moka_run.specs.Machine.{IsOut, Reaches, Without, call_in}
+use Rattle.moka_run.specs.TheTable.{the_table}
+use Rattle.moka_run.specs.declared.calls.Calls.{Calls}
+use Rattle.moka_run.specs.declared.machine.Machine.{Machine}
+
+module _ {K V : Type 0} {same : PartialEq.Ghosts K} {hash : Hash.Ghosts K} (eq : K → K → Bool) where
+  -- the other calls are as they were
+  pub still_without : (old new : Machine K V same hash) (n : ℕ) (before after : Flow K V) (others : ℕ → Option (Call K V)) (w mid : World K V)
+      → IsOn (account_of (the_table eq) old.layers) before → IsOn (account_of (the_table eq) new.layers) after → after.call ≡ before.call
+      → new.calls ≡ old.calls → Reaches eq new mid → Without eq old n others w → Without eq new n others mid
+  still_without old new n before after others w mid was is number calls reaches h =
+      record {
+        reaches = reaches;
+        number = is.call ∙ number ∙ sym was.call ∙ h.number;
+        calls = subst (λ (m : Calls K V). (k : ℕ) → n ≢ k → option_map call_in (running_at m k) ≡ others k) (sym calls) h.calls;
+      }
+
+  -- the flow is as it was
+  pub still_out : (old new : Machine K V same hash) (before after : Flow K V) → after ≡ before
+      → account_of (the_table eq) new.layers ≡ account_of (the_table eq) old.layers → IsOut eq old before → IsOut eq new after
+  still_out old new before after is account out =
+      record {
+        on = subst (λ (f : Flow K V). IsOn (account_of (the_table eq) new.layers) f) (sym is)
+            (subst (λ (a : Account K V). IsOn a before) (sym account) out.on);
+        live = subst (λ (f : Flow K V). IsLive f) (sym is) out.live;
+      }

@@ -1,0 +1,64 @@
+//! The machine as the ground of the call that was taken out.
+ghost use Rattle.std.specs.Prelude.{◌≡◌, IfOk, OnErr};
+ghost use Rattle.std.proofs.Common.{refl, ◌∙◌};
+ghost use Rattle.moka_hist.specs.Finite.{IsExact};
+ghost use Rattle.moka_layers.specs.Counted.{counted};
+
+use crate::machine::Machine;
+use moka_hist::{Got, Want};
+use moka_init::{Alone, Ground};
+use std::alloc::AllocError;
+use std::hash::Hash;
+
+impl<K: Eq + Hash + Clone + Drop, V: Clone + Drop> Ground<K, V> for Machine<K, V> {
+    ghost use Rattle.moka_hist.specs.State.{World};
+    ghost use Rattle.moka_init.specs.Grounds.{Accesses, Gives, NeedsMemory, OfWanted};
+    ghost use Rattle.moka_layers.specs.Layers.{account_of};
+    ghost use Rattle.moka_run.specs.Machine.{Reaches, Allows};
+    ghost use Rattle.moka_run.specs.TheTable.{the_table};
+
+    ghost stands = { λ m w. Reaches K.eq m w };
+
+    ghost fits = { λ m want. Allows K.eq m want };
+
+    ghost account = { λ m. account_of (the_table K.eq) m.layers };
+
+    ghost needs = { NeedsMemory };
+
+    ghost keeps = { λ old new. new.calls ≡ old.calls };
+
+    ghost allows = { λ m w want stands may. (w, stands, may) };
+
+    ghost keeps_same = { λ m. refl };
+
+    ghost keeps_on = { λ a b c before after. after ∙ before };
+
+    ghost counts = { λ m w stands. counted (the_table K.eq) K.eq m.layers w stands.layers };
+
+    fn access(&mut self, want: Want<K, V>) -> Result<Got<K, V>, AllocError>
+        requires keys { IsExact K.is_clone }
+        requires values { IsExact V.is_clone }
+        requires fits { Allows K.eq self.old want }
+        // What it gives, and what is told then.
+        ensures gives { IfOk result (λ given.
+            OfWanted (account_of (the_table K.eq) self.old.layers) want
+            (λ access. Gives K.eq self.old.layers.call (Reaches K.eq self.old) access given
+            (Reaches K.eq self.new))) }
+        ensures tells { IfOk result (λ given.
+            OfWanted (account_of (the_table K.eq) self.old.layers) want
+            (λ access. Accesses (account_of (the_table K.eq) self.old.layers) access given
+            (account_of (the_table K.eq) self.new.layers))) }
+        ensures keeps { self.new.calls ≡ self.old.calls }
+        // Without memory.
+        ensures err { OnErr result (account_of (the_table K.eq) self.new.layers
+            ≡ account_of (the_table K.eq) self.old.layers) }
+        ensures err_stands { OnErr result ((w : World K V) → Reaches K.eq self.old w
+            → Reaches K.eq self.new w) }
+        ensures err_needs { OnErr result
+            (OfWanted (account_of (the_table K.eq) self.old.layers) want NeedsMemory) }
+    {
+        self.layers.access(want)
+    }
+}
+
+impl<K: Eq + Hash + Clone + Drop, V: Clone + Drop> Alone<K, V> for Machine<K, V> {}

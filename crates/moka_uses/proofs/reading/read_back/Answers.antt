@@ -1,0 +1,18 @@
+-- Two runs, the second of a copy of the key, which is the key.
+use Rattle.std.proofs.Common.{◌∙◌, ap, sym}
+use Rattle.std.proofs.lemmas.Result.{IfOk-weaker}
+use Rattle.moka_uses.specs.ReadBack.{IsReadBack, looking}
+use Rattle.moka_uses.proofs.TwoRuns.{read_back_of}
+use Rattle.moka_uses.proofs.reading.read_back.Goals as goal
+
+pub returns : goal.returns
+returns g c =
+    let eq = g.K.PartialEq.eq in
+    let same = c.requires.keys c.args.key c.in_ok-clone.field-0 c.in_ok-clone.ensures.cases in
+    let looks = c.deref-2.ensures.value ∙ c.in_ok-looks.ensures ∙ ap looking same in
+    IfOk-weaker c.found.result _ (λ found. IsReadBack eq c.args.key c.args.value found)
+    (λ found is. read_back_of eq c.in_ok-cache.cache c.run_all.new.cache c.run_all-2.new.cache c.args.key c.args.value c.deref.result.now
+    c.deref-2.result.now c.in_ok-run_all.field-0.replies c.in_ok-report.report.replies is.0 is.1 found
+    c.reached_by_lawful_run.ensures.reached c.in_ok-cache.ensures.fresh (c.deref.ensures.value ∙ c.in_ok-stores.ensures)
+    c.in_ok-run_all.ensures.run looks c.in_ok-report.ensures.run (sym c.as_slice.ensures ∙ is.2) is.3)
+    c.found.ensures

@@ -1,0 +1,15 @@
+//! Callers of the cache: which types can be its keys and values, and runs on a cache of such types,
+//! each proved as a user's own caller would be.
+#![tactic(auto)]
+
+mod callers;
+mod reading;
+mod shared;
+#[cfg(test)]
+mod tests;
+mod types;
+
+pub use callers::{read_back_shared, read_back_text};
+pub use reading::read_back;
+pub use shared::Shared;
+pub use types::{Page, Request, is_taken, taken_types};

@@ -1,0 +1,96 @@
+//! A caller for any keys and values that the cache takes.
+ghost use Rattle.std.specs.Prelude.{◌≡◌, ◌∷◌, [], ℕ, IfOk, length};
+ghost use Rattle.moka_hist.specs.Finite.{IsExact};
+ghost use Rattle.moka_hist.specs.State.{State};
+ghost use Rattle.moka_hist.specs.Run.{IsReached};
+ghost use Rattle.moka_hist.specs.declared.replies.Reply.{Reply};
+ghost use Rattle.moka_run.specs.Machine.{StandsFor, IsValid};
+ghost use Rattle.moka_run.specs.Running.{Answers};
+ghost use Rattle.moka_uses.specs.ReadBack.{IsReadBack, found_in, looking, storing};
+
+use moka_hist::{Answer, Event, Reply, Start};
+use moka_run::{Machine, Report, run};
+use std::alloc::{AllocError, Global};
+use std::hash::Hash;
+
+/// How many writes the cache's log has room for.
+const LOG: usize = 8;
+
+/// Runs the events, and tells want of memory alone.
+fn run_all<K: Eq + Hash + Clone + Drop, V: Clone + Drop>(
+    alloc: Global,
+    cache: &mut Machine<K, V>,
+    events: &[Event<K, V>],
+) -> Result<Report<K, V>, AllocError>
+    requires keys { IsExact K.is_clone }
+    requires values { IsExact V.is_clone }
+    requires valid { IsValid K.eq cache.old }
+    ensures run { IfOk result (λ report. (s : State K V) → StandsFor K.eq cache.old s
+        → IsReached K.eq s → Answers K.eq events.now report.replies cache.new s) }
+    ensures answered { IfOk result (λ report. length report.replies ≡ length events.now) }
+    ensures valid { IsValid K.eq cache.new }
+{
+    match run(alloc, cache, events) {
+        Ok(report) => Ok(report),
+        Err(_) => Err(AllocError),
+    }
+}
+
+/// A copy of the value that the last of two replies found.
+fn found<V: Clone>(replies: &[Reply<V>]) -> Result<Option<V>, AllocError>
+    requires exact { IsExact V.is_clone }
+    requires two { length replies.now ≡ 2 }
+    ensures { IfOk result (λ found. (call : Reply V) × (last : Reply V)
+        × (replies.now ≡ call ∷ last ∷ []) × (found ≡ found_in last)) }
+{
+    match replies {
+        [_, Reply::Answer(Answer::Found(Some(value)))] => Ok(Some(value.clone()?)),
+        _ => Ok(None),
+    }
+}
+
+/// The events that store the value under the key, by call 1.
+fn storing<K: Drop, V: Drop>(
+    alloc: Global,
+    key: K,
+    value: V,
+) -> Result<Vec<Event<K, V>>, AllocError>
+    ensures { IfOk result (λ events. events.items ≡ storing key value) }
+{
+    let start = Start::Insert { key, value };
+    let mut events = Vec::new(alloc);
+    events.push(Event::Start { start })?;
+    events.push(Event::Poll { call: 1 })?;
+    Ok(events)
+}
+
+/// The events that look the key up, by call 2.
+fn looking<K: Drop, V: Drop>(alloc: Global, key: K) -> Result<Vec<Event<K, V>>, AllocError>
+    ensures { IfOk result (λ events. events.items ≡ looking key) }
+{
+    let start = Start::Get { key };
+    let mut events = Vec::new(alloc);
+    events.push(Event::Start { start })?;
+    events.push(Event::Poll { call: 2 })?;
+    Ok(events)
+}
+
+/// Builds a cache, stores the value under the key in one run, and in a second looks the key up.
+/// Answers what that found.
+pub fn read_back<K: Eq + Hash + Clone + Drop, V: Clone + Drop>(
+    alloc: Global,
+    key: K,
+    value: V,
+) -> Result<Option<V>, AllocError>
+    requires keys { IsExact K.is_clone }
+    requires values { IsExact V.is_clone }
+    ensures { IfOk result (λ found. IsReadBack K.eq key value found) }
+{
+    moka_laws::reached_by_lawful_run::<K, V>();
+    let looks = looking(alloc, key.clone()?)?;
+    let stores = storing(alloc, key, value)?;
+    let mut cache = Machine::build(alloc, LOG)?;
+    run_all(alloc, &mut cache, &stores)?;
+    let report = run_all(alloc, &mut cache, &looks)?;
+    found(report.replies.as_slice())
+}
