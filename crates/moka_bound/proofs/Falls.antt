@@ -1,18 +1,23 @@
 -- Each step that leaves a call going lowers how many it may still make.
-use Rattle.std.proofs.Common.{◌≡◌, ◌≢◌, ℕ, suc, ◌+◌, ◌<◌, ◌≤◌, ◌==◌, nat_lt, Bool, true, false, cond, List, [], ◌∷◌, ◌++◌, length, drop, Option, Some, None, is_some, unwrap_or, refl, sym, ap, ◌∙◌, subst, arith}
+use Rattle.std.proofs.Common.{◌≡◌, ◌≢◌, ℕ, suc, ◌+◌, ◌<◌, ◌≤◌, ◌==◌, nat_lt, not, Bool, true, false, cond, List, [], ◌∷◌, ◌++◌, length, drop, Option, Some, None, is_some, unwrap_or, refl, sym, ap, ◌∙◌, subst, arith}
 use Rattle.std.proofs.lemmas.List.{length-append}
 use Rattle.std.proofs.lemmas.Bool.Decides.{nat_tests}
 use Rattle.moka_hist.specs.State.{Call, DeskPart, World}
-use Rattle.moka_hist.specs.Plan.{Item, Aim, look, loaded}
+use Rattle.moka_hist.specs.Plan.{Item, Aim, look, loaded, under_lock}
 use Rattle.moka_hist.specs.Plan as plan
 use Rattle.moka_hist.specs.Next.{Next, goes, stays, waits, asks, answers}
-use Rattle.moka_hist.specs.Visits.{claimed, settlement_for, is_free_for, finds, claim_of, has_room}
-use Rattle.moka_hist.specs.Posting.{after_drain, after_post, after_turn, after_apply}
+use Rattle.moka_hist.specs.Visits.{claimed, is_running, is_unlocked_for, locked_by, settlement_for, is_free_for, finds, claim_of, has_room}
+use Rattle.moka_hist.specs.Posting.{once_ended, after_drain, after_post, after_turn, after_apply}
 use Rattle.moka_hist.specs.Looking.{hits, misses, after_get}
 use Rattle.moka_hist.specs.Loading.{retries, after_own, after_read, after_told}
-use Rattle.moka_hist.specs.Writing.{old_stamp}
+use Rattle.moka_hist.specs.Writing.{old_stamp, once_told}
+use Rattle.moka_hist.specs.Listening.{after_lock, after_hearing, after_notice}
 use Rattle.moka_hist.specs.Step.{Gets, access_of, access_for, next_of, after_table, after_visit, going_as}
 use Rattle.moka_hist.specs.declared.records.Mode.{Mode}
+use Rattle.moka_hist.specs.declared.records.Stored.{Stored}
+use Rattle.moka_hist.specs.declared.rules.Cause.{Cause}
+use Rattle.moka_hist.specs.declared.rules.Rules.{Rules}
+use Rattle.moka_hist.specs.declared.writes.Owed.{Owed}
 use Rattle.moka_hist.specs.declared.records.Mode.TheVariants as mode
 use Rattle.moka_hist.specs.declared.loads.Load.{Load}
 use Rattle.moka_hist.specs.declared.events.Told.{Told}
@@ -104,12 +109,17 @@ module _ {K V : Type 0} where
         let e = eased old new c.aborts false rest s.eases (post_worst (room_in new)) in
         falls_goes new _ c rest (omega (arith, e, s.logged))
 
-    takes_up : (x : Write) (rest : List (Item K V)) → Eases old new → new.logged ≡ old.logged → new.owed + 1 ≡ old.owed →
-        Falls new (bound_of (plan.Drain ∷ rest)) (goes c (plan.Post x ∷ plan.Drain ∷ rest))
+    takes_up : (x : Owed) (rest : List (Item K V)) → Eases old new → new.logged ≡ old.logged → new.owed + 1 ≡ old.owed →
+        Falls new (bound_of (plan.Drain ∷ rest)) (goes c (once_ended x.notice (plan.Post x.write ∷ plan.Drain ∷ rest)))
     takes_up x rest e l o =
         let h = more rest new.owed old.owed new.most old.most c.aborts new.most old.most false false e.owed e.most e.most (post_worst false) in
-        let r = post_worst (room_in new) in
-        falls_goes new _ c (plan.Post x ∷ plan.Drain ∷ rest) (omega (arith, h, r, l, o))
+        by x.notice h (post_worst (room_in new))
+      where
+        by : (notice : Option ℕ) → steps_of new.owed new.most c.aborts false new.most rest ≤ steps_of old.owed old.most c.aborts false old.most rest →
+            post_steps (room_in new) ≤ post_steps false →
+            Falls new (bound_of (plan.Drain ∷ rest)) (goes c (once_ended notice (plan.Post x.write ∷ plan.Drain ∷ rest)))
+        by None h r = falls_goes new _ c (plan.Post x.write ∷ plan.Drain ∷ rest) (omega (arith, h, r, l, o))
+        by (Some notice) h r = falls_goes new _ c (plan.Ended notice ∷ plan.Post x.write ∷ plan.Drain ∷ rest) (omega (arith, h, r, l, o))
 
     posts : (x : Write) (rest : List (Item K V)) → Eases old new → new.logged ≡ old.logged + 1 → room_in old ≡ true →
         Falls new (bound_of (plan.Post x ∷ rest)) (goes c rest)
@@ -138,10 +148,27 @@ module _ {K V : Type 0} where
     ends : (rest : List (Item K V)) → Same old new → Falls new (bound_of (plan.End ∷ rest)) (goes c rest)
     ends rest s = same_falls old new _ c rest s (omega arith)
 
-    settles : (with : Settled V) (rest : List (Item K V)) → Same old new → Falls new (bound_of (plan.Settle with ∷ rest)) (goes c rest)
-    settles with rest s =
+    -- a step of its own, after which the rest follows
+    passes : (rest : List (Item K V)) → Same old new →
+        Falls new (old.logged + (1 + steps_of old.owed old.most c.aborts false old.most rest)) (goes c rest)
+    passes rest s =
         let e = eased old new c.aborts false rest s.eases (post_worst (room_in new)) in
         falls_goes new _ c rest (omega (arith, e, s.logged))
+
+    locks : (key : K) (rest : List (Item K V)) (b : Bool) → Same old new → Falls new (bound_of (plan.Lock key ∷ rest)) (after_lock c rest (found.LockKey b))
+    locks key rest true s = passes rest s
+    locks key rest false s = never new _ (waits c) (λ e. cc)
+
+    hears : (rest : List (Item K V)) (b : Bool) → Same old new →
+        Falls new (old.logged + (1 + steps_of old.owed old.most c.aborts false old.most rest)) (after_hearing c rest (found.NoticeEnded b))
+    hears rest true s = passes rest s
+    hears rest false s = never new _ (waits c) (λ e. cc)
+
+    -- the listener is asked, or it is off
+    tells : (key : K) (stored : Stored V) (rest : List (Item K V)) (cause : Cause) (off : Bool) → Same old new →
+        Falls new (bound_of (plan.Notice key stored ∷ rest)) (after_notice c key stored rest (found.OpenNotice (cond off None (Some cause))))
+    tells key stored rest cause true s = passes rest s
+    tells key stored rest cause false s = never new _ (asks c (ask.Listener key stored.value cause) (plan.Heard ∷ rest)) (λ e. cc)
 
     stamps : (key : K) (value : V) (moment : ℕ) (rest : List (Item K V)) → Same old new →
         Falls new (bound_of (plan.Moment key value ∷ rest)) (goes c (plan.Write key value moment ∷ rest))
@@ -175,7 +202,14 @@ module _ {K V : Type 0} where
     is_told : (load : Load K) (given : Option (Told V)) → Same old new → Falls new (bound_of (plan.Told load ∷ [])) (after_told c load (found.TakeTold given))
     is_told load None s = never new _ (waits c) (λ e. cc)
     is_told load (Some told.Done) s = never new _ (waits c) (λ e. cc)
-    is_told load (Some (told.Value value)) s = same_falls old new _ c (loaded load value) s (omega arith)
+    is_told load (Some told.Off) s = never new _ (waits c) (λ e. cc)
+    is_told load (Some (told.Value value)) s = same_falls old new _ c (loaded c.rules load value) s (by c.rules.listener)
+      where
+        by : (listener : Bool) → old.logged + steps_of old.owed old.most c.aborts (room_in old) old.most
+            (plan.Drain ∷ under_lock listener load.key (plan.Moment load.key value ∷ plan.Settle (settled.Ready value) ∷ plan.Reply (answer.Loaded value true) ∷ [])) <
+            bound_of (plan.Told load ∷ [])
+        by true = omega arith
+        by false = omega arith
 
     -- an operation that stays undecided
     stays_on : Eases old new → new.logged ≡ old.logged → new.left < old.left → (aim : Aim K) (key : K) (rest : List (Item K V)) → c.plan ≡ plan.Get aim key ∷ rest → Falls new (bound_of (plan.Get aim key ∷ rest)) (stays c)
@@ -200,6 +234,10 @@ module _ {K V : Type 0} where
   claimed_lists eq w n load None = record { owed = refl; log = refl; size = refl }
   claimed_lists eq w n load (Some owner) = record { owed = refl; log = refl; size = refl }
 
+  locked_lists : (eq : K → K → Bool) (w : DeskPart K V) (n : ℕ) (key : K) (free : Bool) → Lists w (locked_by eq w n key free)
+  locked_lists eq w n key true = record { owed = refl; log = refl; size = refl }
+  locked_lists eq w n key false = record { owed = refl; log = refl; size = refl }
+
   -- the work is what it was, where the lists are and operations stay undecided for no longer
   same_work : (w new : World K V) (old young : Work) → Counts w old → Counts new young → Lists w.desk new.desk →
       young.left ≤ young.most → young.most ≤ old.most → Same old young
@@ -220,7 +258,7 @@ module _ {K V : Type 0} where
     leaves : (desk : DeskPart K V) → next.desk ≡ desk → Lists w.desk desk → new.left ≤ new.most → new.most ≤ old.most + 0 → Same old new
     leaves desk e l within most = same_work w next old new was is (subst (λ v. Lists w.desk v) (sym e) l) within (omega (arith, most))
 
-    drain_falls : (rest : List (Item K V)) (owed : List Write) → w.desk.owed ≡ owed → length next.desk.owed ≡ length (drop 1 owed) →
+    drain_falls : (rest : List (Item K V)) (owed : List Owed) → w.desk.owed ≡ owed → length next.desk.owed ≡ length (drop 1 owed) →
         next.desk.log ≡ w.desk.log → next.desk.size ≡ w.desk.size → new.left ≤ new.most → new.most ≤ old.most →
         Falls new (bound_of old new c young (plan.Drain ∷ rest)) (after_drain c rest (finds (record w.desk { owed = owed }) (visit.TakeOwed n)))
     drain_falls rest [] e o l z within most = drains old new c young rest (record {
@@ -279,13 +317,22 @@ module _ {K V : Type 0} where
         s.eases.owed (omega (arith, s.eases.most)) (omega (arith, s.eases.most)) (post_worst false) in
         falls_on new _ (record c { mode = mode.Mid }) (rw e (omega (arith, h, s.logged, less)))
 
-    wrote : (key : K) (value : V) (moment : ℕ) (rest : List (Item K V)) (x : Write) → new.owed ≡ old.owed → new.logged ≡ old.logged →
+    wrote : (key : K) (value : V) (moment : ℕ) (rest : List (Item K V)) (x : Write) (answer : TableAnswer K V) → new.owed ≡ old.owed → new.logged ≡ old.logged →
         new.most ≤ old.most + growth →
-        Falls new (bound_of old new c young (plan.Write key value moment ∷ rest)) (goes c (plan.Post x ∷ rest))
-    wrote key value moment rest x o l most =
+        Falls new (bound_of old new c young (plan.Write key value moment ∷ rest)) (goes c (once_told c.rules.listener key answer (plan.Post x ∷ rest)))
+    wrote key value moment rest x answer o l most =
         let h = more rest new.owed old.owed new.most (old.most + growth) c.aborts new.most (old.most + growth) false false
         (omega (arith, o)) most most (post_worst false) in
-        falls_goes new _ c (plan.Post x ∷ rest) (omega (arith, h, l, post_worst (room_in new)))
+        by c.rules.listener answer h (post_worst (room_in new))
+      where
+        by : (listener : Bool) (answer : TableAnswer K V) →
+            steps_of new.owed new.most c.aborts false new.most rest ≤ steps_of old.owed (old.most + growth) c.aborts false (old.most + growth) rest →
+            post_steps (room_in new) ≤ post_steps false →
+            Falls new (bound_of old new c young (plan.Write key value moment ∷ rest)) (goes c (once_told listener key answer (plan.Post x ∷ rest)))
+        by false answer h r = falls_goes new _ c (plan.Post x ∷ rest) (omega (arith, h, l, r))
+        by true table_answer.None h r = falls_goes new _ c (plan.Unlock ∷ plan.Post x ∷ rest) (omega (arith, h, l, r))
+        by true (table_answer.Some there stored) h r =
+            falls_goes new _ c (plan.Notice key stored ∷ plan.Unlock ∷ plan.Post x ∷ rest) (omega (arith, h, l, r))
 
     waits_falls : (bound : ℕ) → Falls new bound (waits c)
     waits_falls bound = never new bound (waits c) (λ e. cc)
@@ -313,10 +360,21 @@ module _ {K V : Type 0} where
         (reads old new c young load (unwrap_or (settlement_for w.desk n) settled.NotYet)
         (leaves _ (ap (λ v. v.desk) g.1) (either_lists (is_some (settlement_for w.desk n)) w.desk _ w.desk (record { owed = refl; log = refl; size = refl }) (same_lists w.desk)) h.within h.raises))
     on_item (plan.Settle with) rest (got.Desk f) e g h = rw g.0
-        (settles old new c young with rest (leaves _ (ap (λ v. v.desk) g.1) (record { owed = refl; log = refl; size = refl }) h.within h.raises))
+        (passes old new c young rest (leaves _ (ap (λ v. v.desk) g.1) (record { owed = refl; log = refl; size = refl }) h.within h.raises))
     on_item (plan.Ask load) rest (got.Desk f) e g h = rw g.0 (never new _ (asks c ask.Init (plan.Told load ∷ [])) (λ d. cc))
     on_item (plan.Told load) rest (got.Desk f) e g h = rw g.0
         (is_told old new c young load (w.desk.told n) (leaves _ (ap (λ v. v.desk) g.1) (record { owed = refl; log = refl; size = refl }) h.within h.raises))
+    on_item (plan.Ended number) rest (got.Desk f) e g h = rw g.0
+        (hears old new c young rest (not (is_running w.desk number)) (leaves _ (ap (λ v. v.desk) g.1) (record { owed = refl; log = refl; size = refl }) h.within h.raises))
+    on_item plan.Heard rest (got.Desk f) e g h = rw g.0
+        (hears old new c young rest (not (is_running w.desk n)) (leaves _ (ap (λ v. v.desk) g.1) (record { owed = refl; log = refl; size = refl }) h.within h.raises))
+    on_item (plan.Lock key) rest (got.Desk f) e g h = rw g.0
+        (locks old new c young key rest (is_unlocked_for w.desk n key)
+        (leaves _ (ap (λ v. v.desk) g.1) (locked_lists eq w.desk n key (is_unlocked_for w.desk n key)) h.within h.raises))
+    on_item plan.Unlock rest (got.Desk f) e g h = rw g.0
+        (passes old new c young rest (leaves _ (ap (λ v. v.desk) g.1) (record { owed = refl; log = refl; size = refl }) h.within h.raises))
+    on_item (plan.Notice key stored) rest (got.Desk f) e g h = rw g.0
+        (tells old new c young key stored rest _ w.desk.off (leaves _ (ap (λ v. v.desk) g.1) (record { owed = refl; log = refl; size = refl }) h.within h.raises))
     on_item (plan.Moment key value) rest (got.Desk f) e g h = rw g.0
         (stamps old new c young key value w.desk.clock rest (leaves _ (ap (λ v. v.desk) g.1) (record { owed = refl; log = refl; size = refl }) h.within h.raises))
     on_item (plan.Reply a) rest (got.Desk f) e g h = never new _ (answers a) (λ d. cc)
@@ -326,21 +384,21 @@ module _ {K V : Type 0} where
     on_item (plan.Write key value moment) rest (got.Table table.Going) e g h = write_stays key value moment rest e (leaves w.desk (ap (λ v. v.desk) g.1) (same_lists w.desk) h.within h.raises) (h.going refl)
     on_item (plan.Write key value moment) rest (got.Table (table.Decided answer)) e g h =
         let d : next.desk ≡ w.desk = ap (λ v. v.desk) g.2 in
-        wrote key value moment rest (Upsert n (old_stamp answer)) (is.owed ∙ ap (λ v. length v.owed) d ∙ sym was.owed)
+        wrote key value moment rest (Upsert n (old_stamp answer)) answer (is.owed ∙ ap (λ v. length v.owed) d ∙ sym was.owed)
         (is.logged ∙ ap (λ v. length v.log) d ∙ sym was.logged) h.raises
     -- no other answer is one of the item's access
     on_item _ rest _ e g h = absurd g
 
-  by_plan : (eq : K → K → Bool) (n : ℕ) (how : Mode) (p : List (Item K V)) (aborts : ℕ) (w next : World K V) (given : Got K V) (old new : Work) →
-      let c : Call K V = record { mode = how; plan = p; aborts = aborts } in
+  by_plan : (eq : K → K → Bool) (n : ℕ) (rules : Rules) (how : Mode) (p : List (Item K V)) (aborts : ℕ) (w next : World K V) (given : Got K V) (old new : Work) →
+      let c : Call K V = record { rules = rules; mode = how; plan = p; aborts = aborts } in
       aborts < retries → 0 < old.size → Gets eq n w (access_of n c) given next → Counts w old → Counts next new →
       Shortens old new (access_of n c) given → Falls new (ahead old c) (next_of n c given)
-  by_plan eq n how [] aborts w next given old new young has_log g was is h = waits_falls eq n (record { mode = how; plan = []; aborts = aborts }) w next old new young has_log was is _
-  by_plan eq n how (item ∷ rest) aborts w next (got.Table t) old new young has_log g was is h =
-      on_item eq n (record { mode = how; plan = item ∷ rest; aborts = aborts }) w next old new young has_log was is item rest (got.Table t) refl g h
-  by_plan eq n how (item ∷ rest) aborts w next (got.Desk f) old new young has_log g was is h =
-      on_item eq n (record { mode = how; plan = item ∷ rest; aborts = aborts }) w next old new young has_log was is item rest (got.Desk f) refl g h
+  by_plan eq n rules how [] aborts w next given old new young has_log g was is h = waits_falls eq n (record { rules = rules; mode = how; plan = []; aborts = aborts }) w next old new young has_log was is _
+  by_plan eq n rules how (item ∷ rest) aborts w next (got.Table t) old new young has_log g was is h =
+      on_item eq n (record { rules = rules; mode = how; plan = item ∷ rest; aborts = aborts }) w next old new young has_log was is item rest (got.Table t) refl g h
+  by_plan eq n rules how (item ∷ rest) aborts w next (got.Desk f) old new young has_log g was is h =
+      on_item eq n (record { rules = rules; mode = how; plan = item ∷ rest; aborts = aborts }) w next old new young has_log was is item rest (got.Desk f) refl g h
 
   pub going_falls : (eq : K → K → Bool) → GoingFalls K V eq
   going_falls eq n c w next given old new young has_log g was is h going =
-      by_plan eq n c.mode c.plan c.aborts w next given old new young has_log g was is h going
+      by_plan eq n c.rules c.mode c.plan c.aborts w next given old new young has_log g was is h going

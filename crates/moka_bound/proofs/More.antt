@@ -23,6 +23,8 @@ module _ {K V : Type 0} where
   more [] o o' m m' aborts l l' r r' ho hm hl hr = omega arith
   more (plan.Drain ∷ rest) o o' m m' aborts l l' r r' ho hm hl hr =
       let h = more rest o o' m m' aborts m m' false false ho hm hm (same_room false) in omega (arith, h, ho)
+  more (plan.Ended number ∷ rest) o o' m m' aborts l l' r r' ho hm hl hr =
+      let h = more rest o o' m m' aborts m m' false false ho hm hm (same_room false) in omega (arith, h)
   more (plan.Post write ∷ rest) o o' m m' aborts l l' r r' ho hm hl hr =
       let h = more rest o o' m m' aborts m m' false false ho hm hm (same_room false) in omega (arith, h, hr)
   more (plan.Turn ∷ rest) o o' m m' aborts l l' r r' ho hm hl hr =
@@ -40,6 +42,14 @@ module _ {K V : Type 0} where
       let h = more rest o o' m m' aborts m m' false false ho hm hm (same_room false) in omega (arith, h)
   more (plan.Ask load ∷ rest) o o' m m' aborts l l' r r' ho hm hl hr = omega arith
   more (plan.Told load ∷ rest) o o' m m' aborts l l' r r' ho hm hl hr = omega (arith, ho, hm)
+  more (plan.Lock key ∷ rest) o o' m m' aborts l l' r r' ho hm hl hr =
+      let h = more rest o o' m m' aborts m m' false false ho hm hm (same_room false) in omega (arith, h)
+  more (plan.Unlock ∷ rest) o o' m m' aborts l l' r r' ho hm hl hr =
+      let h = more rest o o' m m' aborts m m' false false ho hm hm (same_room false) in omega (arith, h)
+  more (plan.Notice key old ∷ rest) o o' m m' aborts l l' r r' ho hm hl hr =
+      let h = more rest o o' m m' aborts m m' false false ho hm hm (same_room false) in omega (arith, h)
+  more (plan.Heard ∷ rest) o o' m m' aborts l l' r r' ho hm hl hr =
+      let h = more rest o o' m m' aborts m m' false false ho hm hm (same_room false) in omega (arith, h)
   more (plan.Moment key value ∷ rest) o o' m m' aborts l l' r r' ho hm hl hr =
       let h = more rest o o' (m + growth) (m' + growth) aborts (m + growth) (m' + growth) false false ho (omega (arith, hm)) (omega (arith, hm)) (same_room false)
       in omega (arith, h, hm)

@@ -4,7 +4,7 @@ use Rattle.moka_hist.specs.Finite.{put_at}
 use Rattle.moka_hist.specs.State.{World}
 use Rattle.moka_hist.specs.Step.{Access, Gets}
 use Rattle.moka_hist.specs.Step as step
-use Rattle.moka_hist.specs.Visits.{makes, claimed, settlement_for, readers_without, settled_without}
+use Rattle.moka_hist.specs.Visits.{makes, claimed, is_unlocked_for, locked_by, settlement_for, readers_without, settled_without}
 use Rattle.moka_hist.specs.declared.accesses.Got.{Got}
 use Rattle.moka_hist.specs.declared.accesses.Got.TheVariants as got
 use Rattle.moka_hist.specs.declared.tables.TableTurn.TheVariants as table
@@ -23,6 +23,11 @@ module _ {K V : Type 0} (eq : K → K → Bool) where
       either : (b : Bool) → (cond b (record w.desk { joined = put_at w.desk.joined n None; readers = readers_without w.desk n; settled = settled_without w.desk n }) w.desk).size ≡ w.desk.size
       either true = refl
       either false = refl
+  size_same w (visit.LockKey n key) = locked_same (is_unlocked_for w.desk n key)
+    where
+      locked_same : (b : Bool) → (locked_by eq w.desk n key b).size ≡ w.desk.size
+      locked_same true = refl
+      locked_same false = refl
   size_same w _ = refl
 
   pub access_size : (n : ℕ) (w new : World K V) (a : Access K V) (g : Got K V) → Gets eq n w a g new → new.desk.size ≡ w.desk.size

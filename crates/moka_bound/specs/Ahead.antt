@@ -25,9 +25,9 @@ growth = 48
 abbrev pub post_steps : Bool → ℕ
 post_steps room = cond room 2 6
 
--- to take up and post as many writes
+-- to take up and post as many writes, once the notice of each has ended
 abbrev pub drain_steps : ℕ → ℕ
-drain_steps owed = 1 + 7 * owed
+drain_steps owed = 1 + 8 * owed
 
 -- to own a load, or to wait for its owner, after so many owners that were dropped
 abbrev pub own_steps : ℕ → ℕ → ℕ
@@ -36,9 +36,9 @@ own_steps most aborts = most + 5 + 2 * (retries - aborts)
 abbrev pub read_steps : ℕ → ℕ → ℕ
 read_steps most aborts = most + 4 + 2 * (retries - aborts)
 
--- to store a told value and tell those that wait
+-- to store a told value, under the key's lock where a listener is set, and tell those that wait
 abbrev pub told_steps : ℕ → ℕ → ℕ
-told_steps owed most = 1 + drain_steps owed + (most + 8) + 2
+told_steps owed most = 1 + drain_steps owed + (most + 11) + 2
 
 module _ {K : Type 0} where
   -- to judge the record that was found
@@ -53,6 +53,7 @@ module _ {K V : Type 0} where
   abbrev pub steps_of : ℕ → ℕ → ℕ → Bool → ℕ → List (Item K V) → ℕ
   steps_of owed most aborts room left [] = 0
   steps_of owed most aborts room left (plan.Drain ∷ rest) = drain_steps owed + steps_of owed most aborts false most rest
+  steps_of owed most aborts room left (plan.Ended number ∷ rest) = 1 + steps_of owed most aborts false most rest
   steps_of owed most aborts room left (plan.Post write ∷ rest) = post_steps room + steps_of owed most aborts false most rest
   steps_of owed most aborts room left (plan.Turn ∷ rest) = 1 + steps_of owed most aborts room most rest
   steps_of owed most aborts room left (plan.Apply ∷ rest) = 1 + steps_of owed most aborts true most rest
@@ -64,8 +65,12 @@ module _ {K V : Type 0} where
   steps_of owed most aborts room left (plan.Settle with ∷ rest) = 1 + steps_of owed most aborts false most rest
   steps_of owed most aborts room left (plan.Ask load ∷ rest) = 1
   steps_of owed most aborts room left (plan.Told load ∷ rest) = told_steps owed most
-  steps_of owed most aborts room left (plan.Moment key value ∷ rest) = most + 8 + steps_of owed (most + growth) aborts false (most + growth) rest
-  steps_of owed most aborts room left (plan.Write key value moment ∷ rest) = left + 7 + steps_of owed (most + growth) aborts false (most + growth) rest
+  steps_of owed most aborts room left (plan.Lock key ∷ rest) = 1 + steps_of owed most aborts false most rest
+  steps_of owed most aborts room left (plan.Unlock ∷ rest) = 1 + steps_of owed most aborts false most rest
+  steps_of owed most aborts room left (plan.Notice key old ∷ rest) = 1 + steps_of owed most aborts false most rest
+  steps_of owed most aborts room left (plan.Heard ∷ rest) = 1 + steps_of owed most aborts false most rest
+  steps_of owed most aborts room left (plan.Moment key value ∷ rest) = most + 10 + steps_of owed (most + growth) aborts false (most + growth) rest
+  steps_of owed most aborts room left (plan.Write key value moment ∷ rest) = left + 9 + steps_of owed (most + growth) aborts false (most + growth) rest
   steps_of owed most aborts room left (plan.Reply answer ∷ rest) = 1
 
   -- at most so many steps the call makes by itself

@@ -1,5 +1,13 @@
 pub mod Standing
 pub mod SameLoads
+pub mod Owners
 pub mod Waiting
 pub mod Outcomes
 pub mod Holdings
+pub mod Owing
+pub mod Keys
+pub mod Noticed
+pub mod Allowed
+pub mod Parts
+pub mod Listed
+pub mod Misses

@@ -2,7 +2,12 @@ pub mod Held
 pub mod Fallen
 pub mod Writes
 pub mod Loads
+pub mod Locks
+pub mod Notices
+pub mod Lines
 pub mod Asks
 pub mod StandsFor
 pub mod Sizes
 pub mod SoundDesk
+pub mod Waits
+pub mod ListedMiss

@@ -1,5 +1,5 @@
 -- What the kept loads stand for.
-use Rattle.std.specs.Prelude.{◌≡◌, ℕ, Bool, true, Option, Some, unwrap_or, nat_eq, IsSomeAnd}
+use Rattle.std.specs.Prelude.{◌≡◌, ℕ, Bool, true, Option, Some, None, cond, is_some, unwrap_or, nat_eq, IsSomeAnd}
 use Rattle.std.specs.HashMap.{get}
 use Rattle.std.specs.declared.cmp.PartialEq as PartialEq
 use Rattle.std.specs.declared.hash.Hash as Hash
@@ -21,6 +21,11 @@ module _ {K V : Type 0} where
   -- that part of it
   abbrev pub load_part : DeskPart K V → LoadPart K V
   load_part w = record { owners = w.owners; owning = w.owning; joined = w.joined; readers = w.readers; settled = w.settled }
+
+-- the owner, where how it ended isn't kept
+abbrev pub unsettled : {A : Type 0} → Option ℕ → (ℕ → Option A) → Option ℕ
+unsettled None settled = None
+unsettled (Some owner) settled = cond (is_some (settled owner)) None (Some owner)
 
 -- The maps are those that are kept, and each call owns the load that it is the owner of, and no other.
 pub record LoadsAre {K V : Type 0} {same : PartialEq.Ghosts K} {hash : Hash.Ghosts K} (eq : K → K → Bool) (loads : Loads K V same hash) (p : LoadPart K V) : Type 0 where

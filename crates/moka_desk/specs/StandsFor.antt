@@ -1,21 +1,24 @@
 -- What the desk stands for.
-use Rattle.std.specs.Prelude.{◌≡◌, ℕ, Bool, Option, Some, None, nat_eq}
+use Rattle.std.specs.Prelude.{◌≡◌, ℕ, Bool, Option, nat_eq}
 use Rattle.std.specs.HashMap.{get}
 use Rattle.std.specs.declared.cmp.PartialEq as PartialEq
 use Rattle.std.specs.declared.hash.Hash as Hash
 use Rattle.moka_hist.specs.State.{DeskPart}
 use Rattle.moka_hist.specs.Visits.{finds, makes}
-use Rattle.moka_hist.specs.Conditions.{MayVisit, HoldsWrite}
+use Rattle.moka_hist.specs.Conditions.{MayVisit, MayLeave}
 use Rattle.moka_hist.specs.declared.visits.Visit.{Visit}
 use Rattle.moka_hist.specs.declared.visits.Found.{Found}
 use Rattle.moka_hist.specs.declared.writes.Write.{Write}
 use Rattle.moka_desk.specs.Writes.{write_part, WritesAre}
 use Rattle.moka_desk.specs.Loads.{load_part, LoadsAre}
+use Rattle.moka_desk.specs.Locks.{lock_part, LocksAre}
+use Rattle.moka_desk.specs.Notices.{notice_part, NoticesAre}
 use Rattle.moka_desk.specs.Asks.{ask_part, AsksAre}
 use Rattle.moka_desk.specs.declared.state.Desk.{Desk}
 
 -- The desk has what the reference's desk has, part by part.
 pub record StandsFor {K V : Type 0} {same : PartialEq.Ghosts K} {hash : Hash.Ghosts K} (eq : K → K → Bool) (desk : Desk K V same hash) (w : DeskPart K V) : Type 0 where
+  pub rules : desk.rules ≡ w.rules
   pub clock : desk.clock ≡ w.clock
   pub accessed : (n : ℕ) → get nat_eq desk.accessed n ≡ w.accessed n
   pub turn : desk.turn ≡ w.turn
@@ -23,6 +26,8 @@ pub record StandsFor {K V : Type 0} {same : PartialEq.Ghosts K} {hash : Hash.Gho
   pub last : desk.last ≡ w.last
   pub writes : WritesAre desk.writes (write_part w)
   pub loads : LoadsAre eq desk.loads (load_part w)
+  pub locks : LocksAre eq desk.locks (lock_part w)
+  pub notices : NoticesAre desk.notices (notice_part w)
   pub asks : AsksAre desk.asks (ask_part w)
 
 module _ {K V : Type 0} {same : PartialEq.Ghosts K} {hash : Hash.Ghosts K} (eq : K → K → Bool) where
@@ -47,7 +52,6 @@ module _ {K V : Type 0} {same : PartialEq.Ghosts K} {hash : Hash.Ghosts K} (eq :
   abbrev pub Stays : Desk K V same hash → Desk K V same hash → Type 0
   Stays old new = Becomes old (λ w. w) new
 
-  -- the call may leave this write, if any: the desk stands for a state where it holds it
+  -- the call may leave this write, if any: the desk stands for a state that allows it
   abbrev pub CanLeave : Desk K V same hash → ℕ → Option Write → Type 0
-  CanLeave desk call None = Unit {0}
-  CanLeave desk call (Some write) = (w : DeskPart K V) × StandsFor eq desk w × HoldsWrite w call write
+  CanLeave desk call write = (w : DeskPart K V) × StandsFor eq desk w × MayLeave w call write

@@ -1,32 +1,43 @@
 //! The asks that calls have open, and the answers that they were told.
 
-ghost use Rattle.std.specs.Prelude.{◌≡◌, ◌≤◌, false, Option, Some, None, IsSome, nat_eq, OnOk, OnErr, if◌then◌else◌};
+ghost use Rattle.std.specs.Prelude.{◌≡◌, ℕ, ◌≤◌, ◌==◌, false, cond, [], ◌∷◌, Option, Some, None, is_some, IsSome, IfSome, MatchOption, nat_eq, OnOk, OnErr, if◌then◌else◌};
 ghost use Rattle.std.specs.Option.{option_map_or};
 ghost use Rattle.moka_hist.specs.Telling.{does_take as takes_answer};
 ghost use Rattle.std.specs.HashMap.{get, spare, hash_map_len};
 
+use crate::maps::put;
 use moka_hist::{Takes, Told};
+use moka_sync::{CallList, WaitPlace};
 use std::alloc::{AllocError, Global};
 use std::collections::HashMap;
 
-/// What each open ask takes, and what was told to those that are closed and not taken yet. Each
-/// open ask has the place of its answer.
+/// An open ask: which answers it takes, and whether its call waits for one.
+#[derive(Drop)]
+pub(crate) struct OpenAsk {
+    pub(crate) takes: Takes,
+    pub(crate) place: WaitPlace,
+}
+
+/// The open asks, and what was told to those that are closed and not taken yet. Each open ask has the
+/// place of its answer, and that of its call on the list of those that wait for it.
 #[derive(Drop)]
 pub(crate) struct Asks<V> {
-    pub(crate) open_asks: HashMap<u64, Takes>,
+    alloc: Global,
+    pub(crate) open_asks: HashMap<u64, OpenAsk>,
     pub(crate) told: HashMap<u64, Told<V>>,
     ghost answers_have_places: { hash_map_len open_asks ≤ spare told },
 }
 
 impl<V: Drop> Asks<V> {
     ghost use Rattle.moka_hist.specs.Finite.{put_at};
-    ghost use Rattle.moka_desk.specs.Asks.{AsksAre, AsksBecome};
+    ghost use Rattle.moka_desk.specs.Asks.{asker_at, asks_if, is_open, AsksAre, AsksBecome};
 
     /// No ask is open.
     pub(crate) fn new(alloc: Global) -> Self
         ensures { AsksAre result (record { asks = λ _. None; told = λ _. None }) }
     {
         Asks {
+            alloc,
             open_asks: HashMap::new(alloc),
             told: HashMap::new(alloc),
         }
@@ -41,37 +52,44 @@ impl<V: Drop> Asks<V> {
             }) self.new) }
         ensures err { OnErr result (AsksBecome self.old (λ p. p) self.new) }
     {
+        let place = WaitPlace::new(self.alloc)?;
         self.told.reserve(self.open_asks.len() + 1)?;
-        self.open_asks.insert(call, takes)?;
+        self.open_asks.insert(call, OpenAsk { takes, place })?;
         let _ = self.told.remove(&call);
         Ok(())
     }
 
-    /// Closes the call's ask by an answer that it takes. Answers false where none is open that
-    /// takes it; nothing has changed then.
-    pub(crate) fn tell(&mut self, call: u64, answer: Told<V>) -> bool
-        ensures finds { result ≡ option_map_or
-            (λ t. takes_answer t answer) (get nat_eq self.old.open_asks call) false }
-        ensures makes { AsksBecome self.old (λ p. if result then record {
+    /// Closes the call's ask by an answer that it takes, and hands the call out, if it waits. Answers
+    /// None where none is open that takes it; nothing has changed then.
+    pub(crate) fn tell(&mut self, call: u64, answer: Told<V>) -> Option<CallList>
+        ensures finds { is_some result ≡ option_map_or
+            (λ a. takes_answer a.takes answer) (get nat_eq self.old.open_asks call) false }
+        ensures woken { IfSome result (λ woken. woken ≡ option_map_or
+            (λ a. cond a.place (call ∷ []) []) (get nat_eq self.old.open_asks call) []) }
+        ensures makes { AsksBecome self.old (λ p. if is_some result then record {
           asks = put_at p.asks call None;
           told = put_at p.told call (Some answer);
         } else p) self.new }
+        ensures waits { MatchOption result (self.new ≡ self.old) (λ woken. (n : ℕ)
+            → asker_at self.new.open_asks n ≡ cond (call == n) [] (asker_at self.old.open_asks n)) }
     {
-        let Some(takes) = self.open_asks.get(&call).copied() else {
-            return false;
-        };
-        if !does_take(takes, &answer) {
-            return false;
+        let ask = self.open_asks.get(&call)?;
+        if !does_take(ask.takes, &answer) {
+            return None;
         }
-        self.close(call, answer);
-        true
+        self.close(call, answer)
     }
 
-    /// Takes what the call was told, if anything was.
+    /// Takes what the call was told, if anything was. Where its ask is open, the call waits.
     pub(crate) fn take(&mut self, call: u64) -> Option<Told<V>>
         ensures finds { result ≡ get nat_eq self.old.told call }
         ensures makes { AsksBecome self.old (λ p. record p { told = put_at p.told call None }) self.new }
+        ensures waits { (n : ℕ) → asker_at self.new.open_asks n
+            ≡ asks_if (is_open self.old.open_asks call) call n (asker_at self.old.open_asks n) }
     {
+        if let Some(ask) = self.open_asks.get_mut(&call) {
+            ask.place.wait();
+        }
         self.told.remove(&call)
     }
 
@@ -86,19 +104,21 @@ impl<V: Drop> Asks<V> {
         let _ = self.told.remove(&call);
     }
 
-    // Closes an open ask by the answer.
-    fn close(&mut self, call: u64, answer: Told<V>)
+    // Closes an open ask by the answer, and hands its call out, if it waits.
+    fn close(&mut self, call: u64, answer: Told<V>) -> Option<CallList>
         requires { IsSome (get nat_eq self.old.open_asks call) }
-        ensures { AsksBecome self.old (λ p. record {
+        ensures woken { result ≡ Some (option_map_or
+            (λ a. cond a.place (call ∷ []) []) (get nat_eq self.old.open_asks call) []) }
+        ensures makes { AsksBecome self.old (λ p. record {
           asks = put_at p.asks call None;
           told = put_at p.told call (Some answer);
         }) self.new }
+        ensures waits { (n : ℕ)
+            → asker_at self.new.open_asks n ≡ cond (call == n) [] (asker_at self.old.open_asks n) }
     {
-        let _ = self.open_asks.remove(&call);
-        match self.told.insert(call, answer) {
-            Ok(_) => {}
-            Err(_) => unreachable!(),
-        }
+        let ask = self.open_asks.remove(&call)?;
+        put(&mut self.told, call, answer);
+        Some(ask.place.take(call))
     }
 }
 
@@ -109,5 +129,6 @@ fn does_take<V>(takes: Takes, answer: &Told<V>) -> bool
     match (takes, answer) {
         (Takes::Value, Told::Value(_)) => true,
         (Takes::Value, Told::Done) => false,
+        (Takes::Value, Told::Off) => false,
     }
 }

@@ -1,136 +1,105 @@
-//! What calls hold of writes.
+//! The places of writes, by the numbers of the calls that made them.
 
-ghost use Rattle.std.specs.Prelude.{◌≡◌, ℕ, ◌+◌, ◌≤◌, ◌<◌, ◌==◌, cond, None, Some, length, is_some, vec_len, vec_capacity, nat_eq, OnOk, if◌then◌else◌};
-ghost use Rattle.std.specs.Option.{option_map};
-ghost use Rattle.std.specs.HashMap.{get, spare};
-ghost use Rattle.moka_hist.specs.Finite.{put_at};
-ghost use Rattle.moka_hist.specs.Visits.{without_moment};
-ghost use Rattle.moka_hist.specs.declared.writes.Holding.TheVariants as holding;
-ghost use Rattle.moka_desk.specs.Held.{either_of, holding_at, held_count, taken_by};
+ghost use Rattle.std.specs.Prelude.{◌≡◌, ℕ, ◌+◌, ◌≤◌, ◌<◌, ◌==◌, cond, Option, Some, None, IsSome, is_some, nat_eq, OnOk, if◌then◌else◌};
+ghost use Rattle.std.specs.HashMap.{get, spare, hash_map_len};
+ghost use Rattle.moka_desk.specs.Held.{decided_place, is_holder};
 
-use crate::maps::put;
-use moka_hist::{Holding, Write};
+use crate::maps::{put, replace};
 use std::alloc::{AllocError, Global};
 use std::collections::HashMap;
 
-/// An owed write that a call took up.
+/// The place of a write from its moment until it is posted: the call that holds it, or nobody where
+/// it is owed; and the moment that was taken for it, in nanoseconds, as long as it isn't decided.
 #[derive(Clone, Copy, PartialEq, Eq, Debug)]
-pub(crate) struct TakenUp {
-    pub(crate) call: u64,
-    pub(crate) write: Write,
+pub(crate) struct HeldPlace {
+    pub(crate) holder: Option<u64>,
+    pub(crate) pending: Option<u64>,
 }
 
-/// What each call holds: the place of a write of its own, with the moment that it took for it as
-/// long as that write isn't decided; or an owed write that it took up. A call takes up a write
-/// without memory, and a hash map gives no place back for one that was removed; so the writes that
-/// were taken up, of which there are few at a time, stand in a list.
+/// The places of the writes that are held or owed, each under the number of the call that made the
+/// write. Who holds a write changes in its place, so that no call takes memory to take one up or to
+/// leave one.
 #[derive(Drop)]
 pub(crate) struct Held {
-    pub(crate) own: HashMap<u64, Option<u64>>,
-    pub(crate) taken: Vec<TakenUp>,
+    pub(crate) places: HashMap<u64, HeldPlace>,
 }
 
 impl Held {
-    /// No call holds a write.
+    /// No write has a place.
     pub(crate) fn new(alloc: Global) -> Self
-        ensures none { (n : ℕ) → holding_at result n ≡ None }
-        ensures count { held_count result ≡ 0 }
+        ensures none { (n : ℕ) → get nat_eq result.places n ≡ None }
+        ensures count { hash_map_len result.places ≡ 0 }
     {
         Held {
-            own: HashMap::new(alloc),
-            taken: Vec::new(alloc),
+            places: HashMap::new(alloc),
         }
     }
 
-    /// What the call holds.
-    pub(crate) fn holding(&self, call: u64) -> Option<Holding>
-        ensures { result ≡ holding_at self.now call }
+    /// Makes room for one more place.
+    pub(crate) fn reserve(&mut self) -> Result<(), AllocError>
+        ensures same { (n : ℕ) → get nat_eq self.new.places n ≡ get nat_eq self.old.places n }
+        ensures count { hash_map_len self.new.places ≡ hash_map_len self.old.places }
+        ensures room { OnOk result (0 < spare self.new.places) }
     {
-        match self.own.get(&call).copied() {
-            Some(pending) => Some(Holding::Own { pending }),
-            None => taken_up(self.taken.as_slice(), call),
-        }
+        self.places.reserve(1)
     }
 
-    /// Makes room for one more place, and for this many writes that are taken up.
-    pub(crate) fn reserve(&mut self, room: usize) -> Result<(), AllocError>
-        ensures same { (n : ℕ) → holding_at self.new n ≡ holding_at self.old n }
-        ensures count { held_count self.new ≡ held_count self.old }
-        ensures own { OnOk result (0 < spare self.new.own) }
-        ensures taken { OnOk result (room ≤ vec_capacity self.new.taken) }
-        ensures capacity { vec_capacity self.old.taken ≤ vec_capacity self.new.taken }
-    {
-        self.own.reserve(1)?;
-        self.taken.reserve(room)
-    }
-
-    /// Gives the call the place of its own write, with the moment.
+    /// Gives the call the place of its own write, with the moment. There is room for it.
     pub(crate) fn stamp(&mut self, call: u64, moment: u64)
-        requires { 0 < spare self.old.own }
-        ensures holds { (n : ℕ) → holding_at self.new n
-            ≡ put_at (holding_at self.old) call (Some (holding.Own (Some moment))) n }
-        ensures count { held_count self.new ≤ held_count self.old + 1 }
-        ensures capacity { vec_capacity self.new.taken ≡ vec_capacity self.old.taken }
+        requires { 0 < spare self.old.places }
+        ensures holds { (n : ℕ) → get nat_eq self.new.places n ≡ cond (call == n)
+            (Some (record { holder = Some call; pending = Some moment })) (get nat_eq self.old.places n) }
+        ensures count { hash_map_len self.new.places ≤ hash_map_len self.old.places + 1 }
     {
-        put(&mut self.own, call, Some(moment));
+        let place = HeldPlace {
+            holder: Some(call),
+            pending: Some(moment),
+        };
+        put(&mut self.places, call, place);
     }
 
-    /// Gives the write to the call, which holds none. There is room for it.
-    pub(crate) fn take_up(&mut self, call: u64, write: Write)
-        requires room { length self.old.taken.items < vec_capacity self.old.taken }
-        requires free { holding_at self.old call ≡ None }
-        ensures holds { (n : ℕ) → holding_at self.new n
-            ≡ put_at (holding_at self.old) call (Some (holding.TookUp write)) n }
-        ensures count { held_count self.new ≡ held_count self.old + 1 }
-        ensures capacity { vec_capacity self.new.taken ≡ vec_capacity self.old.taken }
+    /// Hands the write of this number, which has a place, to the holder, or to nobody.
+    pub(crate) fn hand_over(&mut self, number: u64, holder: Option<u64>)
+        requires { IsSome (get nat_eq self.old.places number) }
+        ensures holds { (n : ℕ) → get nat_eq self.new.places n ≡ cond (number == n)
+            (Some (record { holder = holder; pending = None })) (get nat_eq self.old.places n) }
+        ensures count { hash_map_len self.new.places ≡ hash_map_len self.old.places }
     {
-        self.taken.push_reserved(TakenUp { call, write });
+        let place = HeldPlace {
+            holder,
+            pending: None,
+        };
+        replace(&mut self.places, number, place);
     }
 
-    /// Ends the pending moment of the call.
+    /// Ends the pending moment of the call, if it holds the write of its own number.
     pub(crate) fn decide(&mut self, call: u64)
-        ensures holds { (n : ℕ) → holding_at self.new n ≡ put_at (holding_at self.old) call
-            (option_map without_moment (holding_at self.old call)) n }
-        ensures count { held_count self.new ≡ held_count self.old }
-        ensures taken { self.new.taken ≡ self.old.taken }
+        ensures holds { (n : ℕ) → get nat_eq self.new.places n ≡ cond (call == n)
+            (decided_place call (get nat_eq self.old.places call)) (get nat_eq self.old.places n) }
+        ensures count { hash_map_len self.new.places ≡ hash_map_len self.old.places }
     {
-        if let Some(pending) = self.own.get_mut(&call) {
-            *pending = None;
+        if self.is_held_by(call, call) {
+            self.hand_over(call, Some(call));
         }
     }
 
-    /// The call holds nothing from then on. Answers whether it did before.
-    pub(crate) fn clear(&mut self, call: u64) -> bool
-        ensures held { result ≡ is_some (holding_at self.old call) }
-        ensures holds { (n : ℕ) → holding_at self.new n ≡ put_at (holding_at self.old) call None n }
-        ensures count { held_count self.new + (if result then 1 else 0) ≤ held_count self.old }
-        ensures capacity { vec_capacity self.new.taken ≡ vec_capacity self.old.taken }
+    /// Gives the place of the write of this number up.
+    pub(crate) fn clear(&mut self, number: u64)
+        ensures holds { (n : ℕ) → get nat_eq self.new.places n
+            ≡ cond (number == n) None (get nat_eq self.old.places n) }
+        ensures count { hash_map_len self.new.places
+            + (if is_some (get nat_eq self.old.places number) then 1 else 0) ≡ hash_map_len self.old.places }
     {
-        let had_own = self.own.remove(&call).is_some();
-        let took_up = put_down(&mut self.taken, call);
-        had_own || took_up
+        let _ = self.places.remove(&number);
     }
-}
 
-// What the call holds by what it took up.
-fn taken_up(taken: &[TakenUp], call: u64) -> Option<Holding>
-    ensures { result ≡ either_of None (taken_by call taken.now) }
-{
-    let found = taken.iter().find(|it| it.call == call)?;
-    Some(Holding::TookUp { write: found.write })
-}
-
-// Takes what the call took up off the list, and answers whether that was anything.
-fn put_down(taken: &mut Vec<TakenUp>, call: u64) -> bool
-    ensures found { result ≡ is_some (taken_by call taken.old.items) }
-    ensures rest { (n : ℕ) → taken_by n taken.new.items
-        ≡ cond (call == n) None (taken_by n taken.old.items) }
-    ensures count { vec_len taken.new + (if result then 1 else 0) ≤ vec_len taken.old }
-    ensures capacity { vec_capacity taken.new ≡ vec_capacity taken.old }
-{
-    if taken_up(taken.as_slice(), call).is_none() {
-        return false;
+    /// Whether the call holds the write of this number.
+    pub(crate) fn is_held_by(&self, number: u64, call: u64) -> bool
+        ensures { result ≡ is_holder (get nat_eq self.now.places number) call }
+    {
+        match self.places.get(&number) {
+            Some(place) => place.holder == Some(call),
+            None => false,
+        }
     }
-    taken.retain(|it| it.call != call);
-    true
 }

@@ -4,10 +4,15 @@
 mod applied;
 mod asks;
 mod held;
+mod lines;
+mod listening;
 mod loading;
 mod loads;
+mod locks;
 mod maps;
+mod notices;
 mod state;
+mod waits;
 mod writes;
 mod writing;
 

@@ -1,21 +1,28 @@
 //! The visits that see to loads and asks, and a call that leaves.
 
-ghost use Rattle.std.specs.Prelude.{◌≡◌, false, IfOk, OnOk, OnErr, if◌then◌else◌};
+ghost use Rattle.std.specs.Prelude.{◌≡◌, ℕ, Some, None, ◌++◌, is_some, IfOk, IfNone, IfSome, MatchOption, OnSome, OnOk, OnErr, if◌then◌else◌};
+ghost use Rattle.moka_sync.specs.Waiting.{without};
 
 use crate::Desk;
-use moka_hist::{Claim, Load, Settled, Takes, Told, Write};
+use moka_hist::{Claim, Load, Owed, Settled, Takes, Told};
+use moka_sync::CallList;
 use std::alloc::AllocError;
 use std::hash::Hash;
 
 impl<K: Eq + Hash + Clone + Drop, V: Drop> Desk<K, V> {
     ghost use Rattle.moka_hist.specs.Finite.{IsExact};
     ghost use Rattle.moka_hist.specs.State.{DeskPart};
+    ghost use Rattle.std.specs.Option.{option_map};
     ghost use Rattle.moka_hist.specs.Conditions.{MayLeave};
-    ghost use Rattle.moka_hist.specs.Telling.{is_asked, told as with_told};
-    ghost use Rattle.moka_hist.specs.Dropping.{left};
+    ghost use Rattle.moka_hist.specs.Visits.{is_running};
+    ghost use Rattle.moka_hist.specs.Telling.{heard, is_asked, told as with_told};
+    ghost use Rattle.moka_hist.specs.Dropping.{left, owed_with};
     ghost use Rattle.moka_hist.specs.declared.visits.Visit.TheVariants as visit;
     ghost use Rattle.moka_hist.specs.declared.visits.Found.TheVariants as found;
+    ghost use Rattle.moka_desk.specs.Waits.{awaited, comes, leaves, lock_line, notice_line, settlement_line, stays, told_line, waits_at, AnswersMove, NobodyMoves, NoticesMove, SettlementsMove, ToldMove};
+    ghost use Rattle.moka_desk.specs.Asks.{asks_if, is_open};
     ghost use Rattle.moka_desk.specs.StandsFor.{StandsFor, Can, CanLeave, Finds, Becomes, Makes, Stays};
+    ghost use Rattle.moka_desk.specs.ListedMiss.{MissAfter, MissWith};
 
     /// Makes the call the owner of a load that nobody owns, or lets it wait for the owner. It owns
     /// nothing and waits for nobody before. An owner gets the place of its settlement.
@@ -26,6 +33,10 @@ impl<K: Eq + Hash + Clone + Drop, V: Drop> Desk<K, V> {
             (found.WaitOrOwn claim)) }
         ensures makes { OnOk result (Makes K.eq self.old (visit.WaitOrOwn call load.key load.kind) self.new) }
         ensures err { OnErr result (Stays K.eq self.old self.new) }
+        ensures quiet { NobodyMoves self.old self.new }
+        ensures misses { OnOk result
+            (MissAfter K.eq self.old (visit.WaitOrOwn call load.key load.kind) self.new) }
+        ensures misses_still { OnErr result (MissWith K.eq self.old (λ w. w) self.new) }
     {
         self.loads.claim(call, load)
     }
@@ -41,16 +52,36 @@ impl<K: Eq + Hash + Clone + Drop, V: Drop> Desk<K, V> {
             (found.ReadSettled settled)) }
         ensures makes { OnOk result (Makes K.eq self.old (visit.ReadSettled call) self.new) }
         ensures err { OnErr result (Stays K.eq self.old self.new) }
+        // who waits
+        ensures reads { OnOk result (awaited self.old call ≡ None
+            → SettlementsMove self.old (leaves call) self.new) }
+        ensures waits { OnOk result ((owner : ℕ) → awaited self.old call ≡ Some owner
+            → SettlementsMove self.old (waits_at (Some owner) call) self.new) }
+        ensures unlisted { OnErr result (SettlementsMove self.old stays self.new) }
+        // who is listed misses that thing
+        ensures misses { OnOk result (MissAfter K.eq self.old (visit.ReadSettled call) self.new) }
+        ensures misses_still { OnErr result (MissWith K.eq self.old (λ w. w) self.new) }
     {
-        self.loads.read(call)
+        if let Some(owner) = self.loads.awaited(call) {
+            self.waits.settlements.wait(owner, call)?;
+            return Ok(Settled::NotYet);
+        }
+        let settlement = self.loads.read(call)?;
+        self.waits.settlements.leave(call);
+        Ok(settlement)
     }
 
-    /// Ends the call's ownership of a load, and keeps how it ended for those that wait for it.
-    pub fn settle(&mut self, call: u64, with: Settled<V>)
+    /// Ends the call's ownership of a load, keeps how it ended for those that wait for it, and hands
+    /// these out.
+    pub fn settle(&mut self, call: u64, with: Settled<V>) -> CallList
         requires { Can K.eq self.old (visit.Settle call with) }
-        ensures { Makes K.eq self.old (visit.Settle call with) self.new }
+        ensures makes { Makes K.eq self.old (visit.Settle call with) self.new }
+        ensures woken { result ≡ settlement_line self.old call }
+        ensures waits { SettlementsMove self.old (comes call) self.new }
+        ensures misses { MissAfter K.eq self.old (visit.Settle call with) self.new }
     {
         self.loads.settle(call, with);
+        self.waits.settlements.take(call).take_all()
     }
 
     /// Opens the call's ask, with the place of its answer. The call has no other one.
@@ -58,17 +89,47 @@ impl<K: Eq + Hash + Clone + Drop, V: Drop> Desk<K, V> {
         requires { Can K.eq self.old (visit.OpenAsk call takes) }
         ensures makes { OnOk result (Makes K.eq self.old (visit.OpenAsk call takes) self.new) }
         ensures err { OnErr result (Stays K.eq self.old self.new) }
+        ensures misses { OnOk result (MissAfter K.eq self.old (visit.OpenAsk call takes) self.new) }
+        ensures misses_still { OnErr result (MissWith K.eq self.old (λ w. w) self.new) }
     {
         self.asks.open(call, takes)
     }
 
-    /// Closes the call's ask by an answer that it takes. Answers false where no ask of the call is
-    /// open that takes it; nothing has changed then.
-    pub fn tell(&mut self, call: u64, answer: Told<V>) -> bool
-        ensures finds { (w : DeskPart K V) → StandsFor K.eq self.old w → result ≡ is_asked w call answer }
-        ensures makes { Becomes K.eq self.old (λ w. if result then with_told w call answer else w) self.new }
+    /// Closes the ask of this number by an answer that it takes: a value is kept for the call, and a
+    /// listener's answer ends the notice of that number. Hands out all that wait for it. Answers None
+    /// where no such ask is open; nothing has changed then.
+    pub fn tell(&mut self, number: u64, answer: Told<V>) -> Option<CallList>
+        ensures finds { (w : DeskPart K V) → StandsFor K.eq self.old w → is_some result ≡ is_asked w number answer }
+        ensures makes { Becomes K.eq self.old
+            (λ w. if is_some result then with_told w number answer else w) self.new }
+        ensures woken { IfSome result (λ woken. woken ≡ told_line self.old number answer) }
+        ensures waits { MatchOption result (NobodyMoves self.old self.new)
+            (λ woken. ToldMove self.old number answer self.new) }
+        ensures misses { MissWith K.eq self.old
+            (λ w. if is_some result then with_told w number answer else w) self.new }
     {
-        self.asks.tell(call, answer)
+        match answer {
+            Told::Value(value) => self.asks.tell(number, Told::Value(value)),
+            Told::Done => self.hear(number, false),
+            Told::Off => self.hear(number, true),
+        }
+    }
+
+    // Ends the notice of this number, where it runs, and turns the listener off, if `off`.
+    fn hear(&mut self, number: u64, off: bool) -> Option<CallList>
+        ensures finds { (w : DeskPart K V) → StandsFor K.eq self.old w → is_some result ≡ is_running w number }
+        ensures makes { Becomes K.eq self.old (λ w. if is_some result then heard w number off else w) self.new }
+        ensures woken { IfSome result (λ woken. woken ≡ notice_line self.old number) }
+        ensures waits { OnSome result (NoticesMove self.old (comes number) self.new) }
+        ensures quiet { IfNone result (NobodyMoves self.old self.new) }
+        ensures misses { MissWith K.eq self.old
+            (λ w. if is_some result then heard w number off else w) self.new }
+    {
+        if !self.notices.is_running(number) {
+            return None;
+        }
+        self.notices.end(number, off);
+        Some(self.waits.notices.take(number).take_all())
     }
 
     /// Takes what the call was told, if its ask is closed.
@@ -76,19 +137,40 @@ impl<K: Eq + Hash + Clone + Drop, V: Drop> Desk<K, V> {
         requires { Can K.eq self.old (visit.TakeTold call) }
         ensures finds { Finds K.eq self.old (visit.TakeTold call) (found.TakeTold result) }
         ensures makes { Makes K.eq self.old (visit.TakeTold call) self.new }
+        ensures waits { AnswersMove self.old
+            (asks_if (is_open self.old.asks.open_asks call) call) self.new }
+        ensures misses { MissAfter K.eq self.old (visit.TakeTold call) self.new }
     {
         self.asks.take(call)
     }
 
-    /// Lets a dropped call leave: the write that it held, and hands in, is owed; its ask is closed; it
-    /// waits for nobody; and those that wait for it read that it was dropped.
-    pub fn leave(&mut self, call: u64, held: Option<Write>)
-        requires { CanLeave K.eq self.old call held }
-        ensures { (w : DeskPart K V) → StandsFor K.eq self.old w → MayLeave w call held
-            → StandsFor K.eq self.new (left w call held) }
+    /// Lets a dropped call leave: the write that it held, and hands in, is owed, with its notice where
+    /// that still runs; its ask is closed, and its lock free; it waits for nobody; and those that wait
+    /// for it read that it was dropped. A listener that it asked is still asked. Hands out those that
+    /// wait for its load, and then those that wait for its lock.
+    pub fn leave(&mut self, call: u64, held: Option<Owed>) -> CallList
+        requires { CanLeave K.eq self.old call (option_map (λ o. o.write) held) }
+        ensures makes { (w : DeskPart K V) → StandsFor K.eq self.old w
+            → MayLeave w call (option_map (λ o. o.write) held) → StandsFor K.eq self.new (left w call held) }
+        ensures woken { result
+            ≡ without call (settlement_line self.old call) ++ without call (lock_line self.old call) }
+        ensures misses { MissWith K.eq self.old (λ w. left w call held) self.new }
     {
+        let held = self.still_heard(held);
         self.writes.leave(call, held);
         self.loads.leave(call);
+        self.locks.free(call);
         self.asks.leave(call);
+        self.waits.leave(call)
+    }
+
+    // The write that is handed in, with its notice where that still runs.
+    fn still_heard(&self, held: Option<Owed>) -> Option<Owed>
+        ensures same { option_map (λ o. o.write) result ≡ option_map (λ o. o.write) held }
+        ensures notice { (w : DeskPart K V) → StandsFor K.eq self.now w → result ≡ option_map (owed_with w) held }
+    {
+        let Owed { write, notice } = held?;
+        let notice = notice.filter(|number| self.notices.is_running(*number));
+        Some(Owed { write, notice })
     }
 }

@@ -30,10 +30,10 @@ impl<K: Eq + Hash + Clone + Drop, V: Drop> Loads<K, V> {
     ghost use Rattle.moka_hist.specs.State.{DeskPart};
     ghost use Rattle.moka_hist.specs.declared.loads.Load.{Load as load_of};
     ghost use Rattle.moka_hist.specs.declared.visits.Settled.TheVariants as settled;
-    ghost use Rattle.moka_hist.specs.declared.writes.Write.{Write};
+    ghost use Rattle.moka_hist.specs.declared.writes.Owed.{Owed};
     ghost use Rattle.moka_hist.specs.Visits.{claim_of, claimed, read, readers_without, settled_without, settled_as, owners_without, settlement_for};
     ghost use Rattle.moka_hist.specs.Dropping.{left};
-    ghost use Rattle.moka_desk.specs.Loads.{load_part, LoadsAre, LoadsBecome, LoadsStay, LoadsMake};
+    ghost use Rattle.moka_desk.specs.Loads.{load_part, unsettled, LoadsAre, LoadsBecome, LoadsStay, LoadsMake};
 
     /// Nothing is owned, and nobody waits.
     pub(crate) fn new(alloc: Global) -> Self
@@ -149,6 +149,18 @@ impl<K: Eq + Hash + Clone + Drop, V: Drop> Loads<K, V> {
         }
     }
 
+    /// The owner that the call waits for, where it has not settled yet.
+    pub(crate) fn awaited(&self, call: u64) -> Option<u64>
+        ensures { result ≡ unsettled (get nat_eq self.now.joined call)
+            (λ owner. get nat_eq self.now.settled owner) }
+    {
+        let owner = self.joined.get(&call).copied()?;
+        if self.settled.contains_key(&owner) {
+            return None;
+        }
+        Some(owner)
+    }
+
     /// Ends what the call owns, and keeps how it ended for those that wait for it.
     pub(crate) fn settle(&mut self, call: u64, with: Settled<V>)
         ensures { LoadsMake K.eq self.old (λ w. load_part (settled_as w call with)) self.new }
@@ -160,7 +172,7 @@ impl<K: Eq + Hash + Clone + Drop, V: Drop> Loads<K, V> {
     /// The call waits for nobody and owns nothing any more; those that wait for it read that it was
     /// dropped.
     pub(crate) fn leave(&mut self, call: u64)
-        ensures { (w : DeskPart K V) (held : Option Write) → LoadsAre K.eq self.old (load_part w)
+        ensures { (w : DeskPart K V) (held : Option Owed) → LoadsAre K.eq self.old (load_part w)
             → LoadsAre K.eq self.new (load_part (left w call held)) }
     {
         let awaited = self.readers_of(call) > 0;

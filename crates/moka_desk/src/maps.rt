@@ -20,12 +20,13 @@ pub(crate) fn put<Q: Eq + Hash + Drop, T: Drop>(map: &mut HashMap<Q, T>, key: Q,
     }
 }
 
-/// Puts a number at a key that has one.
-pub(crate) fn replace(counts: &mut HashMap<u64, u64>, key: u64, count: u64)
-    requires { IsSome (get nat_eq counts.old key) }
-    ensures { (n : ℕ) → get nat_eq counts.new n ≡ cond (key == n) (Some count) (get nat_eq counts.old n) }
+/// Puts the value at a number that has one.
+pub(crate) fn replace<T: Drop>(map: &mut HashMap<u64, T>, key: u64, value: T)
+    requires { IsSome (get nat_eq map.old key) }
+    ensures updates { (n : ℕ) → get nat_eq map.new n ≡ cond (key == n) (Some value) (get nat_eq map.old n) }
+    ensures len { hash_map_len map.new ≡ hash_map_len map.old }
 {
-    match counts.insert(key, count) {
+    match map.insert(key, value) {
         Ok(_) => {}
         Err(_) => unreachable!(),
     }

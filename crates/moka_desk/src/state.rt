@@ -4,8 +4,11 @@ ghost use Rattle.std.specs.Prelude.{◌≡◌, ◌+◌, ◌==◌, nat_lt, not, O
 
 use crate::asks::Asks;
 use crate::loads::Loads;
+use crate::locks::Locks;
+use crate::notices::Notices;
+use crate::waits::Waits;
 use crate::writes::Writes;
-use moka_hist::{Holding, Write};
+use moka_hist::{Notice, Owed, Rules, Write};
 use std::alloc::{AllocError, Global};
 use std::collections::{HashMap, VecDeque};
 use std::hash::Hash;
@@ -16,6 +19,7 @@ use std::hash::Hash;
 /// so that a later visit never fails for want of memory where its signature has no error.
 #[derive(Drop)]
 pub struct Desk<K: Eq + Hash, V> {
+    pub(crate) rules: Rules,
     pub(crate) clock: u64,
     pub(crate) accessed: HashMap<u64, u64>,
     pub(crate) turn: Option<u64>,
@@ -23,26 +27,39 @@ pub struct Desk<K: Eq + Hash, V> {
     pub(crate) last: u64,
     pub(crate) writes: Writes,
     pub(crate) loads: Loads<K, V>,
+    pub(crate) locks: Locks<K>,
+    pub(crate) notices: Notices<K, V>,
     pub(crate) asks: Asks<V>,
+    pub(crate) waits: Waits,
 }
 
 impl<K: Eq + Hash + Clone + Drop, V: Drop> Desk<K, V> {
     ghost use Rattle.moka_hist.specs.State.{DeskPart, fresh_desk};
+    ghost use Rattle.moka_hist.specs.Finite.{IsExact};
     ghost use Rattle.moka_hist.specs.Run.{last_call};
     ghost use Rattle.moka_desk.specs.StandsFor.{StandsFor, Becomes};
+    ghost use Rattle.moka_desk.specs.ListedMiss.{ListedMiss, MissWith};
 
-    /// A desk where nothing has happened, with a log of this many writes.
-    pub fn new(alloc: Global, log: usize) -> Result<Self, AllocError>
-        ensures { IfOk result (λ desk. StandsFor K.eq desk (fresh_desk K V log)) }
+    /// A desk by these rules, where nothing has happened, with a log of this many writes.
+    pub fn new(alloc: Global, rules: Rules, log: usize) -> Result<Self, AllocError>
+        ensures { IfOk result (λ desk. StandsFor K.eq desk (fresh_desk K V rules log)) }
     {
-        Desk::starting_after(alloc, log, 0)
+        Desk::starting_after(alloc, rules, log, 0)
     }
 
     /// The same, where this call number and those before it were given out.
-    pub fn starting_after(alloc: Global, log: usize, last: u64) -> Result<Self, AllocError>
-        ensures { IfOk result (λ desk. StandsFor K.eq desk (record (fresh_desk K V log) { last = last })) }
+    pub fn starting_after(
+        alloc: Global,
+        rules: Rules,
+        log: usize,
+        last: u64,
+    ) -> Result<Self, AllocError>
+        ensures stands { IfOk result
+            (λ desk. StandsFor K.eq desk (record (fresh_desk K V rules log) { last = last })) }
+        ensures misses { IfOk result (λ desk. (w : DeskPart K V) → ListedMiss desk w) }
     {
         Ok(Desk {
+            rules,
             clock: 0,
             accessed: HashMap::new(alloc),
             turn: None,
@@ -50,8 +67,18 @@ impl<K: Eq + Hash + Clone + Drop, V: Drop> Desk<K, V> {
             last,
             writes: Writes::new(alloc, log)?,
             loads: Loads::new(alloc),
+            locks: Locks::new(alloc),
+            notices: Notices::new(alloc),
             asks: Asks::new(alloc),
+            waits: Waits::new(alloc),
         })
+    }
+
+    /// What the cache was built with.
+    pub fn rules(&self) -> Rules
+        ensures { (w : DeskPart K V) → StandsFor K.eq self.now w → result ≡ w.rules }
+    {
+        self.rules
     }
 
     /// The clock's moment.
@@ -74,6 +101,8 @@ impl<K: Eq + Hash + Clone + Drop, V: Drop> Desk<K, V> {
         ensures finds { (w : DeskPart K V) → StandsFor K.eq self.old w → result ≡ not (nat_lt moment w.clock) }
         ensures makes { Becomes K.eq self.old
             (λ w. if nat_lt moment w.clock then w else record w { clock = moment }) self.new }
+        ensures misses { MissWith K.eq self.old
+            (λ w. if nat_lt moment w.clock then w else record w { clock = moment }) self.new }
     {
         if moment < self.clock {
             return false;
@@ -90,21 +119,17 @@ impl<K: Eq + Hash + Clone + Drop, V: Drop> Desk<K, V> {
         ensures makes { (w : DeskPart K V) → StandsFor K.eq self.old w
             → MatchOption result (StandsFor K.eq self.new w)
             (λ n. StandsFor K.eq self.new (record w { last = n })) }
+        ensures misses { (w : DeskPart K V) → ListedMiss self.old w
+            → MatchOption result (ListedMiss self.new w)
+            (λ n. ListedMiss self.new (record w { last = n })) }
     {
         let next = self.last.checked_add(1)?;
         self.last = next;
         Some(next)
     }
 
-    /// What the call holds of writes.
-    pub fn holding(&self, call: u64) -> Option<Holding>
-        ensures { (w : DeskPart K V) → StandsFor K.eq self.now w → result ≡ w.holding call }
-    {
-        self.writes.held.holding(call)
-    }
-
-    /// The writes that dropped calls left, oldest first.
-    pub fn owed(&self) -> &VecDeque<Write>
+    /// The writes that dropped calls left, oldest first, with the notices that ran then.
+    pub fn owed(&self) -> &VecDeque<Owed>
         ensures { (w : DeskPart K V) → StandsFor K.eq self.now w → result.now.items ≡ w.owed }
     {
         &self.writes.owed
@@ -129,5 +154,31 @@ impl<K: Eq + Hash + Clone + Drop, V: Drop> Desk<K, V> {
         ensures { (w : DeskPart K V) → StandsFor K.eq self.now w → result ≡ w.published }
     {
         self.published
+    }
+
+    /// The notice of this number, if one was opened.
+    pub fn notice(&self, number: u64) -> Result<Option<Notice<K, V>>, AllocError>
+    where
+        V: Clone,
+        requires keys { IsExact K.is_clone }
+        requires values { IsExact V.is_clone }
+        ensures { IfOk result (λ notice. (w : DeskPart K V) → StandsFor K.eq self.now w
+            → notice ≡ w.notices number) }
+    {
+        self.notices.notice(number)
+    }
+
+    /// The numbers of the notices that were opened, in the order in which they were.
+    pub fn opened(&self) -> &[u64]
+        ensures { (w : DeskPart K V) → StandsFor K.eq self.now w → result.now ≡ w.opened }
+    {
+        self.notices.opened.as_slice()
+    }
+
+    /// Whether the listener has answered that it is off.
+    pub fn is_off(&self) -> bool
+        ensures { (w : DeskPart K V) → StandsFor K.eq self.now w → result ≡ w.off }
+    {
+        self.notices.off
     }
 }

@@ -1,27 +1,31 @@
-//! What no clause says: that calls succeed with ample memory, and the counts of a worked example.
-
-ghost use Rattle.std.specs.Prelude.{◌≡◌};
-ghost use Rattle.moka_hist.specs.declared.loads.Kind.TheVariants as kind;
+//! What no clause says: that calls succeed with ample memory, and where the call numbers end.
 
 use crate::Desk;
-use crate::applied::Applied;
-use moka_hist::{Claim, Holding, Kind, Load, Settled, Takes, Told, Write};
+use moka_hist::{Cause, Claim, Kind, Load, Rules, Takes, Told};
 use std::test::Fail;
 
-fn load_of(key: u32) -> Load<u32>
-    ensures { result ≡ record { key = key; kind = kind.GetWith } }
-{
-    Load {
-        key,
-        kind: Kind::GetWith,
+fn rules() -> Rules {
+    Rules {
+        max_capacity: None,
+        time_to_live: None,
+        time_to_idle: None,
+        listener: true,
+        closures: false,
     }
 }
 
 #[test]
 fn call_numbers_end_with_the_greatest(rt: HostRuntime) -> Result<(), Fail> {
-    let mut desk: Desk<u32, u32> = Desk::starting_after(rt.alloc(), 1, u64::MAX - 1)?;
+    let mut desk: Desk<u32, u32> = Desk::starting_after(rt.alloc(), rules(), 1, u64::MAX - 1)?;
     assert_eq!(rt; desk.enter(), Some(u64::MAX));
     assert_eq!(rt; desk.enter(), None);
+    Ok(())
+}
+
+#[test]
+fn a_moment_is_taken(rt: HostRuntime) -> Result<(), Fail> {
+    let mut desk: Desk<u32, u32> = Desk::new(rt.alloc(), rules(), 4)?;
+    assert_eq!(rt; desk.stamp_moment(1)?, 0);
     assert!(rt; desk.at(7));
     assert!(rt; !desk.at(6));
     assert!(rt; desk.judge(1, 3)?);
@@ -29,63 +33,53 @@ fn call_numbers_end_with_the_greatest(rt: HostRuntime) -> Result<(), Fail> {
 }
 
 #[test]
-fn a_write_is_held_until_it_is_posted(rt: HostRuntime) -> Result<(), Fail> {
-    let mut desk: Desk<u32, u32> = Desk::new(rt.alloc(), 2)?;
-    let moment = desk.stamp_moment(1)?;
-    assert_eq!(rt;
-        desk.holding(1),
-        Some(Holding::Own {
-            pending: Some(moment)
-        })
-    );
-    let write = Write::Upsert {
-        number: 1,
-        old: None,
+fn a_load_is_owned(rt: HostRuntime) -> Result<(), Fail> {
+    let mut desk: Desk<u32, u32> = Desk::new(rt.alloc(), rules(), 4)?;
+    let load = Load {
+        key: 5,
+        kind: Kind::GetWith,
     };
-    assert!(rt; desk.post_write(1, write));
-    assert_eq!(rt; desk.holding(1), None);
+    assert_eq!(rt; desk.wait_or_own(1, load)?, Claim::Owner);
     Ok(())
 }
 
 #[test]
-fn an_owner_settles_for_its_waiter(rt: HostRuntime) -> Result<(), Fail> {
-    let mut desk: Desk<u32, u32> = Desk::new(rt.alloc(), 2)?;
-    let claim = desk.wait_or_own(1, load_of(5))?;
-    assert_eq!(rt; claim, Claim::Owner);
-    let claim = desk.wait_or_own(2, load_of(5))?;
-    assert_eq!(rt; claim, Claim::Waits { owner: 1 });
-    desk.settle(1, Settled::Ready(50));
-    let settled = desk.read_settled(2)?;
-    assert!(rt; matches!(settled, Settled::Ready(50)));
-    Ok(())
-}
-
-#[test]
-fn an_ask_is_open_until_it_is_told(rt: HostRuntime) -> Result<(), Fail> {
-    let mut desk: Desk<u32, u32> = Desk::new(rt.alloc(), 2)?;
+fn an_ask_takes_a_value(rt: HostRuntime) -> Result<(), Fail> {
+    let mut desk: Desk<u32, u32> = Desk::new(rt.alloc(), rules(), 4)?;
     desk.open_ask(3, Takes::Value)?;
-    let told = desk.take_told(3);
-    assert_eq!(rt; told, None);
-    assert!(rt; !desk.tell(4, Told::Value(9)));
-    assert!(rt; !desk.tell(3, Told::Done));
-    assert!(rt; desk.tell(3, Told::Value(9)));
+    assert!(rt; desk.tell(3, Told::Done).is_none());
+    assert!(rt; desk.tell(3, Told::Value(9)).is_some());
+    assert!(rt; desk.tell(3, Told::Value(9)).is_none());
     Ok(())
 }
 
 #[test]
-fn a_replaced_record_does_not_stand(rt: HostRuntime) -> Result<(), Fail> {
-    let mut applied = Applied::new(rt.alloc());
-    applied.reserve()?;
-    applied.reserve()?;
-    applied.push(Write::Upsert {
-        number: 1,
-        old: None,
-    });
-    assert_eq!(rt; applied.standing(), 1);
-    applied.push(Write::Upsert {
-        number: 2,
-        old: Some(1),
-    });
-    assert_eq!(rt; applied.standing(), 1);
+fn the_turn_is_taken(rt: HostRuntime) -> Result<(), Fail> {
+    let mut desk: Desk<u32, u32> = Desk::new(rt.alloc(), rules(), 4)?;
+    assert!(rt; desk.take_turn(1)?);
+    Ok(())
+}
+
+#[test]
+fn a_key_is_locked(rt: HostRuntime) -> Result<(), Fail> {
+    let mut desk: Desk<u32, u32> = Desk::new(rt.alloc(), rules(), 4)?;
+    assert!(rt; desk.lock_key(1, &5)?);
+    Ok(())
+}
+
+#[test]
+fn those_that_wait_for_a_notice_are_handed_out(rt: HostRuntime) -> Result<(), Fail> {
+    let mut desk: Desk<u32, u32> = Desk::new(rt.alloc(), rules(), 4)?;
+    let cause = desk.open_notice(1, 5, 50, 0, 0, None, true)?;
+    assert_eq!(rt; cause, Some(Cause::Replaced));
+    assert!(rt; !desk.notice_ended(4, 1)?);
+    assert!(rt; !desk.notice_ended(2, 1)?);
+    assert!(rt; !desk.notice_ended(4, 1)?);
+    assert!(rt; desk.tell(1, Told::Value(9)).is_none());
+    let woken = desk.tell(1, Told::Off).expect(&rt, "the notice runs");
+    assert_eq!(rt; woken.len(), 2);
+    assert_eq!(rt; woken.get(0), Some(4));
+    assert!(rt; desk.tell(1, Told::Done).is_none());
+    assert!(rt; desk.notice_ended(4, 1)?);
     Ok(())
 }

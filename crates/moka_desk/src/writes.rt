@@ -1,13 +1,16 @@
 //! The writes that were committed, in the places where the desk keeps them.
 
-ghost use Rattle.std.specs.Prelude.{◌≡◌, ℕ, ◌+◌, ◌≤◌, ◌<◌, None, Some, nat_lt, cond, [], ◌∷◌, ◌++◌, length, take, drop, is_some, IsSome, option_to_list, vec_capacity, OnOk, OnErr, IfOk};
+ghost use Rattle.std.specs.Prelude.{◌≡◌, ℕ, ◌+◌, ◌≤◌, ◌<◌, ◌≢◌, true, None, Some, nat_lt, cond, [], ◌∷◌, ◌++◌, length, take, drop, IsNone, IfSome, option_to_list, nat_eq, OnOk, OnErr, IfOk};
+ghost use Rattle.std.specs.HashMap.{get, hash_map_len};
 ghost use Rattle.std.specs.Option.{option_map};
 ghost use Rattle.std.specs.VecDeque.{deque_capacity};
-ghost use Rattle.moka_desk.specs.Held.{held_count};
+ghost use Rattle.moka_hist.specs.Finite.{times};
+ghost use Rattle.moka_hist.specs.Visits.{number_of as written_by};
+ghost use Rattle.moka_desk.specs.Held.{owed_at, owed_numbers};
 
 use crate::applied::Applied;
 use crate::held::Held;
-use moka_hist::Write;
+use moka_hist::{Owed, Write};
 use std::alloc::{AllocError, Global};
 use std::collections::VecDeque;
 
@@ -16,23 +19,25 @@ use std::collections::VecDeque;
 #[derive(Drop)]
 pub(crate) struct Writes {
     pub(crate) held: Held,
-    pub(crate) owed: VecDeque<Write>,
+    pub(crate) owed: VecDeque<Owed>,
     pub(crate) log: VecDeque<Write>,
     pub(crate) applied: Applied,
     pub(crate) size: usize,
     ghost log_is_short: { length log.items ≤ size },
     ghost log_has_room: { size ≤ deque_capacity log },
     ghost owed_has_room: { applied.room ≤ deque_capacity owed },
-    ghost taken_has_room: { applied.room ≤ vec_capacity held.taken },
-    ghost all_have_places: { held_count held + length owed.items + length log.items ≤ applied.room },
+    ghost all_have_places: { hash_map_len held.places + length log.items ≤ applied.room },
+    ghost nobody_holds_owed: { (n : ℕ) → times n (owed_numbers owed.items) ≡ owed_at (get nat_eq held.places n) },
 }
 
 impl Writes {
     ghost use Rattle.moka_hist.specs.Finite.{put_at};
-    ghost use Rattle.moka_hist.specs.Visits.{first_of, holding_with, without_moment};
+    ghost use Rattle.moka_hist.specs.Conditions.{held_number, IsPlaceOf, MayLeaveWith};
+    ghost use Rattle.moka_hist.specs.Visits.{first_of, holding_with, number_of, without_moment};
+    ghost use Rattle.moka_hist.specs.declared.writes.Holding.{Holding};
     ghost use Rattle.moka_hist.specs.declared.writes.Holding.TheVariants as holding;
-    ghost use Rattle.moka_desk.specs.Held.{holding_at};
-    ghost use Rattle.moka_desk.specs.Writes.{WritePart, WritesAre, WritesBecome};
+    ghost use Rattle.moka_desk.specs.Held.{is_holder};
+    ghost use Rattle.moka_desk.specs.Writes.{WritePart, WritesAre, WritesBecome, WritesBecomeIf};
 
     /// No write yet, and a log of this size.
     pub(crate) fn new(alloc: Global, size: usize) -> Result<Self, AllocError>
@@ -48,16 +53,18 @@ impl Writes {
         })
     }
 
-    /// Gives the call the places of a write of its own, with the moment: held, taken up, owed, logged
-    /// where the log has room, and applied.
+    /// Gives the call the places of a write of its own, with the moment: held, owed, logged where the
+    /// log has room, and applied. Nothing of its number is owed.
     pub(crate) fn stamp(&mut self, call: u64, moment: u64) -> Result<(), AllocError>
-        ensures ok { OnOk result (WritesBecome self.old (λ p. record p {
-          holding = put_at p.holding call (Some (holding.Own (Some moment)));
-        }) self.new) }
+        requires { times call (owed_numbers self.old.owed.items) ≡ 0 }
+        ensures ok { OnOk result (WritesBecomeIf self.old
+            (λ p. IsNone (p.holding call)
+            × ((n : ℕ) (h : Holding) → p.holding n ≡ Some h → held_number n h ≢ call))
+            (λ p. record p { holding = put_at p.holding call (Some (holding.Own (Some moment))) }) self.new) }
         ensures err { OnErr result (WritesBecome self.old (λ p. p) self.new) }
     {
         let room = self.applied.room.checked_add(1).ok_or(AllocError)?;
-        self.held.reserve(room)?;
+        self.held.reserve()?;
         self.owed.reserve(room)?;
         self.applied.reserve()?;
         self.held.stamp(call, moment);
@@ -74,25 +81,24 @@ impl Writes {
     }
 
     /// Lets the call, which holds none, take the oldest owed write up.
-    pub(crate) fn take_owed(&mut self, call: u64) -> Option<Write>
-        requires { holding_at self.old.held call ≡ None }
+    pub(crate) fn take_owed(&mut self, call: u64) -> Option<Owed>
         ensures first { result ≡ first_of self.old.owed.items }
-        ensures makes { WritesBecome self.old (λ p. record p {
-          holding = holding_with p.holding call (first_of p.owed);
+        ensures makes { WritesBecomeIf self.old (λ p. IsNone (p.holding call)) (λ p. record p {
+          holding = holding_with p.holding call (option_map (λ o. o.write) (first_of p.owed));
           owed = drop 1 p.owed;
         }) self.new }
     {
-        let write = self.owed.pop_front()?;
-        self.held.take_up(call, write);
-        Some(write)
+        let owed = self.owed.pop_front()?;
+        self.held.hand_over(number_of(&owed.write), Some(call));
+        Some(owed)
     }
 
     /// Appends the write, which the call holds, to the log, where that has room. A pending moment of
     /// the call ends in either case.
     pub(crate) fn post(&mut self, call: u64, write: Write) -> bool
-        requires { IsSome (holding_at self.old.held call) }
+        requires { is_holder (get nat_eq self.old.held.places (number_of write)) call ≡ true }
         ensures room { result ≡ nat_lt (length self.old.log.items) self.old.size }
-        ensures makes { WritesBecome self.old (λ p.
+        ensures makes { WritesBecomeIf self.old (λ p. IsPlaceOf (p.holding call) call write) (λ p.
             let room = nat_lt (length p.log) p.size in
             record p {
               holding = put_at p.holding call
@@ -104,7 +110,7 @@ impl Writes {
             self.held.decide(call);
             return false;
         }
-        let _ = self.held.clear(call);
+        self.held.clear(number_of(&write));
         self.log.push_back_reserved(write);
         true
     }
@@ -124,22 +130,52 @@ impl Writes {
 
     /// A call leaves: the write that it held is owed from then on. Where it hands none in, the place
     /// that it has for one is given up.
-    pub(crate) fn leave(&mut self, call: u64, held: Option<Write>)
-        requires { IsSome held → IsSome (holding_at self.old.held call) }
-        ensures makes { WritesBecome self.old (λ p. record p {
-          holding = put_at p.holding call None;
-          owed = p.owed ++ option_to_list held;
-        }) self.new }
-        ensures gives_up { held ≡ None → IsSome (holding_at self.old.held call)
-            → self.new.applied.room + 1 ≡ self.old.applied.room }
-        ensures keeps { is_some held ≡ is_some (holding_at self.old.held call)
-            → self.new.applied.room ≡ self.old.applied.room }
+    pub(crate) fn leave(&mut self, call: u64, held: Option<Owed>)
+        requires { IfSome held
+            (λ o. is_holder (get nat_eq self.old.held.places (number_of o.write)) call ≡ true) }
+        ensures makes { WritesBecomeIf self.old
+            (λ p. MayLeaveWith (p.holding call) call (option_map (λ o. o.write) held))
+            (λ p. record p {
+              holding = put_at p.holding call None;
+              owed = p.owed ++ option_to_list held;
+            }) self.new }
     {
-        let had_place = self.held.clear(call);
         match held {
-            Some(write) => self.owed.push_back_reserved(write),
-            None if had_place => self.applied.give_up(),
-            None => {}
+            Some(owed) => self.leave_owed(call, owed),
+            None => self.give_up(call),
         }
+    }
+
+    // The held write is owed from then on.
+    fn leave_owed(&mut self, call: u64, owed: Owed)
+        requires { is_holder (get nat_eq self.old.held.places (number_of owed.write)) call ≡ true }
+        ensures { WritesBecomeIf self.old (λ p. IsPlaceOf (p.holding call) call owed.write)
+            (λ p. record p {
+              holding = put_at p.holding call None;
+              owed = p.owed ++ owed ∷ [];
+            }) self.new }
+    {
+        self.held.hand_over(number_of(&owed.write), None);
+        self.owed.push_back_reserved(owed);
+    }
+
+    // The place that the call has for its own write, if any, is given up.
+    fn give_up(&mut self, call: u64)
+        ensures { WritesBecomeIf self.old (λ p. MayLeaveWith (p.holding call) call None)
+            (λ p. record p { holding = put_at p.holding call None }) self.new }
+    {
+        if self.held.is_held_by(call, call) {
+            self.held.clear(call);
+            self.applied.give_up();
+        }
+    }
+}
+
+// The number of the call that made the write.
+fn number_of(write: &Write) -> u64
+    ensures { result ≡ written_by write.now }
+{
+    match write {
+        Write::Upsert { number, old: _ } => *number,
     }
 }

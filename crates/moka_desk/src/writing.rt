@@ -1,23 +1,32 @@
 //! The visits that see to writes: owed, logged and applied.
 
-ghost use Rattle.std.specs.Prelude.{IsTrue, IfOk, OnOk, OnErr};
+ghost use Rattle.std.specs.Prelude.{◌≡◌, false, None, cond, IsTrue, IfOk, OnOk, OnErr};
+ghost use Rattle.std.specs.Bool.{OnTrue, OnFalse};
+ghost use Rattle.moka_sync.specs.Holders.{is_others};
 
 use crate::Desk;
-use moka_hist::Write;
+use moka_hist::{Owed, Write};
+use moka_sync::CallList;
 use std::alloc::AllocError;
 use std::hash::Hash;
 
 impl<K: Eq + Hash + Clone + Drop, V: Drop> Desk<K, V> {
-    ghost use Rattle.moka_hist.specs.Visits.{judged, decided as with_decided};
+    ghost use Rattle.moka_hist.specs.State.{DeskPart};
+    ghost use Rattle.moka_hist.specs.Visits.{is_free_for, judged, decided as with_decided};
     ghost use Rattle.moka_hist.specs.declared.visits.Visit.TheVariants as visit;
     ghost use Rattle.moka_hist.specs.declared.visits.Found.TheVariants as found;
-    ghost use Rattle.moka_desk.specs.StandsFor.{Can, Finds, Becomes, Makes, Stays};
+    ghost use Rattle.moka_desk.specs.StandsFor.{StandsFor, Can, Finds, Becomes, Makes, Stays};
+    ghost use Rattle.moka_desk.specs.ListedMiss.{MissAfter, MissWith};
+    ghost use Rattle.moka_desk.specs.Waits.{comes, leaves, stays, turn_line, waits_at, NobodyMoves, TurnsMove};
 
-    /// Takes the oldest owed write up, if there is one, for a call that holds none.
-    pub fn take_owed(&mut self, call: u64) -> Option<Write>
+    /// Takes the oldest owed write up, if there is one, for a call that holds none. Its notice is that of
+    /// which the listener was still hearing when its call left.
+    pub fn take_owed(&mut self, call: u64) -> Option<Owed>
         requires { Can K.eq self.old (visit.TakeOwed call) }
         ensures finds { Finds K.eq self.old (visit.TakeOwed call) (found.TakeOwed result) }
         ensures makes { Makes K.eq self.old (visit.TakeOwed call) self.new }
+        ensures quiet { NobodyMoves self.old self.new }
+        ensures misses { MissAfter K.eq self.old (visit.TakeOwed call) self.new }
     {
         self.writes.take_owed(call)
     }
@@ -30,6 +39,9 @@ impl<K: Eq + Hash + Clone + Drop, V: Drop> Desk<K, V> {
             (found.StampMoment moment)) }
         ensures makes { OnOk result (Makes K.eq self.old (visit.StampMoment call) self.new) }
         ensures err { OnErr result (Stays K.eq self.old self.new) }
+        ensures quiet { NobodyMoves self.old self.new }
+        ensures misses { OnOk result (MissAfter K.eq self.old (visit.StampMoment call) self.new) }
+        ensures misses_still { OnErr result (MissWith K.eq self.old (λ w. w) self.new) }
     {
         self.writes.stamp(call, self.clock)?;
         Ok(self.clock)
@@ -37,7 +49,9 @@ impl<K: Eq + Hash + Clone + Drop, V: Drop> Desk<K, V> {
 
     /// Ends the pending moment of the call.
     pub fn decided(&mut self, call: u64)
-        ensures { Becomes K.eq self.old (λ w. with_decided w call) self.new }
+        ensures makes { Becomes K.eq self.old (λ w. with_decided w call) self.new }
+        ensures quiet { NobodyMoves self.old self.new }
+        ensures misses { MissWith K.eq self.old (λ w. with_decided w call) self.new }
     {
         self.writes.decide(call);
     }
@@ -48,6 +62,10 @@ impl<K: Eq + Hash + Clone + Drop, V: Drop> Desk<K, V> {
         ensures finds { IfOk result (λ seen. IsTrue seen) }
         ensures makes { OnOk result (Becomes K.eq self.old (λ w. judged w stamp modified) self.new) }
         ensures err { OnErr result (Stays K.eq self.old self.new) }
+        ensures quiet { NobodyMoves self.old self.new }
+        ensures misses { OnOk result
+            (MissWith K.eq self.old (λ w. judged w stamp modified) self.new) }
+        ensures misses_still { OnErr result (MissWith K.eq self.old (λ w. w) self.new) }
     {
         let seen = self.accessed.get(&stamp).copied().unwrap_or(modified);
         self.accessed.insert(stamp, seen.max(self.clock))?;
@@ -60,24 +78,45 @@ impl<K: Eq + Hash + Clone + Drop, V: Drop> Desk<K, V> {
         requires { Can K.eq self.old (visit.PostWrite call write) }
         ensures finds { Finds K.eq self.old (visit.PostWrite call write) (found.PostWrite result) }
         ensures makes { Makes K.eq self.old (visit.PostWrite call write) self.new }
+        ensures quiet { NobodyMoves self.old self.new }
+        ensures misses { MissAfter K.eq self.old (visit.PostWrite call write) self.new }
     {
         self.writes.post(call, write)
     }
 
     /// Takes the maintenance turn for the call, which has it not. Answers false where another call has
-    /// it.
-    pub fn take_turn(&mut self, call: u64) -> bool
+    /// it; the call waits for it then, and only there memory may be wanting.
+    pub fn take_turn(&mut self, call: u64) -> Result<bool, AllocError>
         requires { Can K.eq self.old (visit.TakeTurn call) }
-        ensures finds { Finds K.eq self.old (visit.TakeTurn call) (found.TakeTurn result) }
-        ensures makes { Makes K.eq self.old (visit.TakeTurn call) self.new }
+        ensures finds { IfOk result (λ taken. Finds K.eq self.old (visit.TakeTurn call) (found.TakeTurn taken)) }
+        ensures makes { OnOk result (Makes K.eq self.old (visit.TakeTurn call) self.new) }
+        ensures err { OnErr result (Stays K.eq self.old self.new) }
+        // who waits
+        ensures taken { IfOk result (λ taken. OnTrue taken (TurnsMove self.old (leaves call) self.new)) }
+        ensures waits { IfOk result
+            (λ taken. OnFalse taken (TurnsMove self.old (waits_at self.old.turn call) self.new)) }
+        // want of memory
+        ensures unlisted { OnErr result (TurnsMove self.old stays self.new) }
+        ensures needs { OnErr result ((w : DeskPart K V) → StandsFor K.eq self.old w
+            → is_free_for w call ≡ false) }
+        // who is listed misses that thing
+        ensures misses { OnOk result (MissAfter K.eq self.old (visit.TakeTurn call) self.new) }
+        ensures misses_still { OnErr result (MissWith K.eq self.old (λ w. w) self.new) }
     {
-        match self.turn {
-            Some(holder) if holder != call => false,
-            _ => {
-                self.turn = Some(call);
-                true
-            }
+        if let Some(holder) = self.turn_of_another(call) {
+            self.waits.turns.wait(holder, call)?;
+            return Ok(false);
         }
+        self.waits.turns.leave(call);
+        self.turn = Some(call);
+        Ok(true)
+    }
+
+    // The call that has the turn, if that is another.
+    fn turn_of_another(&self, call: u64) -> Option<u64>
+        ensures { result ≡ cond (is_others self.now.turn call) self.now.turn None }
+    {
+        self.turn.filter(|holder| *holder != call)
     }
 
     /// Applies the oldest write of the log, for the call that has the turn. Answers whether there was
@@ -86,16 +125,23 @@ impl<K: Eq + Hash + Clone + Drop, V: Drop> Desk<K, V> {
         requires { Can K.eq self.old (visit.ApplyOne call) }
         ensures finds { Finds K.eq self.old (visit.ApplyOne call) (found.ApplyOne result) }
         ensures makes { Makes K.eq self.old (visit.ApplyOne call) self.new }
+        ensures quiet { NobodyMoves self.old self.new }
+        ensures misses { MissAfter K.eq self.old (visit.ApplyOne call) self.new }
     {
         self.writes.apply_one()
     }
 
     /// Publishes how many applied upserts stand unreplaced, and gives up the turn, which the call has.
-    pub fn end_turn(&mut self, call: u64)
+    /// Hands out all that wait for it.
+    pub fn end_turn(&mut self, call: u64) -> CallList
         requires { Can K.eq self.old (visit.EndTurn call) }
-        ensures { Makes K.eq self.old (visit.EndTurn call) self.new }
+        ensures makes { Makes K.eq self.old (visit.EndTurn call) self.new }
+        ensures woken { result ≡ turn_line self.old call }
+        ensures waits { TurnsMove self.old (comes call) self.new }
+        ensures misses { MissAfter K.eq self.old (visit.EndTurn call) self.new }
     {
         self.published = self.writes.applied.standing();
         self.turn = None;
+        self.waits.turns.take(call).take_all()
     }
 }

@@ -2,7 +2,7 @@
 ghost use Rattle.std.specs.Prelude.{nat_eq};
 ghost use Rattle.moka_run.specs.Machine.{IsValid};
 
-use moka_hist::{Event, Place, Reply, Stored};
+use moka_hist::{Event, Place, Reply, Rules, Stored};
 use moka_run::{Machine, run};
 use moka_text::read_schedule;
 use moka_vectors::text_of;
@@ -13,7 +13,7 @@ use std::test::Fail;
 /// What a schedule came to: the replies, what is stored by key, and where the writes stand.
 #[derive(PartialEq, Debug, Drop)]
 struct Outcome {
-    replies: Vec<Reply<u32>>,
+    replies: Vec<Reply<u32, u32>>,
     entries: Vec<(u32, Stored<u32>)>,
     places: Vec<(u64, Place)>,
 }
@@ -37,7 +37,7 @@ fn reply_to(
     alloc: Global,
     machine: &mut Machine<u32, u32>,
     event: &Event<u32, u32>,
-) -> Option<Reply<u32>>
+) -> Option<Reply<u32, u32>>
     requires { IsValid nat_eq machine.old }
     ensures { IsValid nat_eq machine.new }
 {
@@ -52,7 +52,11 @@ fn reply_to(
 }
 
 /// The reply that a poll gives, by single steps, of which there are at most a hundred.
-fn reply_by_steps(alloc: Global, machine: &mut Machine<u32, u32>, call: u64) -> Option<Reply<u32>>
+fn reply_by_steps(
+    alloc: Global,
+    machine: &mut Machine<u32, u32>,
+    call: u64,
+) -> Option<Reply<u32, u32>>
     requires { IsValid nat_eq machine.old }
     ensures { IsValid nat_eq machine.new }
 {
@@ -72,7 +76,14 @@ fn comes_to(alloc: Global, row: &str, by_steps: bool) -> Result<Outcome, AllocEr
     if schedule.log < 1 || schedule.log > 65536 {
         return Err(AllocError);
     }
-    let mut machine = Machine::build(alloc, schedule.log)?;
+    let rules = Rules {
+        max_capacity: None,
+        time_to_live: None,
+        time_to_idle: None,
+        listener: schedule.rules.listener,
+        closures: false,
+    };
+    let mut machine = Machine::build(alloc, rules, schedule.log)?;
     let mut replies = Vec::new(alloc);
     for event in &schedule.events {
         replies.push(served(alloc, &mut machine, event, by_steps)?)?;
@@ -92,7 +103,7 @@ fn served(
     machine: &mut Machine<u32, u32>,
     event: &Event<u32, u32>,
     by_steps: bool,
-) -> Result<Reply<u32>, AllocError>
+) -> Result<Reply<u32, u32>, AllocError>
     requires { IsValid nat_eq machine.old }
     ensures { IsValid nat_eq machine.new }
 {

@@ -5,7 +5,7 @@
 ghost use Rattle.std.specs.Prelude.{nat_eq, IfOk};
 ghost use Rattle.moka_run.specs.Machine.{IsValid};
 
-use moka_hist::{Event, Reply};
+use moka_hist::{Event, Reply, Rules};
 use moka_run::{Machine, Memory, Report, run};
 use moka_text::{read_schedule, write_report};
 use moka_vectors::text_of;
@@ -23,7 +23,7 @@ const TRIES: usize = 3;
 struct Row {
     events: Vec<Event<u32, u32>>,
     machine: Machine<u32, u32>,
-    replies: Vec<Reply<u32>>,
+    replies: Vec<Reply<u32, u32>>,
     report: String,
 }
 
@@ -36,7 +36,14 @@ fn made(alloc: Global, schedule: &str, report: &str) -> Result<Row, AllocError>
     if schedule.log < 1 || schedule.log > 65536 {
         return Err(AllocError);
     }
-    let machine = Machine::build(alloc, schedule.log)?;
+    let rules = Rules {
+        max_capacity: None,
+        time_to_live: None,
+        time_to_idle: None,
+        listener: schedule.rules.listener,
+        closures: false,
+    };
+    let machine = Machine::build(alloc, rules, schedule.log)?;
     let replies = Vec::with_capacity(alloc, schedule.events.len())?;
     Ok(Row {
         events: schedule.events,
@@ -47,7 +54,7 @@ fn made(alloc: Global, schedule: &str, report: &str) -> Result<Row, AllocError>
 }
 
 /// Appends the replies, for which there is room.
-fn keep(replies: &mut Vec<Reply<u32>>, more: &[Reply<u32>]) -> Result<(), AllocError> {
+fn keep(replies: &mut Vec<Reply<u32, u32>>, more: &[Reply<u32, u32>]) -> Result<(), AllocError> {
     for reply in more {
         replies.push(reply.clone()?)?;
     }
@@ -57,7 +64,7 @@ fn keep(replies: &mut Vec<Reply<u32>>, more: &[Reply<u32>]) -> Result<(), AllocE
 /// The events after those that were done, of which each has its reply.
 fn rest_after<'a>(
     events: &'a [Event<u32, u32>],
-    memory: &Memory<u32>,
+    memory: &Memory<u32, u32>,
 ) -> Option<&'a [Event<u32, u32>]> {
     if memory.replies.len() as u64 != memory.done {
         return None;
@@ -71,7 +78,7 @@ fn run_on(
     name: &str,
     machine: &mut Machine<u32, u32>,
     events: &[Event<u32, u32>],
-    replies: &mut Vec<Reply<u32>>,
+    replies: &mut Vec<Reply<u32, u32>>,
 ) -> Result<Report<u32, u32>, Fail>
     requires { IsValid nat_eq machine.old }
 {
@@ -118,17 +125,18 @@ fn comes_to(
 fn text_of_report(
     rt: &(impl AllocGlobal + Eprint),
     name: &str,
-    replies: &[Reply<u32>],
+    replies: &[Reply<u32, u32>],
     report: Report<u32, u32>,
 ) -> Result<String, Fail> {
     let mut entries = report.entries.into_vec();
     entries.sort_unstable_by_key(|entry| entry.0);
     let places = report.places.as_slice();
-    match write_report(rt.alloc(), replies, &entries, places) {
+    let notices = report.notices.as_slice();
+    match write_report(rt.alloc(), replies, &entries, places, notices) {
         Ok(text) => Ok(text),
         Err(_) => {
             eprintln!(rt; "wanting in {name}: after the run")?;
-            Ok(write_report(rt.alloc(), replies, &entries, places)?)
+            Ok(write_report(rt.alloc(), replies, &entries, places, notices)?)
         }
     }
 }

@@ -24,6 +24,14 @@ IsPlaceOf None call write = ⊥
 IsPlaceOf (Some (holding.Own pending)) call write = number_of write ≡ call
 IsPlaceOf (Some (holding.TookUp held)) call write = write ≡ held
 
+-- a call that holds this may leave this write to others, if any: it holds it; and where it leaves none, it
+-- took none up
+abbrev pub MayLeaveWith : Option Holding → ℕ → Option Write → Type 0
+MayLeaveWith held call (Some write) = IsPlaceOf held call write
+MayLeaveWith None call None = Unit {0}
+MayLeaveWith (Some (holding.Own pending)) call None = Unit {0}
+MayLeaveWith (Some (holding.TookUp write)) call None = ⊥
+
 -- an owner of a load of this kind may end so
 abbrev pub may_end : {V : Type 0} → Kind → Settled V → Bool
 may_end kind.GetWith settled.NotYet = false
@@ -37,7 +45,7 @@ module _ {K V : Type 0} where
 
   -- the numbers of the writes that stand with the desk: owed, logged or applied
   abbrev pub numbers_of : DeskPart K V → List ℕ
-  numbers_of w = map number_of (w.owed ++ w.log ++ w.applied)
+  numbers_of w = map number_of (map (λ o. o.write) w.owed ++ w.log ++ w.applied)
 
   -- no write of the number is owed, logged, applied or held
   pub record IsUnused (w : DeskPart K V) (number : ℕ) : Type 0 where
@@ -45,10 +53,15 @@ module _ {K V : Type 0} where
     pub held : (n : ℕ) (h : Holding) → w.holding n ≡ Some h → held_number n h ≢ number
 
   -- The desk allows the visit. A call holds one write at a time, and owns or awaits one load at a
-  -- time; it settles what it owns, posts what it holds, and applies the log while it has the turn.
+  -- time; it settles what it owns, posts what it holds, frees the lock that it holds,
+  -- opens one notice, and applies the log while it has the turn.
   abbrev pub MayVisit : DeskPart K V → Visit K V → Type 0
   MayVisit w (visit.Clock call) = Unit {0}
   MayVisit w (visit.TakeOwed call) = IsNone (w.holding call)
+  MayVisit w (visit.NoticeEnded call number) = Unit {0}
+  MayVisit w (visit.LockKey call key) = IsNone (w.locked call)
+  MayVisit w (visit.UnlockKey call) = IsSome (w.locked call)
+  MayVisit w (visit.OpenNotice call key value stamp modified cause upsert) = IsNone (w.notices call)
   MayVisit w (visit.StampMoment call) = IsNone (w.holding call) × IsUnused w call
   MayVisit w (visit.Judge key stored) = Unit {0}
   MayVisit w (visit.WaitOrOwn call key kind) = IsNone (w.owning call) × IsNone (w.joined call)
@@ -64,5 +77,4 @@ module _ {K V : Type 0} where
 
   -- the desk allows the call to leave this write to others, if any: it holds it
   abbrev pub MayLeave : DeskPart K V → ℕ → Option Write → Type 0
-  MayLeave w call None = Unit {0}
-  MayLeave w call (Some write) = HoldsWrite w call write
+  MayLeave w call write = MayLeaveWith (w.holding call) call write

@@ -11,11 +11,13 @@ pub mod Posting
 pub mod Looking
 pub mod Loading
 pub mod Writing
+pub mod Listening
 pub mod Step
 pub mod Dropping
 pub mod Telling
 pub mod Run
 pub mod Missing
+pub mod Notices
 pub mod Places
 pub mod Visible
 pub mod Causes

@@ -41,7 +41,7 @@ module _ {K V : Type 0} where
 
   -- a told value is stored, and then told to those that wait
   abbrev pub after_told : Call K V → Load K → Found V → Next K V
-  after_told c load (found.TakeTold (Some (told.Value value))) = goes c (loaded load value)
+  after_told c load (found.TakeTold (Some (told.Value value))) = goes c (loaded c.rules load value)
   after_told c load _ = waits c
 
   abbrev pub after_settle : Call K V → List (Item K V) → Found V → Next K V

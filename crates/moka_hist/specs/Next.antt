@@ -11,7 +11,7 @@ use Rattle.moka_hist.specs.declared.accesses.Turn.TheVariants as turn
 
 pub record Next (K V : Type 0) : Type 0 where
   pub left : Option (Call K V)
-  pub turn : turns.Turn V
+  pub turn : turns.Turn K V
 
 module _ {K V : Type 0} where
   -- the call answers, and is no longer live
@@ -32,5 +32,5 @@ module _ {K V : Type 0} where
   waits c = record { left = Some (record c { mode = mode.Parked }); turn = turn.Wait }
 
   -- the call asks its caller, and is parked
-  abbrev pub asks : Call K V → reply.Ask → List (Item K V) → Next K V
+  abbrev pub asks : Call K V → reply.Ask K V → List (Item K V) → Next K V
   asks c ask rest = record { left = Some (record c { mode = mode.Parked; plan = rest }); turn = turn.Ask ask }

@@ -4,6 +4,7 @@ use Rattle.moka_hist.specs.Finite.{load_eq, times}
 use Rattle.moka_hist.specs.State.{Call, State}
 use Rattle.moka_hist.specs.Plan.{Item, held_by}
 use Rattle.moka_hist.specs.Plan as plan
+use Rattle.moka_hist.specs.Notices.{NoticesAreSettled}
 use Rattle.moka_hist.specs.Visits.{number_of}
 use Rattle.moka_hist.specs.Conditions.{HoldsWrite}
 use Rattle.moka_hist.specs.declared.loads.Load.{Load}
@@ -23,7 +24,7 @@ module _ {K V : Type 0} where
   -- the write of this number stands there
   abbrev pub StandsAt : State K V → Place → ℕ → Type 0
   StandsAt s place.Held number = (n : ℕ) × Holds s n number
-  StandsAt s place.Owed number = 0 < times number (map number_of s.world.desk.owed)
+  StandsAt s place.Owed number = 0 < times number (map (λ o. number_of o.write) s.world.desk.owed)
   StandsAt s place.Logged number = 0 < times number (map number_of s.world.desk.log)
   StandsAt s place.Applied number = 0 < times number (map number_of s.world.desk.applied)
 
@@ -33,7 +34,7 @@ module _ {K V : Type 0} where
     pub stands : StandsAt s place number
     pub only : (other : Place) → StandsAt s other number → other ≡ place
     pub one_holder : (n m : ℕ) → Holds s n number → Holds s m number → n ≡ m
-    pub once_owed : times number (map number_of s.world.desk.owed) ≤ 1
+    pub once_owed : times number (map (λ o. number_of o.write) s.world.desk.owed) ≤ 1
     pub once_logged : times number (map number_of s.world.desk.log) ≤ 1
     pub once_applied : times number (map number_of s.world.desk.applied) ≤ 1
 
@@ -51,9 +52,11 @@ module _ {K V : Type 0} where
       HoldsWrite s.world.desk n write
 
   -- What holds in every state of a run: no number commits twice, each committed write stands in
-  -- exactly one place, no other write stands anywhere, and no key and kind has two open initializers.
+  -- exactly one place, no other write stands anywhere, each replaced record has its notice, and no key and
+  -- kind has two open initializers.
   pub record IsLawful (eq : K → K → Bool) (s : State K V) : Type 0 where
     pub commits_once : (number : ℕ) → times number s.world.table.committed ≤ 1
     pub one_place : (number : ℕ) → Contains s.world.table.committed number → StandsOnce s number
     pub committed : (number : ℕ) (place : Place) → StandsAt s place number → Contains s.world.table.committed number
+    pub notices : NoticesAreSettled s
     pub one_initializer : (n m : ℕ) (a b : Load K) → Initializes s n a → Initializes s m b → load_eq eq a b ≡ true → n ≡ m

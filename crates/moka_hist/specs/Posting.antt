@@ -1,5 +1,5 @@
 -- Taking up owed writes, posting, and applying the log.
-use Rattle.std.specs.Prelude.{List, ◌∷◌, true, false, Some, None}
+use Rattle.std.specs.Prelude.{ℕ, List, ◌∷◌, true, false, Option, Some, None}
 use Rattle.moka_hist.specs.State.{Call}
 use Rattle.moka_hist.specs.Plan.{Item}
 use Rattle.moka_hist.specs.Plan as plan
@@ -9,10 +9,17 @@ use Rattle.moka_hist.specs.declared.visits.Found.TheVariants as found
 use Rattle.moka_hist.specs.declared.writes.Write.{Write}
 
 module _ {K V : Type 0} where
-  -- an owed write is taken up and posted, and the next one after it; the last part ends where none is owed
+  -- go on once the notice has ended, if there is one
+  abbrev pub once_ended : Option ℕ → List (Item K V) → List (Item K V)
+  once_ended None rest = rest
+  once_ended (Some notice) rest = plan.Ended notice ∷ rest
+
+  -- an owed write is taken up and posted, once its notice has ended, and the next one after it; the part
+  -- ends where none is owed
   abbrev pub after_drain : Call K V → List (Item K V) → Found V → Next K V
   after_drain c rest (found.TakeOwed None) = goes c rest
-  after_drain c rest (found.TakeOwed (Some write)) = goes c (plan.Post write ∷ plan.Drain ∷ rest)
+  after_drain c rest (found.TakeOwed (Some owed)) =
+      goes c (once_ended owed.notice (plan.Post owed.write ∷ plan.Drain ∷ rest))
   after_drain c rest _ = waits c
 
   -- a full log is applied first, by this call

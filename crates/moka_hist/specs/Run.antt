@@ -8,6 +8,7 @@ use Rattle.moka_hist.specs.Dropping.{dropped}
 use Rattle.moka_hist.specs.Telling.{is_asked, told}
 use Rattle.moka_hist.specs.declared.records.Mode.{Mode}
 use Rattle.moka_hist.specs.declared.records.Mode.TheVariants as mode
+use Rattle.moka_hist.specs.declared.rules.Rules.{Rules}
 use Rattle.moka_hist.specs.declared.events.Start.{Start}
 use Rattle.moka_hist.specs.declared.events.Event.{Event}
 use Rattle.moka_hist.specs.declared.events.Event.TheVariants as event
@@ -22,17 +23,17 @@ use Rattle.moka_hist.specs.declared.accesses.Turn.TheVariants as turn
 abbrev pub last_call : ℕ
 last_call = 2 ^ 64 - 1
 
-module _ {V : Type 0} where
+module _ {K V : Type 0} where
   -- a step's reply
-  abbrev pub reply_of : Turn V → Reply V
+  abbrev pub reply_of : Turn K V → Reply K V
   reply_of turn.Going = reply.Going
   reply_of turn.Wait = reply.Wait
   reply_of (turn.Ask ask) = reply.Ask ask
   reply_of (turn.Answer answer) = reply.Answer answer
 
 module _ {K V : Type 0} where
-  abbrev pub fresh_call : Start K V → Call K V
-  fresh_call start = record { mode = mode.Fresh; plan = plan_of start; aborts = 0 }
+  abbrev pub fresh_call : Rules → Start K V → Call K V
+  fresh_call rules start = record { rules = rules; mode = mode.Fresh; plan = plan_of rules start; aborts = 0 }
 
   -- the state with this desk
   abbrev pub with_desk : State K V → DeskPart K V → State K V
@@ -48,16 +49,16 @@ module _ {K V : Type 0} where
       let n : ℕ = s.world.desk.last + 1 in
       record {
         world = record s.world { desk = record s.world.desk { last = n } };
-        calls = put_at s.calls n (Some (fresh_call start));
+        calls = put_at s.calls n (Some (fresh_call s.world.desk.rules start));
       }
 
   -- refused for this reason, and nothing has changed
-  pub record Refuses (s : State K V) (why : Refusal) (r : Reply V) (new : State K V) : Type 0 where
+  pub record Refuses (s : State K V) (why : Refusal) (r : Reply K V) (new : State K V) : Type 0 where
     pub reply : r ≡ reply.Refused why
     pub same : new ≡ s
 
   -- carried out with this reply, and this is the state then
-  pub record Becomes (next : State K V) (answer : Reply V) (r : Reply V) (new : State K V) : Type 0 where
+  pub record Becomes (next : State K V) (answer : Reply K V) (r : Reply K V) (new : State K V) : Type 0 where
     pub reply : r ≡ answer
     pub after : new ≡ next
 
@@ -68,13 +69,13 @@ module _ {K V : Type 0} where
       (mid : State K V) × Goings eq P k s n mid × Step eq mid n turn.Going new × P new
 
   -- one step of the live call, with its reply
-  pub record Steps (eq : K → K → Bool) (s : State K V) (n : ℕ) (r : Reply V) (new : State K V) : Type 0 where
-    pub turn : Turn V
+  pub record Steps (eq : K → K → Bool) (s : State K V) (n : ℕ) (r : Reply K V) (new : State K V) : Type 0 where
+    pub turn : Turn K V
     pub step : Step eq s n turn new
     pub reply : r ≡ reply_of turn
 
   -- steps of the live call, all Going but the last, whose reply is the event's
-  pub record Polls (eq : K → K → Bool) (P : State K V → Type 0) (s : State K V) (n : ℕ) (r : Reply V) (new : State K V) : Type 0 where
+  pub record Polls (eq : K → K → Bool) (P : State K V → Type 0) (s : State K V) (n : ℕ) (r : Reply K V) (new : State K V) : Type 0 where
     pub going : ℕ
     pub mid : State K V
     pub goes : Goings eq P going s n mid
@@ -82,13 +83,13 @@ module _ {K V : Type 0} where
     pub ends : r ≢ reply.Going
 
   -- a call is dropped but between two steps
-  abbrev pub Drops : State K V → ℕ → Call K V → Mode → Reply V → State K V → Type 0
+  abbrev pub Drops : State K V → ℕ → Call K V → Mode → Reply K V → State K V → Type 0
   Drops s n c mode.Mid r new = Refuses s refusal.NotParked r new
   Drops s n c mode.Fresh r new = Becomes (dropped s n c) reply.Dropped r new
   Drops s n c mode.Parked r new = Becomes (dropped s n c) reply.Dropped r new
 
   -- what an event may reply, and the state then
-  abbrev pub Happens : (K → K → Bool) → (State K V → Type 0) → State K V → Event K V → Reply V → State K V → Type 0
+  abbrev pub Happens : (K → K → Bool) → (State K V → Type 0) → State K V → Event K V → Reply K V → State K V → Type 0
   Happens eq P s (event.At moment) r new =
       MatchBool (nat_lt moment s.world.desk.clock)
       (Refuses s refusal.ClockBack r new)
@@ -109,7 +110,7 @@ module _ {K V : Type 0} where
       MatchOption (s.calls n) (Refuses s refusal.UnknownCall r new) (λ c. Drops s n c c.mode r new)
 
   -- the events one after the other, each with its reply, through states that meet P
-  abbrev pub Run : (K → K → Bool) → (State K V → Type 0) → State K V → List (Event K V) → List (Reply V) → State K V → Type 0
+  abbrev pub Run : (K → K → Bool) → (State K V → Type 0) → State K V → List (Event K V) → List (Reply K V) → State K V → Type 0
   Run eq P s [] [] new = new ≡ s
   Run eq P s (e ∷ es) (r ∷ rs) new =
       (mid : State K V) × Happens eq P s e r mid × P mid × Run eq P mid es rs new
@@ -120,10 +121,12 @@ module _ {K V : Type 0} where
   abbrev pub Any : State K V → Type 0
   Any s = Unit {0}
 
-  -- the state comes after some events on a fresh cache with a log of some size, at least of one write
+  -- the state comes after some events on a fresh cache of some rules with a log of some size, at least of
+  -- one write
   pub record IsReached (eq : K → K → Bool) (s : State K V) : Type 0 where
+    pub rules : Rules
     pub size : ℕ
     pub has_log : 0 < size
     pub events : List (Event K V)
-    pub replies : List (Reply V)
-    pub run : Run eq Any (fresh K V size) events replies s
+    pub replies : List (Reply K V)
+    pub run : Run eq Any (fresh K V rules size) events replies s

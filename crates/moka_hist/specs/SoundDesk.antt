@@ -20,3 +20,7 @@ pub record SoundDesk {K V : Type 0} (eq : K → K → Bool) (w : DeskPart K V) :
   pub owns : (l : Load K) (n : ℕ) → w.owners l ≡ Some n →
       IsSomeAnd (w.owning n) (λ own. load_eq eq own l ≡ true)
   pub owned : (l : Load K) (n : ℕ) → w.owning n ≡ Some l → w.owners l ≡ Some n
+  -- the same of locks: equal keys have one holder, which holds the lock of an equal key
+  pub one_locker : (a b : K) → eq a b ≡ true → w.locks a ≡ w.locks b
+  pub locks : (k : K) (n : ℕ) → w.locks k ≡ Some n → IsSomeAnd (w.locked n) (λ own. eq own k ≡ true)
+  pub locked : (k : K) (n : ℕ) → w.locked n ≡ Some k → w.locks k ≡ Some n

@@ -1,12 +1,15 @@
 -- The state of the reference cache, by layer.
-use Rattle.std.specs.Prelude.{ℕ, List, [], Option, None}
+use Rattle.std.specs.Prelude.{ℕ, Bool, false, List, [], Option, None}
 use Rattle.moka_hist.specs.declared.loads.Load.{Load}
+use Rattle.moka_hist.specs.declared.notices.Notice.{Notice}
 use Rattle.moka_hist.specs.declared.records.Mode.{Mode}
 use Rattle.moka_hist.specs.declared.records.Stored.{Stored}
+use Rattle.moka_hist.specs.declared.rules.Rules.{Rules}
 use Rattle.moka_hist.specs.declared.events.Told.{Told}
 use Rattle.moka_hist.specs.declared.visits.Settled.{Settled}
 use Rattle.moka_hist.specs.declared.visits.Takes.{Takes}
 use Rattle.moka_hist.specs.declared.writes.Holding.{Holding}
+use Rattle.moka_hist.specs.declared.writes.Owed.{Owed}
 use Rattle.moka_hist.specs.declared.writes.Write.{Write}
 use Rattle.moka_hist.specs.Plan.{Item}
 
@@ -22,13 +25,15 @@ pub record TablePart (K V : Type 0) : Type 0 where
 
 -- What the desk keeps.
 pub record DeskPart (K V : Type 0) : Type 0 where
+  -- what the cache was built with
+  pub rules : Rules
   pub clock : ℕ
   -- the moment at which a stamp's record was last seen; where there is none, that of its write
   pub accessed : ℕ → Option ℕ
   -- what a call holds: the place of a write of its own, or an owed write that it took up
   pub holding : ℕ → Option Holding
-  -- the writes that dropped calls left, the log, and what was applied, oldest first
-  pub owed : List Write
+  -- the writes that dropped calls left, with the notices that ran then; the log; and what was applied; oldest first
+  pub owed : List Owed
   pub log : List Write
   pub applied : List Write
   -- the call that has the maintenance turn
@@ -47,13 +52,22 @@ pub record DeskPart (K V : Type 0) : Type 0 where
   pub readers : ℕ → ℕ
   -- how an owner ended, as long as somebody has still to read it
   pub settled : ℕ → Option (Settled V)
+  -- the call that holds a key's lock, and the key whose lock a call holds
+  pub locks : K → Option ℕ
+  pub locked : ℕ → Option K
+  -- the notices that were opened, and their numbers, oldest first
+  pub notices : ℕ → Option (Notice K V)
+  pub opened : List ℕ
+  -- the listener has answered Off: it hears of no further record
+  pub off : Bool
   -- what an open ask takes, and what was told to one that is closed and not taken yet
   pub asks : ℕ → Option Takes
   pub told : ℕ → Option (Told V)
 
 -- What a live call is to the reference: how far it is, what it has still to do, and how often it
--- has read that an owner was dropped.
+-- has read that an owner was dropped; beside them the rules of its cache.
 pub record Call (K V : Type 0) : Type 0 where
+  pub rules : Rules
   pub mode : Mode
   pub plan : List (Item K V)
   pub aborts : ℕ
@@ -77,10 +91,11 @@ pub record State (K V : Type 0) : Type 0 where
 abbrev pub empty_table : (K V : Type 0) → TablePart K V
 empty_table K V = record { stored = λ _. None; keys = 0; peak = 0; committed = [] }
 
--- a desk with a log of this size, where nothing has happened
-abbrev pub fresh_desk : (K V : Type 0) → ℕ → DeskPart K V
-fresh_desk K V size =
+-- a desk by these rules with a log of this size, where nothing has happened
+abbrev pub fresh_desk : (K V : Type 0) → Rules → ℕ → DeskPart K V
+fresh_desk K V rules size =
     record {
+      rules = rules;
       clock = 0;
       accessed = λ _. None;
       holding = λ _. None;
@@ -96,14 +111,23 @@ fresh_desk K V size =
       joined = λ _. None;
       readers = λ _. 0;
       settled = λ _. None;
+      locks = λ _. None;
+      locked = λ _. None;
+      notices = λ _. None;
+      opened = [];
+      off = false;
       asks = λ _. None;
       told = λ _. None;
     }
 
 -- nothing is stored, no call was started, and the clock is 0
-abbrev pub fresh : (K V : Type 0) → ℕ → State K V
-fresh K V size =
+abbrev pub fresh : (K V : Type 0) → Rules → ℕ → State K V
+fresh K V rules size =
     record {
-      world = record { table = empty_table K V; desk = fresh_desk K V size; stay = record { call = 0; times = 0 } };
+      world = record {
+        table = empty_table K V;
+        desk = fresh_desk K V rules size;
+        stay = record { call = 0; times = 0 };
+      };
       calls = λ _. None;
     }

@@ -1,5 +1,5 @@
 -- One step of a call: one access, and what follows from its answer.
-use Rattle.std.specs.Prelude.{◌<◌, ◌≢◌, suc, zero, ◌≡◌, ℕ, Bool, true, false, List, [], ◌∷◌, Some}
+use Rattle.std.specs.Prelude.{◌<◌, ◌≢◌, suc, zero, ◌≡◌, ℕ, Bool, true, false, List, [], ◌∷◌, Some, None}
 use Rattle.moka_hist.specs.Finite.{put_at}
 use Rattle.moka_hist.specs.State.{Call, TablePart, World, State}
 use Rattle.moka_hist.specs.Plan.{Item}
@@ -12,6 +12,7 @@ use Rattle.moka_hist.specs.Next.{Next, goes, waits}
 use Rattle.moka_hist.specs.Posting.{after_drain, after_post, after_turn, after_apply, after_end}
 use Rattle.moka_hist.specs.Looking.{after_get, after_judge}
 use Rattle.moka_hist.specs.Loading.{after_own, after_read, after_ask, after_told, after_settle}
+use Rattle.moka_hist.specs.Listening.{after_lock, after_unlock, after_notice, after_hearing}
 use Rattle.moka_hist.specs.Writing.{after_moment, after_write}
 use Rattle.moka_hist.specs.declared.loads.Kind.{Kind}
 use Rattle.moka_hist.specs.declared.loads.Kind.TheVariants as kind
@@ -44,6 +45,7 @@ module _ {K V : Type 0} where
   -- the access that an item needs
   abbrev pub access_for : ℕ → Item K V → Access K V
   access_for n plan.Drain = On_desk (visit.TakeOwed n)
+  access_for n (plan.Ended number) = On_desk (visit.NoticeEnded n number)
   access_for n (plan.Post write) = On_desk (visit.PostWrite n write)
   access_for n plan.Turn = On_desk (visit.TakeTurn n)
   access_for n plan.Apply = On_desk (visit.ApplyOne n)
@@ -55,6 +57,11 @@ module _ {K V : Type 0} where
   access_for n (plan.Settle with) = On_desk (visit.Settle n with)
   access_for n (plan.Ask load) = On_desk (visit.OpenAsk n (takes_of load.kind))
   access_for n (plan.Told load) = On_desk (visit.TakeTold n)
+  access_for n (plan.Lock key) = On_desk (visit.LockKey n key)
+  access_for n plan.Unlock = On_desk (visit.UnlockKey n)
+  access_for n (plan.Notice key old) =
+      On_desk (visit.OpenNotice n key old.value old.stamp old.modified None true)
+  access_for n plan.Heard = On_desk (visit.NoticeEnded n n)
   access_for n (plan.Moment key value) = On_desk (visit.StampMoment n)
   access_for n (plan.Write key value moment) =
       On_table (op.InsertOrModify key (record { value = value; stamp = n; modified = moment }))
@@ -77,12 +84,13 @@ module _ {K V : Type 0} where
   -- how a call goes on after a step of its table operation
   abbrev pub after_table : ℕ → Call K V → Item K V → List (Item K V) → TableTurn K V → Next K V
   after_table n c (plan.Get aim key) rest turn = after_get c aim turn
-  after_table n c (plan.Write key value moment) rest turn = after_write n c rest turn
+  after_table n c (plan.Write key value moment) rest turn = after_write n c key rest turn
   after_table n c _ rest turn = waits c
 
   -- how a call goes on after its visit
   abbrev pub after_visit : Call K V → Item K V → List (Item K V) → Found V → Next K V
   after_visit c plan.Drain rest f = after_drain c rest f
+  after_visit c (plan.Ended number) rest f = after_hearing c rest f
   after_visit c (plan.Post write) rest f = after_post c write rest f
   after_visit c plan.Turn rest f = after_turn c rest f
   after_visit c plan.Apply rest f = after_apply c rest f
@@ -93,6 +101,10 @@ module _ {K V : Type 0} where
   after_visit c (plan.Settle with) rest f = after_settle c rest f
   after_visit c (plan.Ask load) rest f = after_ask c load f
   after_visit c (plan.Told load) rest f = after_told c load f
+  after_visit c (plan.Lock key) rest f = after_lock c rest f
+  after_visit c plan.Unlock rest f = after_unlock c rest f
+  after_visit c (plan.Notice key old) rest f = after_notice c key old rest f
+  after_visit c plan.Heard rest f = after_hearing c rest f
   after_visit c (plan.Moment key value) rest f = after_moment c key value rest f
   after_visit c (plan.Reply answer) rest f = goes c (plan.Reply answer ∷ [])
   after_visit c (plan.Get aim key) rest f = waits c
@@ -124,7 +136,7 @@ module _ {K V : Type 0} where
   state_after s n w next = record { world = w; calls = put_at s.calls n next.left }
 
   -- one step of the live call of this number
-  pub record Step (eq : K → K → Bool) (s : State K V) (n : ℕ) (turn : Turn V) (new : State K V) : Type 0 where
+  pub record Step (eq : K → K → Bool) (s : State K V) (n : ℕ) (turn : Turn K V) (new : State K V) : Type 0 where
     pub call : Call K V
     pub live : s.calls n ≡ Some call
     pub given : Got K V

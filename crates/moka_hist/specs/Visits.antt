@@ -4,7 +4,14 @@ use Rattle.std.specs.Option.{option_map, option_map_or, option_and_then}
 use Rattle.std.specs.List.{list_any, count_by}
 use Rattle.moka_hist.specs.Finite.{put_at, put_key, load_eq}
 use Rattle.moka_hist.specs.State.{DeskPart}
+use Rattle.moka_hist.specs.Causes.{upsert_cause, remove_cause}
 use Rattle.moka_hist.specs.declared.loads.Load.{Load}
+use Rattle.moka_hist.specs.declared.notices.Notice.{Notice}
+use Rattle.moka_hist.specs.declared.notices.NoticeState.{NoticeState}
+use Rattle.moka_hist.specs.declared.notices.NoticeState.TheVariants as notice
+use Rattle.moka_hist.specs.declared.rules.Cause.{Cause}
+use Rattle.moka_hist.specs.declared.rules.Times.{Times}
+use Rattle.moka_hist.specs.declared.writes.Owed.{Owed}
 use Rattle.moka_hist.specs.declared.writes.Holding.{Holding}
 use Rattle.moka_hist.specs.declared.writes.Holding.TheVariants as holding
 use Rattle.moka_hist.specs.declared.writes.Write.{Write}
@@ -34,8 +41,8 @@ is_replaced writes stamp = list_any (λ w. option_map_or (λ old. old == stamp) 
 abbrev pub standing : List Write → ℕ
 standing writes = count_by (λ w. not (is_replaced writes (number_of w))) writes
 
--- the oldest of the writes
-abbrev pub first_of : List Write → Option Write
+-- the oldest of the owed writes
+abbrev pub first_of : List Owed → Option Owed
 first_of [] = None
 first_of (x ∷ xs) = Some x
 
@@ -54,6 +61,13 @@ abbrev pub holding_with : (ℕ → Option Holding) → ℕ → Option Write → 
 holding_with held call None = held
 holding_with held call (Some write) = put_at held call (Some (holding.TookUp write))
 
+-- a notice in this state runs: the listener was asked, and has not answered
+abbrev pub runs : NoticeState → Bool
+runs notice.Waiting = false
+runs notice.Running = true
+runs notice.Ended = false
+runs notice.Skipped = false
+
 -- how a load with this owner stands for a call that comes
 abbrev pub claim_of : Option ℕ → Claim
 claim_of None = claim.Owner
@@ -71,6 +85,29 @@ module _ {K V : Type 0} where
   -- the moment that the call has taken for a write that it hasn't committed yet
   abbrev pub pending_of : DeskPart K V → ℕ → Option ℕ
   pending_of w call = option_and_then moment_of (w.holding call)
+
+  -- nobody holds the key's lock, or this call holds it
+  abbrev pub is_unlocked_for : DeskPart K V → ℕ → K → Bool
+  is_unlocked_for w call key = option_map_or (λ holder. holder == call) (w.locks key) true
+
+  -- the keys that are locked but for that whose lock the call holds
+  abbrev pub locks_without : DeskPart K V → ℕ → K → Option ℕ
+  locks_without w call key = cond (option_map_or (λ h. h == call) (w.locks key) false) None (w.locks key)
+
+  -- the notice of this number runs
+  abbrev pub is_running : DeskPart K V → ℕ → Bool
+  is_running w number = option_map_or (λ x. runs x.state) (w.notices number) false
+
+  -- the times of a record of this stamp, last written at the moment
+  abbrev pub times_at : DeskPart K V → ℕ → ℕ → Times
+  times_at w stamp modified =
+      record { clock = w.clock; valid_after = None; modified = modified; accessed = access_of w stamp modified }
+
+  -- why a record leaves: for the cause handed in, or else since a write took its place or a call removed it
+  abbrev pub cause_of : DeskPart K V → ℕ → ℕ → Option Cause → Bool → Cause
+  cause_of w stamp modified (Some cause) upsert = cause
+  cause_of w stamp modified None true = upsert_cause w.rules (times_at w stamp modified)
+  cause_of w stamp modified None false = remove_cause w.rules (times_at w stamp modified)
 
   -- the log takes another write
   abbrev pub has_room : DeskPart K V → Bool
@@ -103,13 +140,16 @@ module _ {K V : Type 0} where
   -- ---- what each visit changes
 
   abbrev pub took_owed : DeskPart K V → ℕ → DeskPart K V
-  took_owed w call =
-      record w { holding = holding_with w.holding call (first_of w.owed); owed = drop 1 w.owed }
+  took_owed w call = record w {
+    holding = holding_with w.holding call (option_map (λ o. o.write) (first_of w.owed));
+    owed = drop 1 w.owed;
+  }
 
   abbrev pub stamped : DeskPart K V → ℕ → DeskPart K V
   stamped w call =
       record w { holding = put_at w.holding call (Some (holding.Own (Some w.clock))) }
 
+  -- the write is decided, and its moment pending no more
   abbrev pub decided : DeskPart K V → ℕ → DeskPart K V
   decided w call =
       record w { holding = put_at w.holding call (option_map without_moment (w.holding call)) }
@@ -125,6 +165,33 @@ module _ {K V : Type 0} where
         (cond (has_room w) None (option_map without_moment (w.holding call)));
     log = cond (has_room w) (w.log ++ write ∷ []) w.log;
   }
+
+  abbrev pub locked_by : (K → K → Bool) → DeskPart K V → ℕ → K → Bool → DeskPart K V
+  locked_by eq w call key false = w
+  locked_by eq w call key true = record w {
+    locks = put_key eq w.locks key (Some call);
+    locked = put_at w.locked call (Some key);
+  }
+
+  -- the visit is the first after the write where no notice was opened, so the pending moment ends
+  abbrev pub unlocked : DeskPart K V → ℕ → DeskPart K V
+  unlocked w call = record (decided w call) { locks = locks_without w call; locked = put_at w.locked call None }
+
+  -- a notice of this number was opened, in this state
+  abbrev pub with_notice : DeskPart K V → ℕ → Notice K V → DeskPart K V
+  with_notice w call told = record w { notices = put_at w.notices call (Some told); opened = w.opened ++ call ∷ [] }
+
+  -- The notice is opened, or skipped where the listener is off. The visit is the first after the write,
+  -- so the pending moment ends.
+  abbrev pub opened_notice : DeskPart K V → ℕ → K → V → Cause → DeskPart K V
+  opened_notice w call key value cause =
+      with_notice (decided w call) call (record {
+        number = call;
+        key = key;
+        value = value;
+        cause = cause;
+        state = cond w.off notice.Skipped notice.Running;
+      })
 
   abbrev pub took_turn : DeskPart K V → ℕ → DeskPart K V
   took_turn w call = record w { turn = cond (is_free_for w call) (Some call) w.turn }
@@ -175,6 +242,11 @@ module _ {K V : Type 0} where
   abbrev pub finds : DeskPart K V → Visit K V → Found V
   finds w (visit.Clock call) = found.Clock w.clock
   finds w (visit.TakeOwed call) = found.TakeOwed (first_of w.owed)
+  finds w (visit.NoticeEnded call number) = found.NoticeEnded (not (is_running w number))
+  finds w (visit.LockKey call key) = found.LockKey (is_unlocked_for w call key)
+  finds w (visit.UnlockKey call) = found.UnlockKey
+  finds w (visit.OpenNotice call key value stamp modified cause upsert) =
+      found.OpenNotice (cond w.off None (Some (cause_of w stamp modified cause upsert)))
   finds w (visit.StampMoment call) = found.StampMoment w.clock
   finds w (visit.Judge key stored) = found.Judge true
   finds w (visit.WaitOrOwn call key kind) = found.WaitOrOwn (claim_of (w.owners (record { key = key; kind = kind })))
@@ -191,6 +263,11 @@ module _ {K V : Type 0} where
   abbrev pub makes : (K → K → Bool) → DeskPart K V → Visit K V → DeskPart K V
   makes eq w (visit.Clock call) = w
   makes eq w (visit.TakeOwed call) = took_owed w call
+  makes eq w (visit.NoticeEnded call number) = w
+  makes eq w (visit.LockKey call key) = locked_by eq w call key (is_unlocked_for w call key)
+  makes eq w (visit.UnlockKey call) = unlocked w call
+  makes eq w (visit.OpenNotice call key value stamp modified cause upsert) =
+      opened_notice w call key value (cause_of w stamp modified cause upsert)
   makes eq w (visit.StampMoment call) = stamped w call
   makes eq w (visit.Judge key stored) = judged w stored.stamp stored.modified
   makes eq w (visit.WaitOrOwn call key kind) =

@@ -1,5 +1,5 @@
 -- Writing a value.
-use Rattle.std.specs.Prelude.{ℕ, List, ◌∷◌, Option, Some, None}
+use Rattle.std.specs.Prelude.{ℕ, Bool, true, false, List, ◌∷◌, Option, Some, None}
 use Rattle.moka_hist.specs.State.{Call}
 use Rattle.moka_hist.specs.Plan.{Item}
 use Rattle.moka_hist.specs.Plan as plan
@@ -22,7 +22,15 @@ module _ {K V : Type 0} where
   old_stamp table.None = None
   old_stamp (table.Some key stored) = Some stored.stamp
 
+  -- what comes between a write and its posting: nothing without a listener; with one it hears first of
+  -- the record that was replaced, and the key's lock is freed
+  abbrev pub once_told : Bool → K → TableAnswer K V → List (Item K V) → List (Item K V)
+  once_told false key answer rest = rest
+  once_told true key table.None rest = plan.Unlock ∷ rest
+  once_told true key (table.Some there old) rest = plan.Notice key old ∷ plan.Unlock ∷ rest
+
   -- the write is committed, and to be posted
-  abbrev pub after_write : ℕ → Call K V → List (Item K V) → TableTurn K V → Next K V
-  after_write n c rest turn.Going = stays c
-  after_write n c rest (turn.Decided answer) = goes c (plan.Post (Upsert n (old_stamp answer)) ∷ rest)
+  abbrev pub after_write : ℕ → Call K V → K → List (Item K V) → TableTurn K V → Next K V
+  after_write n c key rest turn.Going = stays c
+  after_write n c key rest (turn.Decided answer) =
+      goes c (once_told c.rules.listener key answer (plan.Post (Upsert n (old_stamp answer)) ∷ rest))

@@ -22,14 +22,14 @@ pub enum Got<K, V> {
 /// How a step leaves its call: it goes on, it waits for something missing, it asks, or it has
 /// answered.
 #[derive(Drop)]
-pub enum Turn<V> {
+pub enum Turn<K, V> {
     Going,
     Wait,
-    Ask(Ask),
+    Ask(Ask<K, V>),
     Answer(Answer<V>),
 }
 
-impl<V> Turn<V> {
+impl<K, V> Turn<K, V> {
     /// Whether the call goes on by itself.
     pub fn is_going(&self) -> bool
         ensures { IsTrue result ↔ (self.now ≡ Turn.Going) }

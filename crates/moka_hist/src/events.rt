@@ -8,11 +8,13 @@ pub enum Start<K, V> {
     GetWith { key: K },
 }
 
-/// What an open ask is told. `Done` is the answer of a listener, which no ask takes yet.
+/// What an open ask is told: a value, by an initializer; `Done` by a listener, or `Off`, after which it
+/// hears of no further record.
 #[derive(Clone, PartialEq, Debug, Drop)]
 pub enum Told<V> {
     Value(V),
     Done,
+    Off,
 }
 
 /// One event of a schedule. Moments are nanoseconds, and calls go by their numbers.

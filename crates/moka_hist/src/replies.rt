@@ -1,10 +1,14 @@
 //! The replies to events.
 
+use crate::Cause;
+
 /// What a call asks of its caller.
-#[derive(Clone, Copy, PartialEq, Eq, Debug)]
-pub enum Ask {
+#[derive(Clone, PartialEq, Debug, Drop)]
+pub enum Ask<K, V> {
     /// The initializer of a load is to be run, and its value told.
     Init,
+    /// The listener is to hear of a record that has left, and its answer is to be told.
+    Listener { key: K, value: V, cause: Cause },
 }
 
 /// What a call answers in the end.
@@ -35,12 +39,12 @@ pub enum Refusal {
 
 /// The reply to one event.
 #[derive(Clone, PartialEq, Debug, Drop)]
-pub enum Reply<V> {
+pub enum Reply<K, V> {
     At,
     Call(u64),
     Going,
     Wait,
-    Ask(Ask),
+    Ask(Ask<K, V>),
     Answer(Answer<V>),
     Told,
     Dropped,

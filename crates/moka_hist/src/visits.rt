@@ -1,6 +1,6 @@
 //! The visits of the desk that calls make, and what they find.
 
-use crate::{Kind, Stored, Told, Write};
+use crate::{Cause, Kind, Owed, Stored, Told, Write};
 
 /// How a load stands for a call that asks: it is the owner now, or an earlier call is.
 #[derive(Clone, Copy, PartialEq, Eq, Debug)]
@@ -28,43 +28,105 @@ pub enum Takes {
 #[derive(Drop)]
 pub enum Visit<K, V> {
     /// Reads the clock, and does nothing else.
-    Clock { call: u64 },
+    Clock {
+        call: u64,
+    },
     /// Takes the front of the owed list up, if there is one.
-    TakeOwed { call: u64 },
+    TakeOwed {
+        call: u64,
+    },
+    /// Looks whether the notice of this number still runs.
+    NoticeEnded {
+        call: u64,
+        notice: u64,
+    },
+    /// Takes the key's lock, where no other call holds it.
+    LockKey {
+        call: u64,
+        key: K,
+    },
+    /// Frees the lock that the call holds.
+    UnlockKey {
+        call: u64,
+    },
     /// Takes the moment of a write that follows.
-    StampMoment { call: u64 },
+    StampMoment {
+        call: u64,
+    },
     /// Judges whether a record may be seen, and if so raises its access moment.
-    Judge { key: K, stored: Stored<V> },
+    Judge {
+        key: K,
+        stored: Stored<V>,
+    },
     /// Becomes the owner of a load, or joins its waiters.
-    WaitOrOwn { call: u64, key: K, kind: Kind },
+    WaitOrOwn {
+        call: u64,
+        key: K,
+        kind: Kind,
+    },
     /// Reads how the owner ended that the call waits for.
-    ReadSettled { call: u64 },
+    ReadSettled {
+        call: u64,
+    },
     /// Ends the call's ownership.
-    Settle { call: u64, with: Settled<V> },
+    Settle {
+        call: u64,
+        with: Settled<V>,
+    },
+    /// Opens the notice of the record that the call's write took out: the record of this stamp, last
+    /// written at the moment `modified`. Its cause is the one handed in, or else that of a record
+    /// whose place a write takes (`upsert`) or that a call removes.
+    OpenNotice {
+        call: u64,
+        key: K,
+        value: V,
+        stamp: u64,
+        modified: u64,
+        cause: Option<Cause>,
+        upsert: bool,
+    },
     /// Opens the call's ask.
-    OpenAsk { call: u64, takes: Takes },
+    OpenAsk {
+        call: u64,
+        takes: Takes,
+    },
     /// Takes the answer to the call's ask.
-    TakeTold { call: u64 },
+    TakeTold {
+        call: u64,
+    },
     /// Appends a held write to the log, where the log has room.
-    PostWrite { call: u64, write: Write },
+    PostWrite {
+        call: u64,
+        write: Write,
+    },
     /// Takes the maintenance turn, where no other call has it.
-    TakeTurn { call: u64 },
+    TakeTurn {
+        call: u64,
+    },
     /// Applies the log's front.
-    ApplyOne { call: u64 },
+    ApplyOne {
+        call: u64,
+    },
     /// Publishes the count of applied upserts, and gives the turn up.
-    EndTurn { call: u64 },
+    EndTurn {
+        call: u64,
+    },
 }
 
 /// What the visit of the same name finds.
 #[derive(Drop)]
 pub enum Found<V> {
     Clock(u64),
-    TakeOwed(Option<Write>),
+    TakeOwed(Option<Owed>),
+    NoticeEnded(bool),
+    LockKey(bool),
+    UnlockKey,
     StampMoment(u64),
     Judge(bool),
     WaitOrOwn(Claim),
     ReadSettled(Settled<V>),
     Settle,
+    OpenNotice(Option<Cause>),
     OpenAsk,
     TakeTold(Option<Told<V>>),
     PostWrite(bool),

@@ -15,6 +15,14 @@ pub enum Holding {
     TookUp { write: Write },
 }
 
+/// A committed write that is still to be posted, and the number of its notice where a listener is
+/// still being told of it.
+#[derive(Clone, Copy, PartialEq, Eq, Debug)]
+pub struct Owed {
+    pub write: Write,
+    pub notice: Option<u64>,
+}
+
 /// Where a committed write stands: with the call that made it or took it up; left by a dropped
 /// call; in the write log; or applied by maintenance.
 #[derive(Clone, Copy, PartialEq, Eq, Debug)]

@@ -7,6 +7,7 @@ use Rattle.moka_hist.specs.Next.{stays, waits}
 use Rattle.moka_hist.specs.declared.visits.Visit.{Visit}
 use Rattle.moka_hist.specs.Step.{Access, access_of, want_for, next_of}
 use Rattle.moka_hist.specs.Step as step
+use Rattle.moka_hist.specs.declared.rules.Rules.{Rules}
 use Rattle.moka_hist.specs.declared.records.Mode.{Mode}
 use Rattle.moka_hist.specs.declared.records.Mode.TheVariants as mode
 use Rattle.moka_hist.specs.declared.tables.TableOp.{TableOp}
@@ -45,11 +46,12 @@ module _ {K V : Type 0} where
     pub access : access_of n c ≡ step.On_desk made
     pub next : next_of n c (got.Table table.Going) ≡ waits c
 
-  stays_or_parks : (n : ℕ) (m : Mode) (items : List (Item K V)) (aborts : ℕ) → let c : Call K V = record { mode = m; plan = items; aborts = aborts } in Stays n c ⊎ Parks n c
-  stays_or_parks n m (plan.Get aim key ∷ rest) aborts = inl (record { operation = op.Get key; access = refl; next = refl })
-  stays_or_parks n m (plan.Write key value moment ∷ rest) aborts = inl (record { operation = _; access = refl; next = refl })
-  stays_or_parks n m [] aborts = inr (record { made = _; access = refl; next = refl })
-  stays_or_parks n m (_ ∷ rest) aborts = inr (record { made = _; access = refl; next = refl })
+  stays_or_parks : (n : ℕ) (r : Rules) (m : Mode) (items : List (Item K V)) (aborts : ℕ)
+      → let c : Call K V = record { rules = r; mode = m; plan = items; aborts = aborts } in Stays n c ⊎ Parks n c
+  stays_or_parks n r m (plan.Get aim key ∷ rest) aborts = inl (record { operation = op.Get key; access = refl; next = refl })
+  stays_or_parks n r m (plan.Write key value moment ∷ rest) aborts = inl (record { operation = _; access = refl; next = refl })
+  stays_or_parks n r m [] aborts = inr (record { made = _; access = refl; next = refl })
+  stays_or_parks n r m (_ ∷ rest) aborts = inr (record { made = _; access = refl; next = refl })
 
   some_same : (c d : Call K V) → Some c ≡ Some d → c ≡ d
   some_same c d e = cc
@@ -71,16 +73,16 @@ module _ {K V : Type 0} where
       subst (λ (o : Option (TableOp K V)). HasBegun o new) (sym is_none)
       (subst (λ (a : Access K V). wanted None (want_for new.begun a) ≡ Some a) (sym here) (any_visit new.begun v))
 
-  pub left_going : (t : Turn V) (new : Flow K V) (d : Call K V) → next_in t new ≡ record { left = Some d; turn = turn.Going } → call_of new ≡ d
+  pub left_going : (t : Turn K V) (new : Flow K V) (d : Call K V) → next_in t new ≡ record { left = Some d; turn = turn.Going } → call_of new ≡ d
   left_going t new d e =
-      some_same (call_of new) d (subst (λ (u : Turn V). left_in u new ≡ Some d) (ap (λ n. n.turn) e) (ap (λ n. n.left) e))
+      some_same (call_of new) d (subst (λ (u : Turn K V). left_in u new ≡ Some d) (ap (λ n. n.turn) e) (ap (λ n. n.left) e))
 
-  left_waiting : (t : Turn V) (new : Flow K V) (d : Call K V) → next_in t new ≡ record { left = Some d; turn = turn.Wait } → call_of new ≡ d
+  left_waiting : (t : Turn K V) (new : Flow K V) (d : Call K V) → next_in t new ≡ record { left = Some d; turn = turn.Wait } → call_of new ≡ d
   left_waiting t new d e =
-      some_same (call_of new) d (subst (λ (u : Turn V). left_in u new ≡ Some d) (ap (λ n. n.turn) e) (ap (λ n. n.left) e))
+      some_same (call_of new) d (subst (λ (u : Turn K V). left_in u new ≡ Some d) (ap (λ n. n.turn) e) (ap (λ n. n.left) e))
 
   -- where the flow stands after the step that left its operation undecided
-  after_going : (after : Option (TableOp K V)) (old new : Flow K V) (t : Turn V) → new.call ≡ old.call → new.begun ≡ true
+  after_going : (after : Option (TableOp K V)) (old new : Flow K V) (t : Turn K V) → new.call ≡ old.call → new.begun ≡ true
       → after ≡ still_begun (access_at old) (got.Table table.Going) → next_in t new ≡ next_of old.call (call_of old) (got.Table table.Going)
       → Stays old.call (call_of old) ⊎ Parks old.call (call_of old) → HasBegun after new
   after_going after old new t number began is_after next (inl stays) =
@@ -101,7 +103,7 @@ module _ {K V : Type 0} where
       (subst (λ (o : Option (TableOp K V)). wanted o (want_for false (access_at new)) ≡ Some (access_at new)) (sym is_none) (not_begun (access_at new)))
 
   -- after a step a flow is on its ground, as before
-  pub still_on : (after : Option (TableOp K V)) (old new : Flow K V) (given : Got K V) (t : Turn V)
+  pub still_on : (after : Option (TableOp K V)) (old new : Flow K V) (given : Got K V) (t : Turn K V)
       → new.call ≡ old.call → new.begun ≡ is_begun given → after ≡ still_begun (access_at old) given
       → next_in t new ≡ next_of old.call (call_of old) given → HasBegun after new
   still_on after old new (got.Desk found) t number began is_after next =
@@ -109,4 +111,4 @@ module _ {K V : Type 0} where
   still_on after old new (got.Table (table.Decided answer)) t number began is_after next =
       still_none after new began (is_after ∙ ends_begun (access_at old) (got.Table (table.Decided answer)) refl)
   still_on after old new (got.Table table.Going) t number began is_after next =
-      after_going after old new t number began is_after next (stays_or_parks old.call old.mode (call_of old).plan old.aborts)
+      after_going after old new t number began is_after next (stays_or_parks old.call old.rules old.mode (call_of old).plan old.aborts)

@@ -13,6 +13,7 @@ use Rattle.moka_hist.specs.Visits.{finds, makes, holding_with, first_of}
 use Rattle.moka_hist.specs.Tables.{answer_of}
 use Rattle.moka_hist.specs.Run.{fresh_call}
 use Rattle.moka_hist.specs.declared.events.Start.TheVariants as start
+use Rattle.moka_hist.specs.declared.rules.Rules.{Rules}
 use Rattle.moka_hist.specs.declared.records.Mode.{Mode}
 use Rattle.moka_hist.specs.declared.records.Mode.TheVariants as mode
 use Rattle.moka_hist.specs.declared.visits.Found.{Found}
@@ -26,7 +27,7 @@ use Rattle.moka_hist.specs.declared.tables.TableAnswer.TheVariants as answer
 use Rattle.moka_hist.specs.declared.accesses.Got.{Got}
 use Rattle.moka_hist.specs.declared.accesses.Got.TheVariants as got
 use Rattle.moka_hist.specs.declared.accesses.Want.{Want}
-use Rattle.moka_hist.specs.declared.writes.Write.{Write}
+use Rattle.moka_hist.specs.declared.writes.Owed.{Owed}
 use Rattle.moka_hist.specs.declared.accesses.Want.TheVariants as want
 use Rattle.moka_init.specs.Grounds.{Accesses, wanted}
 use Rattle.moka_init.specs.EmptyCache.{IsBare, BareGives, BareServes, bare_account, noted}
@@ -36,6 +37,10 @@ record IsEmpty {K V : Type 0} (w : World K V) : Type 0 where
   owed : w.desk.owed ≡ []
   holding : (n : ℕ) → w.desk.holding n ≡ None
   stored : (q : K) → w.table.stored q ≡ None
+
+-- no rule is set
+abbrev pub no_rules : Rules
+no_rules = record { max_capacity = None; time_to_live = None; time_to_idle = None; listener = false; closures = false }
 
 module _ {K V : Type 0} where
   -- a call's row is no longer than the row that there is
@@ -76,12 +81,12 @@ module _ {K V : Type 0} (eq : K → K → Bool) where
   -- nothing is found owed
   pub owes_bare : (left n : ℕ) → BareGives {K = K} {V = V} eq left (On_desk (visit.TakeOwed n)) (got.Desk (found.TakeOwed None)) left
   owes_bare left n = λ m w bare.
-      let owed : List Write → World K V = λ l. record w { desk = record w.desk { owed = l } } in (
+      let owed : List Owed → World K V = λ l. record w { desk = record w.desk { owed = l } } in (
         record w { desk = makes eq w.desk (visit.TakeOwed n) },
         (ap (λ l. finds (owed l).desk (visit.TakeOwed n)) (sym bare.owed), refl),
         record {
           owed = ap (λ l. drop 1 l) bare.owed;
-          holding = λ k. ap (λ l. holding_with w.desk.holding n (first_of l) k) bare.owed ∙ bare.holding k;
+          holding = λ k. ap (λ l. holding_with w.desk.holding n (option_map (λ o. o.write) (first_of l)) k) bare.owed ∙ bare.holding k;
           log = bare.log;
           size = bare.size;
           stored = bare.stored;
@@ -133,7 +138,7 @@ module _ {K V : Type 0} (eq : K → K → Bool) where
   still_bare : (w : World K V) (n : ℕ) → IsEmpty w → IsEmpty (record w { desk = makes eq w.desk (visit.TakeOwed n) })
   still_bare w n bare = record {
     owed = ap (λ l. drop 1 l) bare.owed;
-    holding = λ k. ap (λ l. holding_with w.desk.holding n (first_of l) k) bare.owed ∙ bare.holding k;
+    holding = λ k. ap (λ l. holding_with w.desk.holding n (option_map (λ o. o.write) (first_of l)) k) bare.owed ∙ bare.holding k;
     stored = bare.stored;
   }
 
@@ -148,30 +153,30 @@ module _ {K V : Type 0} (eq : K → K → Bool) where
   some_same d c e = cc
 
   -- the first step takes up nothing, and goes on to the look
-  drained : (n : ℕ) (key : K) (m : Mode) (aborts : ℕ) (mid new : World K V) (d : Call K V) (g : Got K V) → IsEmpty mid
+  drained : (n : ℕ) (key : K) (r : Rules) (m : Mode) (aborts : ℕ) (mid new : World K V) (d : Call K V) (g : Got K V) → IsEmpty mid
       → Gets eq n mid (On_desk (visit.TakeOwed n)) g new
-      → going_as d ≡ next_of n (record { mode = m; plan = plan.Drain ∷ plan.Get plan.To_answer key ∷ []; aborts = aborts }) g
+      → going_as d ≡ next_of n (record { rules = r; mode = m; plan = plan.Drain ∷ plan.Get plan.To_answer key ∷ []; aborts = aborts }) g
       → IsEmpty new × Looks d
-  drained n key m aborts mid new d (got.Table t) bare gets goes = absurd gets
-  drained n key m aborts mid new d (got.Desk f) bare gets goes =
+  drained n key r m aborts mid new d (got.Table t) bare gets goes = absurd gets
+  drained n key r m aborts mid new d (got.Desk f) bare gets goes =
       let is : f ≡ found.TakeOwed None = gets.0 ∙ owes_none mid n bare in
-      let c : Call K V = record { mode = m; plan = plan.Drain ∷ plan.Get plan.To_answer key ∷ []; aborts = aborts } in
+      let c : Call K V = record { rules = r; mode = m; plan = plan.Drain ∷ plan.Get plan.To_answer key ∷ []; aborts = aborts } in
       let next : going_as d ≡ next_of n c (got.Desk (found.TakeOwed None)) = goes ∙ ap (λ (x : Found V). next_of n c (got.Desk x)) is in
-      let left : Some d ≡ Some (record { mode = mode.Mid; plan = plan.Get plan.To_answer key ∷ []; aborts = aborts }) = ap (λ x. x.left) next in
+      let left : Some d ≡ Some (record { rules = r; mode = mode.Mid; plan = plan.Get plan.To_answer key ∷ []; aborts = aborts }) = ap (λ x. x.left) next in
       (subst (λ (w : World K V). IsEmpty w) (sym gets.1) (still_bare mid n bare), inr (key, ap (λ x. x.plan) (some_same d _ left)))
 
   -- an undecided look stays; a decided one has answered
-  looked : (n : ℕ) (key : K) (m : Mode) (aborts : ℕ) (mid new : World K V) (d : Call K V) (g : Got K V) → IsEmpty mid
+  looked : (n : ℕ) (key : K) (r : Rules) (m : Mode) (aborts : ℕ) (mid new : World K V) (d : Call K V) (g : Got K V) → IsEmpty mid
       → Gets eq n mid (On_table (op.Get key)) g new
-      → going_as d ≡ next_of n (record { mode = m; plan = plan.Get plan.To_answer key ∷ []; aborts = aborts }) g
+      → going_as d ≡ next_of n (record { rules = r; mode = m; plan = plan.Get plan.To_answer key ∷ []; aborts = aborts }) g
       → IsEmpty new × Looks d
-  looked n key m aborts mid new d (got.Desk f) bare gets goes = absurd gets
-  looked n key m aborts mid new d (got.Table table.Going) bare gets goes =
-      let left : Some d ≡ Some (record { mode = mode.Mid; plan = plan.Get plan.To_answer key ∷ []; aborts = aborts }) = ap (λ x. x.left) goes in
+  looked n key r m aborts mid new d (got.Desk f) bare gets goes = absurd gets
+  looked n key r m aborts mid new d (got.Table table.Going) bare gets goes =
+      let left : Some d ≡ Some (record { rules = r; mode = mode.Mid; plan = plan.Get plan.To_answer key ∷ []; aborts = aborts }) = ap (λ x. x.left) goes in
       (subst (λ (w : World K V). IsEmpty w) (sym gets.1) (record { owed = bare.owed; holding = bare.holding; stored = bare.stored }), inr (key, ap (λ x. x.plan) (some_same d _ left)))
-  looked n key m aborts mid new d (got.Table (table.Decided a)) bare gets goes =
+  looked n key r m aborts mid new d (got.Table (table.Decided a)) bare gets goes =
       let is : a ≡ answer.None = gets.1.0 ∙ ap (λ o. answer_of o) (bare.stored key) in
-      let c : Call K V = record { mode = m; plan = plan.Get plan.To_answer key ∷ []; aborts = aborts } in
+      let c : Call K V = record { rules = r; mode = m; plan = plan.Get plan.To_answer key ∷ []; aborts = aborts } in
       let next : going_as d ≡ next_of n c (got.Table (table.Decided answer.None)) = goes ∙ ap (λ (x : TableAnswer K V). next_of n c (got.Table (table.Decided x))) is in
       let left : Some d ≡ None = ap (λ x. x.left) next in
       absurd (no_some d left)
@@ -180,15 +185,15 @@ module _ {K V : Type 0} (eq : K → K → Bool) where
   looks_more : (n : ℕ) (b : Call K V) (mid new : World K V) (d : Call K V) → IsEmpty mid → Looks b
       → Moves eq n b mid (going_as d) new → IsEmpty new × Looks d
   looks_more n b mid new d bare (inl at) moves =
-      let c : Call K V = record { mode = b.mode; plan = plan.Drain ∷ plan.Get plan.To_answer at.0 ∷ []; aborts = b.aborts } in
+      let c : Call K V = record { rules = b.rules; mode = b.mode; plan = plan.Drain ∷ plan.Get plan.To_answer at.0 ∷ []; aborts = b.aborts } in
       let is : b ≡ c = ap (λ p. record b { plan = p }) at.1 in
       let m : Moves eq n c mid (going_as d) new = subst (λ (x : Call K V). Moves eq n x mid (going_as d) new) is moves in
-      drained n at.0 b.mode b.aborts mid new d m.given bare m.gets m.goes
+      drained n at.0 b.rules b.mode b.aborts mid new d m.given bare m.gets m.goes
   looks_more n b mid new d bare (inr at) moves =
-      let c : Call K V = record { mode = b.mode; plan = plan.Get plan.To_answer at.0 ∷ []; aborts = b.aborts } in
+      let c : Call K V = record { rules = b.rules; mode = b.mode; plan = plan.Get plan.To_answer at.0 ∷ []; aborts = b.aborts } in
       let is : b ≡ c = ap (λ p. record b { plan = p }) at.1 in
       let m : Moves eq n c mid (going_as d) new = subst (λ (x : Call K V). Moves eq n x mid (going_as d) new) is moves in
-      looked n at.0 b.mode b.aborts mid new d m.given bare m.gets m.goes
+      looked n at.0 b.rules b.mode b.aborts mid new d m.given bare m.gets m.goes
 
   -- as long as it goes on
   looks_on : (k n : ℕ) (c : Call K V) (w : World K V) (d : Call K V) (mid : World K V) → IsEmpty w → Looks c
@@ -206,7 +211,7 @@ module _ {K V : Type 0} (eq : K → K → Bool) where
   may_look n d mid bare (inr at) = subst (λ (p : List (Item K V)). May mid (access_of n (record d { plan = p }))) (sym at.1) tt
 
   -- an empty cache has what each step of a get needs
-  pub get_is_safe : (left n : ℕ) (key : K) (c : Call K V) (w : World K V) → c ≡ fresh_call (start.Get key) → IsBare left w → IsSafe eq n c w
-  get_is_safe left n key c w is bare = λ k d mid on.
+  pub get_is_safe : (left n : ℕ) (key : K) (r : Rules) (c : Call K V) (w : World K V) → c ≡ fresh_call r (start.Get key) → IsBare left w → IsSafe eq n c w
+  get_is_safe left n key r c w is bare = λ k d mid on.
       let on_to = looks_on k n c w d mid (record { owed = bare.owed; holding = bare.holding; stored = bare.stored }) (inl (key, ap (λ x. x.plan) is)) on in
       may_look n d mid on_to.0 on_to.1

@@ -13,8 +13,8 @@ use Rattle.moka_init.specs.Grounds.{Account, IsOn, HasBegun, MayWant, access_at,
 
 module _ {K V : Type 0} where
   -- a flow that goes on is live
-  pub live_going : (t : Turn V) (flow : Flow K V) → t ≡ turn.Going → Leaves t flow → IsLive flow
-  live_going t flow going leaves = subst (λ (u : Turn V). Leaves u flow) going leaves
+  pub live_going : (t : Turn K V) (flow : Flow K V) → t ≡ turn.Going → Leaves t flow → IsLive flow
+  live_going t flow going leaves = subst (λ (u : Turn K V). Leaves u flow) going leaves
 
   -- what the flow wants is allowed in a world that has what its step needs
   pub may_want : (begun : Option (TableOp K V)) (flow : Flow K V) (w : World K V) → HasBegun begun flow → May w (access_at flow) → MayWant w begun (wish_of flow)
@@ -44,16 +44,16 @@ module _ {K V : Type 0} (eq : K → K → Bool) where
       subst (λ (n : ℕ). May mid (access_of n (call_of flow))) (sym number) (safe k (call_of flow) mid before)
 
   -- one more step
-  pub flow_more : (k : ℕ) (first flow new : Flow K V) (w mid after : World K V) (t : Turn V) → flow.call ≡ first.call → t ≡ turn.Going
+  pub flow_more : (k : ℕ) (first flow new : Flow K V) (w mid after : World K V) (t : Turn K V) → flow.call ≡ first.call → t ≡ turn.Going
       → MovesOn eq k first.call (call_of first) w (call_of flow) mid → Moves eq flow.call (call_of flow) mid (next_in t new) after
       → MovesOn eq (k + 1) first.call (call_of first) w (call_of new) after
   flow_more k first flow new w mid after t number going before more =
       moves_more k first.call (call_of first) w (call_of flow) mid (call_of new) after before
-      (subst (λ (u : Turn V). Moves eq first.call (call_of flow) mid (next_in u new) after) going
+      (subst (λ (u : Turn K V). Moves eq first.call (call_of flow) mid (next_in u new) after) going
       (subst (λ (n : ℕ). Moves eq n (call_of flow) mid (next_in t new) after) number more))
 
   -- the last step
-  pub flow_last : (k : ℕ) (first flow new : Flow K V) (w mid after : World K V) (t : Turn V) → flow.call ≡ first.call → t ≢ turn.Going
+  pub flow_last : (k : ℕ) (first flow new : Flow K V) (w mid after : World K V) (t : Turn K V) → flow.call ≡ first.call → t ≢ turn.Going
       → MovesOn eq k first.call (call_of first) w (call_of flow) mid → Moves eq flow.call (call_of flow) mid (next_in t new) after
       → Polled eq first.call (call_of first) w (next_in t new) after
   flow_last k first flow new w mid after t number ends before more =

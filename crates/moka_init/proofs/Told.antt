@@ -29,14 +29,14 @@ module _ {K V : Type 0} where
       record { path = []; steps = refl; leads = refl; told = e ∙ ap (λ l. Some l) (sym (append-nil before)) }
 
   -- one more step that leaves the flow going
-  pub told_more : (k : ℕ) (first flow new : Flow K V) (t : Turn V) (before : List (Made K V)) (mid after : Option (List (Made K V)))
+  pub told_more : (k : ℕ) (first flow new : Flow K V) (t : Turn K V) (before : List (Made K V)) (mid after : Option (List (Made K V)))
       → flow.call ≡ first.call → t ≡ turn.Going
       → (so_far : TellsSteps k first.call (call_of first) (call_of flow) before mid)
       → TellsStep flow.call (call_of flow) (next_in t new) (before ++ so_far.path) after
       → TellsSteps (k + 1) first.call (call_of first) (call_of new) before after
   told_more k first flow new t before mid after number going so_far step =
       let next : next_of first.call (call_of flow) step.0 ≡ going_as (call_of new) =
-      subst (λ (u : Turn V). next_of first.call (call_of flow) step.0 ≡ next_in u new) going
+      subst (λ (u : Turn K V). next_of first.call (call_of flow) step.0 ≡ next_in u new) going
       (subst (λ (n : ℕ). next_of n (call_of flow) step.0 ≡ next_in t new) number (sym step.1)) in
       let made : Made K V = (access_of first.call (call_of flow), step.0) in
       let tells : after ≡ Some ((before ++ so_far.path) ++ made ∷ []) =
@@ -49,7 +49,7 @@ module _ {K V : Type 0} where
       }
 
   -- the last step
-  pub told_last : (k : ℕ) (first flow new : Flow K V) (t : Turn V) (before : List (Made K V)) (mid after : Option (List (Made K V)))
+  pub told_last : (k : ℕ) (first flow new : Flow K V) (t : Turn K V) (before : List (Made K V)) (mid after : Option (List (Made K V)))
       → flow.call ≡ first.call
       → (so_far : TellsSteps k first.call (call_of first) (call_of flow) before mid)
       → TellsStep flow.call (call_of flow) (next_in t new) (before ++ so_far.path) after

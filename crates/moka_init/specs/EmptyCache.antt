@@ -12,6 +12,7 @@ use Rattle.moka_hist.specs.declared.visits.Visit.TheVariants as visit
 use Rattle.std.proofs.Common.{ap, sym}
 use Rattle.moka_hist.specs.Next.{Next}
 use Rattle.moka_hist.specs.Run.{fresh_call}
+use Rattle.moka_hist.specs.declared.rules.Rules.{Rules}
 use Rattle.moka_hist.specs.declared.events.Start.TheVariants as start
 use Rattle.moka_bound.specs.Falling.{Counts, Shortens}
 use Rattle.moka_init.specs.Forms.{HasForm}
@@ -87,7 +88,7 @@ module _ {K V : Type 0} where
   -- the accesses of a whole poll of a fresh get were noted, and nothing else
   abbrev pub NotesPoll : K → List (Want K V × Got K V) → List (Want K V × Got K V) → Type 0
   NotesPoll key old new =
-      (next : Next K V) × TellsPoll 1 (fresh_call (start.Get key)) next (map noted old) (Some (map noted new))
+      (rules : Rules) × (next : Next K V) × TellsPoll 1 (fresh_call rules (start.Get key)) next (map noted old) (Some (map noted new))
 
   -- what is told of owed and logged writes
   pub bare_counts : (left : ℕ) (w : World K V) → IsBare left w → Counts w (bare_work left)

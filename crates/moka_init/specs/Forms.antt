@@ -13,13 +13,19 @@ use Rattle.moka_hist.specs.declared.visits.Found.TheVariants as found
 use Rattle.moka_hist.specs.declared.visits.Settled.{Settled}
 use Rattle.moka_hist.specs.declared.visits.Visit.{Visit}
 use Rattle.moka_hist.specs.declared.visits.Visit.TheVariants as visit
-use Rattle.moka_hist.specs.declared.writes.Write.{Write}
+use Rattle.moka_hist.specs.declared.rules.Cause.{Cause}
+use Rattle.moka_hist.specs.declared.writes.Owed.{Owed}
 
 module _ {K V : Type 0} where
   -- what such a visit finds: the variant of its name
   abbrev pub IsFoundBy : Visit K V → Found V → Type 0
   IsFoundBy (visit.Clock n) f = (moment : ℕ) × (f ≡ found.Clock moment)
-  IsFoundBy (visit.TakeOwed n) f = (owed : Option Write) × (f ≡ found.TakeOwed owed)
+  IsFoundBy (visit.TakeOwed n) f = (owed : Option Owed) × (f ≡ found.TakeOwed owed)
+  IsFoundBy (visit.NoticeEnded n number) f = (ended : Bool) × (f ≡ found.NoticeEnded ended)
+  IsFoundBy (visit.LockKey n key) f = (locked : Bool) × (f ≡ found.LockKey locked)
+  IsFoundBy (visit.UnlockKey n) f = f ≡ found.UnlockKey
+  IsFoundBy (visit.OpenNotice n key value stamp modified handed upsert) f =
+      (cause : Option Cause) × (f ≡ found.OpenNotice cause)
   IsFoundBy (visit.StampMoment n) f = (moment : ℕ) × (f ≡ found.StampMoment moment)
   IsFoundBy (visit.Judge key stored) f = (seen : Bool) × (f ≡ found.Judge seen)
   IsFoundBy (visit.WaitOrOwn n key kind) f = (claim : Claim) × (f ≡ found.WaitOrOwn claim)

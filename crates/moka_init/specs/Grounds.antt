@@ -1,6 +1,8 @@
 -- What a flow stands on.
-use Rattle.std.specs.Prelude.{◌≡◌, ℕ, Bool, List, [], ◌∷◌, ◌++◌, Option, Some, None, MatchOption}
-use Rattle.moka_hist.specs.State.{World}
+use Rattle.std.specs.Prelude.{◌≡◌, ℕ, Bool, true, false, List, [], ◌∷◌, ◌++◌, Option, Some, None, MatchOption}
+use Rattle.moka_hist.specs.State.{DeskPart, World}
+use Rattle.moka_hist.specs.Plan.{Item}
+use Rattle.moka_hist.specs.Visits.{is_free_for, is_running}
 use Rattle.moka_hist.specs.Step.{Access, Gets, access_of, want_for, May}
 use Rattle.moka_hist.specs.Step as step
 use Rattle.moka_hist.specs.declared.tables.TableOp.{TableOp}
@@ -13,7 +15,7 @@ use Rattle.moka_hist.specs.declared.accesses.Got.{Got}
 use Rattle.moka_hist.specs.declared.accesses.Got.TheVariants as got
 use Rattle.moka_bound.specs.Ahead.{Work}
 use Rattle.moka_bound.specs.Falling.{Shortens}
-use Rattle.moka_init.specs.FlowPlan.{call_of}
+use Rattle.moka_init.specs.FlowPlan.{call_of, standing}
 use Rattle.moka_init.specs.Forms.{HasForm}
 use Rattle.moka_init.specs.declared.flow.Flow.{Flow}
 
@@ -43,31 +45,61 @@ module _ {K V : Type 0} where
   wanted (Some begun) (want.Begin operation) = None
   wanted (Some begun) (want.Desk made) = None
 
-  -- memory may be wanting for such a visit
-  abbrev pub VisitNeedsMemory : Visit K V → Type 0
-  VisitNeedsMemory (visit.Clock n) = ⊥
-  VisitNeedsMemory (visit.TakeOwed n) = ⊥
-  VisitNeedsMemory (visit.StampMoment n) = Unit {0}
-  VisitNeedsMemory (visit.Judge key stored) = Unit {0}
-  VisitNeedsMemory (visit.WaitOrOwn n key kind) = Unit {0}
-  VisitNeedsMemory (visit.ReadSettled n) = Unit {0}
-  VisitNeedsMemory (visit.Settle n with) = Unit {0}
-  VisitNeedsMemory (visit.OpenAsk n takes) = Unit {0}
-  VisitNeedsMemory (visit.TakeTold n) = ⊥
-  VisitNeedsMemory (visit.PostWrite n write) = ⊥
-  VisitNeedsMemory (visit.TakeTurn n) = ⊥
-  VisitNeedsMemory (visit.ApplyOne n) = ⊥
-  VisitNeedsMemory (visit.EndTurn n) = ⊥
+  -- for such a visit a key or a value is copied
+  abbrev pub VisitTakesCopies : Visit K V → Type 0
+  VisitTakesCopies (visit.Clock n) = ⊥
+  VisitTakesCopies (visit.TakeOwed n) = ⊥
+  VisitTakesCopies (visit.NoticeEnded n number) = ⊥
+  VisitTakesCopies (visit.LockKey n key) = Unit {0}
+  VisitTakesCopies (visit.UnlockKey n) = ⊥
+  VisitTakesCopies (visit.OpenNotice n key value stamp modified cause upsert) = Unit {0}
+  VisitTakesCopies (visit.StampMoment n) = ⊥
+  VisitTakesCopies (visit.Judge key stored) = Unit {0}
+  VisitTakesCopies (visit.WaitOrOwn n key kind) = Unit {0}
+  VisitTakesCopies (visit.ReadSettled n) = ⊥
+  VisitTakesCopies (visit.Settle n with) = Unit {0}
+  VisitTakesCopies (visit.OpenAsk n takes) = ⊥
+  VisitTakesCopies (visit.TakeTold n) = ⊥
+  VisitTakesCopies (visit.PostWrite n write) = ⊥
+  VisitTakesCopies (visit.TakeTurn n) = ⊥
+  VisitTakesCopies (visit.ApplyOne n) = ⊥
+  VisitTakesCopies (visit.EndTurn n) = ⊥
 
-  -- Memory may be wanting for such an access: it goes to the table, copies a key or a value, or writes down what is new. Taking up
-  -- what is owed or told, posting a write and applying the log need none.
-  abbrev pub NeedsMemory : Access K V → Type 0
-  NeedsMemory (step.On_table operation) = Unit {0}
-  NeedsMemory (step.On_desk made) = VisitNeedsMemory made
+  -- for such an access a key or a value is copied; one of the table may take them along
+  abbrev pub TakesCopies : Access K V → Type 0
+  TakesCopies (step.On_table operation) = Unit {0}
+  TakesCopies (step.On_desk made) = VisitTakesCopies made
+
+  -- Memory may be wanting for such a visit of the desk: it copies a key or a value, or writes down what is
+  -- new; where the turn is another's, or the notice runs, it lists the call. Taking up what is owed or told,
+  -- freeing a lock, posting a write and applying the log need none.
+  abbrev pub VisitNeedsMemory : DeskPart K V → Visit K V → Type 0
+  VisitNeedsMemory w (visit.Clock n) = ⊥
+  VisitNeedsMemory w (visit.TakeOwed n) = ⊥
+  VisitNeedsMemory w (visit.NoticeEnded n number) = is_running w number ≡ true
+  VisitNeedsMemory w (visit.LockKey n key) = Unit {0}
+  VisitNeedsMemory w (visit.UnlockKey n) = ⊥
+  VisitNeedsMemory w (visit.OpenNotice n key value stamp modified cause upsert) = Unit {0}
+  VisitNeedsMemory w (visit.StampMoment n) = Unit {0}
+  VisitNeedsMemory w (visit.Judge key stored) = Unit {0}
+  VisitNeedsMemory w (visit.WaitOrOwn n key kind) = Unit {0}
+  VisitNeedsMemory w (visit.ReadSettled n) = Unit {0}
+  VisitNeedsMemory w (visit.Settle n with) = Unit {0}
+  VisitNeedsMemory w (visit.OpenAsk n takes) = Unit {0}
+  VisitNeedsMemory w (visit.TakeTold n) = ⊥
+  VisitNeedsMemory w (visit.PostWrite n write) = ⊥
+  VisitNeedsMemory w (visit.TakeTurn n) = is_free_for w n ≡ false
+  VisitNeedsMemory w (visit.ApplyOne n) = ⊥
+  VisitNeedsMemory w (visit.EndTurn n) = ⊥
+
+  -- memory may be wanting for such an access in this world: it goes to the table, or is such a visit
+  abbrev pub NeedsMemory : World K V → Access K V → Type 0
+  NeedsMemory w (step.On_table operation) = Unit {0}
+  NeedsMemory w (step.On_desk made) = VisitNeedsMemory w.desk made
 
   -- whatever the access
-  abbrev pub any_access : Access K V → Type 0
-  any_access access = Unit {0}
+  abbrev pub any_access : World K V → Access K V → Type 0
+  any_access w access = Unit {0}
 
   -- the operation that is begun after an access gave this
   abbrev pub still_begun : Access K V → Got K V → Option (TableOp K V)
@@ -79,6 +111,13 @@ module _ {K V : Type 0} where
   -- the world has what the wanted access needs
   abbrev pub MayWant : World K V → Option (TableOp K V) → Want K V → Type 0
   MayWant w begun wish = MatchOption (wanted begun wish) ⊥ (λ access. May w access)
+
+  -- the access of the flow's call, had it this to do, and that access as it is wanted
+  abbrev pub access_from : Flow K V → List (Item K V) → Access K V
+  access_from flow items = access_of flow.call (standing flow items)
+
+  abbrev pub wish_for : Flow K V → List (Item K V) → Want K V
+  wish_for flow items = want_for flow.begun (access_from flow items)
 
   -- the access that the flow stands at
   abbrev pub access_at : Flow K V → Access K V
@@ -119,6 +158,10 @@ module _ {K V : Type 0} where
     pub tells : Tells old.made access given new.made
     -- an undecided step is followed by fewer
     pub shortens : Shortens old.work new.work access given
+
+  -- memory was wanting for the access: in each world that the ground stood for and that allows it, it may be
+  abbrev pub Lacks : (World K V → Type 0) → (World K V → Access K V → Type 0) → Access K V → Type 0
+  Lacks stood needs access = (w : World K V) → stood w → May w access → needs w access
 
   -- it holds of the access that is wanted
   abbrev pub OfWanted : Account K V → Want K V → (Access K V → Type 0) → Type 0

@@ -1,12 +1,12 @@
 -- What the steps of a flow do to the worlds that its ground stands for.
-use Rattle.std.specs.Prelude.{◌≡◌, ◌<◌, ℕ, Bool, List, Option, Some}
+use Rattle.std.specs.Prelude.{◌≡◌, ◌⊎◌, ◌<◌, ℕ, Bool, List, Option, Some}
 use Rattle.moka_hist.specs.Bound.{as_told}
 use Rattle.moka_hist.specs.Next.{Next}
 use Rattle.moka_hist.specs.State.{World}
-use Rattle.moka_hist.specs.Step.{Moves, MovesOn, Polled, IsSafe, May}
+use Rattle.moka_hist.specs.Step.{Access, Moves, MovesOn, Polled, IsSafe, May}
 use Rattle.moka_bound.specs.Ahead.{ahead}
 use Rattle.moka_init.specs.FlowPlan.{call_of}
-use Rattle.moka_init.specs.Grounds.{Account, access_at}
+use Rattle.moka_init.specs.Grounds.{Account, TakesCopies, access_at}
 use Rattle.moka_init.specs.Telling.{Made, TellsSteps}
 use Rattle.moka_init.specs.declared.flow.Flow.{Flow}
 
@@ -33,10 +33,22 @@ module _ {K V : Type 0} where
       (w : World K V) → stood w → IsSafe eq flow.call (call_of flow) w
       → (new : World K V) × MovesOn eq steps flow.call (call_of flow) w (call_of on) new × stands new
 
-  -- so many steps were made, as it is told, each of which left the call going, and just these are told
-  abbrev pub Unended : (K → K → Bool) → ℕ → Worlds K V → Account K V → Flow K V → Flow K V → Worlds K V → Account K V → Type 0
-  Unended eq told stood old flow on stands new =
-      (steps : ℕ) × (told ≡ as_told steps) × GoesThere eq steps stood flow on stands
+  -- memory may be wanting for the flow's next access in the world: for its copies, or on the ground
+  abbrev pub MayLack : (World K V → Access K V → Type 0) → World K V → Flow K V → Type 0
+  MayLack needs w flow = TakesCopies (access_at flow) ⊎ needs w (access_at flow)
+
+  -- it moves by so many steps, each of which leaves it going, up to one for which memory may be wanting
+  abbrev pub StopsThere : (K → K → Bool) → ℕ → Worlds K V → Flow K V → Flow K V → Worlds K V → (World K V → Access K V → Type 0) → Type 0
+  StopsThere eq steps stood flow on stands needs =
+      (w : World K V) → stood w → IsSafe eq flow.call (call_of flow) w
+      → (new : World K V) × MovesOn eq steps flow.call (call_of flow) w (call_of on) new × stands new × MayLack needs new on
+
+  -- so many steps were made, as it is told, each of which left the call going, and just these are told; and
+  -- memory may be wanting for the next one
+  abbrev pub Unended : (K → K → Bool) → ℕ → Worlds K V → Account K V → Flow K V → Flow K V → Worlds K V → Account K V
+      → (World K V → Access K V → Type 0) → Type 0
+  Unended eq told stood old flow on stands new needs =
+      (steps : ℕ) × (told ≡ as_told steps) × StopsThere eq steps stood flow on stands needs
       × ((before : List (Made K V)) → old.made ≡ Some before → TellsSteps steps flow.call (call_of flow) (call_of on) before new.made)
 
   -- the call may still make fewer steps, in each of these worlds that has what the step needed and whose log has room for a write at all

@@ -7,6 +7,7 @@ ghost use Rattle.std.proofs.Common.{refl};
 ghost use Rattle.moka_hist.specs.Finite.{IsExact};
 ghost use Rattle.moka_init.specs.EmptyCache.{NotesOne, NotesPoll};
 
+use crate::tests::RULES;
 use crate::{Alone, Flow, Got, Ground, Turn, Unfinished, Want, poll, step};
 use moka_hist::{Answer, Found, Start, TableAnswer, TableOp, TableTurn, Visit};
 use std::alloc::{AllocError, Global};
@@ -152,7 +153,7 @@ impl<K: Eq + Clone + Drop, V: Clone + Drop> Bare<K, V> {
 impl<K: Eq + Clone + Drop, V: Clone + Drop> Ground<K, V> for Bare<K, V> {
     ghost use Rattle.moka_hist.specs.State.{World};
     ghost use Rattle.moka_init.specs.EmptyCache.{BareAllows, IsBare, bare_account, bare_counts};
-    ghost use Rattle.moka_init.specs.Grounds.{Accesses, Gives, OfWanted, any_access};
+    ghost use Rattle.moka_init.specs.Grounds.{Accesses, Gives, Lacks, OfWanted, any_access};
 
     ghost stands = { λ g w. IsBare g.undecided w };
 
@@ -194,7 +195,7 @@ impl<K: Eq + Clone + Drop, V: Clone + Drop> Ground<K, V> for Bare<K, V> {
             → IsBare self.new.undecided w) }
         ensures err_needs { OnErr result (OfWanted
             (bare_account self.old.call self.old.begun self.old.notes.items self.old.undecided) want
-            any_access) }
+            (Lacks (IsBare self.old.undecided) any_access)) }
     {
         self.serve(want)
     }
@@ -211,7 +212,7 @@ struct Shared<K, V> {
 impl<K: Eq + Clone + Drop, V: Clone + Drop> Ground<K, V> for Shared<K, V> {
     ghost use Rattle.moka_hist.specs.State.{World};
     ghost use Rattle.moka_init.specs.EmptyCache.{AnyWant, NoWorld, bare_account};
-    ghost use Rattle.moka_init.specs.Grounds.{Accesses, Gives, OfWanted, any_access};
+    ghost use Rattle.moka_init.specs.Grounds.{Accesses, Gives, Lacks, OfWanted, any_access};
 
     ghost stands = { λ g w. NoWorld w };
 
@@ -253,7 +254,7 @@ impl<K: Eq + Clone + Drop, V: Clone + Drop> Ground<K, V> for Shared<K, V> {
         ensures err_stands { OnErr result ((w : World K V) → NoWorld w → NoWorld w) }
         ensures err_needs { OnErr result (OfWanted (bare_account self.old.bare.call
             self.old.bare.begun self.old.bare.notes.items self.old.bare.undecided) want
-            any_access) }
+            (Lacks NoWorld any_access)) }
     {
         self.bare.serve(want)
     }
@@ -263,7 +264,7 @@ impl<K: Eq + Clone + Drop, V: Clone + Drop> Ground<K, V> for Shared<K, V> {
 fn step_get<K: Eq + Clone + Drop, V: Clone + Drop>(
     key: K,
     ground: &mut Shared<K, V>,
-) -> Result<Turn<V>, AllocError>
+) -> Result<Turn<K, V>, AllocError>
     requires keys { IsExact K.is_clone }
     requires values { IsExact V.is_clone }
     requires call { ground.old.bare.call ≡ 1 }
@@ -271,7 +272,7 @@ fn step_get<K: Eq + Clone + Drop, V: Clone + Drop>(
     ensures { OnOk result
         (NotesOne ground.old.bare.notes.items ground.new.bare.notes.items) }
 {
-    let mut flow = Flow::new(Start::Get { key }, 1);
+    let mut flow = Flow::new(Start::Get { key }, 1, RULES);
     step(&mut flow, ground)
 }
 
@@ -279,14 +280,14 @@ fn step_get<K: Eq + Clone + Drop, V: Clone + Drop>(
 fn poll_get<K: Eq + Clone + Drop, V: Clone + Drop>(
     key: K,
     ground: &mut Bare<K, V>,
-) -> Result<Turn<V>, Unfinished>
+) -> Result<Turn<K, V>, Unfinished>
     requires keys { IsExact K.is_clone }
     requires values { IsExact V.is_clone }
     requires call { ground.old.call ≡ 1 }
     requires begun { ground.old.begun ≡ None }
     ensures { OnOk result (NotesPoll key ground.old.notes.items ground.new.notes.items) }
 {
-    let mut flow = Flow::new(Start::Get { key }, 1);
+    let mut flow = Flow::new(Start::Get { key }, 1, RULES);
     poll(&mut flow, ground)
 }
 

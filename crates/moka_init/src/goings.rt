@@ -1,11 +1,11 @@
 //! Single steps of a flow, and steps up to the first turn that isn't Going.
-ghost use Rattle.std.specs.Prelude.{◌≡◌, ◌<◌, List, Some, IfOk, IfErr, OnOk, OnErr, ◌⊎◌};
+ghost use Rattle.std.specs.Prelude.{◌≡◌, ◌<◌, List, Some, IfOk, IfErr, OnOk, OnErr};
 ghost use Rattle.moka_hist.specs.Finite.{IsExact};
 ghost use Rattle.moka_hist.specs.State.{World};
-ghost use Rattle.moka_hist.specs.Step.{IsSafe};
+ghost use Rattle.moka_hist.specs.Step.{IsSafe, May};
 ghost use Rattle.moka_init.specs.FlowPlan.{call_of, next_in, IsLive, Leaves};
-ghost use Rattle.moka_init.specs.Grounds.{IsOn, access_at, wish_of, NeedsMemory};
-ghost use Rattle.moka_init.specs.Steps.{MovesThere, PolledThere, Unended, Nears};
+ghost use Rattle.moka_init.specs.Grounds.{IsOn, access_at, wish_of};
+ghost use Rattle.moka_init.specs.Steps.{MovesThere, PolledThere, MayLack, Unended, Nears};
 ghost use Rattle.moka_init.specs.Telling.{Made, TellsPoll, TellsStep};
 
 use crate::flow::Flow;
@@ -19,7 +19,7 @@ use std::alloc::AllocError;
 pub fn step<K: Eq + Clone + Drop, V: Clone + Drop, G: Ground<K, V>>(
     flow: &mut Flow<K, V>,
     ground: &mut G,
-) -> Result<Turn<V>, AllocError>
+) -> Result<Turn<K, V>, AllocError>
     requires keys { IsExact K.is_clone }
     requires values { IsExact V.is_clone }
     requires live { IsLive flow.old }
@@ -41,8 +41,8 @@ pub fn step<K: Eq + Clone + Drop, V: Clone + Drop, G: Ground<K, V>>(
     ensures keeps { G.keeps ground.old ground.new }
     // Without memory.
     ensures err { OnErr result (flow.new ≡ flow.old) }
-    ensures err_needs { OnErr result (NeedsMemory (access_at flow.old)
-        ⊎ G.needs (access_at flow.old)) }
+    ensures err_needs { OnErr result ((w : World K V) → G.stands ground.old w
+        → May w (access_at flow.old) → MayLack G.needs w flow.old) }
     ensures err_stands { OnErr result ((w : World K V) → G.stands ground.old w
         → G.stands ground.new w) }
     ensures err_account { OnErr result (G.account ground.new ≡ G.account ground.old) }
@@ -66,7 +66,7 @@ pub struct Unfinished {
 pub fn poll<K: Eq + Clone + Drop, V: Clone + Drop, G: Alone<K, V>>(
     flow: &mut Flow<K, V>,
     ground: &mut G,
-) -> Result<Turn<V>, Unfinished>
+) -> Result<Turn<K, V>, Unfinished>
     requires keys { IsExact K.is_clone }
     requires values { IsExact V.is_clone }
     requires live { IsLive flow.old }
@@ -87,9 +87,8 @@ pub fn poll<K: Eq + Clone + Drop, V: Clone + Drop, G: Alone<K, V>>(
     ensures keeps { G.keeps ground.old ground.new }
     // Without memory.
     ensures unfinished { IfErr result (λ u. Unended K.eq u.steps (G.stands ground.old)
-        (G.account ground.old) flow.old flow.new (G.stands ground.new) (G.account ground.new)) }
-    ensures needs { OnErr result (NeedsMemory (access_at flow.new)
-        ⊎ G.needs (access_at flow.new)) }
+        (G.account ground.old) flow.old flow.new (G.stands ground.new) (G.account ground.new)
+        G.needs) }
     ensures live { OnErr result (IsLive flow.new) }
 {
     let mut steps: u64 = 0;

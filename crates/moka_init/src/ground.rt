@@ -5,7 +5,7 @@ ghost use Rattle.moka_hist.specs.State.{World};
 ghost use Rattle.moka_hist.specs.Step.{Access};
 ghost use Rattle.moka_hist.specs.declared.accesses.Want.{Want};
 ghost use Rattle.moka_bound.specs.Falling.{Counts};
-ghost use Rattle.moka_init.specs.Grounds.{Account, Accesses, Gives, OfWanted, MayWant};
+ghost use Rattle.moka_init.specs.Grounds.{Account, Accesses, Gives, Lacks, OfWanted, MayWant};
 
 use moka_hist::{Got, Want};
 use std::alloc::AllocError;
@@ -23,8 +23,8 @@ pub trait Ground<K: Eq + Clone, V: Clone> {
     /// What it tells of itself: whose it is, what is begun there, and which accesses were made.
     ghost account: { Self → Account K V };
 
-    /// The accesses for which memory may be wanting there.
-    ghost needs: { Access K V → Type 0 };
+    /// The accesses for which memory may be wanting there, in such a world.
+    ghost needs: { World K V → Access K V → Type 0 };
 
     /// What stays of it, whatever its call accesses there.
     ghost keeps: { Self → Self → Type 0 };
@@ -45,7 +45,8 @@ pub trait Ground<K: Eq + Clone, V: Clone> {
         ensures err { OnErr result (account self.new ≡ account self.old) }
         ensures err_stands { OnErr result ((w : World K V) → stands self.old w
             → stands self.new w) }
-        ensures err_needs { OnErr result (OfWanted (account self.old) want needs) };
+        ensures err_needs { OnErr result
+            (OfWanted (account self.old) want (Lacks (stands self.old) needs)) };
 
     /// What a world allows that it stands for fits.
     ghost allows: { (g : Self) (w : World K V) (want : Want K V) → stands g w

@@ -7,14 +7,20 @@
 
 #[cfg(test)]
 mod bare;
+mod calls;
 mod flow;
 mod goings;
 mod ground;
+mod listening;
+mod loading;
+mod looking;
 mod points;
+mod posting;
 mod takes;
 #[cfg(test)]
 mod tests;
 mod wants;
+mod writing;
 
 pub use flow::Flow;
 pub use goings::{Unfinished, poll, step};

@@ -6,8 +6,8 @@ ghost use Rattle.moka_init.specs.Forms.{FitsWant, IsFoundBy};
 
 use crate::{Flow, Got, Turn, Want};
 use moka_hist::{
-    Answer, Claim, Found, Settled, Start, Stored, TableAnswer, TableOp, TableTurn, Told, Visit,
-    Write,
+    Answer, Ask, Cause, Claim, Found, Owed, Rules, Settled, Start, Stored, TableAnswer, TableOp,
+    TableTurn, Told, Visit, Write,
 };
 use std::process::Abort;
 use std::test::Fail;
@@ -16,6 +16,21 @@ use std::test::Fail;
 type Row = (&'static str, Got<u32, u32>, &'static str);
 
 const KEY: u32 = 3;
+
+// An owed write of the call 2.
+const WRITE: Write = Write::Upsert {
+    number: 2,
+    old: None,
+};
+
+// No rule is set.
+pub(crate) const RULES: Rules = Rules {
+    max_capacity: None,
+    time_to_live: None,
+    time_to_idle: None,
+    listener: false,
+    closures: false,
+};
 
 // A record of the call 2 under the key.
 fn found() -> TableAnswer<u32, u32> {
@@ -58,6 +73,10 @@ fn visit_name(visit: &Visit<u32, u32>) -> &'static str {
     match visit {
         Visit::Clock { .. } => "clock",
         Visit::TakeOwed { .. } => "take owed",
+        Visit::NoticeEnded { .. } => "notice ended",
+        Visit::LockKey { .. } => "lock key",
+        Visit::UnlockKey { .. } => "unlock key",
+        Visit::OpenNotice { .. } => "open notice",
         Visit::StampMoment { .. } => "stamp moment",
         Visit::Judge { .. } => "judge",
         Visit::WaitOrOwn { .. } => "wait or own",
@@ -72,12 +91,19 @@ fn visit_name(visit: &Visit<u32, u32>) -> &'static str {
     }
 }
 
-fn turn_name(turn: &Turn<u32>) -> &'static str {
+fn turn_name(turn: &Turn<u32, u32>) -> &'static str {
     match turn {
         Turn::Going => "going",
         Turn::Wait => "wait",
-        Turn::Ask(_) => "ask",
+        Turn::Ask(ask) => ask_name(ask),
         Turn::Answer(answer) => answer_name(answer),
+    }
+}
+
+fn ask_name(ask: &Ask<u32, u32>) -> &'static str {
+    match ask {
+        Ask::Init => "ask",
+        Ask::Listener { .. } => "ask listener",
     }
 }
 
@@ -112,6 +138,10 @@ fn is_found_by(visit: &Visit<u32, u32>, found: &Found<u32>) -> bool
     match visit {
         Visit::Clock { .. } => matches!(found, Found::Clock(_)),
         Visit::TakeOwed { .. } => matches!(found, Found::TakeOwed(_)),
+        Visit::NoticeEnded { .. } => matches!(found, Found::NoticeEnded(_)),
+        Visit::LockKey { .. } => matches!(found, Found::LockKey(_)),
+        Visit::UnlockKey { .. } => matches!(found, Found::UnlockKey),
+        Visit::OpenNotice { .. } => matches!(found, Found::OpenNotice(_)),
         Visit::StampMoment { .. } => matches!(found, Found::StampMoment(_)),
         Visit::Judge { .. } => matches!(found, Found::Judge(_)),
         Visit::WaitOrOwn { .. } => matches!(found, Found::WaitOrOwn(_)),
@@ -142,10 +172,10 @@ fn goes(rt: &impl Abort, flow: &mut Flow<u32, u32>, row: Row) -> Result<(), Fail
 
 #[test]
 fn a_get_posts_what_is_owed_and_answers_what_is_found(rt: HostRuntime) -> Result<(), Fail> {
-    let mut flow = Flow::new(Start::Get { key: KEY }, 7);
-    let owed = Write::Upsert {
-        number: 2,
-        old: None,
+    let mut flow = Flow::new(Start::Get { key: KEY }, 7, RULES);
+    let owed = Owed {
+        write: WRITE,
+        notice: None,
     };
     let rows = [
         ("take owed", Got::Desk(Found::TakeOwed(Some(owed))), "going"),
@@ -158,7 +188,7 @@ fn a_get_posts_what_is_owed_and_answers_what_is_found(rt: HostRuntime) -> Result
     for row in rows {
         goes(&rt, &mut flow, row)?;
     }
-    let mut flow = Flow::new(Start::Get { key: KEY }, 8);
+    let mut flow = Flow::new(Start::Get { key: KEY }, 8, RULES);
     let rows = [
         ("take owed", Got::Desk(Found::TakeOwed(None)), "going"),
         ("get", decided(TableAnswer::None), "nothing"),
@@ -171,7 +201,7 @@ fn a_get_posts_what_is_owed_and_answers_what_is_found(rt: HostRuntime) -> Result
 
 #[test]
 fn an_insert_waits_for_the_turn_and_empties_a_full_log(rt: HostRuntime) -> Result<(), Fail> {
-    let mut flow = Flow::new(Start::Insert { key: KEY, value: 5 }, 7);
+    let mut flow = Flow::new(Start::Insert { key: KEY, value: 5 }, 7, RULES);
     let rows = [
         ("take owed", Got::Desk(Found::TakeOwed(None)), "going"),
         ("stamp moment", Got::Desk(Found::StampMoment(4)), "going"),
@@ -193,7 +223,7 @@ fn an_insert_waits_for_the_turn_and_empties_a_full_log(rt: HostRuntime) -> Resul
 
 #[test]
 fn an_owner_looks_again_then_asks_stores_and_settles(rt: HostRuntime) -> Result<(), Fail> {
-    let mut flow = Flow::new(Start::GetWith { key: KEY }, 7);
+    let mut flow = Flow::new(Start::GetWith { key: KEY }, 7, RULES);
     let rows = [
         ("take owed", Got::Desk(Found::TakeOwed(None)), "going"),
         ("get", decided(TableAnswer::None), "going"),
@@ -225,7 +255,7 @@ fn an_owner_looks_again_then_asks_stores_and_settles(rt: HostRuntime) -> Result<
 
 #[test]
 fn a_waiter_owns_after_an_abort_and_settles_what_it_finds(rt: HostRuntime) -> Result<(), Fail> {
-    let mut flow = Flow::new(Start::GetWith { key: KEY }, 7);
+    let mut flow = Flow::new(Start::GetWith { key: KEY }, 7, RULES);
     let waits = Claim::Waits { owner: 2 };
     let rows = [
         ("take owed", Got::Desk(Found::TakeOwed(None)), "going"),
@@ -258,7 +288,7 @@ fn a_waiter_owns_after_an_abort_and_settles_what_it_finds(rt: HostRuntime) -> Re
 
 #[test]
 fn a_load_gives_up_at_the_200th_dropped_owner(rt: HostRuntime) -> Result<(), Fail> {
-    let mut flow = Flow::new(Start::GetWith { key: KEY }, 7);
+    let mut flow = Flow::new(Start::GetWith { key: KEY }, 7, RULES);
     goes(
         &rt,
         &mut flow,
@@ -273,5 +303,92 @@ fn a_load_gives_up_at_the_200th_dropped_owner(rt: HostRuntime) -> Result<(), Fai
     goes(&rt, &mut flow, ("read settled", aborted(), "exhausted"))?;
     assert!(rt; flow.has_answered());
     assert!(rt; flow.held().is_none());
+    Ok(())
+}
+
+// An insert under a listener that has committed the write, which replaced a record.
+fn committed(rt: &impl Abort) -> Result<Flow<u32, u32>, Fail> {
+    let rules = Rules {
+        listener: true,
+        ..RULES
+    };
+    let mut flow = Flow::new(Start::Insert { key: KEY, value: 5 }, 7, rules);
+    let rows = [
+        ("take owed", Got::Desk(Found::TakeOwed(None)), "going"),
+        ("lock key", Got::Desk(Found::LockKey(false)), "wait"),
+        ("lock key", Got::Desk(Found::LockKey(true)), "going"),
+        ("stamp moment", Got::Desk(Found::StampMoment(4)), "going"),
+        ("insert", decided(found()), "going"),
+    ];
+    for row in rows {
+        goes(rt, &mut flow, row)?;
+    }
+    Ok(flow)
+}
+
+#[test]
+fn a_writer_tells_the_listener_and_hears_it_before_it_posts(rt: HostRuntime) -> Result<(), Fail> {
+    let mut flow = committed(&rt)?;
+    assert!(rt; flow.due()?.is_some());
+    let cause = Some(Cause::Replaced);
+    let opened = (
+        "open notice",
+        Got::Desk(Found::OpenNotice(cause)),
+        "ask listener",
+    );
+    goes(&rt, &mut flow, opened)?;
+    assert!(rt; flow.due()?.is_none());
+    let own = Write::Upsert {
+        number: 7,
+        old: Some(2),
+    };
+    let owed = Owed {
+        write: own,
+        notice: Some(7),
+    };
+    assert!(rt; flow.held() == Some(owed));
+    let rows = [
+        ("notice ended", Got::Desk(Found::NoticeEnded(false)), "wait"),
+        ("notice ended", Got::Desk(Found::NoticeEnded(true)), "going"),
+        ("unlock key", Got::Desk(Found::UnlockKey), "going"),
+        ("post write", Got::Desk(Found::PostWrite(true)), "done"),
+    ];
+    for row in rows {
+        goes(&rt, &mut flow, row)?;
+    }
+    Ok(())
+}
+
+#[test]
+fn a_listener_that_is_off_is_not_asked(rt: HostRuntime) -> Result<(), Fail> {
+    let mut flow = committed(&rt)?;
+    let rows = [
+        ("open notice", Got::Desk(Found::OpenNotice(None)), "going"),
+        ("unlock key", Got::Desk(Found::UnlockKey), "going"),
+        ("post write", Got::Desk(Found::PostWrite(true)), "done"),
+    ];
+    for row in rows {
+        goes(&rt, &mut flow, row)?;
+    }
+    Ok(())
+}
+
+#[test]
+fn an_owed_write_is_posted_once_its_notice_has_ended(rt: HostRuntime) -> Result<(), Fail> {
+    let mut flow = Flow::new(Start::Get { key: KEY }, 7, RULES);
+    let owed = Owed {
+        write: WRITE,
+        notice: Some(2),
+    };
+    let rows = [
+        ("take owed", Got::Desk(Found::TakeOwed(Some(owed))), "going"),
+        ("notice ended", Got::Desk(Found::NoticeEnded(false)), "wait"),
+        ("notice ended", Got::Desk(Found::NoticeEnded(true)), "going"),
+        ("post write", Got::Desk(Found::PostWrite(true)), "going"),
+        ("take owed", Got::Desk(Found::TakeOwed(None)), "going"),
+    ];
+    for row in rows {
+        goes(&rt, &mut flow, row)?;
+    }
     Ok(())
 }

@@ -1,13 +1,15 @@
 //! The next access of a flow.
-ghost use Rattle.std.specs.Prelude.{◌≡◌, IfOk, OnErr};
+ghost use Rattle.std.specs.Prelude.{◌≡◌, false, IfOk, OnErr};
 ghost use Rattle.moka_hist.specs.Finite.{IsExact};
 ghost use Rattle.moka_hist.specs.Plan as plan;
 ghost use Rattle.moka_hist.specs.Step.{access_for, want_for, takes_of};
 ghost use Rattle.moka_init.specs.FlowPlan.{aim_of, key_of, IsLive};
-ghost use Rattle.moka_init.specs.Grounds.{access_at, wish_of, NeedsMemory};
+ghost use Rattle.moka_init.specs.FlowPlan.{posting_plan, looking_plan, loading_plan, writing_plan, listening_plan};
+ghost use Rattle.moka_init.specs.Grounds.{access_at, access_from, wish_for, wish_of, TakesCopies};
 
+use crate::calls::open_notice;
 use crate::flow::Flow;
-use crate::points::{Look, Point, Put};
+use crate::points::{Listening, Loading, Look, Looking, Point, Posting, Put, Writing};
 use moka_hist::{Kind, Load, Settled, Stored, TableOp, Takes, Visit, Want};
 use std::alloc::AllocError;
 
@@ -20,31 +22,96 @@ impl<K: Clone + Drop, V: Clone + Drop> Flow<K, V> {
         requires live { IsLive self.old }
         ensures want { IfOk result (λ want. want ≡ wish_of self.old) }
         ensures same { self.new ≡ self.old }
-        ensures err { OnErr result (NeedsMemory (access_at self.old)) }
+        ensures err { OnErr result (TakesCopies (access_at self.old)) }
+    {
+        match &self.point {
+            Point::Posting(posting) => Ok(self.want_posting(posting)),
+            Point::Looking(looking) => self.want_looking(looking),
+            Point::Loading(loading) => self.want_loading(loading),
+            Point::Writing(writing) => self.want_writing(writing),
+            Point::Listening(listening) => self.want_listening(listening),
+            Point::Spent => unreachable!(),
+        }
+    }
+
+    fn want_posting(&self, posting: &Posting<K, V>) -> Want<K, V>
+        ensures { result ≡ wish_for self.now (posting_plan posting.now) }
     {
         let call = self.call;
-        match &self.point {
-            Point::Drain(_) => Ok(Want::Desk(Visit::TakeOwed { call })),
-            Point::Post { write, .. } => Ok(Want::Desk(Visit::PostWrite {
+        match posting {
+            Posting::Drain(_) => Want::Desk(Visit::TakeOwed { call }),
+            Posting::Post { write, .. } => Want::Desk(Visit::PostWrite {
                 call,
                 write: *write,
-            })),
-            Point::Turn { .. } => Ok(Want::Desk(Visit::TakeTurn { call })),
-            Point::Apply { .. } => Ok(Want::Desk(Visit::ApplyOne { call })),
-            Point::End { .. } => Ok(Want::Desk(Visit::EndTurn { call })),
-            Point::Get(look) => want_get(self.begun, look),
-            Point::Judge { key, stored, .. } => want_judge(key, stored),
-            Point::Own(load) => want_own(call, load),
-            Point::Read(_) => Ok(Want::Desk(Visit::ReadSettled { call })),
-            Point::Settle { value, .. } => want_settle(call, value),
-            Point::Ask(load) => Ok(Want::Desk(Visit::OpenAsk {
+            }),
+            Posting::Turn { .. } => Want::Desk(Visit::TakeTurn { call }),
+            Posting::Apply { .. } => Want::Desk(Visit::ApplyOne { call }),
+            Posting::End { .. } => Want::Desk(Visit::EndTurn { call }),
+        }
+    }
+
+    fn want_looking(&self, looking: &Looking<K, V>) -> Result<Want<K, V>, AllocError>
+        requires keys { IsExact K.is_clone }
+        requires values { IsExact V.is_clone }
+        ensures want { IfOk result (λ want. want ≡ wish_for self.now (looking_plan looking.now)) }
+        ensures err { OnErr result (TakesCopies (access_from self.now (looking_plan looking.now))) }
+    {
+        match looking {
+            Looking::Get(look) => want_get(self.begun, look),
+            Looking::Judge { key, stored, .. } => want_judge(key, stored),
+        }
+    }
+
+    fn want_loading(&self, loading: &Loading<K, V>) -> Result<Want<K, V>, AllocError>
+        requires keys { IsExact K.is_clone }
+        requires values { IsExact V.is_clone }
+        ensures want { IfOk result (λ want. want ≡ wish_for self.now (loading_plan loading.now)) }
+        ensures err { OnErr result (TakesCopies (access_from self.now (loading_plan loading.now))) }
+    {
+        let call = self.call;
+        match loading {
+            Loading::Own(load) => want_own(call, load),
+            Loading::Read(_) => Ok(Want::Desk(Visit::ReadSettled { call })),
+            Loading::Settle { value, .. } => want_settle(call, value),
+            Loading::Ask(load) => Ok(Want::Desk(Visit::OpenAsk {
                 call,
                 takes: takes_of(load.kind),
             })),
-            Point::Told(_) => Ok(Want::Desk(Visit::TakeTold { call })),
-            Point::Moment(_) => Ok(Want::Desk(Visit::StampMoment { call })),
-            Point::Write { put, moment } => want_write(self.begun, call, put, *moment),
-            Point::Spent => unreachable!(),
+            Loading::Told(_) => Ok(Want::Desk(Visit::TakeTold { call })),
+        }
+    }
+
+    fn want_writing(&self, writing: &Writing<K, V>) -> Result<Want<K, V>, AllocError>
+        requires keys { IsExact K.is_clone }
+        requires values { IsExact V.is_clone }
+        ensures want { IfOk result (λ want. want ≡ wish_for self.now (writing_plan writing.now)) }
+        ensures err { OnErr result (TakesCopies (access_from self.now (writing_plan writing.now))) }
+    {
+        let call = self.call;
+        match writing {
+            Writing::Moment(_) => Ok(Want::Desk(Visit::StampMoment { call })),
+            Writing::Write { put, moment } => want_write(self.begun, call, put, *moment),
+        }
+    }
+
+    fn want_listening(&self, listening: &Listening<K, V>) -> Result<Want<K, V>, AllocError>
+        requires keys { IsExact K.is_clone }
+        requires values { IsExact V.is_clone }
+        ensures want { IfOk result (λ want.
+            want ≡ wish_for self.now (listening_plan listening.now)) }
+        ensures err { OnErr result
+            (TakesCopies (access_from self.now (listening_plan listening.now))) }
+    {
+        let call = self.call;
+        match listening {
+            Listening::Ended { notice, .. } => Ok(Want::Desk(Visit::NoticeEnded {
+                call,
+                notice: *notice,
+            })),
+            Listening::Lock(put) => want_lock(call, &put.key),
+            Listening::Notice { key, old, .. } => want_notice(call, key, old),
+            Listening::Heard { .. } => Ok(Want::Desk(Visit::NoticeEnded { call, notice: call })),
+            Listening::Unlock { .. } => Ok(Want::Desk(Visit::UnlockKey { call })),
         }
     }
 }
@@ -143,4 +210,26 @@ fn want_write<K: Clone + Drop, V: Clone + Drop>(
             modified: moment,
         },
     }))
+}
+
+fn want_lock<K: Clone + Drop, V>(call: u64, key: &K) -> Result<Want<K, V>, AllocError>
+    requires { IsExact K.is_clone }
+    ensures { IfOk result (λ want. want ≡ Want.Desk (Visit.LockKey call key.now)) }
+{
+    let key = key.clone()?;
+    Ok(Want::Desk(Visit::LockKey { call, key }))
+}
+
+fn want_notice<K: Clone + Drop, V: Clone + Drop>(
+    call: u64,
+    key: &K,
+    old: &Stored<V>,
+) -> Result<Want<K, V>, AllocError>
+    requires keys { IsExact K.is_clone }
+    requires values { IsExact V.is_clone }
+    ensures { IfOk result (λ want.
+        want ≡ want_for false (access_for call (plan.Notice key.now old.now))) }
+{
+    let visit = open_notice(call, key, old)?;
+    Ok(Want::Desk(visit))
 }

@@ -1,6 +1,5 @@
 -- Live calls have still something to do, and what others wait for is an answer.
-use Rattle.std.proofs.Common.{◌≡◌, ◌≢◌, ℕ, ◌+◌, ◌==◌, Bool, true, false, cond, List, [], ◌∷◌, Option, Some, None, refl, sym, ◌∙◌, subst}
-use Rattle.std.proofs.lemmas.Bool.{false≢true}
+use Rattle.std.proofs.Common.{◌≡◌, ◌≢◌, ℕ, ◌+◌, ◌==◌, Bool, true, false, cond, List, [], ◌∷◌, Option, Some, None, refl, ◌∙◌, subst}
 use Rattle.moka_hist.specs.Finite.{put_at}
 use Rattle.moka_hist.specs.State.{State, World, Call, DeskPart}
 use Rattle.moka_hist.specs.Plan.{Item, Aim, held_by, plan_of}
@@ -9,21 +8,20 @@ use Rattle.moka_hist.specs.Visits.{settlement_for, settled_with, settled_without
 use Rattle.moka_hist.specs.Next.{Next, goes}
 use Rattle.moka_hist.specs.Looking.{hits, misses}
 use Rattle.moka_hist.specs.Loading.{after_read, after_told, after_abort, retries}
-use Rattle.moka_hist.specs.Telling.{is_asked, does_take}
-use Rattle.std.specs.Option.{option_and_then, option_map_or}
+use Rattle.std.specs.Option.{option_and_then}
 use Rattle.moka_hist.specs.Step.{Step, state_after}
 use Rattle.moka_hist.specs.Run.{IsReached, fresh_call}
+use Rattle.moka_hist.specs.declared.rules.Rules.{Rules}
 use Rattle.moka_hist.specs.declared.events.Start.{Start}
 use Rattle.moka_hist.specs.declared.events.Start.TheVariants as start
 use Rattle.moka_hist.specs.declared.events.Told.{Told}
 use Rattle.moka_hist.specs.declared.events.Told.TheVariants as answer
 use Rattle.moka_hist.specs.declared.loads.Load.{Load}
-use Rattle.moka_hist.specs.declared.visits.Takes.{Takes}
-use Rattle.moka_hist.specs.declared.visits.Takes.TheVariants as takes
 use Rattle.moka_hist.specs.declared.visits.Settled.{Settled}
 use Rattle.moka_hist.specs.declared.visits.Settled.TheVariants as settled
 use Rattle.moka_hist.specs.declared.visits.Found.TheVariants as found
 use Rattle.moka_hist.specs.declared.accesses.Turn.{Turn}
+use Rattle.moka_laws.proofs.Rules.{put_plans}
 use Rattle.moka_laws.proofs.Counting.{none_some, put_cases}
 use Rattle.moka_laws.proofs.Kept.{IsKept, in_reached}
 use Rattle.moka_laws.proofs.StepCases.{OnStep, step_cases}
@@ -33,13 +31,20 @@ kept_or : {A : Type 0} (b : Bool) (x y : A) (P : A → Type 0) → P x → P y �
 kept_or true x y P p q = p
 kept_or false x y P p q = q
 
-none_told : {V : Type 0} (x : ℕ) (f : ℕ → Option (Told V)) (n : ℕ) → f x ≢ Some answer.Done → put_at f n None x ≢ Some answer.Done
-none_told x f n h = kept_or (n == x) None (f x) (λ v. v ≢ Some answer.Done) none_some h
+-- what is told, if anything, is a value
+abbrev pub IsValue : {V : Type 0} → Option (Told V) → Type 0
+IsValue None = Unit {0}
+IsValue (Some (answer.Value value)) = Unit {0}
+IsValue (Some answer.Done) = ⊥
+IsValue (Some answer.Off) = ⊥
 
--- no owner is kept as not yet settled, and no answer of a listener is told
+none_told : {V : Type 0} (x : ℕ) (f : ℕ → Option (Told V)) (n : ℕ) → IsValue (f x) → IsValue (put_at f n None x)
+none_told x f n h = kept_or (n == x) None (f x) IsValue tt h
+
+-- no owner is kept as not yet settled, and no answer of a listener is told to a call
 pub record Answers {V : Type 0} (kept : ℕ → Option (Settled V)) (given : ℕ → Option (Told V)) : Type 0 where
   pub settled : (x : ℕ) → kept x ≢ Some settled.NotYet
-  pub told : (x : ℕ) → given x ≢ Some answer.Done
+  pub told : (x : ℕ) → IsValue (given x)
 
 module _ {K V : Type 0} where
   -- the plan ends with an item that answers or says how the call goes on, and all owners are settled with an answer
@@ -74,10 +79,11 @@ module _ {K V : Type 0} where
   goes_well c [] h = h
   goes_well c (_ ∷ rest) h = h
 
-  fresh_well : (start : Start K V) → EndsWell (plan_of start)
-  fresh_well (start.Get key) = tt
-  fresh_well (start.Insert key value) = tt
-  fresh_well (start.GetWith key) = tt
+  fresh_well : (rules : Rules) (start : Start K V) → EndsWell (plan_of rules start)
+  fresh_well rules (start.Get key) = tt
+  fresh_well rules (start.Insert key value) =
+      put_plans (λ p. EndsWell p) rules key value _ (tt) (tt)
+  fresh_well rules (start.GetWith key) = tt
 
   misses_well : (c : Call K V) (aim : Aim K) → LeftWell (misses c aim).left
   misses_well c plan.To_answer = tt
@@ -101,22 +107,11 @@ module _ {K V : Type 0} where
 
   told_well : (c : Call K V) (load : Load K) (given : Told V) → EndsWell c.plan →
       LeftWell (after_told c load (found.TakeTold (Some given))).left
-  told_well c load (answer.Value value) h = tt
+  told_well c load (answer.Value value) h = put_plans (λ p. LeftWell (goes c p).left) c.rules load.key value _ tt tt
   told_well c load answer.Done h = h
+  told_well c load answer.Off h = h
 
   -- ---- what is told and settled
-
-  -- no ask takes the answer of a listener
-  not_asked : (d : DeskPart K V) (n : ℕ) → is_asked d n answer.Done ≡ false
-  not_asked d n = by (d.asks n)
-    where
-      by : (o : Option Takes) → option_map_or (λ t. does_take {V = V} t answer.Done) o false ≡ false
-      by None = refl
-      by (Some takes.Value) = refl
-
-  asked_for : (d : DeskPart K V) (n : ℕ) (given : Told V) → is_asked d n given ≡ true → Some given ≢ Some answer.Done
-  asked_for d n (answer.Value value) asked = λ e. cc
-  asked_for d n answer.Done asked = λ e. false≢true (sym (not_asked d n) ∙ asked)
 
   pub some_ready : (with : Settled V) (rest : List (Item K V)) → EndsWell (plan.Settle with ∷ rest) →
       (Some with ≢ Some settled.NotYet) × EndsWell rest
@@ -146,7 +141,12 @@ module _ {K V : Type 0} where
 
   module _ (eq : K → K → Bool) (w : World K V) (n : ℕ) (c : Call K V) (d : HasAnswers w.desk) where
     on_item : (item : Item K V) (rest : List (Item K V)) → EndsWell (item ∷ rest) → EndsWell c.plan → Outcomes eq Leaves w n c item rest
-    on_item plan.Drain rest h p = (λ e. ((goes_well c rest h), d), λ x xs e. (h, d))
+    on_item plan.Drain rest h p = (λ e. ((goes_well c rest h), d), (λ x xs e. (h, d)), λ x number xs e. (h, d))
+    on_item (plan.Ended number) rest h p = ((λ e. (goes_well c rest h, d)), λ e. (p, d))
+    on_item (plan.Lock key) rest h p = ((λ e. (goes_well c rest h, d)), λ e. (p, d))
+    on_item plan.Unlock rest h p = (goes_well c rest h, d)
+    on_item (plan.Notice key old) rest h p = ((λ e. (goes_well c rest h, d)), λ e. (h, d))
+    on_item plan.Heard rest h p = ((λ e. (goes_well c rest h, d)), λ e. (p, d))
     on_item (plan.Post write) rest h p = (λ e. ((goes_well c rest h), d), λ e. (h, d))
     on_item plan.Turn rest h p = (λ e. ((goes_well c rest h), d), λ e. (p, d))
     on_item plan.Apply rest h p = (λ e. ((goes_well c rest h), d), λ x xs e. (h, d))
@@ -167,7 +167,7 @@ module _ {K V : Type 0} where
       λ given e. (told_well c load given p, record { settled = d.settled; told = λ x. none_told x w.desk.told n (d.told x) }),
     )
     on_item (plan.Moment key value) rest h p = (h, d)
-    on_item (plan.Write key value moment) rest h p = ((λ more. (p, d)), (h, d))
+    on_item (plan.Write key value moment) rest h p = ((λ more. (p, d)), (λ off old. (h, d)), (λ on. (h, d)), λ k old on some. (h, d))
     on_item (plan.Reply answer) rest h p = (tt, d)
 
     on_plan : (plan : List (Item K V)) → c.plan ≡ plan → EndsWell c.plan → OnStep eq Leaves w n c plan
@@ -183,19 +183,19 @@ module _ {K V : Type 0} (eq : K → K → Bool) where
     desk = h.1;
   }
 
-  answering_step : (s t : State K V) (n : ℕ) (turn : Turn V) → IsAnswering s → Step eq s n turn t → IsAnswering t
+  answering_step : (s t : State K V) (n : ℕ) (turn : Turn K V) → IsAnswering s → Step eq s n turn t → IsAnswering t
   answering_step s t n turn i step =
       step_cases eq Leaves (λ v _. IsAnswering v) s t n turn step
       (on_plan eq s.world n step.call i.desk step.call.plan refl (i.calls n step.call step.live)) (λ w next. leaves s n w next i)
 
   pub answering_kept : IsKept eq (IsAnswering {K = K} {V = V})
   answering_kept = record {
-    fresh = λ size has_log. record { calls = λ n c live. absurd (none_some live); desk = record { settled = λ x. none_some; told = λ x. none_some } };
+    fresh = λ rules size has_log. record { calls = λ n c live. absurd (none_some live); desk = record { settled = λ x. none_some; told = λ x. tt } };
     at = λ s moment i. record { calls = i.calls; desk = i.desk };
     start = λ s start i. record {
       calls = λ n c live.
-          put_cases s.calls (s.world.desk.last + 1) (Some (fresh_call start)) n (Some c) (EndsWell c.plan) live
-          (λ here is. subst LeftWell is (fresh_well start))
+          put_cases s.calls (s.world.desk.last + 1) (Some (fresh_call s.world.desk.rules start)) n (Some c) (EndsWell c.plan) live
+          (λ here is. subst LeftWell is (fresh_well s.world.desk.rules start))
           (λ there is. i.calls n c is);
       desk = i.desk;
     };
@@ -204,10 +204,10 @@ module _ {K V : Type 0} (eq : K → K → Bool) where
       calls = i.calls;
       desk = record {
         settled = i.desk.settled;
-        told = λ x. kept_or (n == x) (Some given) (s.world.desk.told x) (λ v. v ≢ Some answer.Done)
-            (asked_for s.world.desk n given asked) (i.desk.told x);
+        told = λ x. kept_or (n == x) (Some (answer.Value given)) (s.world.desk.told x) IsValue tt (i.desk.told x);
       };
     };
+    hear = λ s n off running i. record { calls = i.calls; desk = i.desk };
     drop = λ s n c live between i. record {
       calls = λ m b lives. put_cases s.calls n None m (Some b) (EndsWell b.plan) lives (λ here is. absurd (none_some is))
           (λ there is. i.calls m b is);

@@ -1,5 +1,5 @@
 -- The ask of a call is open until it is answered, and the answer is kept until the call takes it.
-use Rattle.std.proofs.Common.{◌≡◌, ◌≢◌, ℕ, ◌+◌, ◌≤◌, ◌==◌, Bool, true, false, cond, List, [], ◌∷◌, Option, Some, None, is_some, IsSome, refl, sym, ap, ◌∙◌, subst, arith}
+use Rattle.std.proofs.Common.{◌≡◌, ℕ, ◌+◌, ◌≤◌, ◌==◌, Bool, true, false, cond, List, [], ◌∷◌, Option, Some, None, is_some, IsSome, refl, sym, ap, ◌∙◌, subst, arith}
 use Rattle.std.proofs.lemmas.Bool.{eqb-true}
 use Rattle.moka_hist.specs.Finite.{put_at}
 use Rattle.moka_hist.specs.State.{State, World, Call, DeskPart}
@@ -14,6 +14,7 @@ use Rattle.std.specs.Option.{option_map_or}
 use Rattle.moka_hist.specs.Step.{Step}
 use Rattle.moka_hist.specs.Run.{IsReached, started, fresh_call}
 use Rattle.moka_hist.specs.declared.loads.Load.{Load}
+use Rattle.moka_hist.specs.declared.rules.Rules.{Rules}
 use Rattle.moka_hist.specs.declared.events.Start.{Start}
 use Rattle.moka_hist.specs.declared.events.Start.TheVariants as start
 use Rattle.moka_hist.specs.declared.events.Told.{Told}
@@ -23,15 +24,16 @@ use Rattle.moka_hist.specs.declared.visits.Settled.{Settled}
 use Rattle.moka_hist.specs.declared.visits.Settled.TheVariants as settled
 use Rattle.moka_hist.specs.declared.visits.Found.TheVariants as found
 use Rattle.moka_hist.specs.declared.accesses.Turn.{Turn}
+use Rattle.moka_laws.proofs.Rules.{put_plans}
 use Rattle.moka_laws.proofs.Counting.{put_here, put_there}
 use Rattle.moka_laws.proofs.Weights.{weigh, weigh_call, weigh_goes}
-use Rattle.moka_laws.proofs.Plans.{IsTail, Answering, Settling, IsDrained, Looking, Putting, IsPosted, Draining, Ended, IsPlan, Posted, Drained, Posting, Turning, Applying, Ending, Judging, Owning, Reading, Asking, Telling, Writing, IsKnown, known_kept}
+use Rattle.moka_laws.proofs.Plans.{IsTail, Answering, Settling, IsDrained, Looking, Putting, IsPosted, Draining, Ended, Locking, IsPlan, Posted, Drained, Posting, Hearing, Noticing, Listening, Unlocking, Turning, Applying, Ending, Judging, Owning, Reading, Asking, Telling, Writing, IsKnown, known_kept}
 use Rattle.moka_laws.proofs.Balance.{IsBalanced}
 use Rattle.moka_laws.proofs.Balanced.{balanced_kept, next_free}
 use Rattle.moka_laws.proofs.Kept.{IsKept, in_reached}
 use Rattle.moka_laws.proofs.StepCases.{OnStep, step_cases}
 use Rattle.moka_laws.proofs.Outcomes.{outcomes}
-use Rattle.moka_laws.proofs.Answering.{IsAnswering, HasAnswers, answering_kept}
+use Rattle.moka_laws.proofs.Answering.{IsValue, IsAnswering, HasAnswers, answering_kept}
 
 -- how many there are of an open ask and an answer
 abbrev pub opened : {V : Type 0} → Option Takes → Option (Told V) → ℕ
@@ -64,15 +66,17 @@ module _ {K V : Type 0} where
   reads_take c load settled.NotYet e = e
   reads_take c load settled.Aborted e = either_takes (c.aborts + 1 == retries) _ _ refl refl
 
-  told_takes : (c : Call K V) (load : Load K) (given : Told V) → Some given ≢ Some answer.Done →
+  told_takes : (c : Call K V) (load : Load K) (given : Told V) → IsValue (Some given) →
       weigh_call takes_told (after_told c load (found.TakeTold (Some given))).left ≡ 0
-  told_takes c load (answer.Value value) not = refl
-  told_takes c load answer.Done not = absurd (not refl)
+  told_takes c load (answer.Value value) is = put_plans (λ p. weigh_call takes_told (goes c p).left ≡ 0) c.rules load.key value _ refl refl
+  told_takes c load answer.Done is = absurd is
+  told_takes c load answer.Off is = absurd is
 
-  fresh_takes : (start : Start K V) → weigh takes_told (plan_of start) ≡ 0
-  fresh_takes (start.Get key) = refl
-  fresh_takes (start.Insert key value) = refl
-  fresh_takes (start.GetWith key) = refl
+  fresh_takes : (rules : Rules) (start : Start K V) → weigh takes_told (plan_of rules start) ≡ 0
+  fresh_takes rules (start.Get key) = refl
+  fresh_takes rules (start.Insert key value) =
+      put_plans (λ p. weigh takes_told p ≡ 0) rules key value _ (refl) (refl)
+  fresh_takes rules (start.GetWith key) = refl
 
   -- no plan takes two answers
   tail_few : (p : List (Item K V)) → IsTail p → weigh takes_told p ≤ 1
@@ -82,6 +86,7 @@ module _ {K V : Type 0} where
   drained_few : (p : List (Item K V)) → IsDrained p → weigh takes_told p ≤ 1
   drained_few p (Looking aim key) = omega arith
   drained_few p (Putting key value rest t) = omega (arith, tail_few rest t)
+  drained_few p (Locking key value rest t) = omega (arith, tail_few rest t)
 
   posted_few : (p : List (Item K V)) → IsPosted p → weigh takes_told p ≤ 1
   posted_few p (Draining rest d) = omega (arith, drained_few rest d)
@@ -91,6 +96,10 @@ module _ {K V : Type 0} where
   plan_few p (Posted rest d) = posted_few rest d
   plan_few p (Drained rest d) = drained_few rest d
   plan_few p (Posting x rest d) = omega (arith, posted_few rest d)
+  plan_few p (Hearing number x rest d) = omega (arith, posted_few rest d)
+  plan_few p (Noticing key old x rest t) = omega (arith, tail_few rest t)
+  plan_few p (Listening x rest t) = omega (arith, tail_few rest t)
+  plan_few p (Unlocking x rest t) = omega (arith, tail_few rest t)
   plan_few p (Turning x rest d) = omega (arith, posted_few rest d)
   plan_few p (Applying x rest d) = omega (arith, posted_few rest d)
   plan_few p (Ending x rest d) = omega (arith, posted_few rest d)
@@ -128,10 +137,15 @@ module _ {K V : Type 0} where
     on_drained p e (Looking aim key) = outcomes eq Leaves w n c (plan.Get aim key) []
         ((λ more. still refl), still (omega (arith, misses_takes c aim, ap (weigh takes_told) e)), λ k stored. still (omega (arith, ap (weigh takes_told) e)))
     on_drained p e (Putting key value rest t) = outcomes eq Leaves w n c (plan.Moment key value) rest (still (omega (arith, ap (weigh takes_told) e)))
+    on_drained p e (Locking key value rest t) = outcomes eq Leaves w n c (plan.Lock key) (plan.Moment key value ∷ rest)
+        ((λ free. still (omega (arith, ap (weigh takes_told) e))), λ held. still refl)
 
     on_posted : (p : List (Item K V)) → c.plan ≡ p → IsPosted p → OnStep eq Leaves w n c p
-    on_posted p e (Draining rest d) = outcomes eq Leaves w n c plan.Drain rest
-        ((λ none. goes_on rest (omega (arith, ap (weigh takes_told) e))), λ x xs some. still (omega (arith, ap (weigh takes_told) e)))
+    on_posted p e (Draining rest d) = outcomes eq Leaves w n c plan.Drain rest (
+      (λ none. goes_on rest (omega (arith, ap (weigh takes_told) e))),
+      (λ x xs some. still (omega (arith, ap (weigh takes_told) e))),
+      λ x number xs some. still (omega (arith, ap (weigh takes_told) e)),
+    )
     on_posted p e (Ended rest t) = on_tail rest e t
 
     on_plan : (p : List (Item K V)) → c.plan ≡ p → IsPlan p → OnStep eq Leaves w n c p
@@ -139,6 +153,13 @@ module _ {K V : Type 0} where
     on_plan p e (Drained rest d) = on_drained rest e d
     on_plan p e (Posting x rest d) = outcomes eq Leaves w n c (plan.Post x) rest
         ((λ room. goes_on rest (omega (arith, ap (weigh takes_told) e))), λ full. still (omega (arith, ap (weigh takes_told) e)))
+    on_plan p e (Hearing number x rest d) = outcomes eq Leaves w n c (plan.Ended number) (plan.Post x ∷ rest)
+        ((λ ended. still (omega (arith, ap (weigh takes_told) e))), λ runs. still refl)
+    on_plan p e (Noticing key old x rest t) = outcomes eq Leaves w n c (plan.Notice key old) (plan.Unlock ∷ plan.Post x ∷ rest)
+        ((λ off. still (omega (arith, ap (weigh takes_told) e))), λ on. still (omega (arith, ap (weigh takes_told) e)))
+    on_plan p e (Listening x rest t) = outcomes eq Leaves w n c plan.Heard (plan.Unlock ∷ plan.Post x ∷ rest)
+        ((λ ended. still (omega (arith, ap (weigh takes_told) e))), λ runs. still refl)
+    on_plan p e (Unlocking x rest t) = outcomes eq Leaves w n c plan.Unlock (plan.Post x ∷ rest) (still (omega (arith, ap (weigh takes_told) e)))
     on_plan p e (Turning x rest d) = outcomes eq Leaves w n c plan.Turn (plan.Apply ∷ plan.End ∷ plan.Post x ∷ rest)
         ((λ free. still (omega (arith, ap (weigh takes_told) e))), λ taken. still refl)
     on_plan p e (Applying x rest d) = outcomes eq Leaves w n c plan.Apply (plan.End ∷ plan.Post x ∷ rest)
@@ -165,12 +186,16 @@ module _ {K V : Type 0} where
           let told : cond {A = ℕ} (is_some (w.desk.told n)) 1 0 ≡ 1 = ap (λ t. cond {A = ℕ} (is_some t) 1 0) some in
           let gone : cond {A = ℕ} (is_some (put_at w.desk.told n None n)) 1 0 ≡ 0 = ap (λ t. cond {A = ℕ} (is_some t) 1 0) (put_here w.desk.told n None) in
           record {
-            own = omega (arith, was, told_takes c load given (λ h. ready.told n (some ∙ h)));
+            own = omega (arith, was, told_takes c load given (subst IsValue some (ready.told n)));
             others = λ m d. (refl, put_there w.desk.told n None m d);
           },
     )
-    on_plan p e (Writing key value moment rest t) = outcomes eq Leaves w n c (plan.Write key value moment) rest
-        ((λ more. still refl), still (omega (arith, ap (weigh takes_told) e)))
+    on_plan p e (Writing key value moment rest t) = outcomes eq Leaves w n c (plan.Write key value moment) rest (
+      (λ more. still refl),
+      (λ off old. still (omega (arith, ap (weigh takes_told) e))),
+      (λ on. still (omega (arith, ap (weigh takes_told) e))),
+      λ k old on some. still (omega (arith, ap (weigh takes_told) e)),
+    )
 
   -- ---- of a state
 
@@ -195,15 +220,15 @@ module _ {K V : Type 0} where
           ap (λ a. opened a (w.desk.told m)) same.0 ∙ ap (λ t. opened (s.world.desk.asks m) t) same.1 ∙ i.asked m ∙ ap (weigh_call takes_told) (sym (put_there s.calls n left m e))
 
   -- an ask that takes the answer is open
-  is_open : (d : DeskPart K V) (n : ℕ) (given : Told V) → is_asked d n given ≡ true → is_some (d.asks n) ≡ true
-  is_open d n given e = by (d.asks n) e
+  is_open : (d : DeskPart K V) (n : ℕ) (value : V) → is_asked d n (answer.Value value) ≡ true → is_some (d.asks n) ≡ true
+  is_open d n value e = by (d.asks n) e
     where
-      by : (a : Option Takes) → option_map_or (λ t. does_take t given) a false ≡ true → is_some a ≡ true
+      by : (a : Option Takes) → option_map_or (λ t. does_take t (answer.Value value)) a false ≡ true → is_some a ≡ true
       by None e = e
       by (Some t) e = refl
 
 module _ {K V : Type 0} (eq : K → K → Bool) where
-  asking_step : (s t : State K V) (n : ℕ) (turn : Turn V) → IsAsking s → Step eq s n turn t → IsAsking t
+  asking_step : (s t : State K V) (n : ℕ) (turn : Turn K V) → IsAsking s → Step eq s n turn t → IsAsking t
   asking_step s t n turn i step =
       let c : Call K V = step.call in
       let was : opened (s.world.desk.asks n) (s.world.desk.told n) ≡ weigh takes_told c.plan = i.asked n ∙ ap (weigh_call takes_told) step.live in
@@ -223,18 +248,18 @@ module _ {K V : Type 0} (eq : K → K → Bool) where
         balanced = (balanced_kept eq).start s start i.balanced;
         answering = (answering_kept eq).start s start i.answering;
         known = (known_kept eq).start s start i.known;
-        asked = asks_on s new s.world (Some (fresh_call start)) i (record {
-          own = i.asked new ∙ ap (weigh_call takes_told) (next_free s i.balanced) ∙ sym (fresh_takes start);
+        asked = asks_on s new s.world (Some (fresh_call s.world.desk.rules start)) i (record {
+          own = i.asked new ∙ ap (weigh_call takes_told) (next_free s i.balanced) ∙ sym (fresh_takes s.world.desk.rules start);
           others = λ m d. (refl, refl);
         });
       }
 
-  asking_tell : (s : State K V) (n : ℕ) (given : Told V) → is_asked s.world.desk n given ≡ true → IsAsking s → (m : ℕ) →
-      opened (put_at s.world.desk.asks n None m) (put_at s.world.desk.told n (Some given) m) ≡ weigh_call takes_told (s.calls m)
+  asking_tell : (s : State K V) (n : ℕ) (given : V) → is_asked s.world.desk n (answer.Value given) ≡ true → IsAsking s → (m : ℕ) →
+      opened (put_at s.world.desk.asks n None m) (put_at s.world.desk.told n (Some (answer.Value given)) m) ≡ weigh_call takes_told (s.calls m)
   asking_tell s n given asked i m = by (n == m) refl
     where
       by : (b : Bool) → (n == m) ≡ b →
-          opened (cond b None (s.world.desk.asks m)) (cond b (Some given) (s.world.desk.told m)) ≡ weigh_call takes_told (s.calls m)
+          opened (cond b None (s.world.desk.asks m)) (cond b (Some (answer.Value given)) (s.world.desk.told m)) ≡ weigh_call takes_told (s.calls m)
       by false e = i.asked m
       by true e =
           let here : is_some (s.world.desk.asks m) ≡ true = subst (λ v. is_some (s.world.desk.asks v) ≡ true) (eqb-true n m e) (is_open s.world.desk n given asked) in
@@ -247,10 +272,10 @@ module _ {K V : Type 0} (eq : K → K → Bool) where
 
   pub asking_kept : IsKept eq (IsAsking {K = K} {V = V})
   asking_kept = record {
-    fresh = λ size has_log. record {
-      balanced = (balanced_kept eq).fresh size has_log;
-      answering = (answering_kept eq).fresh size has_log;
-      known = (known_kept eq).fresh size has_log;
+    fresh = λ rules size has_log. record {
+      balanced = (balanced_kept eq).fresh rules size has_log;
+      answering = (answering_kept eq).fresh rules size has_log;
+      known = (known_kept eq).fresh rules size has_log;
       asked = λ n. refl;
     };
     at = λ s moment i. record {
@@ -266,6 +291,12 @@ module _ {K V : Type 0} (eq : K → K → Bool) where
       answering = (answering_kept eq).tell s n given told i.answering;
       known = (known_kept eq).tell s n given told i.known;
       asked = asking_tell s n given told i;
+    };
+    hear = λ s n off running i. record {
+      balanced = (balanced_kept eq).hear s n off running i.balanced;
+      answering = (answering_kept eq).hear s n off running i.answering;
+      known = (known_kept eq).hear s n off running i.known;
+      asked = i.asked;
     };
     drop = λ s n c live between i. record {
       balanced = (balanced_kept eq).drop s n c live between i.balanced;

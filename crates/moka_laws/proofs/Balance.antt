@@ -1,5 +1,5 @@
 -- Committed writes are counted: each stands as often as it was committed, which is at most once.
-use Rattle.std.proofs.Common.{◌≡◌, ℕ, ◌+◌, ◌<◌, ◌≤◌, ◌==◌, Bool, true, false, cond, List, [], ◌∷◌, ◌++◌, map, Some, refl, ap, ◌∙◌, arith}
+use Rattle.std.proofs.Common.{◌≡◌, ℕ, ◌+◌, ◌<◌, ◌≤◌, ◌==◌, Bool, true, false, cond, List, [], ◌∷◌, ◌++◌, map, Some, None, refl, ap, ◌∙◌, arith}
 use Rattle.std.proofs.lemmas.List.{map-append}
 use Rattle.moka_hist.specs.Finite.{times}
 use Rattle.moka_hist.specs.State.{Stay, State, World, Call, DeskPart}
@@ -9,13 +9,17 @@ use Rattle.moka_hist.specs.Visits.{number_of}
 use Rattle.moka_hist.specs.Next.{Next, goes}
 use Rattle.moka_hist.specs.declared.records.Mode.{Mode}
 use Rattle.moka_hist.specs.declared.records.Mode.TheVariants as mode
+use Rattle.moka_hist.specs.Tables.{written}
+use Rattle.moka_hist.specs.Bound.{decided_by}
+use Rattle.moka_hist.specs.declared.writes.Owed.{Owed}
 use Rattle.moka_hist.specs.declared.writes.Write.{Write}
+use Rattle.moka_hist.specs.declared.writes.Write.TheVariants.{Upsert}
 use Rattle.moka_hist.specs.declared.accesses.Turn.{Turn}
 use Rattle.moka_hist.specs.declared.accesses.Turn.TheVariants as turn
 use Rattle.moka_laws.proofs.Counting.{times_append, same_number, other_number}
 use Rattle.moka_laws.proofs.Sums.{sum_to}
 use Rattle.moka_laws.proofs.Weights.{weigh, weigh_call, weigh_goes}
-use Rattle.moka_laws.proofs.Posts.{once, among, post_of, may_write, late, late_call, late_goes, late_none, posts_none, IsClear, misses_clear, hits_clear, read_clear, told_clear}
+use Rattle.moka_laws.proofs.Posts.{once, among, among_owed, post_of, may_write, late, late_call, late_goes, late_none, posts_none, IsClear, misses_clear, hits_clear, read_clear, told_clear}
 use Rattle.moka_laws.proofs.StepCases.{OnStep}
 use Rattle.moka_laws.proofs.Outcomes.{Outcomes, outcomes}
 
@@ -36,10 +40,19 @@ among_append x xs ys = ap (times x) (map-append number_of xs ys) ∙ times_appen
 pub among_last : (x : ℕ) (w : Write) (xs : List Write) → among x (xs ++ w ∷ []) ≡ among x xs + once x (number_of w)
 among_last x w xs = omega (arith, among_append x xs (w ∷ []), times_first x (number_of w) [])
 
+pub owed_append : (x : ℕ) (xs ys : List Owed) → among_owed x (xs ++ ys) ≡ among_owed x xs + among_owed x ys
+owed_append x xs ys =
+    ap (times x) (map-append (λ o. number_of o.write) xs ys) ∙ times_append x (map (λ o. number_of o.write) xs) (map (λ o. number_of o.write) ys)
+
+-- the numbers of owed writes are those of the writes
+pub owed_numbers : (owed : List Owed) → map number_of (map (λ o. o.write) owed) ≡ map (λ o. number_of o.write) owed
+owed_numbers [] = refl
+owed_numbers (o ∷ owed) = ap (λ v. number_of o.write ∷ v) (owed_numbers owed)
+
 module _ {K V : Type 0} where
   -- how often the write of the number stands with the desk: owed, logged or applied
   abbrev pub on_desk : ℕ → DeskPart K V → ℕ
-  on_desk x d = among x d.owed + among x d.log + among x d.applied
+  on_desk x d = among_owed x d.owed + among x d.log + among x d.applied
 
   -- how often live calls hold the write of the number
   abbrev pub with_calls : ℕ → State K V → ℕ
@@ -69,7 +82,7 @@ module _ {K V : Type 0} where
   module _ (w : World K V) (n : ℕ) (plan : List (Item K V)) where
     -- the world and the call's plan are as they were, but for how long an operation has stayed undecided
     stays_put : (stay : Stay) (c : Call K V) → c.plan ≡ plan → late plan ≡ 0 → times n w.table.committed + weigh may_write plan ≤ 1 →
-        (mode : Mode) (turn : Turn V) → Balances w n plan (record w { stay = stay }) (record { left = Some (record c { mode = mode }); turn = turn })
+        (mode : Mode) (turn : Turn K V) → Balances w n plan (record w { stay = stay }) (record { left = Some (record c { mode = mode }); turn = turn })
     stays_put stay c e t spent mode turn = record {
       last = refl;
       tidy = ap late e ∙ t;
@@ -123,8 +136,32 @@ module _ {K V : Type 0} where
         tidy = omega arith;
         spent = omega arith;
         others = λ m h. refl;
-        balance = λ x. omega (arith, ap (among x) some, times_first x (number_of y) (map number_of ys));
+        balance = λ x. omega (arith, ap (among_owed x) some, times_first x (number_of y) (map (λ o. number_of o.write) ys));
       },
+      λ y number ys some. record {
+        last = refl;
+        tidy = omega arith;
+        spent = omega arith;
+        others = λ m h. refl;
+        balance = λ x. omega (arith, ap (among_owed x) some, times_first x (number_of y) (map (λ o. number_of o.write) ys));
+      },
+    )
+    on_item (plan.Ended number) rest e t sp = (
+      λ ended. goes_on w n c (plan.Ended number) rest refl refl (λ x. refl) t (λ x. refl) (omega arith),
+      λ runs. stays_put w n (plan.Ended number ∷ rest) w.stay c e t sp mode.Parked turn.Wait,
+    )
+    on_item plan.Heard rest e t sp = (
+      λ ended. goes_on w n c plan.Heard rest refl refl (λ x. refl) t (λ x. refl) (omega arith),
+      λ runs. stays_put w n (plan.Heard ∷ rest) w.stay c e t sp mode.Parked turn.Wait,
+    )
+    on_item (plan.Lock key) rest e t sp = (
+      λ free. goes_on w n c (plan.Lock key) rest refl refl (λ x. refl) (late_none rest t) (λ x. refl) (omega arith),
+      λ held. stays_put w n (plan.Lock key ∷ rest) w.stay c e t sp mode.Parked turn.Wait,
+    )
+    on_item plan.Unlock rest e t sp = goes_on w n c plan.Unlock rest refl refl (λ x. refl) t (λ x. refl) (omega arith)
+    on_item (plan.Notice key old) rest e t sp = (
+      λ off. goes_on w n c (plan.Notice key old) rest refl refl (λ x. refl) t (λ x. refl) (omega arith),
+      λ on. record { last = refl; tidy = t; spent = omega arith; others = λ m h. refl; balance = λ x. omega arith },
     )
     on_item (plan.Post write) rest e t sp = (
       λ room. record {
@@ -197,14 +234,24 @@ module _ {K V : Type 0} where
     }
     on_item (plan.Write key value moment) rest e t sp = (
       λ more. stays_put w n (plan.Write key value moment ∷ rest) _ c e t sp mode.Mid turn.Going,
-      record {
-        last = refl;
-        tidy = t;
-        spent = omega (arith, times_last n n w.table.committed, ap (λ b. cond {A = ℕ} b 1 0) (same_number n));
-        others = λ m h. omega (arith, times_last m n w.table.committed, ap (λ b. cond {A = ℕ} b 1 0) (other_number n m h));
-        balance = λ x. omega (arith, times_last x n w.table.committed);
-      },
+      λ off old. commits (plan.Post (Upsert n old) ∷ rest) t (omega arith) (λ x. refl),
+      λ on. commits (plan.Unlock ∷ plan.Post (Upsert n None) ∷ rest) t (omega arith) (λ x. omega arith),
+      λ k old on some. commits (plan.Notice key old ∷ plan.Unlock ∷ plan.Post (Upsert n (Some old.stamp)) ∷ rest) t (omega arith) (λ x. omega arith),
     )
+      where
+        -- the write is committed, and the call goes on with a plan that posts it
+        commits : (p : List (Item K V)) → late p ≡ 0 → weigh may_write p ≡ weigh may_write rest →
+            ((x : ℕ) → weigh (post_of x) p ≡ once x n + weigh (post_of x) rest) →
+            Balances w n (plan.Write key value moment ∷ rest)
+            (record w { table = written eq n w.table key (record { value = value; stamp = n; modified = moment }); stay = decided_by n })
+            (record { left = Some (record c { mode = mode.Mid; plan = p }); turn = turn.Going })
+        commits p tidy may posts = record {
+          last = refl;
+          tidy = tidy;
+          spent = omega (arith, may, times_last n n w.table.committed, ap (λ b. cond {A = ℕ} b 1 0) (same_number n));
+          others = λ m h. omega (arith, times_last m n w.table.committed, ap (λ b. cond {A = ℕ} b 1 0) (other_number n m h));
+          balance = λ x. omega (arith, posts x, times_last x n w.table.committed);
+        }
     on_item (plan.Reply answer) rest e t sp = record {
       last = refl;
       tidy = refl;

@@ -1,23 +1,24 @@
 -- What is counted of committed writes holds of every reached state.
 use Rattle.std.proofs.Common.{Option, ◌≡◌, ◌≢◌, ℕ, ◌+◌, ◌<◌, ◌≤◌, ◌==◌, Bool, true, false, Some, None, refl, sym, ap, ◌∙◌, subst, arith}
-use Rattle.std.specs.Option.{option_to_list}
+use Rattle.std.specs.Option.{option_map, option_to_list}
 use Rattle.std.proofs.lemmas.Bool.{eqb-true}
 use Rattle.moka_hist.specs.Finite.{times, put_at}
 use Rattle.moka_hist.specs.State.{State, World, Call}
-use Rattle.moka_hist.specs.Plan.{held_by}
+use Rattle.moka_hist.specs.Plan.{held_by, hearing}
 use Rattle.moka_hist.specs.Next.{Next}
-use Rattle.moka_hist.specs.Dropping.{dropped}
+use Rattle.moka_hist.specs.Dropping.{dropped, owed_by, owed_with}
 use Rattle.moka_hist.specs.Step.{Step, state_after}
 use Rattle.moka_hist.specs.Run.{IsReached, started, fresh_call}
 use Rattle.moka_hist.specs.declared.events.Start.{Start}
+use Rattle.moka_hist.specs.declared.writes.Write.{Write}
 use Rattle.moka_hist.specs.declared.accesses.Turn.{Turn}
 use Rattle.moka_laws.proofs.Counting.{none_some, put_cases, put_here, put_there, differ}
 use Rattle.moka_laws.proofs.Sums.{sum_zero, sum_next, sum_to, sum_same, sum_change}
 use Rattle.moka_laws.proofs.Weights.{weigh, weigh_call}
-use Rattle.moka_laws.proofs.Posts.{post_of, may_write, late, late_call, posts_held, fresh_clear}
+use Rattle.moka_laws.proofs.Posts.{among, among_owed, post_of, may_write, late, late_call, posts_held, fresh_clear}
 use Rattle.moka_laws.proofs.Kept.{IsKept, in_reached}
 use Rattle.moka_laws.proofs.StepCases.{step_cases}
-use Rattle.moka_laws.proofs.Balance.{IsBalanced, Balances, on_plan, among_append}
+use Rattle.moka_laws.proofs.Balance.{IsBalanced, Balances, on_plan, owed_append}
 
 module _ {K V : Type 0} where
   -- the next number is that of no call
@@ -62,7 +63,7 @@ module _ {K V : Type 0} where
       by_number x false e = omega (arith, i.once x, b.others x e)
 
 module _ {K V : Type 0} (eq : K → K → Bool) where
-  balanced_step : (s t : State K V) (n : ℕ) (turn : Turn V) → IsBalanced s → Step eq s n turn t → IsBalanced t
+  balanced_step : (s t : State K V) (n : ℕ) (turn : Turn K V) → IsBalanced s → Step eq s n turn t → IsBalanced t
   balanced_step s t n turn i step =
       let c : Call K V = step.call in
       step_cases eq (Balances s.world n c.plan) (λ v _. IsBalanced v) s t n turn step
@@ -73,28 +74,35 @@ module _ {K V : Type 0} (eq : K → K → Bool) where
   balanced_start : (s : State K V) (start : Start K V) → IsBalanced s → IsBalanced (started s start)
   balanced_start s start i =
       let new : ℕ = s.world.desk.last + 1 in
-      let clear = fresh_clear start in
+      let clear = fresh_clear s.world.desk.rules start in
       record {
-        numbered = λ m d lives. put_cases s.calls new (Some (fresh_call start)) m (Some d) (m ≤ new) lives (λ here is. omega arith)
+        numbered = λ m d lives. put_cases s.calls new (Some (fresh_call s.world.desk.rules start)) m (Some d) (m ≤ new) lives (λ here is. omega arith)
             (λ there is. omega (arith, i.numbered m d is));
-        tidy = λ m d lives. put_cases s.calls new (Some (fresh_call start)) m (Some d) (late d.plan ≡ 0) lives
+        tidy = λ m d lives. put_cases s.calls new (Some (fresh_call s.world.desk.rules start)) m (Some d) (late d.plan ≡ 0) lives
             (λ here is. sym (ap late_call is) ∙ clear.late) (λ there is. i.tidy m d is);
         unspent = λ m d lives.
-            put_cases s.calls new (Some (fresh_call start)) m (Some d) (times m s.world.table.committed + weigh may_write d.plan ≤ 1) lives
+            put_cases s.calls new (Some (fresh_call s.world.desk.rules start)) m (Some d) (times m s.world.table.committed + weigh may_write d.plan ≤ 1) lives
             (λ here is. omega (arith, i.unborn m (omega arith), ap (weigh_call may_write) is, clear.may))
             (λ there is. i.unspent m d is);
         unborn = λ m beyond. i.unborn m (omega arith);
         once = i.once;
         balance = λ x.
             let f : ℕ → ℕ = λ m. weigh_call (post_of x) (s.calls m) in
-            let g : ℕ → ℕ = λ m. weigh_call (post_of x) (put_at s.calls new (Some (fresh_call start)) m) in
+            let g : ℕ → ℕ = λ m. weigh_call (post_of x) (put_at s.calls new (Some (fresh_call s.world.desk.rules start)) m) in
             let old = sum_same s.world.desk.last f g
             (λ m small. ap (weigh_call (post_of x))
-            (put_there s.calls new (Some (fresh_call start)) m (differ new m (λ e. omega arith)))) in
+            (put_there s.calls new (Some (fresh_call s.world.desk.rules start)) m (differ new m (λ e. omega arith)))) in
             let last = sum_next s.world.desk.last g in
-            let here = ap (weigh_call (post_of x)) (put_here s.calls new (Some (fresh_call start))) in
+            let here = ap (weigh_call (post_of x)) (put_here s.calls new (Some (fresh_call s.world.desk.rules start))) in
             omega (arith, i.balance x, clear.posts x);
       }
+
+  -- what a dropped call leaves is the write that it held
+  pub gives_up : (s : State K V) (n : ℕ) (c : Call K V) (x : ℕ) (o : Option Write) →
+      among_owed x (option_to_list (option_map (owed_with s.world.desk) (option_map (λ v. record { write = v; notice = hearing n c.plan }) o))) ≡
+      among x (option_to_list o)
+  gives_up s n c x None = refl
+  gives_up s n c x (Some v) = refl
 
   -- a dropped call leaves the write that it holds
   balanced_drop : (s : State K V) (n : ℕ) (c : Call K V) → s.calls n ≡ Some c → IsBalanced s → IsBalanced (dropped s n c)
@@ -112,12 +120,13 @@ module _ {K V : Type 0} (eq : K → K → Bool) where
         let change = sum_change s.world.desk.last f g n (i.numbered n c live) (λ m h. ap (weigh_call (post_of x)) (put_there s.calls n None m h)) in
         let before = ap (weigh_call (post_of x)) live in
         let after = ap (weigh_call (post_of x)) (put_here s.calls n None) in
-        omega (arith, i.balance x, posts_held x c.plan (i.tidy n c live), among_append x s.world.desk.owed (option_to_list (held_by c.plan)));
+        let new = option_to_list (option_map (owed_with s.world.desk) (owed_by n c)) in
+        omega (arith, i.balance x, posts_held x c.plan (i.tidy n c live), owed_append x s.world.desk.owed new, gives_up s n c x (held_by c.plan));
   }
 
   pub balanced_kept : IsKept eq (IsBalanced {K = K} {V = V})
   balanced_kept = record {
-    fresh = λ size has_log. record {
+    fresh = λ rules size has_log. record {
       numbered = λ n c live. absurd (none_some live);
       tidy = λ n c live. absurd (none_some live);
       unspent = λ n c live. absurd (none_some live);
@@ -129,6 +138,14 @@ module _ {K V : Type 0} (eq : K → K → Bool) where
     start = balanced_start;
     step = balanced_step;
     tell = λ s n given asked i. record {
+      numbered = i.numbered;
+      tidy = i.tidy;
+      unspent = i.unspent;
+      unborn = i.unborn;
+      once = i.once;
+      balance = i.balance;
+    };
+    hear = λ s n off running i. record {
       numbered = i.numbered;
       tidy = i.tidy;
       unspent = i.unspent;

@@ -19,10 +19,10 @@ module _ {K V : Type 0} (eq : K → K → Bool) (P Q : State K V → Type 0) (mo
       let mid = steps_reached eq P k s going.0 n h going.1 in
       (going.0, steps_more k s going.0 n h going.1, going.2, more t (step_reached eq going.0 t n _ mid going.2) going.3)
 
-  polls_more : (s t : State K V) (n : ℕ) (r : Reply V) → IsReached eq s → Polls eq P s n r t → Polls eq Q s n r t
+  polls_more : (s t : State K V) (n : ℕ) (r : Reply K V) → IsReached eq s → Polls eq P s n r t → Polls eq Q s n r t
   polls_more s t n r h p = record { going = p.going; mid = p.mid; goes = steps_more p.going s p.mid n h p.goes; last = p.last; ends = p.ends }
 
-  pub event_more : (s t : State K V) (e : Event K V) (r : Reply V) → IsReached eq s → Happens eq P s e r t → Happens eq Q s e r t
+  pub event_more : (s t : State K V) (e : Event K V) (r : Reply K V) → IsReached eq s → Happens eq P s e r t → Happens eq Q s e r t
   event_more s t (event.At moment) r h e = e
   event_more s t (event.Start start) r h e = e
   event_more s t (event.Step n) r h e = e
@@ -31,7 +31,7 @@ module _ {K V : Type 0} (eq : K → K → Bool) (P Q : State K V → Type 0) (mo
   event_more s t (event.Drop n) r h e = e
 
 module _ {K V : Type 0} (eq : K → K → Bool) (P Q : State K V → Type 0) (more : (v : State K V) → IsReached eq v → P v → Q v) where
-  pub run_more : (s t : State K V) (es : List (Event K V)) (rs : List (Reply V)) → IsReached eq s → Run eq P s es rs t → Run eq Q s es rs t
+  pub run_more : (s t : State K V) (es : List (Event K V)) (rs : List (Reply K V)) → IsReached eq s → Run eq P s es rs t → Run eq Q s es rs t
   run_more s t [] [] h run = run
   run_more s t (e ∷ es) (r ∷ rs) h run =
       let mid = event_reached eq s run.0 e r h (event_more eq P Any (λ v i p. tt) s run.0 e r h run.1) in

@@ -1,14 +1,19 @@
 -- What a call misses can still come.
 use Rattle.std.proofs.Common.{◌≡◌, ℕ, ◌==◌, Bool, true, false, Option, Some, None, is_some, IsSome, inl, inr, ◌⊎◌, refl, sym, ap, ◌∙◌}
 use Rattle.std.proofs.lemmas.Bool.{false≢true}
-use Rattle.std.specs.Option.{option_map_or, option_and_then}
+use Rattle.std.specs.Cmp.{IsEquivalence}
+use Rattle.std.specs.Option.{IsSomeAnd, option_map_or, option_and_then}
 use Rattle.moka_hist.specs.State.{State}
 use Rattle.moka_hist.specs.Plan.{Item}
 use Rattle.moka_hist.specs.Plan as plan
-use Rattle.moka_hist.specs.Visits.{is_free_for, settlement_for}
+use Rattle.moka_hist.specs.Visits.{is_free_for, is_unlocked_for, settlement_for}
 use Rattle.moka_hist.specs.Run.{IsReached}
 use Rattle.moka_hist.specs.declared.loads.Load.{Load}
 use Rattle.moka_laws.specs.Missing.{MissingCanCome, CanCome, HasOwner, OwnsAlike}
+use Rattle.moka_hist.specs.Notices.{HoldsLock}
+use Rattle.moka_hist.specs.SoundDesk.{SoundDesk}
+use Rattle.moka_laws.proofs.Locking.{in_locking, is_listening, locker_live}
+use Rattle.moka_laws.proofs.SoundReached.{reached_sound}
 use Rattle.moka_laws.proofs.Turns.{turn_held}
 use Rattle.moka_laws.proofs.Served.{waiters_served}
 
@@ -28,8 +33,27 @@ module _ {K V : Type 0} (eq : K → K → Bool) where
       by (inl alike) = (own.owner, own.joined, alike)
       by (inr some) = absurd (false≢true (sym missing ∙ ap (λ o. is_some (option_and_then s.world.desk.settled o)) own.joined ∙ some))
 
-  pub can_come : MissingCanCome K V eq
-  can_come s n c plan.Turn rest h live e missing = turn_comes s n h missing
-  can_come s n c (plan.Read load) rest h live e missing = owner_comes s n load missing (waiters_served eq s n c load rest h live e)
-  can_come s n c (plan.Told load) rest h live e missing = missing
-  can_come s n c _ rest h live e missing = missing
+  lock_comes : IsEquivalence eq → (s : State K V) (n : ℕ) (key : K) → IsReached eq s → is_unlocked_for s.world.desk n key ≡ false → CanCome eq s n (plan.Lock key)
+  lock_comes laws s n key h missing = by (s.world.desk.locks key) refl missing
+    where
+      sound : SoundDesk eq s.world.desk
+      sound = reached_sound eq laws s h
+
+      live : (holder : ℕ) (l : Option K) → s.world.desk.locked holder ≡ l → IsSomeAnd l (λ own. eq own key ≡ true) → HoldsLock s holder
+      live holder None e own = absurd own
+      live holder (Some k) e own =
+          let i = in_locking eq s h in
+          locker_live s i holder k (is_listening s i holder (ap is_some e)) e
+
+      by : (o : Option ℕ) → s.world.desk.locks key ≡ o → option_map_or (λ v. v == n) o true ≡ false → CanCome eq s n (plan.Lock key)
+      by None e m = absurd (false≢true (sym m))
+      by (Some holder) e m = (holder, e, live holder (s.world.desk.locked holder) refl (sound.locks key holder e))
+
+  pub can_come : IsEquivalence eq → MissingCanCome K V eq
+  can_come laws s n c plan.Turn rest h live e missing = turn_comes s n h missing
+  can_come laws s n c (plan.Read load) rest h live e missing = owner_comes s n load missing (waiters_served eq s n c load rest h live e)
+  can_come laws s n c (plan.Told load) rest h live e missing = missing
+  can_come laws s n c (plan.Lock key) rest h live e missing = lock_comes laws s n key h missing
+  can_come laws s n c plan.Heard rest h live e missing = missing
+  can_come laws s n c (plan.Ended number) rest h live e missing = missing
+  can_come laws s n c _ rest h live e missing = missing

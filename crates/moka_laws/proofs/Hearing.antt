@@ -26,7 +26,7 @@ use Rattle.moka_laws.proofs.Counting.{none_some, some_same, put_cases, put_here,
 use Rattle.moka_laws.proofs.Kept.{IsStable, runs}
 use Rattle.moka_laws.proofs.Weights.{weigh}
 use Rattle.moka_laws.proofs.Owning.{plan_left}
-use Rattle.moka_laws.proofs.Plans.{IsTail, Answering, Settling, Looking, Putting, Draining, Ended, IsPlan, Posted, Drained, Posting, Turning, Applying, Ending, Judging, Owning, Reading, Asking, Telling, Writing}
+use Rattle.moka_laws.proofs.Plans.{IsTail, Answering, Settling, Looking, Putting, Draining, Ended, Locking, IsPlan, Posted, Drained, Posting, Hearing, Noticing, Listening, Unlocking, Turning, Applying, Ending, Judging, Owning, Reading, Asking, Telling, Writing}
 use Rattle.moka_laws.proofs.Reading.{OwnerOf, joins, joins_self, reader_joins}
 use Rattle.moka_laws.proofs.Reached.{step_reached}
 use Rattle.moka_laws.proofs.Roles.{Fits, awaited, owners}
@@ -61,7 +61,12 @@ module _ {K V : Type 0} where
   settles_form with rest p e (Posted q (Draining r d)) = cc
   settles_form with rest p e (Drained q (Looking aim key)) = cc
   settles_form with rest p e (Drained q (Putting key value r t)) = cc
+  settles_form with rest p e (Drained q (Locking key value r t)) = cc
   settles_form with rest p e (Posting x q d) = cc
+  settles_form with rest p e (Hearing number x q d) = cc
+  settles_form with rest p e (Noticing key old x q t) = cc
+  settles_form with rest p e (Listening x q t) = cc
+  settles_form with rest p e (Unlocking x q t) = cc
   settles_form with rest p e (Turning x q d) = cc
   settles_form with rest p e (Applying x q d) = cc
   settles_form with rest p e (Ending x q d) = cc
@@ -78,6 +83,10 @@ module _ {K V : Type 0} where
   reads_form p some (Posted q d) = absurd (not_none (awaited q) some (posted_role q d))
   reads_form p some (Drained q d) = absurd (not_none (awaited q) some (drained_role q d))
   reads_form p some (Posting x q d) = absurd (not_none (awaited q) some (posted_role q d))
+  reads_form p some (Hearing number x q d) = absurd (not_none (awaited q) some (posted_role q d))
+  reads_form p some (Noticing key old x q t) = absurd (not_none (awaited q) some (tail_role q t))
+  reads_form p some (Listening x q t) = absurd (not_none (awaited q) some (tail_role q t))
+  reads_form p some (Unlocking x q t) = absurd (not_none (awaited q) some (tail_role q t))
   reads_form p some (Turning x q d) = absurd (not_none (awaited q) some (posted_role q d))
   reads_form p some (Applying x q d) = absurd (not_none (awaited q) some (posted_role q d))
   reads_form p some (Ending x q d) = absurd (not_none (awaited q) some (posted_role q d))
@@ -131,7 +140,12 @@ module _ {K V : Type 0} where
       same l j s = record { last = l; kept = λ keeps e. ap (λ f. f o) s ∙ keeps (ap (λ f. f n) (sym j) ∙ e) }
 
       on_item : (item : Item K V) (rest : List (Item K V)) → Outcomes eq (Leaves w) w m c item rest
-      on_item plan.Drain rest = (λ e. same refl refl refl, λ x xs e. same refl refl refl)
+      on_item plan.Drain rest = (λ e. same refl refl refl, λ x xs e. same refl refl refl, λ x number xs e. same refl refl refl)
+      on_item (plan.Ended number) rest = (λ e. same refl refl refl, λ e. same refl refl refl)
+      on_item plan.Heard rest = (λ e. same refl refl refl, λ e. same refl refl refl)
+      on_item (plan.Lock key) rest = (λ e. same refl refl refl, λ e. same refl refl refl)
+      on_item plan.Unlock rest = same refl refl refl
+      on_item (plan.Notice key old) rest = (λ e. same refl refl refl, λ e. same refl refl refl)
       on_item (plan.Post write) rest = (λ e. same refl refl refl, λ e. same refl refl refl)
       on_item plan.Turn rest = (λ e. same refl refl refl, λ e. same refl refl refl)
       on_item plan.Apply rest = (λ e. same refl refl refl, λ x xs e. same refl refl refl)
@@ -161,7 +175,7 @@ module _ {K V : Type 0} where
       on_item (plan.Ask load) rest = same refl refl refl
       on_item (plan.Told load) rest = (λ e. same refl refl refl, λ given e. same refl refl refl)
       on_item (plan.Moment key value) rest = same refl refl refl
-      on_item (plan.Write key value moment) rest = ((λ more. same refl refl refl), same refl refl refl)
+      on_item (plan.Write key value moment) rest = ((λ more. same refl refl refl), (λ off old. same refl refl refl), (λ on. same refl refl refl), λ there old on some. same refl refl refl)
       on_item (plan.Reply a) rest = same refl refl refl
 
       on_plan : (plan : List (Item K V)) → OnStep eq (Leaves w) w m c plan
@@ -195,7 +209,7 @@ module _ {K V : Type 0} where
         at = λ s moment i. record { well = (well_kept eq).at s moment i.well; gone = i.gone; given = i.given; kept = i.kept };
         start = λ s start i. record {
           well = (well_kept eq).start s start i.well;
-          gone = put_there s.calls (s.world.desk.last + 1) (Some (fresh_call start)) o (differ (s.world.desk.last + 1) o (λ e. omega (arith, e, i.given))) ∙ i.gone;
+          gone = put_there s.calls (s.world.desk.last + 1) (Some (fresh_call s.world.desk.rules start)) o (differ (s.world.desk.last + 1) o (λ e. omega (arith, e, i.given))) ∙ i.gone;
           given = omega (arith, i.given);
           kept = i.kept;
         };
@@ -207,6 +221,7 @@ module _ {K V : Type 0} where
             (λ w next l. (omega (arith, l.last, i.given), l.kept i.kept, put_there s.calls m next.left o k.apart ∙ i.gone)) in
             record { well = (well_kept eq).step s t m turn i.well step; gone = shown.2; given = shown.0; kept = shown.1 };
         tell = λ s m told asked i. record { well = (well_kept eq).tell s m told asked i.well; gone = i.gone; given = i.given; kept = i.kept };
+        hear = λ s m off running i. record { well = (well_kept eq).hear s m off running i.well; gone = i.gone; given = i.given; kept = i.kept };
         drop = λ s m c live between i.
             let k = known s m c i live in
             record {
@@ -258,7 +273,7 @@ module _ {K V : Type 0} (eq : K → K → Bool) where
 
   -- ---- as the call reads
 
-  heard : (u v : State K V) (o n : ℕ) (value : V) (reply : Turn V) → IsHeard o n (settled.Ready value) eq u → u.world.desk.joined n ≡ Some o → Step eq u n reply v →
+  heard : (u v : State K V) (o n : ℕ) (value : V) (reply : Turn K V) → IsHeard o n (settled.Ready value) eq u → u.world.desk.joined n ≡ Some o → Step eq u n reply v →
       reply ≡ turn.Answer (answer.Loaded value false)
   heard u v o n value reply i j step =
       let c : Call K V = step.call in

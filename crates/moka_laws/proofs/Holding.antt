@@ -1,5 +1,5 @@
 -- What a call holds, by its plan.
-use Rattle.std.proofs.Common.{◌≡◌, ℕ, ◌+◌, ◌<◌, ◌≤◌, ◌==◌, Bool, true, false, cond, List, [], ◌∷◌, ◌++◌, Option, Some, None, ◌⊎◌, inl, inr, refl, sym, ap, ◌∙◌, subst, arith}
+use Rattle.std.proofs.Common.{◌≡◌, ℕ, ◌+◌, ◌<◌, ◌≤◌, ◌==◌, Bool, true, false, cond, List, [], ◌∷◌, ◌++◌, map, Option, Some, None, ◌⊎◌, inl, inr, refl, sym, ap, ◌∙◌, subst, arith}
 use Rattle.std.proofs.lemmas.Bool.{eqb-true}
 use Rattle.std.specs.Option.{option_map}
 use Rattle.moka_hist.specs.Finite.{put_at, times}
@@ -7,13 +7,15 @@ use Rattle.moka_hist.specs.State.{State, World, Call, DeskPart}
 use Rattle.moka_hist.specs.Plan.{Item, Aim, held_by, plan_of}
 use Rattle.moka_hist.specs.Plan as plan
 use Rattle.moka_hist.specs.Visits.{number_of, without_moment}
-use Rattle.moka_hist.specs.Conditions.{held_number, numbers_of, IsPlaceOf, IsUnused}
+use Rattle.moka_laws.specs.Held.{MayAllLeave}
+use Rattle.moka_hist.specs.Conditions.{held_number, numbers_of, IsPlaceOf, IsUnused, MayLeave, MayLeaveWith}
 use Rattle.moka_hist.specs.Next.{Next, goes}
 use Rattle.moka_hist.specs.Looking.{hits, misses}
 use Rattle.moka_hist.specs.Loading.{after_read, after_told, retries}
 use Rattle.moka_hist.specs.Step.{Step}
 use Rattle.moka_hist.specs.Run.{IsReached, started, fresh_call}
 use Rattle.moka_hist.specs.Places.{HeldAreKnown}
+use Rattle.moka_hist.specs.declared.rules.Rules.{Rules}
 use Rattle.moka_hist.specs.declared.events.Start.{Start}
 use Rattle.moka_hist.specs.declared.events.Start.TheVariants as start
 use Rattle.moka_hist.specs.declared.events.Told.{Told}
@@ -27,11 +29,12 @@ use Rattle.moka_hist.specs.declared.writes.Holding.{Holding}
 use Rattle.moka_hist.specs.declared.writes.Holding.TheVariants as holding
 use Rattle.moka_hist.specs.declared.writes.Write.{Write}
 use Rattle.moka_hist.specs.declared.writes.Write.TheVariants.{Upsert}
+use Rattle.moka_laws.proofs.Rules.{put_plans}
 use Rattle.moka_laws.proofs.Counting.{none_some, some_same, put_here, put_there, same_number}
 use Rattle.moka_laws.proofs.Sums.{sum_holds}
 use Rattle.moka_laws.proofs.Weights.{weigh, weigh_call}
 use Rattle.moka_laws.proofs.Posts.{among, may_write, once, post_of}
-use Rattle.moka_laws.proofs.Balance.{IsBalanced, among_append, on_desk}
+use Rattle.moka_laws.proofs.Balance.{IsBalanced, among_append, owed_numbers, on_desk}
 use Rattle.moka_laws.proofs.Balanced.{balanced_kept, next_free}
 use Rattle.moka_laws.proofs.Owning.{plan_left}
 use Rattle.moka_laws.proofs.Kept.{IsKept, in_reached}
@@ -71,14 +74,19 @@ module _ {K V : Type 0} where
   HoldsAs n h (plan.Turn ∷ rest) = HoldsAs n h rest
   HoldsAs n h (plan.Apply ∷ rest) = HoldsAs n h rest
   HoldsAs n h (plan.End ∷ rest) = HoldsAs n h rest
+  HoldsAs n h (plan.Ended number ∷ rest) = HoldsAs n h rest
+  HoldsAs n h (plan.Notice key old ∷ rest) = HoldsAs n h rest
+  HoldsAs n h (plan.Heard ∷ rest) = HoldsAs n h rest
+  HoldsAs n h (plan.Unlock ∷ rest) = HoldsAs n h rest
   HoldsAs n h (_ ∷ rest) = (h ≡ None) × (weigh held rest ≡ 0)
 
   -- ---- plans that need no place
 
-  fresh_weighs : (start : Start K V) → weigh held (plan_of start) ≡ 0
-  fresh_weighs (start.Get key) = refl
-  fresh_weighs (start.Insert key value) = refl
-  fresh_weighs (start.GetWith key) = refl
+  fresh_weighs : (rules : Rules) (start : Start K V) → weigh held (plan_of rules start) ≡ 0
+  fresh_weighs rules (start.Get key) = refl
+  fresh_weighs rules (start.Insert key value) =
+      put_plans (λ p. weigh held p ≡ 0) rules key value _ (refl) (refl)
+  fresh_weighs rules (start.GetWith key) = refl
 
   misses_weigh : (c : Call K V) (aim : Aim K) → weigh_call held (misses c aim).left ≡ 0
   misses_weigh c plan.To_answer = refl
@@ -102,6 +110,10 @@ module _ {K V : Type 0} where
     free_holds (plan.Turn ∷ rest) e none = free_holds rest (omega arith) none
     free_holds (plan.Apply ∷ rest) e none = free_holds rest (omega arith) none
     free_holds (plan.End ∷ rest) e none = free_holds rest (omega arith) none
+    free_holds (plan.Ended number ∷ rest) e none = free_holds rest (omega arith) none
+    free_holds (plan.Notice key old ∷ rest) e none = free_holds rest (omega arith) none
+    free_holds (plan.Heard ∷ rest) e none = free_holds rest (omega arith) none
+    free_holds (plan.Unlock ∷ rest) e none = free_holds rest (omega arith) none
     free_holds (_ ∷ rest) e none = (none, omega arith)
 
     left_holds : (left : Option (Call K V)) → weigh_call held left ≡ 0 → h ≡ None → HoldsAs n h (plan_left left)
@@ -123,8 +135,24 @@ module _ {K V : Type 0} where
 
     told_holds : (c : Call K V) (load : Load K) (given : Told V) → HoldsAs n h c.plan → h ≡ None →
         HoldsAs n h (plan_left (after_told c load (found.TakeTold (Some given))).left)
-    told_holds c load (answer.Value value) p none = (none, refl)
+    told_holds c load (answer.Value value) p none =
+        put_plans (λ p. HoldsAs n h (plan_left (goes c p).left)) c.rules load.key value _ (none, refl) (none, refl)
     told_holds c load answer.Done p none = p
+    told_holds c load answer.Off p none = p
+
+  -- what a call holds is as much as before, once no moment is pending with it
+  still_holds : (n : ℕ) (h : Option Holding) (rest : List (Item K V)) → HoldsAs n h rest → HoldsAs n (option_map without_moment h) rest
+  still_holds n h [] q = ap (option_map without_moment) q
+  still_holds n h (plan.Post write ∷ rest) q = (still_place h n write q.0, q.1)
+  still_holds n h (plan.Write key value moment ∷ rest) q = ((None, ap (option_map without_moment) q.0.1), q.1)
+  still_holds n h (plan.Turn ∷ rest) q = still_holds n h rest q
+  still_holds n h (plan.Apply ∷ rest) q = still_holds n h rest q
+  still_holds n h (plan.End ∷ rest) q = still_holds n h rest q
+  still_holds n h (plan.Ended number ∷ rest) q = still_holds n h rest q
+  still_holds n h (plan.Notice key old ∷ rest) q = still_holds n h rest q
+  still_holds n h (plan.Heard ∷ rest) q = still_holds n h rest q
+  still_holds n h (plan.Unlock ∷ rest) q = still_holds n h rest q
+  still_holds n h (_ ∷ rest) q = (ap (option_map without_moment) q.0, q.1)
 
   -- what a step has to show: what this call holds then, and that the others hold what they held
   record Leaves (d : DeskPart K V) (n : ℕ) (held : ℕ → Option Holding) (left : Option (Call K V)) : Type 0 where
@@ -151,6 +179,16 @@ module _ {K V : Type 0} where
     on_item plan.Drain rest p q = (
       λ e. keeps w.desk n (goes_holds n _ c rest (free_holds n _ rest q.1 q.0)),
       λ x xs e. holds_now w.desk n (Some (holding.TookUp x)) (refl, omega (arith, q.1)),
+      λ x number xs e. holds_now w.desk n (Some (holding.TookUp x)) (refl, omega (arith, q.1)),
+    )
+    on_item (plan.Ended number) rest p q = (λ e. keeps w.desk n (goes_holds n _ c rest q), λ e. keeps w.desk n p)
+    on_item plan.Heard rest p q = (λ e. keeps w.desk n (goes_holds n _ c rest q), λ e. keeps w.desk n p)
+    on_item (plan.Lock key) rest p q =
+        ((λ e. keeps w.desk n (goes_holds n _ c rest (free_holds n _ rest q.1 q.0))), λ e. keeps w.desk n p)
+    on_item plan.Unlock rest p q = holds_now w.desk n _ (goes_holds n _ c rest (still_holds n (w.desk.holding n) rest q))
+    on_item (plan.Notice key old) rest p q = (
+      λ e. holds_now w.desk n _ (goes_holds n _ c rest (still_holds n (w.desk.holding n) rest q)),
+      λ e. holds_now w.desk n _ (still_holds n (w.desk.holding n) rest q),
     )
     on_item (plan.Post write) rest p q = (
       λ e. holds_now w.desk n None (goes_holds n None c rest (free_holds n None rest q.1 refl)),
@@ -169,7 +207,12 @@ module _ {K V : Type 0} where
     on_item (plan.Told load) rest p q = (λ e. keeps w.desk n p, λ given e. keeps w.desk n (told_holds n _ c load given p q.0))
     on_item (plan.Moment key value) rest p q = holds_now w.desk n (Some (holding.Own (Some w.desk.clock))) ((Some w.desk.clock, refl), q.1)
     on_item (plan.Write key value moment) rest p q =
-        ((λ more. keeps w.desk n p), keeps w.desk n (own_place (w.desk.holding n) n _ q.0, q.1))
+        let place = λ (old : Option ℕ). own_place (w.desk.holding n) n old q.0 in (
+          (λ more. keeps w.desk n p),
+          (λ off old. keeps w.desk n (place old, q.1)),
+          (λ on. keeps w.desk n (place None, q.1)),
+          λ k old on some. keeps w.desk n (place (Some old.stamp), q.1),
+        )
     on_item (plan.Reply answer) rest p q = keeps w.desk n q.0
 
     on_plan : (plan : List (Item K V)) → c.plan ≡ plan → HoldsAs n (w.desk.holding n) c.plan → OnStep eq After w n c plan
@@ -200,11 +243,12 @@ module _ {K V : Type 0} where
   -- the numbers that stand with the desk
   pub numbers_stand : (x : ℕ) (d : DeskPart K V) → times x (numbers_of d) ≡ on_desk x d
   numbers_stand x d =
-      let all : times x (numbers_of d) ≡ among x (d.owed ++ d.log) + among x d.applied = among_append x (d.owed ++ d.log) d.applied in
-      omega (arith, among_append x d.owed d.log)
+      let writes : List Write = map (λ o. o.write) d.owed in
+      let all : times x (numbers_of d) ≡ among x (writes ++ d.log) + among x d.applied = among_append x (writes ++ d.log) d.applied in
+      omega (arith, among_append x writes d.log, ap (times x) (owed_numbers d.owed))
 
 module _ {K V : Type 0} (eq : K → K → Bool) where
-  holding_step : (s t : State K V) (n : ℕ) (turn : Turn V) → IsHolding s → Step eq s n turn t → IsHolding t
+  holding_step : (s t : State K V) (n : ℕ) (turn : Turn K V) → IsHolding s → Step eq s n turn t → IsHolding t
   holding_step s t n turn i step =
       let c : Call K V = step.call in
       let p : HoldsAs n (s.world.desk.holding n) c.plan =
@@ -219,16 +263,17 @@ module _ {K V : Type 0} (eq : K → K → Bool) where
       let new : ℕ = s.world.desk.last + 1 in
       let none : s.world.desk.holding new ≡ None =
       subst (λ v. HoldsAs new (s.world.desk.holding new) (plan_left v)) (next_free s i.balanced) (i.holds new) in
-      holds_on s new _ (Some (fresh_call start)) i (record { own = free_holds new _ (plan_of start) (fresh_weighs start) none; others = λ m e. refl })
+      holds_on s new _ (Some (fresh_call s.world.desk.rules start)) i (record { own = free_holds new _ (plan_of s.world.desk.rules start) (fresh_weighs s.world.desk.rules start) none; others = λ m e. refl })
       ((balanced_kept eq).start s start i.balanced)
 
   pub holding_kept : IsKept eq (IsHolding {K = K} {V = V})
   holding_kept = record {
-    fresh = λ size has_log. record { balanced = (balanced_kept eq).fresh size has_log; holds = λ n. refl };
+    fresh = λ rules size has_log. record { balanced = (balanced_kept eq).fresh rules size has_log; holds = λ n. refl };
     at = λ s moment i. record { balanced = (balanced_kept eq).at s moment i.balanced; holds = i.holds };
     start = holding_start;
     step = holding_step;
     tell = λ s n given asked i. record { balanced = (balanced_kept eq).tell s n given asked i.balanced; holds = i.holds };
+    hear = λ s n off running i. record { balanced = (balanced_kept eq).hear s n off running i.balanced; holds = i.holds };
     drop = λ s n c live between i.
         holds_on s n _ None i (record { own = put_here s.world.desk.holding n None; others = λ m e. put_there s.world.desk.holding n None m e })
         ((balanced_kept eq).drop s n c live between i.balanced);
@@ -251,7 +296,30 @@ module _ {K V : Type 0} (eq : K → K → Bool) where
   place_of n h write (plan.Turn ∷ rest) q e = place_of n h write rest q e
   place_of n h write (plan.Apply ∷ rest) q e = place_of n h write rest q e
   place_of n h write (plan.End ∷ rest) q e = place_of n h write rest q e
+  place_of n h write (plan.Ended number ∷ rest) q e = place_of n h write rest q e
+  place_of n h write (plan.Notice key old ∷ rest) q e = place_of n h write rest q e
+  place_of n h write (plan.Heard ∷ rest) q e = place_of n h write rest q e
+  place_of n h write (plan.Unlock ∷ rest) q e = place_of n h write rest q e
   place_of n h write (_ ∷ rest) q e = absurd (none_some (sym (free_by rest q.1) ∙ e))
+
+  -- a call whose plan posts no write took none up
+  leaves_none : (n : ℕ) (h : Option Holding) (plan : List (Item K V)) → HoldsAs n h plan → held_by plan ≡ None → MayLeaveWith h n None
+  leaves_none n h [] q e = subst (λ v. MayLeaveWith v n None) (sym q) tt
+  leaves_none n h (plan.Post held ∷ rest) q e = absurd (none_some (sym e))
+  leaves_none n h (plan.Write key value moment ∷ rest) q e = subst (λ v. MayLeaveWith v n None) (sym q.0.1) tt
+  leaves_none n h (plan.Turn ∷ rest) q e = leaves_none n h rest q e
+  leaves_none n h (plan.Apply ∷ rest) q e = leaves_none n h rest q e
+  leaves_none n h (plan.End ∷ rest) q e = leaves_none n h rest q e
+  leaves_none n h (plan.Ended number ∷ rest) q e = leaves_none n h rest q e
+  leaves_none n h (plan.Notice key old ∷ rest) q e = leaves_none n h rest q e
+  leaves_none n h (plan.Heard ∷ rest) q e = leaves_none n h rest q e
+  leaves_none n h (plan.Unlock ∷ rest) q e = leaves_none n h rest q e
+  leaves_none n h (_ ∷ rest) q e = subst (λ v. MayLeaveWith v n None) (sym q.0) tt
+
+  pub none_left : (s : State K V) → IsHolding s → (n : ℕ) (c : Call K V) → s.calls n ≡ Some c → held_by c.plan ≡ None →
+      MayLeaveWith (s.world.desk.holding n) n None
+  none_left s i n c live e =
+      leaves_none n (s.world.desk.holding n) c.plan (subst (λ v. HoldsAs n (s.world.desk.holding n) (plan_left v)) live (i.holds n)) e
 
   -- the desk knows each write that a live call holds
   pub known_held : (s : State K V) → IsHolding s → HeldAreKnown s
@@ -259,8 +327,25 @@ module _ {K V : Type 0} (eq : K → K → Bool) where
       place_of n (s.world.desk.holding n) write c.plan
       (subst (λ v. HoldsAs n (s.world.desk.holding n) (plan_left v)) live (i.holds n)) e
 
+  -- a live call may leave what it holds
+  may_leave_it : (s : State K V) → IsHolding s → (n : ℕ) (c : Call K V) → s.calls n ≡ Some c → (o : Option Write) → held_by c.plan ≡ o →
+      MayLeave s.world.desk n o
+  may_leave_it s i n c live None e = none_left s i n c live e
+  may_leave_it s i n c live (Some write) e = known_held s i n c write live e
+
+  pub all_leave : (s : State K V) → IsReached eq s → MayAllLeave s
+  all_leave s h n c live = may_leave_it s (in_holding s h) n c live (held_by c.plan) refl
+
   pub held_known : (s : State K V) → IsReached eq s → HeldAreKnown s
   held_known s h = known_held s (in_holding s h)
+
+  -- what the rest of a plan does, the plan does
+  later : (n : ℕ) (x : Holding) (rest : List (Item K V)) (item : Item K V) →
+      weigh (post_of (held_number n x)) rest ≤ weigh (post_of (held_number n x)) (item ∷ rest) → weigh may_write rest ≤ weigh may_write (item ∷ rest) →
+      (0 < weigh (post_of (held_number n x)) rest) ⊎ ((held_number n x ≡ n) × (0 < weigh may_write rest)) →
+      (0 < weigh (post_of (held_number n x)) (item ∷ rest)) ⊎ ((held_number n x ≡ n) × (0 < weigh may_write (item ∷ rest)))
+  later n x rest item posts may (inl h) = inl (omega (arith, posts))
+  later n x rest item posts may (inr h) = inr (h.0, omega (arith, may, h.1))
 
   -- a call that holds something posts the write of that number, or has still to make its own
   held_way : (n : ℕ) (x : Holding) (plan : List (Item K V)) → HoldsAs n (Some x) plan →
@@ -272,24 +357,13 @@ module _ {K V : Type 0} (eq : K → K → Bool) where
       inl (omega arith)
   held_way n x (plan.Write key value moment ∷ rest) q =
       inr (ap (held_number n) (some_same q.0.1), omega arith)
-  held_way n x (plan.Turn ∷ rest) q = by (held_way n x rest q)
-    where
-      by : (0 < weigh (post_of (held_number n x)) rest) ⊎ ((held_number n x ≡ n) × (0 < weigh may_write rest)) →
-          (0 < weigh (post_of (held_number n x)) (plan.Turn ∷ rest)) ⊎ ((held_number n x ≡ n) × (0 < weigh may_write (plan.Turn ∷ rest)))
-      by (inl h) = inl (omega arith)
-      by (inr h) = inr (h.0, omega (arith, h.1))
-  held_way n x (plan.Apply ∷ rest) q = by (held_way n x rest q)
-    where
-      by : (0 < weigh (post_of (held_number n x)) rest) ⊎ ((held_number n x ≡ n) × (0 < weigh may_write rest)) →
-          (0 < weigh (post_of (held_number n x)) (plan.Apply ∷ rest)) ⊎ ((held_number n x ≡ n) × (0 < weigh may_write (plan.Apply ∷ rest)))
-      by (inl h) = inl (omega arith)
-      by (inr h) = inr (h.0, omega (arith, h.1))
-  held_way n x (plan.End ∷ rest) q = by (held_way n x rest q)
-    where
-      by : (0 < weigh (post_of (held_number n x)) rest) ⊎ ((held_number n x ≡ n) × (0 < weigh may_write rest)) →
-          (0 < weigh (post_of (held_number n x)) (plan.End ∷ rest)) ⊎ ((held_number n x ≡ n) × (0 < weigh may_write (plan.End ∷ rest)))
-      by (inl h) = inl (omega arith)
-      by (inr h) = inr (h.0, omega (arith, h.1))
+  held_way n x (plan.Turn ∷ rest) q = later n x rest plan.Turn (omega arith) (omega arith) (held_way n x rest q)
+  held_way n x (plan.Apply ∷ rest) q = later n x rest plan.Apply (omega arith) (omega arith) (held_way n x rest q)
+  held_way n x (plan.End ∷ rest) q = later n x rest plan.End (omega arith) (omega arith) (held_way n x rest q)
+  held_way n x (plan.Ended number ∷ rest) q = later n x rest (plan.Ended number) (omega arith) (omega arith) (held_way n x rest q)
+  held_way n x (plan.Notice key old ∷ rest) q = later n x rest (plan.Notice key old) (omega arith) (omega arith) (held_way n x rest q)
+  held_way n x (plan.Heard ∷ rest) q = later n x rest plan.Heard (omega arith) (omega arith) (held_way n x rest q)
+  held_way n x (plan.Unlock ∷ rest) q = later n x rest plan.Unlock (omega arith) (omega arith) (held_way n x rest q)
   held_way n x (_ ∷ rest) q = absurd (none_some (sym q.0))
 
   module _ (s : State K V) (i : IsHolding s) where

@@ -2,13 +2,17 @@
 use Rattle.std.proofs.Common.{◌<◌, ◌≢◌, ◌≡◌, ℕ, zero, suc, Bool, true, false, List, [], ◌∷◌, Option, Some, None, MatchOption, MatchBool, nat_lt, ◌==◌, refl, sym, subst}
 use Rattle.moka_hist.specs.State.{State, Call, fresh}
 use Rattle.moka_hist.specs.Dropping.{dropped}
-use Rattle.moka_hist.specs.Telling.{is_asked, told}
+use Rattle.moka_hist.specs.Telling.{is_asked, heard}
+use Rattle.moka_hist.specs.Telling.{told as tells}
+use Rattle.moka_hist.specs.Visits.{is_running}
 use Rattle.moka_hist.specs.Step.{Step}
 use Rattle.moka_hist.specs.Run.{Goings, Steps, Polls, Happens, Run, Any, IsReached, Refuses, Becomes, Drops, at_moment, started, with_desk, last_call}
 use Rattle.moka_hist.specs.declared.records.Mode.{Mode}
 use Rattle.moka_hist.specs.declared.records.Mode.TheVariants as mode
+use Rattle.moka_hist.specs.declared.rules.Rules.{Rules}
 use Rattle.moka_hist.specs.declared.events.Start.{Start}
 use Rattle.moka_hist.specs.declared.events.Told.{Told}
+use Rattle.moka_hist.specs.declared.events.Told.TheVariants as told
 use Rattle.moka_hist.specs.declared.events.Event.{Event}
 use Rattle.moka_hist.specs.declared.events.Event.TheVariants as event
 use Rattle.moka_hist.specs.declared.replies.Refusal.{Refusal}
@@ -18,28 +22,31 @@ use Rattle.moka_hist.specs.declared.accesses.Turn.{Turn}
 module _ {K V : Type 0} (eq : K → K → Bool) where
   -- a fresh cache has it, and each event keeps it
   pub record IsKept (I : State K V → Type 0) : Type 0 where
-    pub fresh : (size : ℕ) → 0 < size → I (fresh K V size)
+    pub fresh : (rules : Rules) (size : ℕ) → 0 < size → I (fresh K V rules size)
     pub at : (s : State K V) (moment : ℕ) → I s → I (at_moment s moment)
     pub start : (s : State K V) (start : Start K V) → I s → I (started s start)
-    pub step : (s t : State K V) (n : ℕ) (turn : Turn V) → I s → Step eq s n turn t → I t
-    pub tell : (s : State K V) (n : ℕ) (answer : Told V) → is_asked s.world.desk n answer ≡ true → I s →
-        I (with_desk s (told s.world.desk n answer))
+    pub step : (s t : State K V) (n : ℕ) (turn : Turn K V) → I s → Step eq s n turn t → I t
+    pub tell : (s : State K V) (n : ℕ) (value : V) → is_asked s.world.desk n (told.Value value) ≡ true → I s →
+        I (with_desk s (tells s.world.desk n (told.Value value)))
+    -- a notice that runs ends, and the listener may be off from then on
+    pub hear : (s : State K V) (n : ℕ) (off : Bool) → is_running s.world.desk n ≡ true → I s → I (with_desk s (heard s.world.desk n off))
     pub drop : (s : State K V) (n : ℕ) (c : Call K V) → s.calls n ≡ Some c → c.mode ≢ mode.Mid → I s → I (dropped s n c)
 
   -- each event keeps it
   pub record IsStable (I : State K V → Type 0) : Type 0 where
     pub at : (s : State K V) (moment : ℕ) → I s → I (at_moment s moment)
     pub start : (s : State K V) (start : Start K V) → I s → I (started s start)
-    pub step : (s t : State K V) (n : ℕ) (turn : Turn V) → I s → Step eq s n turn t → I t
-    pub tell : (s : State K V) (n : ℕ) (answer : Told V) → is_asked s.world.desk n answer ≡ true → I s →
-        I (with_desk s (told s.world.desk n answer))
+    pub step : (s t : State K V) (n : ℕ) (turn : Turn K V) → I s → Step eq s n turn t → I t
+    pub tell : (s : State K V) (n : ℕ) (value : V) → is_asked s.world.desk n (told.Value value) ≡ true → I s →
+        I (with_desk s (tells s.world.desk n (told.Value value)))
+    pub hear : (s : State K V) (n : ℕ) (off : Bool) → is_running s.world.desk n ≡ true → I s → I (with_desk s (heard s.world.desk n off))
     pub drop : (s : State K V) (n : ℕ) (c : Call K V) → s.calls n ≡ Some c → c.mode ≢ mode.Mid → I s → I (dropped s n c)
 
   module _ (I : State K V → Type 0) (kept : IsStable I) where
-    refused : (s t : State K V) (why : Refusal) (r : Reply V) → I s → Refuses s why r t → I t
+    refused : (s t : State K V) (why : Refusal) (r : Reply K V) → I s → Refuses s why r t → I t
     refused s t why r i h = subst (λ v. I v) (sym h.same) i
 
-    becomes : (next t : State K V) (answer r : Reply V) → I next → Becomes next answer r t → I t
+    becomes : (next t : State K V) (answer r : Reply K V) → I next → Becomes next answer r t → I t
     becomes next t answer r i h = subst (λ v. I v) (sym h.after) i
 
     goings : (P : State K V → Type 0) (k : ℕ) (s t : State K V) (n : ℕ) → I s → Goings eq P k s n t → I t
@@ -47,7 +54,7 @@ module _ {K V : Type 0} (eq : K → K → Bool) where
     goings P zero s t n i going = subst (λ v. I v) (sym going) i
     goings P (suc k) s t n i going = kept.step going.0 t n _ (goings P k s going.0 n i going.1) going.2
 
-    drops : (s t : State K V) (n : ℕ) (c : Call K V) (m : Mode) (r : Reply V) → s.calls n ≡ Some c → c.mode ≡ m → I s →
+    drops : (s t : State K V) (n : ℕ) (c : Call K V) (m : Mode) (r : Reply K V) → s.calls n ≡ Some c → c.mode ≡ m → I s →
         Drops s n c m r t → I t
     drops s t n c mode.Mid r live e i h = refused s t _ r i h
     drops s t n c mode.Fresh r live e i h = becomes (dropped s n c) t _ r (kept.drop s n c live (λ f. cc) i) h
@@ -63,7 +70,13 @@ module _ {K V : Type 0} (eq : K → K → Bool) where
     looked t None P Q none some h = none h
     looked t (Some c) P Q none some h = some c refl h
 
-    happens : (P : State K V → Type 0) (s t : State K V) (e : Event K V) (r : Reply V) → I s → Happens eq P s e r t → I t
+    is_told : (s : State K V) (n : ℕ) (answer : Told V) → is_asked s.world.desk n answer ≡ true → I s →
+        I (with_desk s (tells s.world.desk n answer))
+    is_told s n (told.Value value) e i = kept.tell s n value e i
+    is_told s n told.Done e i = kept.hear s n false e i
+    is_told s n told.Off e i = kept.hear s n true e i
+
+    happens : (P : State K V → Type 0) (s t : State K V) (e : Event K V) (r : Reply K V) → I s → Happens eq P s e r t → I t
     happens P s t (event.At moment) r i h =
         either t (nat_lt moment s.world.desk.clock) _ _ (λ _ b. refused s t _ r i b)
         (λ _ b. becomes (at_moment s moment) t _ r (kept.at s moment i) b) h
@@ -75,19 +88,20 @@ module _ {K V : Type 0} (eq : K → K → Bool) where
         looked t (s.calls n) _ (λ _. Polls eq P s n r t) (refused s t _ r i)
         (λ c e polls. kept.step polls.mid t n polls.last.turn (goings P polls.going s polls.mid n i polls.goes) polls.last.step) h
     happens P s t (event.Tell n answer) r i h =
-        either t (is_asked s.world.desk n answer) _ _ (λ e b. becomes (with_desk s (told s.world.desk n answer)) t _ r
-        (kept.tell s n answer e i) b) (λ _ b. refused s t _ r i b) h
+        either t (is_asked s.world.desk n answer) _ _ (λ e b. becomes (with_desk s (tells s.world.desk n answer)) t _ r
+        (is_told s n answer e i) b) (λ _ b. refused s t _ r i b) h
     happens P s t (event.Drop n) r i h =
         looked t (s.calls n) _ (λ c. Drops s n c c.mode r t) (refused s t _ r i) (λ c e d. drops s t n c c.mode r e refl i d) h
 
-    pub runs : (s t : State K V) (es : List (Event K V)) (rs : List (Reply V)) → I s → Run eq Any s es rs t → I t
+    pub runs : (s t : State K V) (es : List (Event K V)) (rs : List (Reply K V)) → I s → Run eq Any s es rs t → I t
     runs s t [] [] i run = subst (λ v. I v) (sym run) i
     runs s t (e ∷ es) (r ∷ rs) i run = runs run.0 t es rs (happens Any s run.0 e r i run.1) run.3
     runs s t [] (r ∷ rs) i run = absurd run
     runs s t (e ∷ es) [] i run = absurd run
 
   stable : (I : State K V → Type 0) → IsKept I → IsStable I
-  stable I kept = record { at = kept.at; start = kept.start; step = kept.step; tell = kept.tell; drop = kept.drop }
+  stable I kept =
+      record { at = kept.at; start = kept.start; step = kept.step; tell = kept.tell; hear = kept.hear; drop = kept.drop }
 
   pub in_reached : (I : State K V → Type 0) → IsKept I → (s : State K V) → IsReached eq s → I s
-  in_reached I kept s h = runs I (stable I kept) (fresh K V h.size) s h.events h.replies (kept.fresh h.size h.has_log) h.run
+  in_reached I kept s h = runs I (stable I kept) (fresh K V h.rules h.size) s h.events h.replies (kept.fresh h.rules h.size h.has_log) h.run

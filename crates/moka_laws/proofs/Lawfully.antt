@@ -7,13 +7,21 @@ use Rattle.moka_laws.specs.Lawful.{ReachedIsLawful, StepsAreLawful, EventIsLawfu
 use Rattle.moka_laws.proofs.Between.{steps_more, event_more, run_more}
 use Rattle.moka_laws.proofs.Balanced.{in_balance}
 use Rattle.moka_laws.proofs.OnePlace.{stands_once, stands_committed}
+use Rattle.moka_laws.proofs.Noticing.{in_noticing}
+use Rattle.moka_laws.proofs.SettledNotices.{notices_settled}
 use Rattle.moka_laws.proofs.Owning.{one_initializes}
 
 module _ {K V : Type 0} (eq : K → K → Bool) (laws : IsEquivalence eq) where
   pub lawfully : ReachedIsLawful K V eq
   lawfully s h =
       let i = in_balance eq s h in
-      record { commits_once = i.once; one_place = stands_once s i; committed = stands_committed s i; one_initializer = one_initializes eq laws s h }
+      record {
+        commits_once = i.once;
+        one_place = stands_once s i;
+        committed = stands_committed s i;
+        notices = notices_settled s (in_noticing eq s h);
+        one_initializer = one_initializes eq laws s h;
+      }
 
   pub steps_are_lawful : StepsAreLawful K V eq
   steps_are_lawful k s t n h =

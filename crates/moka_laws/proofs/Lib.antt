@@ -1,6 +1,7 @@
 pub mod Reached
 pub mod StepCases
 pub mod Kept
+pub mod Rules
 pub mod OwnKeysKept
 pub mod Outcomes
 pub mod Counting
@@ -23,6 +24,10 @@ pub mod Turns
 pub mod Asking
 pub mod Coming
 pub mod Soundness
+pub mod Locking
+pub mod Replacing
+pub mod Noticing
+pub mod SettledNotices
 pub mod Safe
 pub mod SoundReached
 pub mod Unread
@@ -35,3 +40,6 @@ pub mod Between
 pub mod Lawfully
 pub mod Plans
 pub mod Ways
+pub mod Asks
+pub mod Before
+pub mod Ordering

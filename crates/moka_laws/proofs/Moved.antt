@@ -23,7 +23,7 @@ put_twice f n v w = λ i m. (at m (n == m)) i
     at m false = refl
 
 -- a step that isn't Going has not that reply
-not_going : {V : Type 0} (t : Turn V) → t ≢ turn.Going → reply_of t ≢ reply.Going
+not_going : {K V : Type 0} (t : Turn K V) → t ≢ turn.Going → reply_of t ≢ reply.Going
 not_going turn.Going h = absurd (h refl)
 not_going turn.Wait h = λ e. cc
 not_going (turn.Ask ask) h = λ e. cc

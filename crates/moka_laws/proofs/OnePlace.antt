@@ -13,7 +13,7 @@ use Rattle.moka_hist.specs.declared.writes.Place.TheVariants as place
 use Rattle.moka_laws.proofs.Counting.{times_same}
 use Rattle.moka_laws.proofs.Sums.{sum_holds, sum_holds_two, sum_has}
 use Rattle.moka_laws.proofs.Weights.{weigh_call}
-use Rattle.moka_laws.proofs.Posts.{among, post_of, posts_held}
+use Rattle.moka_laws.proofs.Posts.{among, among_owed, post_of, posts_held}
 use Rattle.moka_laws.proofs.Balance.{IsBalanced, with_calls}
 
 -- a list contains what stands in it
@@ -41,7 +41,7 @@ module _ {K V : Type 0} (s : State K V) (i : IsBalanced s) where
   -- how often the write of the number stands at the place
   abbrev count : Place → ℕ → ℕ
   count place.Held x = with_calls x s
-  count place.Owed x = among x s.world.desk.owed
+  count place.Owed x = among_owed x s.world.desk.owed
   count place.Logged x = among x s.world.desk.log
   count place.Applied x = among x s.world.desk.applied
 

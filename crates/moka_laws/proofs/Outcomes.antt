@@ -1,25 +1,30 @@
 -- What a step may make, item by item.
 use Rattle.std.specs.Option.{option_map}
-use Rattle.std.proofs.Common.{append-nil, ◌<◌, ◌≡◌, ℕ, suc, Bool, true, false, cond, nat_lt, ◌==◌, List, [], ◌∷◌, ◌++◌, length, drop, take, Option, Some, None, is_some, unwrap_or, refl, sym, ap, ◌∙◌, subst, arith}
+use Rattle.std.proofs.Common.{append-nil, ◌<◌, ◌≡◌, ℕ, suc, Bool, true, false, cond, nat_lt, not, ◌==◌, List, [], ◌∷◌, ◌++◌, length, drop, take, Option, Some, None, is_some, unwrap_or, refl, sym, ap, ◌∙◌, subst, arith}
 use Rattle.std.proofs.lemmas.Bool.{eqb-true}
 use Rattle.std.proofs.lemmas.Bool.Decides.{nat_tests}
 use Rattle.moka_hist.specs.Finite.{put_at}
 use Rattle.moka_hist.specs.State.{Call, World, DeskPart}
 use Rattle.moka_hist.specs.Plan.{Item, Aim, look}
 use Rattle.moka_hist.specs.Plan as plan
-use Rattle.moka_hist.specs.Visits.{without_moment, first_of, holding_with, claimed, claim_of, finds, has_room, is_free_for, settlement_for, readers_without, settled_without, stamped, judged, settled_as, opened, took_told, ended_turn}
+use Rattle.moka_hist.specs.Causes.{upsert_cause}
+use Rattle.moka_hist.specs.Visits.{decided, is_running, is_unlocked_for, locked_by, times_at, unlocked, with_notice, without_moment, first_of, holding_with, claimed, claim_of, finds, has_room, is_free_for, settlement_for, readers_without, settled_without, stamped, judged, settled_as, opened, took_told, ended_turn}
 use Rattle.moka_hist.specs.Tables.{answer_of, written}
 use Rattle.moka_hist.specs.Bound.{times_of, stayed, decided_by, most_undecided}
 use Rattle.moka_hist.specs.Next.{Next, goes, stays, waits, asks, answers}
-use Rattle.moka_hist.specs.Posting.{after_drain, after_post, after_turn, after_apply}
+use Rattle.moka_hist.specs.Listening.{after_hearing, after_lock, after_notice}
+use Rattle.moka_hist.specs.Posting.{once_ended, after_drain, after_post, after_turn, after_apply}
 use Rattle.moka_hist.specs.Looking.{misses, hits, after_get}
 use Rattle.moka_hist.specs.Loading.{after_own, after_read, after_told}
-use Rattle.moka_hist.specs.Writing.{old_stamp}
+use Rattle.moka_hist.specs.Writing.{old_stamp, once_told}
 use Rattle.moka_hist.specs.Step.{access_for, takes_of}
 use Rattle.moka_hist.specs.declared.records.Stored.{Stored}
 use Rattle.moka_hist.specs.declared.events.Told.{Told}
 use Rattle.moka_hist.specs.declared.loads.Load.{Load}
 use Rattle.moka_hist.specs.declared.writes.Holding.TheVariants as holding
+use Rattle.moka_hist.specs.declared.notices.NoticeState.{NoticeState}
+use Rattle.moka_hist.specs.declared.notices.NoticeState.TheVariants as notice
+use Rattle.moka_hist.specs.declared.writes.Owed.{Owed}
 use Rattle.moka_hist.specs.declared.writes.Write.{Write}
 use Rattle.moka_hist.specs.declared.writes.Write.TheVariants.{Upsert}
 use Rattle.moka_hist.specs.declared.replies.Ask.TheVariants as ask
@@ -50,7 +55,7 @@ module _ {K V : Type 0} (eq : K → K → Bool) where
 
   -- the desk once the call took up the first owed write, posted its write, applied the first logged
   -- write, or read how its owner ended
-  abbrev pub was_owed : DeskPart K V → ℕ → Write → List Write → DeskPart K V
+  abbrev pub was_owed : DeskPart K V → ℕ → Write → List Owed → DeskPart K V
   was_owed d n first rest = record d { holding = put_at d.holding n (Some (holding.TookUp first)); owed = rest }
 
   abbrev pub was_posted : DeskPart K V → ℕ → Write → DeskPart K V
@@ -61,6 +66,16 @@ module _ {K V : Type 0} (eq : K → K → Bool) where
 
   abbrev pub was_applied : DeskPart K V → Write → List Write → DeskPart K V
   was_applied d first rest = record d { log = rest; applied = d.applied ++ first ∷ [] }
+
+  -- the desk once the call has opened its notice, in this state
+  abbrev pub was_opened : DeskPart K V → ℕ → K → Stored V → NoticeState → DeskPart K V
+  was_opened d n key old state = with_notice (decided d n) n (record {
+    number = n;
+    key = key;
+    value = old.value;
+    cause = upsert_cause d.rules (times_at d old.stamp old.modified);
+    state = state;
+  })
 
   abbrev pub was_read : DeskPart K V → ℕ → DeskPart K V
   was_read d n = record d { joined = put_at d.joined n None; readers = readers_without d n; settled = settled_without d n }
@@ -77,8 +92,12 @@ module _ {K V : Type 0} (eq : K → K → Bool) where
   abbrev pub Outcomes : (World K V → Next K V → Type 0) → World K V → ℕ → Call K V → Item K V → List (Item K V) → Type 0
   Outcomes M w n c plan.Drain rest =
       (w.desk.owed ≡ [] → M w (goes c rest)) ×
-      ((x : Write) (xs : List Write) → w.desk.owed ≡ x ∷ xs →
-      M (on_desk w (was_owed w.desk n x xs)) (goes c (plan.Post x ∷ plan.Drain ∷ rest)))
+      ((x : Write) (xs : List Owed) → w.desk.owed ≡ record { write = x; notice = None } ∷ xs →
+      M (on_desk w (was_owed w.desk n x xs)) (goes c (plan.Post x ∷ plan.Drain ∷ rest))) ×
+      ((x : Write) (number : ℕ) (xs : List Owed) → w.desk.owed ≡ record { write = x; notice = Some number } ∷ xs →
+      M (on_desk w (was_owed w.desk n x xs)) (goes c (plan.Ended number ∷ plan.Post x ∷ plan.Drain ∷ rest)))
+  Outcomes M w n c (plan.Ended number) rest =
+      (is_running w.desk number ≡ false → M w (goes c rest)) × (is_running w.desk number ≡ true → M w (waits c))
   Outcomes M w n c (plan.Post write) rest =
       (has_room w.desk ≡ true → M (on_desk w (was_posted w.desk n write)) (goes c rest)) ×
       (has_room w.desk ≡ false →
@@ -104,12 +123,25 @@ module _ {K V : Type 0} (eq : K → K → Bool) where
   Outcomes M w n c (plan.Told load) rest =
       (w.desk.told n ≡ None → M w (waits c)) ×
       ((given : Told V) → w.desk.told n ≡ Some given → M (on_desk w (took_told w.desk n)) (after_told c load (found.TakeTold (Some given))))
+  Outcomes M w n c (plan.Lock key) rest =
+      (is_unlocked_for w.desk n key ≡ true → M (on_desk w (locked_by eq w.desk n key true)) (goes c rest)) ×
+      (is_unlocked_for w.desk n key ≡ false → M w (waits c))
+  Outcomes M w n c plan.Unlock rest = M (on_desk w (unlocked w.desk n)) (goes c rest)
+  Outcomes M w n c (plan.Notice key old) rest =
+      (w.desk.off ≡ true → M (on_desk w (was_opened w.desk n key old notice.Skipped)) (goes c rest)) ×
+      (w.desk.off ≡ false → M (on_desk w (was_opened w.desk n key old notice.Running))
+      (asks c (ask.Listener key old.value (upsert_cause w.desk.rules (times_at w.desk old.stamp old.modified))) (plan.Heard ∷ rest)))
+  Outcomes M w n c plan.Heard rest =
+      (is_running w.desk n ≡ false → M w (goes c rest)) × (is_running w.desk n ≡ true → M w (waits c))
   Outcomes M w n c (plan.Moment key value) rest = M (on_desk w (stamped w.desk n)) (goes c (plan.Write key value w.desk.clock ∷ rest))
   Outcomes M w n c (plan.Write key value moment) rest =
       let stored : Stored V = record { value = value; stamp = n; modified = moment } in
+      let new : World K V = record w { table = written eq n w.table key stored; stay = decided_by n } in
       Undecided M w n c ×
-      M (record w { table = written eq n w.table key stored; stay = decided_by n })
-      (goes c (plan.Post (Upsert n (old_stamp (answer_of (w.table.stored key)))) ∷ rest))
+      (c.rules.listener ≡ false → (old : Option ℕ) → M new (goes c (plan.Post (Upsert n old) ∷ rest))) ×
+      (c.rules.listener ≡ true → M new (goes c (plan.Unlock ∷ plan.Post (Upsert n None) ∷ rest))) ×
+      ((k : K) (old : Stored V) → c.rules.listener ≡ true → w.table.stored key ≡ Some (k, old) →
+      M new (goes c (plan.Notice key old ∷ plan.Unlock ∷ plan.Post (Upsert n (Some old.stamp)) ∷ rest)))
   Outcomes M w n c (plan.Reply answer) rest = M w (answers answer)
 
   -- the desk once the call has tried to post its write
@@ -120,11 +152,47 @@ module _ {K V : Type 0} (eq : K → K → Bool) where
   }
 
   module _ (M : World K V → Next K V → Type 0) (w : World K V) (n : ℕ) (c : Call K V) where
-    drained : (rest : List (Item K V)) (owed : List Write) → w.desk.owed ≡ owed → Outcomes M w n c plan.Drain rest →
-        M (on_desk w (record w.desk { holding = holding_with w.desk.holding n (first_of owed); owed = drop 1 owed }))
+    drained : (rest : List (Item K V)) (owed : List Owed) → w.desk.owed ≡ owed → Outcomes M w n c plan.Drain rest →
+        M (on_desk w (record w.desk { holding = holding_with w.desk.holding n (option_map (λ o. o.write) (first_of owed)); owed = drop 1 owed }))
         (after_drain c rest (finds (record w.desk { owed = owed }) (visit.TakeOwed n)))
     drained rest [] e o = subst (λ v. M (on_desk w (record w.desk { owed = v })) (goes c rest)) e (o.0 e)
-    drained rest (x ∷ xs) e o = o.1 x xs e
+    drained rest (x ∷ xs) e o = by x.notice refl
+      where
+        by : (notice : Option ℕ) → x.notice ≡ notice →
+            M (on_desk w (was_owed w.desk n x.write xs)) (goes c (once_ended notice (plan.Post x.write ∷ plan.Drain ∷ rest)))
+        by None is = o.1 x.write xs (e ∙ ap (λ v. record { write = x.write; notice = v } ∷ xs) is)
+        by (Some number) is = o.2 x.write number xs (e ∙ ap (λ v. record { write = x.write; notice = v } ∷ xs) is)
+
+    heard : (rest : List (Item K V)) (number : ℕ) (b : Bool) → is_running w.desk number ≡ b →
+        (is_running w.desk number ≡ false → M w (goes c rest)) × (is_running w.desk number ≡ true → M w (waits c)) →
+        M w (after_hearing c rest (found.NoticeEnded (not b)))
+    heard rest number false e o = o.0 e
+    heard rest number true e o = o.1 e
+
+    locks : (key : K) (rest : List (Item K V)) (b : Bool) → is_unlocked_for w.desk n key ≡ b → Outcomes M w n c (plan.Lock key) rest →
+        M (on_desk w (locked_by eq w.desk n key b)) (after_lock c rest (found.LockKey b))
+    locks key rest true e o = o.0 e
+    locks key rest false e o = o.1 e
+
+    tells : (key : K) (old : Stored V) (rest : List (Item K V)) (b : Bool) → w.desk.off ≡ b → Outcomes M w n c (plan.Notice key old) rest →
+        M (on_desk w (was_opened w.desk n key old (cond b notice.Skipped notice.Running)))
+        (after_notice c key old rest
+        (found.OpenNotice (cond b None (Some (upsert_cause w.desk.rules (times_at w.desk old.stamp old.modified))))))
+    tells key old rest true e o = o.0 e
+    tells key old rest false e o = o.1 e
+
+    wrote : (key : K) (value : V) (moment : ℕ) (rest : List (Item K V)) (pair : Option (K × Stored V)) → w.table.stored key ≡ pair →
+        Outcomes M w n c (plan.Write key value moment) rest →
+        M (record w { table = written eq n w.table key (record { value = value; stamp = n; modified = moment }); stay = decided_by n })
+        (goes c (once_told c.rules.listener key (answer_of pair) (plan.Post (Upsert n (old_stamp (answer_of pair))) ∷ rest)))
+    wrote key value moment rest pair e o = by c.rules.listener refl pair e
+      where
+        by : (listener : Bool) → c.rules.listener ≡ listener → (pair : Option (K × Stored V)) → w.table.stored key ≡ pair →
+            M (record w { table = written eq n w.table key (record { value = value; stamp = n; modified = moment }); stay = decided_by n })
+            (goes c (once_told listener key (answer_of pair) (plan.Post (Upsert n (old_stamp (answer_of pair))) ∷ rest)))
+        by false is pair e = o.1 is (old_stamp (answer_of pair))
+        by true is None e = o.2 is
+        by true is (Some pair) e = o.3 pair.0 pair.1 is e
 
     posts : (write : Write) (rest : List (Item K V)) (b : Bool) → has_room w.desk ≡ b → Outcomes M w n c (plan.Post write) rest →
         M (on_desk w (posted_if w.desk n write b)) (after_post c write rest (found.PostWrite b))
@@ -172,6 +240,11 @@ module _ {K V : Type 0} (eq : K → K → Bool) where
   pub outcomes : (M : World K V → Next K V → Type 0) (w : World K V) (n : ℕ) (c : Call K V) (item : Item K V) (rest : List (Item K V)) →
       Outcomes M w n c item rest → OnAccess eq M w n c item rest (access_for n item)
   outcomes M w n c plan.Drain rest o = drained M w n c rest w.desk.owed refl o
+  outcomes M w n c (plan.Ended number) rest o = heard M w n c rest number (is_running w.desk number) refl o
+  outcomes M w n c plan.Heard rest o = heard M w n c rest n (is_running w.desk n) refl o
+  outcomes M w n c (plan.Lock key) rest o = locks M w n c key rest (is_unlocked_for w.desk n key) refl o
+  outcomes M w n c plan.Unlock rest o = o
+  outcomes M w n c (plan.Notice key old) rest o = tells M w n c key old rest w.desk.off refl o
   outcomes M w n c (plan.Post write) rest o = posts M w n c write rest (has_room w.desk) refl o
   outcomes M w n c plan.Turn rest o = turned M w n c rest (is_free_for w.desk n) refl o
   outcomes M w n c plan.Apply rest o = applied M w n c rest w.desk.log refl o
@@ -184,5 +257,6 @@ module _ {K V : Type 0} (eq : K → K → Bool) where
   outcomes M w n c (plan.Ask load) rest o = o
   outcomes M w n c (plan.Told load) rest o = taken M w n c load rest (w.desk.told n) refl o
   outcomes M w n c (plan.Moment key value) rest o = o
-  outcomes M w n c (plan.Write key value moment) rest o = (o.0, λ answer t h. rw (h.1, h.0) o.1)
+  outcomes M w n c (plan.Write key value moment) rest o =
+      (o.0, λ answer t h. rw (h.1, h.0) (wrote M w n c key value moment rest (w.table.stored key) refl o))
   outcomes M w n c (plan.Reply answer) rest o = o

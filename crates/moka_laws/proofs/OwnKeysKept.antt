@@ -43,18 +43,19 @@ module _ {K V : Type 0} (eq : K → K → Bool) where
   access_keeps n w new (step.On_table o) (got.Desk found) gets under = absurd gets
   access_keeps n w new (step.On_desk made) (got.Table turn) gets under = absurd gets
 
-  step_keeps : (s t : State K V) (n : ℕ) (turn : Turn V) → UnderOwnKeys eq s → Step eq s n turn t → UnderOwnKeys eq t
+  step_keeps : (s t : State K V) (n : ℕ) (turn : Turn K V) → UnderOwnKeys eq s → Step eq s n turn t → UnderOwnKeys eq t
   step_keeps s t n turn under h =
       subst (λ (v : State K V). IsUnder v.world.table.stored) (sym h.after)
       (access_keeps n s.world h.world (access_of n h.call) h.given h.gets under)
 
   kept : IsKept {K = K} {V = V} eq (UnderOwnKeys {K = K} {V = V} eq)
   kept = record {
-    fresh = λ size has_log q p is. cc;
+    fresh = λ rules size has_log q p is. cc;
     at = λ s moment under. under;
     start = λ s start under. under;
     step = step_keeps;
     tell = λ s n answer asked under. under;
+    hear = λ s n off running under. under;
     drop = λ s n c live parked under. under;
   }
 

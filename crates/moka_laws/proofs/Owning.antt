@@ -18,6 +18,7 @@ use Rattle.moka_hist.specs.declared.records.Stored.{Stored}
 use Rattle.moka_hist.specs.declared.loads.Load.{Load}
 use Rattle.moka_hist.specs.declared.loads.Kind.{Kind}
 use Rattle.moka_hist.specs.declared.loads.Kind.TheVariants.{GetWith}
+use Rattle.moka_hist.specs.declared.rules.Rules.{Rules}
 use Rattle.moka_hist.specs.declared.events.Start.{Start}
 use Rattle.moka_hist.specs.declared.events.Start.TheVariants as start
 use Rattle.moka_hist.specs.declared.events.Told.{Told}
@@ -26,6 +27,7 @@ use Rattle.moka_hist.specs.declared.visits.Settled.{Settled}
 use Rattle.moka_hist.specs.declared.visits.Settled.TheVariants as settled
 use Rattle.moka_hist.specs.declared.visits.Found.TheVariants as found
 use Rattle.moka_hist.specs.declared.accesses.Turn.{Turn}
+use Rattle.moka_laws.proofs.Rules.{put_plans}
 use Rattle.moka_laws.proofs.Counting.{some_same, none_some, put_cases, other_number}
 use Rattle.moka_laws.proofs.Weights.{weigh}
 use Rattle.moka_laws.proofs.Kept.{IsKept, in_reached}
@@ -135,13 +137,16 @@ module _ {K V : Type 0} where
 
     told_owns : (c : Call K V) (load : Load K) (given : Told V) → Owns owners n c.plan →
         Owns owners n (plan_left (after_told c load (found.TakeTold (Some given))).left)
-    told_owns c load (answer.Value value) h = owns_none _ refl
+    told_owns c load (answer.Value value) h =
+        put_plans (λ p. Owns owners n (plan_left (goes c p).left)) c.rules load.key value _ (owns_none _ refl) (owns_none _ refl)
     told_owns c load answer.Done h = h
+    told_owns c load answer.Off h = h
 
-    fresh_owns : (start : Start K V) → Owns owners n (plan_of start)
-    fresh_owns (start.Get key) = owns_none _ refl
-    fresh_owns (start.Insert key value) = owns_none _ refl
-    fresh_owns (start.GetWith key) = owns_none _ refl
+    fresh_owns : (rules : Rules) (start : Start K V) → Owns owners n (plan_of rules start)
+    fresh_owns rules (start.Get key) = owns_none _ refl
+    fresh_owns rules (start.Insert key value) =
+        put_plans (λ p. Owns owners n p) rules key value _ (owns_none _ refl) (owns_none _ refl)
+    fresh_owns rules (start.GetWith key) = owns_none _ refl
 
 module _ {K V : Type 0} (eq : K → K → Bool) where
   -- each live call owns what it asks for, and equal loads have one owner
@@ -198,7 +203,15 @@ module _ {K V : Type 0} (eq : K → K → Bool) where
       λ e. keeps refl (goes_owns _ n c rest o.later),
       λ x xs e. keeps refl
           (owns_none _ n (plan.Post x ∷ plan.Drain ∷ rest) (omega (arith, o.later))),
+      λ x number xs e. keeps refl
+          (owns_none _ n (plan.Ended number ∷ plan.Post x ∷ plan.Drain ∷ rest) (omega (arith, o.later))),
     )
+    on_item (plan.Ended number) rest p o = (λ e. keeps refl (goes_owns _ n c rest o.later), λ e. keeps refl p)
+    on_item plan.Heard rest p o = (λ e. keeps refl (goes_owns _ n c rest o.later), λ e. keeps refl p)
+    on_item (plan.Lock key) rest p o = (λ e. keeps refl (goes_owns _ n c rest o.later), λ e. keeps refl p)
+    on_item plan.Unlock rest p o = keeps refl (goes_owns _ n c rest o.later)
+    on_item (plan.Notice key old) rest p o =
+        ((λ e. keeps refl (goes_owns _ n c rest o.later)), λ e. keeps refl (owns_none _ n (plan.Heard ∷ rest) (omega (arith, o.later))))
     on_item (plan.Post write) rest p o = (
       λ e. keeps refl (goes_owns _ n c rest o.later),
       λ e. keeps refl
@@ -232,7 +245,12 @@ module _ {K V : Type 0} (eq : K → K → Bool) where
     on_item (plan.Ask load) rest p o = keeps refl (record { first = o.first; later = refl })
     on_item (plan.Told load) rest p o = (λ none. keeps refl p, λ given some. keeps refl (told_owns _ n c load given p))
     on_item (plan.Moment key value) rest p o = keeps refl (owns_none _ n (plan.Write key value w.desk.clock ∷ rest) (omega (arith, o.later)))
-    on_item (plan.Write key value moment) rest p o = ((λ more. keeps refl p), keeps refl (owns_none _ n (plan.Post _ ∷ rest) (omega (arith, o.later))))
+    on_item (plan.Write key value moment) rest p o = (
+      λ more. keeps refl p,
+      λ off old. keeps refl (owns_none _ n (plan.Post _ ∷ rest) (omega (arith, o.later))),
+      λ on. keeps refl (owns_none _ n (plan.Unlock ∷ plan.Post _ ∷ rest) (omega (arith, o.later))),
+      λ k old on some. keeps refl (owns_none _ n (plan.Notice key old ∷ plan.Unlock ∷ plan.Post _ ∷ rest) (omega (arith, o.later))),
+    )
     on_item (plan.Reply answer) rest p o = keeps refl (owns_none _ n [] refl)
 
     on_plan : (plan : List (Item K V)) → c.plan ≡ plan → Owns w.desk.owners n c.plan → OnStep eq (Leaves w n) w n c plan
@@ -255,7 +273,7 @@ module _ {K V : Type 0} (eq : K → K → Bool) (laws : IsEquivalence eq) where
         (λ there is. owns_still n m s.world.desk.owners w.desk.owners c.plan there l.others (i.calls m c is));
   }
 
-  owned_step : (s t : State K V) (n : ℕ) (turn : Turn V) → IsOwned eq s → Step eq s n turn t → IsOwned eq t
+  owned_step : (s t : State K V) (n : ℕ) (turn : Turn K V) → IsOwned eq s → Step eq s n turn t → IsOwned eq t
   owned_step s t n turn i step =
       let c : Call K V = step.call in
       step_cases eq (Leaves eq s.world n) (λ v _. IsOwned eq v) s t n turn step
@@ -263,17 +281,18 @@ module _ {K V : Type 0} (eq : K → K → Bool) (laws : IsEquivalence eq) where
 
   owned_kept : IsKept eq (IsOwned {K = K} {V = V} eq)
   owned_kept = record {
-    fresh = λ size has_log. record { one_owner = λ a b e. refl; calls = λ n c live. absurd (none_some live) };
+    fresh = λ rules size has_log. record { one_owner = λ a b e. refl; calls = λ n c live. absurd (none_some live) };
     at = λ s moment i. record { one_owner = i.one_owner; calls = i.calls };
     start = λ s start i. record {
       one_owner = i.one_owner;
       calls = λ m c live.
-          put_cases s.calls (s.world.desk.last + 1) (Some (fresh_call start)) m (Some c) (Owns s.world.desk.owners m c.plan) live
-          (λ here is. subst (λ v. Owns s.world.desk.owners m (plan_left v)) is (fresh_owns s.world.desk.owners m start))
+          put_cases s.calls (s.world.desk.last + 1) (Some (fresh_call s.world.desk.rules start)) m (Some c) (Owns s.world.desk.owners m c.plan) live
+          (λ here is. subst (λ v. Owns s.world.desk.owners m (plan_left v)) is (fresh_owns s.world.desk.owners m s.world.desk.rules start))
           (λ there is. i.calls m c is);
     };
     step = owned_step;
     tell = λ s n given asked i. record { one_owner = i.one_owner; calls = i.calls };
+    hear = λ s n off running i. record { one_owner = i.one_owner; calls = i.calls };
     drop = λ s n c live between i. record {
       one_owner = without_one_owner eq s.world.desk n i.one_owner;
       calls = λ m b lives.

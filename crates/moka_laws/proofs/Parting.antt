@@ -1,17 +1,17 @@
 -- A call that answers leaves its write logged or applied, for good.
 use Rattle.std.proofs.Common.{◌≡◌, ℕ, zero, suc, ◌+◌, ◌<◌, ◌≤◌, ◌==◌, Bool, true, false, cond, List, [], ◌∷◌, ◌++◌, map, take, drop, append-nil, Option, Some, None, Contains, inl, inr, refl, sym, ap, ◌∙◌, subst, arith}
 use Rattle.std.proofs.lemmas.Bool.{eqb-true}
-use Rattle.std.specs.Option.{option_to_list}
+use Rattle.std.specs.Option.{option_map, option_to_list}
 use Rattle.moka_hist.specs.Finite.{put_at}
 use Rattle.moka_hist.specs.State.{State, World, Call, DeskPart}
 use Rattle.moka_hist.specs.Plan.{Item, Aim, held_by}
 use Rattle.moka_hist.specs.Plan as plan
-use Rattle.moka_hist.specs.Visits.{claimed, has_room, makes, number_of, settlement_for}
+use Rattle.moka_hist.specs.Visits.{claimed, has_room, is_unlocked_for, locked_by, makes, number_of, settlement_for}
 use Rattle.moka_hist.specs.Next.{Next, goes}
 use Rattle.moka_hist.specs.Looking.{hits, misses}
 use Rattle.moka_hist.specs.Loading.{after_read, after_told, after_abort, retries}
 use Rattle.moka_hist.specs.Step.{Access, On_table, On_desk, Gets, access_of, state_after}
-use Rattle.moka_hist.specs.Dropping.{dropped}
+use Rattle.moka_hist.specs.Dropping.{dropped, owed_by, owed_with}
 use Rattle.moka_hist.specs.Run.{Any, started, fresh_call}
 use Rattle.moka_hist.specs.Places.{IsLawful}
 use Rattle.moka_hist.specs.declared.accesses.Got.{Got}
@@ -22,6 +22,7 @@ use Rattle.moka_hist.specs.declared.events.Told.{Told}
 use Rattle.moka_hist.specs.declared.events.Told.TheVariants as answer
 use Rattle.moka_hist.specs.declared.loads.Load.{Load}
 use Rattle.moka_hist.specs.declared.replies.Answer.{Answer}
+use Rattle.moka_hist.specs.declared.replies.Answer.TheVariants as reply
 use Rattle.moka_hist.specs.declared.tables.TableTurn.TheVariants as table
 use Rattle.moka_hist.specs.declared.visits.Settled.{Settled}
 use Rattle.moka_hist.specs.declared.visits.Settled.TheVariants as settled
@@ -33,9 +34,10 @@ use Rattle.moka_laws.specs.Answered.{AnsweredIsPosted, IsPosted, PostedStays}
 use Rattle.moka_laws.proofs.Counting.{none_some, put_cases, put_there, other_number}
 use Rattle.moka_laws.proofs.Sums.{sum_has, sum_holds}
 use Rattle.moka_laws.proofs.Weights.{weigh, weigh_call, weigh_goes}
-use Rattle.moka_laws.proofs.Posts.{among, post_of, posts_held, fresh_clear, hits_clear, misses_clear}
-use Rattle.moka_laws.proofs.Balance.{IsBalanced, among_append, among_last, times_first, with_calls}
-use Rattle.moka_laws.proofs.Balanced.{balanced_kept}
+use Rattle.moka_laws.proofs.Posts.{among, among_owed, post_of, posts_held, fresh_clear, hits_clear, misses_clear}
+use Rattle.moka_laws.proofs.Balance.{IsBalanced, owed_append, among_last, times_first, with_calls}
+use Rattle.moka_laws.proofs.Balanced.{balanced_kept, gives_up}
+use Rattle.moka_laws.proofs.Rules.{put_plans}
 use Rattle.moka_laws.proofs.Between.{run_more}
 use Rattle.moka_laws.proofs.OnePlace.{contains_times}
 use Rattle.moka_laws.proofs.Kept.{IsKept, IsStable, in_reached, runs}
@@ -95,21 +97,24 @@ module _ {K V : Type 0} where
       by false e = rw e (clear_parts owed n c.plan (λ x. refl) (λ a e. cc))
 
   told_parts : (owed : ℕ → ℕ) (n : ℕ) (c : Call K V) (load : Load K) (given : Told V) → Parts owed n c.plan (after_told c load (found.TakeTold (Some given)))
-  told_parts owed n c load (answer.Value value) = clear_parts owed n c.plan (λ x. refl) (λ a e. cc)
+  told_parts owed n c load (answer.Value value) =
+      put_plans (λ p. Parts owed n c.plan (goes c p)) c.rules load.key value (plan.Settle (settled.Ready value) ∷ plan.Reply (reply.Loaded value true) ∷ [])
+      (clear_parts owed n c.plan (λ x. refl) (λ a e. cc)) (clear_parts owed n c.plan (λ x. refl) (λ a e. cc))
   told_parts owed n c load answer.Done = still_parts owed n c.plan _ (λ x. refl) (λ a e. cc)
+  told_parts owed n c load answer.Off = still_parts owed n c.plan _ (λ x. refl) (λ a e. cc)
 
   -- what a step has to show
   record Leaves (w : World K V) (n : ℕ) (plan : List (Item K V)) (new : World K V) (next : Next K V) : Type 0 where
-    owed : (x : ℕ) → among x new.desk.owed ≤ among x w.desk.owed
+    owed : (x : ℕ) → among_owed x new.desk.owed ≤ among_owed x w.desk.owed
     last : new.desk.last ≡ w.desk.last
-    parts : Parts (λ x. among x w.desk.owed) n plan next
+    parts : Parts (λ x. among_owed x w.desk.owed) n plan next
 
   module _ (eq : K → K → Bool) (w : World K V) (n : ℕ) (c : Call K V) where
     abbrev owes : ℕ → ℕ
-    owes x = among x w.desk.owed
+    owes x = among_owed x w.desk.owed
 
     as_owed : {new : World K V} {next : Next K V} → new.desk.owed ≡ w.desk.owed → new.desk.last ≡ w.desk.last → Parts owes n c.plan next → Leaves w n c.plan new next
-    as_owed e l p = record { owed = λ x. omega (arith, ap (among x) e); last = l; parts = p }
+    as_owed e l p = record { owed = λ x. omega (arith, ap (among_owed x) e); last = l; parts = p }
 
     -- the call goes on with the rest, and with what it posts
     goes_on : (item : Item K V) (rest : List (Item K V)) → c.plan ≡ item ∷ rest → Parts owes n c.plan (goes c rest)
@@ -124,11 +129,34 @@ module _ {K V : Type 0} where
     on_item plan.Drain rest e = (
       λ none. as_owed refl refl (goes_on plan.Drain rest e),
       λ y ys some. record {
-        owed = λ x. omega (arith, ap (among x) some, times_first x (number_of y) (map number_of ys));
+        owed = λ x. omega (arith, ap (among_owed x) some, times_first x (number_of y) (map (λ o. number_of o.write) ys));
         last = refl;
         parts = goes_parts owes n c.plan c (plan.Post y ∷ plan.Drain ∷ rest)
-            (λ x d. omega (arith, ap (weigh (post_of x)) e, ap (among x) some, times_first x (number_of y) (map number_of ys)));
+            (λ x d. omega (arith, ap (weigh (post_of x)) e, ap (among_owed x) some, times_first x (number_of y) (map (λ o. number_of o.write) ys)));
       },
+      λ y number ys some. record {
+        owed = λ x. omega (arith, ap (among_owed x) some, times_first x (number_of y) (map (λ o. number_of o.write) ys));
+        last = refl;
+        parts = goes_parts owes n c.plan c (plan.Ended number ∷ plan.Post y ∷ plan.Drain ∷ rest)
+            (λ x d. omega (arith, ap (weigh (post_of x)) e, ap (among_owed x) some, times_first x (number_of y) (map (λ o. number_of o.write) ys)));
+      },
+    )
+    on_item (plan.Ended number) rest e = (
+      λ ended. as_owed refl refl (goes_on (plan.Ended number) rest e),
+      λ runs. as_owed refl refl (still_parts owes n c.plan _ (λ x. refl) (λ a e. cc)),
+    )
+    on_item plan.Heard rest e = (
+      λ ended. as_owed refl refl (goes_on plan.Heard rest e),
+      λ runs. as_owed refl refl (still_parts owes n c.plan _ (λ x. refl) (λ a e. cc)),
+    )
+    on_item (plan.Lock key) rest e = (
+      λ free. as_owed refl refl (goes_on (plan.Lock key) rest e),
+      λ held. as_owed refl refl (still_parts owes n c.plan _ (λ x. refl) (λ a e. cc)),
+    )
+    on_item plan.Unlock rest e = as_owed refl refl (goes_on plan.Unlock rest e)
+    on_item (plan.Notice key old) rest e = (
+      λ off. as_owed refl refl (goes_on (plan.Notice key old) rest e),
+      λ on. as_owed refl refl (moves (λ a e. cc) (λ x d. omega (arith, ap (weigh (post_of x)) e))),
     )
     on_item (plan.Post write) rest e = (
       λ room. as_owed refl refl (goes_on (plan.Post write) rest e),
@@ -166,7 +194,11 @@ module _ {K V : Type 0} where
     on_item (plan.Moment key value) rest e = as_owed refl refl (moves (λ a e. cc) (λ x d. omega (arith, ap (weigh (post_of x)) e)))
     on_item (plan.Write key value moment) rest e = (
       λ more. as_owed refl refl (still_parts owes n c.plan _ (λ x. refl) (λ a e. cc)),
-      as_owed refl refl (moves (λ a e. cc)
+      λ off old. as_owed refl refl (moves (λ a e. cc)
+          (λ x d. omega (arith, ap (weigh (post_of x)) e, ap (λ b. cond {A = ℕ} b 1 0) (other_number n x d)))),
+      λ on. as_owed refl refl (moves (λ a e. cc)
+          (λ x d. omega (arith, ap (weigh (post_of x)) e, ap (λ b. cond {A = ℕ} b 1 0) (other_number n x d)))),
+      λ k old on some. as_owed refl refl (moves (λ a e. cc)
           (λ x d. omega (arith, ap (weigh (post_of x)) e, ap (λ b. cond {A = ℕ} b 1 0) (other_number n x d)))),
     )
     on_item (plan.Reply reply) rest e = as_owed refl refl (clear_parts owes n c.plan (λ x. refl) (λ a e. refl))
@@ -177,7 +209,7 @@ module _ {K V : Type 0} where
 
   -- The write of a live call isn't owed, and no other call posts it.
   record IsAlone (s : State K V) (n : ℕ) : Type 0 where
-    owed : among n s.world.desk.owed ≡ 0
+    owed : among_owed n s.world.desk.owed ≡ 0
     others : (m : ℕ) → (n == m) ≡ false → weigh_call (post_of n) (s.calls m) ≡ 0
 
   record AreAlone (s : State K V) : Type 0 where
@@ -215,11 +247,11 @@ module _ {K V : Type 0} (eq : K → K → Bool) where
       new : ℕ
       new = s.world.desk.last + 1
 
-      fresh : (k x : ℕ) → weigh_call (post_of x) (s.calls k) ≡ 0 → weigh_call (post_of x) (put_at s.calls (s.world.desk.last + 1) (Some (fresh_call start)) k) ≡ 0
+      fresh : (k x : ℕ) → weigh_call (post_of x) (s.calls k) ≡ 0 → weigh_call (post_of x) (put_at s.calls (s.world.desk.last + 1) (Some (fresh_call s.world.desk.rules start)) k) ≡ 0
       fresh k x h = at (s.world.desk.last + 1 == k)
         where
-          at : (b : Bool) → weigh_call (post_of x) (cond b (Some (fresh_call start)) (s.calls k)) ≡ 0
-          at true = (fresh_clear start).posts x
+          at : (b : Bool) → weigh_call (post_of x) (cond b (Some (fresh_call s.world.desk.rules start)) (s.calls k)) ≡ 0
+          at true = (fresh_clear s.world.desk.rules start).posts x
           at false = h
 
       -- nothing of a number that was not given out stands anywhere
@@ -240,7 +272,7 @@ module _ {K V : Type 0} (eq : K → K → Bool) where
             others = λ k other. fresh k (s.world.desk.last + 1) (unborn k (s.calls k) refl);
           })
       by false e =
-          let a = i.alone m d (sym (put_there s.calls (s.world.desk.last + 1) (Some (fresh_call start)) m e) ∙ lives) in
+          let a = i.alone m d (sym (put_there s.calls (s.world.desk.last + 1) (Some (fresh_call s.world.desk.rules start)) m e) ∙ lives) in
           record { owed = a.owed; others = λ k other. fresh k m (a.others k other) }
 
   alone_drop : (s : State K V) (n : ℕ) (c : Call K V) → s.calls n ≡ Some c → AreAlone s → (m : ℕ) (d : Call K V) → put_at s.calls n None m ≡ Some d →
@@ -251,7 +283,8 @@ module _ {K V : Type 0} (eq : K → K → Bool) where
       record {
         owed = omega (
           arith,
-          among_append m s.world.desk.owed (option_to_list (held_by c.plan)),
+          owed_append m s.world.desk.owed (option_to_list (option_map (owed_with s.world.desk) (owed_by n c))),
+          gives_up eq s n c m (held_by c.plan),
           posts_held m c.plan (i.balanced.tidy n c live),
           a.owed,
           a.others n (other_number n m there),
@@ -266,7 +299,7 @@ module _ {K V : Type 0} (eq : K → K → Bool) where
 
   alone_kept : IsKept eq (AreAlone {K = K} {V = V})
   alone_kept = record {
-    fresh = λ size has_log. record { balanced = (balanced_kept eq).fresh size has_log; alone = λ n c live. absurd (none_some live) };
+    fresh = λ rules size has_log. record { balanced = (balanced_kept eq).fresh rules size has_log; alone = λ n c live. absurd (none_some live) };
     at = λ s moment i. record {
       balanced = (balanced_kept eq).at s moment i.balanced;
       alone = λ m d live. let a = i.alone m d live in record { owed = a.owed; others = a.others };
@@ -281,13 +314,17 @@ module _ {K V : Type 0} (eq : K → K → Bool) where
       balanced = (balanced_kept eq).tell s n given asked i.balanced;
       alone = λ m d live. let a = i.alone m d live in record { owed = a.owed; others = a.others };
     };
+    hear = λ s n off running i. record {
+      balanced = (balanced_kept eq).hear s n off running i.balanced;
+      alone = λ m d live. let a = i.alone m d live in record { owed = a.owed; others = a.others };
+    };
     drop = λ s n c live between i. record { balanced = (balanced_kept eq).drop s n c live between i.balanced; alone = alone_drop s n c live i };
   }
 
   -- ---- a call that answers
 
   -- where nothing is posted nor owed, what is committed is logged or applied
-  parted : (t : State K V) (n : ℕ) → IsBalanced t → among n t.world.desk.owed ≡ 0 → ((m : ℕ) → weigh_call (post_of n) (t.calls m) ≡ 0) →
+  parted : (t : State K V) (n : ℕ) → IsBalanced t → among_owed n t.world.desk.owed ≡ 0 → ((m : ℕ) → weigh_call (post_of n) (t.calls m) ≡ 0) →
       Contains t.world.table.committed n → IsPosted t n
   parted t n b none_owed none has =
       let was = contains_times n t.world.table.committed has in
@@ -309,9 +346,9 @@ module _ {K V : Type 0} (eq : K → K → Bool) where
       let i : AreAlone s = in_reached eq AreAlone alone_kept s h in
       let alone = i.alone n step.call step.live in
       let b = (balanced_kept eq).step s t n (turn.Answer a) i.balanced step in
-      let shown : (among n t.world.desk.owed ≡ 0) × ((m : ℕ) → weigh_call (post_of n) (t.calls m) ≡ 0) =
+      let shown : (among_owed n t.world.desk.owed ≡ 0) × ((m : ℕ) → weigh_call (post_of n) (t.calls m) ≡ 0) =
       step_cases eq (Leaves s.world n step.call.plan)
-      (λ v r. r ≡ turn.Answer a → (among n v.world.desk.owed ≡ 0) × ((m : ℕ) → weigh_call (post_of n) (v.calls m) ≡ 0)) s t n (turn.Answer a) step
+      (λ v r. r ≡ turn.Answer a → (among_owed n v.world.desk.owed ≡ 0) × ((m : ℕ) → weigh_call (post_of n) (v.calls m) ≡ 0)) s t n (turn.Answer a) step
       (on_plan eq s.world n step.call step.call.plan refl) (λ w next l e. (omega (arith, l.owed n, alone.owed), λ m. gone alone next (l.parts.gone a e) m (n == m) refl)) refl in
       parted t n b shown.0 shown.1 has
     where
@@ -346,6 +383,11 @@ module _ {K V : Type 0} (eq : K → K → Bool) where
       by : (o : Option (Settled V)) → settlement_for d call ≡ o → posted_in x d ≤ posted_in x (makes eq d (visit.ReadSettled call))
       by None e = rw e (omega arith)
       by (Some with) e = rw e (omega arith)
+  visit_posted x d (visit.LockKey call key) = by (is_unlocked_for d call key)
+    where
+      by : (b : Bool) → posted_in x d ≤ posted_in x (locked_by eq d call key b)
+      by true = omega arith
+      by false = omega arith
   visit_posted x d _ = omega arith
 
   access_posted : (x n : ℕ) (w new : World K V) (a : Access K V) (g : Got K V) → Gets eq n w a g new → 0 < posted_in x w.desk → 0 < posted_in x new.desk
@@ -363,6 +405,7 @@ module _ {K V : Type 0} (eq : K → K → Bool) where
     step = λ s t n turn h step. subst (λ (v : State K V). 0 < posted_in x v.world.desk) (sym step.after)
         (access_posted x n s.world step.world (access_of n step.call) step.given step.gets h);
     tell = λ s n given asked h. h;
+    hear = λ s n off running h. h;
     drop = λ s n c live between h. h;
   }
 

@@ -14,6 +14,8 @@ use Rattle.moka_hist.specs.declared.events.Start.TheVariants as start
 use Rattle.moka_hist.specs.declared.events.Told.{Told}
 use Rattle.moka_hist.specs.declared.events.Told.TheVariants as told
 use Rattle.moka_hist.specs.declared.loads.Load.{Load}
+use Rattle.moka_hist.specs.declared.records.Mode.TheVariants as mode
+use Rattle.moka_hist.specs.declared.rules.Rules.{Rules}
 use Rattle.moka_hist.specs.declared.records.Stored.{Stored}
 use Rattle.moka_hist.specs.declared.replies.Answer.{Answer}
 use Rattle.moka_hist.specs.declared.accesses.Turn.{Turn}
@@ -21,6 +23,7 @@ use Rattle.moka_hist.specs.declared.visits.Settled.{Settled}
 use Rattle.moka_hist.specs.declared.visits.Settled.TheVariants as settled
 use Rattle.moka_hist.specs.declared.visits.Found.TheVariants as found
 use Rattle.moka_hist.specs.declared.writes.Write as write
+use Rattle.moka_laws.proofs.Rules.{put_plans}
 use Rattle.moka_laws.proofs.StepCases.{OnStep, step_cases}
 use Rattle.moka_laws.proofs.Outcomes.{outcomes}
 use Rattle.moka_laws.proofs.Kept.{IsKept, in_reached}
@@ -36,6 +39,7 @@ module _ {K V : Type 0} where
   pub data IsDrained : List (Item K V) → Type 0 where
     Looking : (aim : Aim K) (key : K) → IsDrained (plan.Get aim key ∷ [])
     Putting : (key : K) (value : V) (rest : List (Item K V)) → IsTail rest → IsDrained (plan.Moment key value ∷ rest)
+    Locking : (key : K) (value : V) (rest : List (Item K V)) → IsTail rest → IsDrained (plan.Lock key ∷ plan.Moment key value ∷ rest)
 
   -- what is left once a write is posted: more may be owed, or it was the call's own
   pub data IsPosted : List (Item K V) → Type 0 where
@@ -46,6 +50,12 @@ module _ {K V : Type 0} where
     Posted : (rest : List (Item K V)) → IsPosted rest → IsPlan rest
     Drained : (rest : List (Item K V)) → IsDrained rest → IsPlan rest
     Posting : (held : write.Write) (rest : List (Item K V)) → IsPosted rest → IsPlan (plan.Post held ∷ rest)
+    -- the notice of an owed write is heard, or the call's own is opened and heard; and the lock is freed
+    Hearing : (number : ℕ) (held : write.Write) (rest : List (Item K V)) → IsPosted rest → IsPlan (plan.Ended number ∷ plan.Post held ∷ rest)
+    Noticing : (key : K) (old : Stored V) (held : write.Write) (rest : List (Item K V)) → IsTail rest →
+        IsPlan (plan.Notice key old ∷ plan.Unlock ∷ plan.Post held ∷ rest)
+    Listening : (held : write.Write) (rest : List (Item K V)) → IsTail rest → IsPlan (plan.Heard ∷ plan.Unlock ∷ plan.Post held ∷ rest)
+    Unlocking : (held : write.Write) (rest : List (Item K V)) → IsTail rest → IsPlan (plan.Unlock ∷ plan.Post held ∷ rest)
     Turning : (held : write.Write) (rest : List (Item K V)) → IsPosted rest → IsPlan (plan.Turn ∷ plan.Apply ∷ plan.End ∷ plan.Post held ∷ rest)
     Applying : (held : write.Write) (rest : List (Item K V)) → IsPosted rest → IsPlan (plan.Apply ∷ plan.End ∷ plan.Post held ∷ rest)
     Ending : (held : write.Write) (rest : List (Item K V)) → IsPosted rest → IsPlan (plan.End ∷ plan.Post held ∷ rest)
@@ -92,21 +102,24 @@ module _ {K V : Type 0} where
       by false e = rw e (record { plan = Owning load; young = grind (arith, nat_tests, e, h.young) })
 
   told_known : (c : Call K V) (load : Load K) (given : Told V) → IsKnown c → KnownIf (after_told c load (found.TakeTold (Some given))).left
-  told_known c load (told.Value value) h = record { plan = Posted _ (Draining _ (Putting _ _ _ (Settling _ _))); young = h.young }
+  told_known c load (told.Value value) h =
+      put_plans (λ p. KnownIf (goes c p).left) c.rules load.key value _
+      (record { plan = Posted _ (Draining _ (Putting _ _ _ (Settling _ _))); young = h.young })
+      (record { plan = Posted _ (Draining _ (Locking _ _ _ (Settling _ _))); young = h.young })
   told_known c load told.Done h = record { plan = h.plan; young = h.young }
+  told_known c load told.Off h = record { plan = h.plan; young = h.young }
 
-  fresh_known : (s : Start K V) → IsKnown (fresh_call s)
-  fresh_known (start.Get key) = record { plan = Posted _ (Draining _ (Looking _ _)); young = omega arith }
-  fresh_known (start.Insert key value) = record { plan = Posted _ (Draining _ (Putting _ _ _ (Answering _))); young = omega arith }
-  fresh_known (start.GetWith key) = record { plan = Posted _ (Draining _ (Looking _ _)); young = omega arith }
+  fresh_known : (rules : Rules) (s : Start K V) → IsKnown (fresh_call rules s)
+  fresh_known rules (start.Get key) = record { plan = Posted _ (Draining _ (Looking _ _)); young = omega arith }
+  fresh_known rules (start.Insert key value) =
+      put_plans (λ p. IsKnown (record { rules = rules; mode = mode.Fresh; plan = p; aborts = 0 })) rules key value _
+      (record { plan = Posted _ (Draining _ (Putting _ _ _ (Answering _))); young = omega arith })
+      (record { plan = Posted _ (Draining _ (Locking _ _ _ (Answering _))); young = omega arith })
+  fresh_known rules (start.GetWith key) = record { plan = Posted _ (Draining _ (Looking _ _)); young = omega arith }
 
   module _ (eq : K → K → Bool) (w : World K V) (n : ℕ) (c : Call K V) (h : IsKnown c) where
     abbrev Leaves : World K V → Next K V → Type 0
     Leaves new next = KnownIf next.left
-
-    -- the call goes on with its plan
-    still : KnownIf (Some c)
-    still = record { plan = h.plan; young = h.young }
 
     on_tail : (p : List (Item K V)) → IsTail p → OnStep eq Leaves w n c p
     on_tail p (Answering a) = outcomes eq Leaves w n c (plan.Reply a) [] tt
@@ -117,10 +130,15 @@ module _ {K V : Type 0} where
         ((λ more. record { plan = h.plan; young = h.young }), misses_known c aim h.young, λ k stored. record { plan = Judging aim k stored; young = h.young })
     on_drained p (Putting key value rest t) = outcomes eq Leaves w n c (plan.Moment key value) rest
         (record { plan = Writing key value _ rest t; young = h.young })
+    on_drained p (Locking key value rest t) = outcomes eq Leaves w n c (plan.Lock key) (plan.Moment key value ∷ rest)
+        ((λ e. record { plan = Drained _ (Putting key value rest t); young = h.young }), λ e. record { plan = h.plan; young = h.young })
 
     on_posted : (p : List (Item K V)) → IsPosted p → OnStep eq Leaves w n c p
-    on_posted p (Draining rest d) = outcomes eq Leaves w n c plan.Drain rest
-        ((λ e. goes_known c rest h.young (Drained rest d)), λ x xs e. record { plan = Posting x (plan.Drain ∷ rest) (Draining rest d); young = h.young })
+    on_posted p (Draining rest d) = outcomes eq Leaves w n c plan.Drain rest (
+      (λ e. goes_known c rest h.young (Drained rest d)),
+      (λ x xs e. record { plan = Posting x (plan.Drain ∷ rest) (Draining rest d); young = h.young }),
+      λ x number xs e. record { plan = Hearing number x (plan.Drain ∷ rest) (Draining rest d); young = h.young },
+    )
     on_posted p (Ended rest t) = on_tail rest t
 
     on_plan : (p : List (Item K V)) → IsPlan p → OnStep eq Leaves w n c p
@@ -128,6 +146,13 @@ module _ {K V : Type 0} where
     on_plan p (Drained rest d) = on_drained rest d
     on_plan p (Posting x rest d) = outcomes eq Leaves w n c (plan.Post x) rest
         ((λ e. goes_known c rest h.young (Posted rest d)), λ e. record { plan = Turning x rest d; young = h.young })
+    on_plan p (Hearing number x rest d) = outcomes eq Leaves w n c (plan.Ended number) (plan.Post x ∷ rest)
+        ((λ e. record { plan = Posting x rest d; young = h.young }), λ e. record { plan = h.plan; young = h.young })
+    on_plan p (Noticing key old x rest t) = outcomes eq Leaves w n c (plan.Notice key old) (plan.Unlock ∷ plan.Post x ∷ rest)
+        ((λ e. record { plan = Unlocking x rest t; young = h.young }), λ e. record { plan = Listening x rest t; young = h.young })
+    on_plan p (Listening x rest t) = outcomes eq Leaves w n c plan.Heard (plan.Unlock ∷ plan.Post x ∷ rest)
+        ((λ e. record { plan = Unlocking x rest t; young = h.young }), λ e. record { plan = h.plan; young = h.young })
+    on_plan p (Unlocking x rest t) = outcomes eq Leaves w n c plan.Unlock (plan.Post x ∷ rest) (record { plan = Posting x rest (Ended rest t); young = h.young })
     on_plan p (Turning x rest d) = outcomes eq Leaves w n c plan.Turn (plan.Apply ∷ plan.End ∷ plan.Post x ∷ rest)
         ((λ e. record { plan = Applying x rest d; young = h.young }), λ e. record { plan = h.plan; young = h.young })
     on_plan p (Applying x rest d) = outcomes eq Leaves w n c plan.Apply (plan.End ∷ plan.Post x ∷ rest)
@@ -141,8 +166,12 @@ module _ {K V : Type 0} where
     on_plan p (Asking load) = outcomes eq Leaves w n c (plan.Ask load) [] (record { plan = Telling load; young = h.young })
     on_plan p (Telling load) = outcomes eq Leaves w n c (plan.Told load) []
         ((λ e. record { plan = h.plan; young = h.young }), λ given e. told_known c load given h)
-    on_plan p (Writing key value moment rest t) = outcomes eq Leaves w n c (plan.Write key value moment) rest
-        ((λ more. record { plan = h.plan; young = h.young }), record { plan = Posting _ rest (Ended rest t); young = h.young })
+    on_plan p (Writing key value moment rest t) = outcomes eq Leaves w n c (plan.Write key value moment) rest (
+      (λ more. record { plan = h.plan; young = h.young }),
+      (λ off old. record { plan = Posting _ rest (Ended rest t); young = h.young }),
+      (λ on. record { plan = Unlocking _ rest t; young = h.young }),
+      λ k old on some. record { plan = Noticing key old _ rest t; young = h.young },
+    )
 
 module _ {K V : Type 0} (eq : K → K → Bool) where
   -- each live call is known
@@ -153,7 +182,7 @@ module _ {K V : Type 0} (eq : K → K → Bool) where
   goes_on s n w next all h m c live =
       put_cases s.calls n next.left m (Some c) (IsKnown c) live (λ here is. subst KnownIf is h) (λ there is. all m c is)
 
-  known_step : (s t : State K V) (n : ℕ) (turn : Turn V) → AllKnown s → Step eq s n turn t → AllKnown t
+  known_step : (s t : State K V) (n : ℕ) (turn : Turn K V) → AllKnown s → Step eq s n turn t → AllKnown t
   known_step s t n turn all step =
       let h : IsKnown step.call = all n step.call step.live in
       step_cases eq (λ _ next. KnownIf next.left) (λ v _. AllKnown v) s t n turn step
@@ -161,13 +190,14 @@ module _ {K V : Type 0} (eq : K → K → Bool) where
 
   pub known_kept : IsKept eq AllKnown
   known_kept = record {
-    fresh = λ size has_log n c live. absurd (none_some live);
+    fresh = λ rules size has_log n c live. absurd (none_some live);
     at = λ s moment all. all;
     start = λ s start all n c live.
-        put_cases s.calls (s.world.desk.last + 1) (Some (fresh_call start)) n (Some c) (IsKnown c) live
-        (λ here is. subst KnownIf is (fresh_known start)) (λ there is. all n c is);
+        put_cases s.calls (s.world.desk.last + 1) (Some (fresh_call s.world.desk.rules start)) n (Some c) (IsKnown c) live
+        (λ here is. subst KnownIf is (fresh_known s.world.desk.rules start)) (λ there is. all n c is);
     step = known_step;
     tell = λ s n answer asked all. all;
+    hear = λ s n off running all. all;
     drop = λ s n c live between all m b lives.
         put_cases s.calls n None m (Some b) (IsKnown b) lives (λ here is. absurd (none_some is)) (λ there is. all m b is);
   }

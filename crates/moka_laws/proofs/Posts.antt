@@ -11,6 +11,9 @@ use Rattle.moka_hist.specs.Looking.{hits, misses}
 use Rattle.moka_hist.specs.Loading.{after_read, after_told, retries}
 use Rattle.moka_hist.specs.Run.{fresh_call}
 use Rattle.moka_hist.specs.declared.writes.Write.{Write}
+use Rattle.moka_hist.specs.declared.records.Mode.TheVariants as mode
+use Rattle.moka_hist.specs.declared.rules.Rules.{Rules}
+use Rattle.moka_hist.specs.declared.writes.Owed.{Owed}
 use Rattle.moka_hist.specs.declared.loads.Load.{Load}
 use Rattle.moka_hist.specs.declared.events.Start.{Start}
 use Rattle.moka_hist.specs.declared.events.Start.TheVariants as start
@@ -19,6 +22,7 @@ use Rattle.moka_hist.specs.declared.events.Told.TheVariants as answer
 use Rattle.moka_hist.specs.declared.visits.Settled.{Settled}
 use Rattle.moka_hist.specs.declared.visits.Settled.TheVariants as settled
 use Rattle.moka_hist.specs.declared.visits.Found.TheVariants as found
+use Rattle.moka_laws.proofs.Rules.{put_plans}
 use Rattle.moka_laws.proofs.Weights.{weigh, weigh_call}
 
 -- 1 where two numbers are one, and else 0
@@ -28,6 +32,10 @@ once x y = cond (x == y) 1 0
 -- how often a number stands among the numbers of the writes
 abbrev pub among : ℕ → List Write → ℕ
 among x writes = times x (map number_of writes)
+
+-- how often it stands among those of the owed writes
+abbrev pub among_owed : ℕ → List Owed → ℕ
+among_owed x owed = times x (map (λ o. number_of o.write) owed)
 
 module _ {K V : Type 0} where
   -- the item posts a write; it posts the write of this number
@@ -46,16 +54,26 @@ module _ {K V : Type 0} where
   may_write plan.Turn = 0
   may_write plan.Apply = 0
   may_write plan.End = 0
+  may_write (plan.Ended notice) = 0
+  may_write (plan.Lock key) = 0
+  may_write plan.Unlock = 0
+  may_write (plan.Notice key old) = 0
+  may_write plan.Heard = 0
   may_write (plan.Settle with) = 0
   may_write (plan.Reply answer) = 0
   may_write _ = 1
 
-  -- how many posts stand behind where the plan's one post may stand: the front, or behind a turn's items
+  -- how many posts stand behind where the plan's one post may stand: the front, or behind the items of a turn
+  -- or of a notice
   abbrev pub late : List (Item K V) → ℕ
   late [] = 0
   late (plan.Turn ∷ rest) = late rest
   late (plan.Apply ∷ rest) = late rest
   late (plan.End ∷ rest) = late rest
+  late (plan.Ended number ∷ rest) = late rest
+  late (plan.Notice key old ∷ rest) = late rest
+  late (plan.Heard ∷ rest) = late rest
+  late (plan.Unlock ∷ rest) = late rest
   late (_ ∷ rest) = weigh any_post rest
 
   abbrev pub late_call : Option (Call K V) → ℕ
@@ -74,6 +92,10 @@ module _ {K V : Type 0} where
   late_none (plan.Turn ∷ rest) h = late_none rest (omega arith)
   late_none (plan.Apply ∷ rest) h = late_none rest (omega arith)
   late_none (plan.End ∷ rest) h = late_none rest (omega arith)
+  late_none (plan.Ended number ∷ rest) h = late_none rest (omega arith)
+  late_none (plan.Notice key old ∷ rest) h = late_none rest (omega arith)
+  late_none (plan.Heard ∷ rest) h = late_none rest (omega arith)
+  late_none (plan.Unlock ∷ rest) h = late_none rest (omega arith)
   late_none (_ ∷ rest) h = omega arith
 
   -- where no write is posted the write of no number is
@@ -88,6 +110,10 @@ module _ {K V : Type 0} where
   posts_held x (plan.Turn ∷ rest) h = let e = posts_held x rest h in omega arith
   posts_held x (plan.Apply ∷ rest) h = let e = posts_held x rest h in omega arith
   posts_held x (plan.End ∷ rest) h = let e = posts_held x rest h in omega arith
+  posts_held x (plan.Ended number ∷ rest) h = let e = posts_held x rest h in omega arith
+  posts_held x (plan.Notice key old ∷ rest) h = let e = posts_held x rest h in omega arith
+  posts_held x (plan.Heard ∷ rest) h = let e = posts_held x rest h in omega arith
+  posts_held x (plan.Unlock ∷ rest) h = let e = posts_held x rest h in omega arith
   posts_held x (plan.Post write ∷ rest) h = let e = posts_none x rest h in omega arith
   posts_held x (_ ∷ rest) h = let e = posts_held x rest (late_none rest h) in omega arith
 
@@ -99,10 +125,12 @@ module _ {K V : Type 0} where
     pub posts : (x : ℕ) → weigh_call (post_of x) left ≡ 0
     pub may : weigh_call may_write left ≤ 1
 
-  pub fresh_clear : (start : Start K V) → IsClear (Some (fresh_call start))
-  fresh_clear (start.Get key) = record { late = refl; posts = λ x. refl; may = omega arith }
-  fresh_clear (start.Insert key value) = record { late = refl; posts = λ x. refl; may = omega arith }
-  fresh_clear (start.GetWith key) = record { late = refl; posts = λ x. refl; may = omega arith }
+  pub fresh_clear : (rules : Rules) (start : Start K V) → IsClear (Some (fresh_call rules start))
+  fresh_clear rules (start.Get key) = record { late = refl; posts = λ x. refl; may = omega arith }
+  fresh_clear rules (start.Insert key value) =
+      put_plans (λ p. IsClear (Some (record { rules = rules; mode = mode.Fresh; plan = p; aborts = 0 }))) rules key value _
+      (record { late = refl; posts = λ x. refl; may = omega arith }) (record { late = refl; posts = λ x. refl; may = omega arith })
+  fresh_clear rules (start.GetWith key) = record { late = refl; posts = λ x. refl; may = omega arith }
 
   pub misses_clear : (c : Call K V) (aim : Aim K) → IsClear (misses c aim).left
   misses_clear c plan.To_answer = record { late = refl; posts = λ x. refl; may = omega arith }
@@ -128,5 +156,8 @@ module _ {K V : Type 0} where
 
   pub told_clear : (c : Call K V) (load : Load K) (given : Told V) → IsClear (Some c) →
       IsClear (after_told c load (found.TakeTold (Some given))).left
-  told_clear c load (answer.Value value) h = record { late = refl; posts = λ x. refl; may = omega arith }
+  told_clear c load (answer.Value value) h =
+      put_plans (λ p. IsClear (goes c p).left) c.rules load.key value _
+      (record { late = refl; posts = λ x. refl; may = omega arith }) (record { late = refl; posts = λ x. refl; may = omega arith })
   told_clear c load answer.Done h = record { late = h.late; posts = h.posts; may = h.may }
+  told_clear c load answer.Off h = record { late = h.late; posts = h.posts; may = h.may }

@@ -8,6 +8,7 @@ use Rattle.moka_hist.specs.Looking.{hits, misses}
 use Rattle.moka_hist.specs.Loading.{after_read, after_told, retries}
 use Rattle.moka_hist.specs.declared.records.Stored.{Stored}
 use Rattle.moka_hist.specs.declared.loads.Load.{Load}
+use Rattle.moka_hist.specs.declared.rules.Rules.{Rules}
 use Rattle.moka_hist.specs.declared.events.Start.{Start}
 use Rattle.moka_hist.specs.declared.events.Start.TheVariants as start
 use Rattle.moka_hist.specs.declared.events.Told.{Told}
@@ -15,6 +16,7 @@ use Rattle.moka_hist.specs.declared.events.Told.TheVariants as answer
 use Rattle.moka_hist.specs.declared.visits.Settled.{Settled}
 use Rattle.moka_hist.specs.declared.visits.Settled.TheVariants as settled
 use Rattle.moka_hist.specs.declared.visits.Found.TheVariants as found
+use Rattle.moka_laws.proofs.Rules.{put_plans}
 use Rattle.moka_laws.proofs.Weights.{weigh}
 use Rattle.moka_laws.proofs.Owning.{plan_left}
 
@@ -78,8 +80,12 @@ module _ {K V : Type 0} where
 
     pub told_fits : (c : Call K V) (load : Load K) (given : Told V) → Fits o j c.plan → Fits o j (plan.Told load ∷ []) →
         Fits o j (plan_left (after_told c load (found.TakeTold (Some given))).left)
-    told_fits c load (answer.Value value) p f = record { last = refl; owning = omega (arith, f.owning); waiting = f.waiting }
+    told_fits c load (answer.Value value) p f =
+        put_plans (λ p. Fits o j (plan_left (goes c p).left)) c.rules load.key value _
+        (record { last = refl; owning = omega (arith, f.owning); waiting = f.waiting })
+        (record { last = refl; owning = omega (arith, f.owning); waiting = f.waiting })
     told_fits c load answer.Done p f = p
+    told_fits c load answer.Off p f = p
 
   -- no load is awaited where the call has missed, hit or been told
   pub misses_awaits : (c : Call K V) (aim : Aim K) → awaited (plan_left (misses c aim).left) ≡ None
@@ -113,7 +119,8 @@ module _ {K V : Type 0} where
       either_fits o (c.aborts + 1 == retries) _ _ (record { last = tt; owning = omega (arith, f.owning); waiting = refl })
       (record { last = refl; owning = f.owning; waiting = refl })
 
-  pub fresh_fits : (start : Start K V) → Fits None None (plan_of start)
-  fresh_fits (start.Get key) = record { last = refl; owning = refl; waiting = refl }
-  fresh_fits (start.Insert key value) = record { last = refl; owning = refl; waiting = refl }
-  fresh_fits (start.GetWith key) = record { last = refl; owning = refl; waiting = refl }
+  pub fresh_fits : (rules : Rules) (start : Start K V) → Fits None None (plan_of rules start)
+  fresh_fits rules (start.Get key) = record { last = refl; owning = refl; waiting = refl }
+  fresh_fits rules (start.Insert key value) =
+      put_plans (λ p. Fits None None p) rules key value _ (record { last = refl; owning = refl; waiting = refl }) (record { last = refl; owning = refl; waiting = refl })
+  fresh_fits rules (start.GetWith key) = record { last = refl; owning = refl; waiting = refl }

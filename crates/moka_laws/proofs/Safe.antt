@@ -1,12 +1,14 @@
 -- What the desk needs for the next visit of a live call it has.
-use Rattle.std.proofs.Common.{◌≡◌, ◌≢◌, ℕ, ◌+◌, ◌||◌, Bool, true, false, cond, List, [], ◌∷◌, Option, Some, None, is_some, IsSome, IsNone, IsSomeAnd, refl, ap, ◌∙◌, subst, arith}
+use Rattle.std.proofs.Common.{◌≡◌, ◌≢◌, ℕ, ◌+◌, ◌||◌, Bool, true, false, cond, List, [], ◌∷◌, Option, Some, None, is_some, IsSome, IsNone, IsSomeAnd, refl, sym, ap, ◌∙◌, subst, arith}
 use Rattle.moka_hist.specs.State.{State, Call, DeskPart}
 use Rattle.moka_hist.specs.Plan.{Item, Aim}
 use Rattle.moka_hist.specs.Plan as plan
 use Rattle.moka_hist.specs.Conditions.{may_end}
 use Rattle.moka_hist.specs.Step.{May, access_for, access_of}
 use Rattle.moka_hist.specs.Run.{IsReached}
+use Rattle.moka_hist.specs.Notices.{OpensNotice}
 use Rattle.moka_hist.specs.declared.records.Mode.{Mode}
+use Rattle.moka_hist.specs.declared.rules.Rules.{Rules}
 use Rattle.moka_hist.specs.declared.loads.Load.{Load}
 use Rattle.moka_hist.specs.declared.loads.Kind.{Kind}
 use Rattle.moka_hist.specs.declared.loads.Kind.TheVariants as kind
@@ -20,6 +22,8 @@ use Rattle.moka_laws.proofs.Owning.{plan_left}
 use Rattle.moka_laws.proofs.Roles.{Fits, owners}
 use Rattle.moka_laws.proofs.Served.{IsServed, served_kept}
 use Rattle.moka_laws.proofs.Turns.{TurnFits, IsTurning, turning_kept}
+use Rattle.moka_laws.proofs.Locking.{Locks, lock_free, lock_held}
+use Rattle.moka_laws.proofs.Replacing.{IsReplacing, replacing_kept, not_opened}
 use Rattle.moka_laws.proofs.Kept.{IsKept, in_reached}
 
 -- an answer is one that an owner of any kind may end with
@@ -64,6 +68,7 @@ module _ {K V : Type 0} where
     fits : Fits (d.owning n) (d.joined n) plan
     asks : AsksWhole d n plan
     turns : TurnFits d.turn n plan
+    locks : Locks d.rules.listener (d.locked n) plan
 
 module _ {K V : Type 0} (eq : K → K → Bool) where
   -- What is known of a state by the plans of its calls.
@@ -72,44 +77,58 @@ module _ {K V : Type 0} (eq : K → K → Bool) where
     pub served : IsServed eq s
     pub asking : IsAsking s
     pub turning : IsTurning s
+    pub replacing : IsReplacing s
 
   pub well_kept : IsKept eq IsWell
   well_kept = record {
-    fresh = λ size has_log. record {
-      holding = (holding_kept eq).fresh size has_log;
-      served = (served_kept eq).fresh size has_log;
-      asking = (asking_kept eq).fresh size has_log;
-      turning = (turning_kept eq).fresh size has_log;
+    fresh = λ rules size has_log. record {
+      holding = (holding_kept eq).fresh rules size has_log;
+      served = (served_kept eq).fresh rules size has_log;
+      asking = (asking_kept eq).fresh rules size has_log;
+      turning = (turning_kept eq).fresh rules size has_log;
+      replacing = (replacing_kept eq).fresh rules size has_log;
     };
     at = λ s moment i. record {
       holding = (holding_kept eq).at s moment i.holding;
       served = (served_kept eq).at s moment i.served;
       asking = (asking_kept eq).at s moment i.asking;
       turning = (turning_kept eq).at s moment i.turning;
+      replacing = (replacing_kept eq).at s moment i.replacing;
     };
     start = λ s start i. record {
       holding = (holding_kept eq).start s start i.holding;
       served = (served_kept eq).start s start i.served;
       asking = (asking_kept eq).start s start i.asking;
       turning = (turning_kept eq).start s start i.turning;
+      replacing = (replacing_kept eq).start s start i.replacing;
     };
     step = λ s t n turn i step. record {
       holding = (holding_kept eq).step s t n turn i.holding step;
       served = (served_kept eq).step s t n turn i.served step;
       asking = (asking_kept eq).step s t n turn i.asking step;
       turning = (turning_kept eq).step s t n turn i.turning step;
+      replacing = (replacing_kept eq).step s t n turn i.replacing step;
     };
     tell = λ s n given asked i. record {
       holding = (holding_kept eq).tell s n given asked i.holding;
       served = (served_kept eq).tell s n given asked i.served;
       asking = (asking_kept eq).tell s n given asked i.asking;
       turning = (turning_kept eq).tell s n given asked i.turning;
+      replacing = (replacing_kept eq).tell s n given asked i.replacing;
+    };
+    hear = λ s n off running i. record {
+      holding = (holding_kept eq).hear s n off running i.holding;
+      served = (served_kept eq).hear s n off running i.served;
+      asking = (asking_kept eq).hear s n off running i.asking;
+      turning = (turning_kept eq).hear s n off running i.turning;
+      replacing = (replacing_kept eq).hear s n off running i.replacing;
     };
     drop = λ s n c live between i. record {
       holding = (holding_kept eq).drop s n c live between i.holding;
       served = (served_kept eq).drop s n c live between i.served;
       asking = (asking_kept eq).drop s n c live between i.asking;
       turning = (turning_kept eq).drop s n c live between i.turning;
+      replacing = (replacing_kept eq).drop s n c live between i.replacing;
     };
   }
 
@@ -122,6 +141,11 @@ module _ {K V : Type 0} (eq : K → K → Bool) (s : State K V) (well : IsWell e
 
   may_item : (item : Item K V) (rest : List (Item K V)) → c.plan ≡ item ∷ rest → Stands s.world.desk n (item ∷ rest) → May_for item
   may_item plan.Drain rest e k = none_is _ k.holds.0
+  may_item (plan.Ended number) rest e k = tt
+  may_item plan.Heard rest e k = tt
+  may_item (plan.Lock key) rest e k = lock_free _ (s.world.desk.locked n) key rest k.locks
+  may_item plan.Unlock rest e k = lock_held _ (s.world.desk.locked n) rest k.locks
+  may_item (plan.Notice key old) rest e k = none_is _ (not_opened s well.replacing n c live (subst OpensNotice (sym e) tt))
   may_item (plan.Post write) rest e k = k.holds.0
   may_item plan.Turn rest e k = λ has. k.turns.has has
   may_item plan.Apply rest e k = k.turns.applies k.turns.first
@@ -152,11 +176,12 @@ module _ {K V : Type 0} (eq : K → K → Bool) (s : State K V) (well : IsWell e
     fits = subst (λ v. Fits (s.world.desk.owning n) (s.world.desk.joined n) (plan_left v)) live (well.served.fits n);
     asks = whole s well.asking n c live;
     turns = subst (λ v. TurnFits s.world.desk.turn n (plan_left v)) live (well.turning.fits n);
+    locks = subst (λ v. Locks s.world.desk.rules.listener (s.world.desk.locked n) (plan_left v)) live (well.replacing.locking.locks n);
   }
 
-  by_plan : (mode : Mode) (plan : List (Item K V)) (aborts : ℕ) → c.plan ≡ plan → May s.world (access_of n (record { mode = mode; plan = plan; aborts = aborts }))
-  by_plan mode [] aborts e = tt
-  by_plan mode (item ∷ rest) aborts e = may_item item rest e (subst (Stands s.world.desk n) e stands)
+  by_plan : (rules : Rules) (mode : Mode) (plan : List (Item K V)) (aborts : ℕ) → c.plan ≡ plan → May s.world (access_of n (record { rules = rules; mode = mode; plan = plan; aborts = aborts }))
+  by_plan rules mode [] aborts e = tt
+  by_plan rules mode (item ∷ rest) aborts e = may_item item rest e (subst (Stands s.world.desk n) e stands)
 
   pub may_step : May s.world (access_of n c)
-  may_step = by_plan c.mode c.plan c.aborts refl
+  may_step = by_plan c.rules c.mode c.plan c.aborts refl

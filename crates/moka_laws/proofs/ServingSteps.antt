@@ -9,6 +9,7 @@ use Rattle.moka_hist.specs.declared.loads.Load.{Load}
 use Rattle.moka_hist.specs.declared.events.Told.{Told}
 use Rattle.moka_hist.specs.declared.events.Told.TheVariants as answer
 use Rattle.moka_hist.specs.declared.visits.Found.TheVariants as found
+use Rattle.moka_laws.proofs.Rules.{put_plans}
 use Rattle.moka_laws.proofs.Weights.{weigh}
 use Rattle.moka_laws.proofs.StepCases.{OnStep}
 use Rattle.moka_laws.proofs.Outcomes.{Outcomes, outcomes}
@@ -53,8 +54,11 @@ module _ {K V : Type 0} (eq : K → K → Bool) (w : World K V) (n : ℕ) (c : C
 
   takes_told : (load : Load K) (given : Told V) → Plans c.plan → Fits {V = V} (w.desk.owning n) (w.desk.joined n) (plan.Told load ∷ []) →
       Serves eq w.desk n (part w.desk) (after_told c load (found.TakeTold (Some given))).left
-  takes_told load (answer.Value value) p f = goes_free (told_fits _ _ c load (answer.Value value) p.fits f) refl
+  takes_told load (answer.Value value) p f =
+      goes_free (told_fits _ _ c load (answer.Value value) p.fits f)
+      (put_plans (λ q. awaited (plan_left (goes c q).left) ≡ None) c.rules load.key value _ refl refl)
   takes_told load answer.Done p f = goes_with _ p
+  takes_told load answer.Off p f = goes_with _ p
 
   -- a call fits a plan that tells as much as one that it fits
   like : (plan old : List (Item K V)) → Plans old → IsLast plan → weigh owners plan ≡ weigh owners old → awaited plan ≡ awaited old → Plans plan
@@ -67,6 +71,15 @@ module _ {K V : Type 0} (eq : K → K → Bool) (w : World K V) (n : ℕ) (c : C
   on_item plan.Drain rest p q = (
     λ e. goes_rest rest (like rest _ q q.fits.last (omega arith) refl),
     λ x xs e. goes_with _ (like (plan.Post x ∷ plan.Drain ∷ rest) _ q q.fits.last (omega arith) refl),
+    λ x number xs e. goes_with _ (like (plan.Ended number ∷ plan.Post x ∷ plan.Drain ∷ rest) _ q q.fits.last (omega arith) refl),
+  )
+  on_item (plan.Ended number) rest p q = (λ e. goes_rest rest (like rest _ q q.fits.last (omega arith) refl), λ e. goes_with _ p)
+  on_item plan.Heard rest p q = (λ e. goes_rest rest (like rest _ q q.fits.last (omega arith) refl), λ e. goes_with _ p)
+  on_item (plan.Lock key) rest p q = (λ e. goes_rest rest (like rest _ q q.fits.last (omega arith) refl), λ e. goes_with _ p)
+  on_item plan.Unlock rest p q = goes_rest rest (like rest _ q q.fits.last (omega arith) refl)
+  on_item (plan.Notice key old) rest p q = (
+    λ e. goes_rest rest (like rest _ q q.fits.last (omega arith) refl),
+    λ e. goes_with _ (like (plan.Heard ∷ rest) _ q q.fits.last (omega arith) refl),
   )
   on_item (plan.Post write) rest p q = (
     λ e. goes_rest rest (like rest _ q q.fits.last (omega arith) refl),
@@ -112,7 +125,9 @@ module _ {K V : Type 0} (eq : K → K → Bool) (w : World K V) (n : ℕ) (c : C
       goes_with _ (like (plan.Write key value w.desk.clock ∷ rest) _ q q.fits.last refl refl)
   on_item (plan.Write key value moment) rest p q = (
     λ more. goes_with _ p,
-    goes_with _ (like (plan.Post _ ∷ rest) _ q q.fits.last refl refl),
+    λ off old. goes_with _ (like (plan.Post _ ∷ rest) _ q q.fits.last refl refl),
+    λ on. goes_with _ (like (plan.Unlock ∷ plan.Post _ ∷ rest) (plan.Write key value moment ∷ rest) q q.fits.last (omega arith) refl),
+    λ k old on some. goes_with _ (like (plan.Notice key old ∷ plan.Unlock ∷ plan.Post _ ∷ rest) (plan.Write key value moment ∷ rest) q q.fits.last (omega arith) refl),
   )
   on_item (plan.Reply answer) rest p q =
       let f = alone (plan.Reply answer) rest q.fits.last q in

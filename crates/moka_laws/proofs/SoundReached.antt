@@ -2,26 +2,31 @@
 use Rattle.std.proofs.Common.{◌≡◌, ℕ, Bool, Option, Some, None, refl, sym, subst}
 use Rattle.std.specs.Cmp.{IsEquivalence}
 use Rattle.moka_hist.specs.State.{State, World, Call}
-use Rattle.moka_hist.specs.Plan.{held_by}
+use Rattle.std.specs.Option.{option_map}
+use Rattle.moka_hist.specs.Plan.{held_by, hearing}
+use Rattle.moka_hist.specs.Dropping.{owed_by}
+use Rattle.moka_hist.specs.declared.events.Told.TheVariants as answer
 use Rattle.moka_hist.specs.Conditions.{MayLeave}
 use Rattle.moka_hist.specs.SoundDesk.{SoundDesk}
 use Rattle.moka_hist.specs.Step.{Access, On_table, On_desk, Gets, May, access_of}
 use Rattle.moka_hist.specs.declared.accesses.Got.{Got}
 use Rattle.moka_hist.specs.declared.accesses.Got.TheVariants as got
 use Rattle.moka_hist.specs.declared.tables.TableTurn.TheVariants as table
+use Rattle.moka_hist.specs.declared.writes.Owed.{Owed}
 use Rattle.moka_hist.specs.declared.writes.Write.{Write}
 use Rattle.moka_laws.specs.Sound.{ReachedIsSound}
 use Rattle.moka_laws.proofs.Kept.{IsKept, in_reached}
-use Rattle.moka_laws.proofs.Holding.{known_held}
+use Rattle.moka_laws.proofs.Holding.{known_held, none_left}
 use Rattle.moka_laws.proofs.Safe.{IsWell, well_kept, may_step}
-use Rattle.moka_laws.proofs.Soundness.{fresh_sound, visit_sound, left_sound, told_sound, entered_sound, clock_sound}
+use Rattle.moka_laws.proofs.Soundness.{fresh_sound, visit_sound, left_sound, told_sound, heard_sound, entered_sound, clock_sound}
+
+module _ {K V : Type 0} (eq : K → K → Bool) where
+  -- What the calls know of the desk, and that it is sound.
+  pub record IsSound (s : State K V) : Type 0 where
+    pub well : IsWell eq s
+    pub sound : SoundDesk eq s.world.desk
 
 module _ {K V : Type 0} (eq : K → K → Bool) (laws : IsEquivalence eq) where
-  -- What the calls know of the desk, and that it is sound.
-  record IsSound (s : State K V) : Type 0 where
-    well : IsWell eq s
-    sound : SoundDesk eq s.world.desk
-
   -- an access that the world allows leaves the desk sound
   access_sound : (n : ℕ) (w new : World K V) (a : Access K V) (g : Got K V) → Gets eq n w a g new → May w a → SoundDesk eq w.desk → SoundDesk eq new.desk
   access_sound n w new (On_table o) (got.Table table.Going) gets may h = subst (λ (v : World K V). SoundDesk eq v.desk) (sym gets.1) h
@@ -32,13 +37,14 @@ module _ {K V : Type 0} (eq : K → K → Bool) (laws : IsEquivalence eq) where
   access_sound n w new (On_desk made) (got.Table turn) gets may h = absurd gets
 
   -- a live call leaves no write but one that it holds
-  may_leave : (s : State K V) (n : ℕ) (c : Call K V) → IsWell eq s → s.calls n ≡ Some c → (o : Option Write) → held_by c.plan ≡ o → MayLeave s.world.desk n o
-  may_leave s n c well live None e = tt
+  may_leave : (s : State K V) (n : ℕ) (c : Call K V) → IsWell eq s → s.calls n ≡ Some c → (o : Option Write) → held_by c.plan ≡ o →
+      MayLeave s.world.desk n (option_map (λ (v : Owed). v.write) (option_map (λ v. record { write = v; notice = hearing n c.plan }) o))
+  may_leave s n c well live None e = none_left eq s well.holding n c live e
   may_leave s n c well live (Some write) e = known_held eq s well.holding n c write live e
 
-  sound_kept : IsKept eq IsSound
+  pub sound_kept : IsKept {K = K} {V = V} eq (IsSound eq)
   sound_kept = record {
-    fresh = λ size has_log. record { well = (well_kept eq).fresh size has_log; sound = fresh_sound eq size };
+    fresh = λ rules size has_log. record { well = (well_kept eq).fresh rules size has_log; sound = fresh_sound eq rules size };
     at = λ s moment i. record { well = (well_kept eq).at s moment i.well; sound = clock_sound eq s.world.desk moment i.sound };
     start = λ s start i. record { well = (well_kept eq).start s start i.well; sound = entered_sound eq s.world.desk _ i.sound };
     step = λ s t n turn i step. record {
@@ -46,12 +52,14 @@ module _ {K V : Type 0} (eq : K → K → Bool) (laws : IsEquivalence eq) where
       sound = subst (λ (v : State K V). SoundDesk eq v.world.desk) (sym step.after)
           (access_sound n s.world step.world (access_of n step.call) step.given step.gets (may_step eq s i.well n step.call step.live) i.sound);
     };
-    tell = λ s n given asked i. record { well = (well_kept eq).tell s n given asked i.well; sound = told_sound eq s.world.desk n given i.sound };
+    tell = λ s n given asked i. record { well = (well_kept eq).tell s n given asked i.well; sound = told_sound eq s.world.desk n (answer.Value given) i.sound };
+    hear = λ s n off running i.
+        record { well = (well_kept eq).hear s n off running i.well; sound = heard_sound eq s.world.desk n off i.sound };
     drop = λ s n c live between i. record {
       well = (well_kept eq).drop s n c live between i.well;
-      sound = left_sound eq s.world.desk n (held_by c.plan) i.sound (may_leave s n c i.well live (held_by c.plan) refl);
+      sound = left_sound eq s.world.desk n (owed_by n c) i.sound (may_leave s n c i.well live (held_by c.plan) refl);
     };
   }
 
   pub reached_sound : ReachedIsSound K V eq
-  reached_sound s h = (in_reached eq IsSound sound_kept s h).sound
+  reached_sound s h = (in_reached eq (IsSound eq) sound_kept s h).sound

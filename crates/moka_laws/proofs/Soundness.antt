@@ -2,24 +2,27 @@
 use Rattle.std.proofs.Common.{◌≡◌, ℕ, ◌+◌, ◌≤◌, ◌==◌, Bool, true, false, cond, List, [], ◌∷◌, ◌++◌, map, append-nil, Option, Some, None, is_some, refl, sym, ap, ◌∙◌, subst, arith}
 use Rattle.std.proofs.lemmas.Bool.{eqb-true, false≢true}
 use Rattle.std.specs.Cmp.{IsEquivalence}
-use Rattle.std.specs.Option.{option_map, option_map_or}
+use Rattle.std.specs.Option.{IsSomeAnd, option_map, option_map_or}
 use Rattle.moka_hist.specs.Finite.{load_eq, put_at, put_key, times}
 use Rattle.moka_hist.specs.State.{DeskPart}
-use Rattle.moka_hist.specs.Visits.{claimed, decided, has_room, makes, number_of, owners_without, posted, settlement_for, took_owed, without_moment}
+use Rattle.moka_hist.specs.Visits.{cause_of, claimed, decided, has_room, is_unlocked_for, locked_by, makes, number_of, opened_notice, unlocked, posted, settlement_for, took_owed, without_moment}
 use Rattle.moka_hist.specs.Conditions.{held_number, numbers_of, HoldsWrite, IsPlaceOf, IsUnused}
 use Rattle.moka_hist.specs.SoundDesk.{SoundDesk}
-use Rattle.moka_hist.specs.Dropping.{left}
-use Rattle.moka_hist.specs.Telling.{told}
+use Rattle.moka_hist.specs.Dropping.{left, owed_with}
+use Rattle.moka_hist.specs.Telling.{heard, told}
 use Rattle.moka_hist.specs.declared.loads.Load.{Load}
+use Rattle.moka_hist.specs.declared.events.Told.TheVariants as answer
+use Rattle.moka_hist.specs.declared.rules.Cause.{Cause}
 use Rattle.moka_hist.specs.declared.visits.Visit.TheVariants as visit
 use Rattle.moka_hist.specs.declared.writes.Holding.{Holding}
 use Rattle.moka_hist.specs.declared.writes.Holding.TheVariants as holding
+use Rattle.moka_hist.specs.declared.writes.Owed.{Owed}
 use Rattle.moka_hist.specs.declared.writes.Write.{Write}
 use Rattle.moka_hist.proofs.Owners.{Owns, Owned, is_none_of, owns_more, owned_more, owns_fewer, owned_fewer}
 use Rattle.moka_laws.specs.Sound.{FreshIsSound, VisitsKeepSound, LeavingKeepsSound, DecidingKeepsSound, TellingKeepsSound, EnteringKeepsSound, ClockKeepsSound}
 use Rattle.moka_laws.proofs.Counting.{none_some, some_same, put_cases, same_number}
-use Rattle.moka_laws.proofs.Posts.{among, once}
-use Rattle.moka_laws.proofs.Balance.{times_first, among_last}
+use Rattle.moka_laws.proofs.Posts.{among, among_owed, once}
+use Rattle.moka_laws.proofs.Balance.{times_first, among_last, owed_append}
 use Rattle.moka_laws.proofs.Holding.{numbers_stand, place_number}
 use Rattle.moka_laws.proofs.Owning.{loads_self, loads_alike}
 
@@ -133,11 +136,36 @@ module _ (held : ℕ → Option Holding) (stands after : ℕ → ℕ) (call : �
 
 -- ---- of a desk
 
--- equal loads have one owner, and what is owned and who owns are one to one
-record OneToOne {K : Type 0} (eq : K → K → Bool) (owners : Load K → Option ℕ) (owning : ℕ → Option (Load K)) : Type 0 where
-  one_owner : (a b : Load K) → load_eq eq a b ≡ true → owners a ≡ owners b
-  owns : Owns (load_eq eq) owners owning
+-- equal things have one owner, and what is owned and who own are one to one
+record OneToOne {L : Type 0} (same : L → L → Bool) (owners : L → Option ℕ) (owning : ℕ → Option L) : Type 0 where
+  one_owner : (a b : L) → same a b ≡ true → owners a ≡ owners b
+  owns : Owns same owners owning
   owned : Owned owners owning
+
+module _ {L : Type 0} (same : L → L → Bool) (owners : L → Option ℕ) (owning : ℕ → Option L) where
+  -- a call is no owner any more
+  without_call : (call : ℕ) → OneToOne same owners owning →
+      OneToOne same (λ l. cond (option_map_or (λ o. o == call) (owners l) false) None (owners l)) (put_at owning call None)
+  without_call call o = record {
+    one_owner = λ a b e. ap (λ v. cond (option_map_or (λ n. n == call) v false) None v) (o.one_owner a b e);
+    owns = owns_fewer same owners owning call o.owns;
+    owned = owned_fewer same owners owning call o.owned;
+  }
+
+  -- a call that owned nothing owns what nobody owned
+  claims : (call : ℕ) (l : L) → same l l ≡ true → ((a b : L) → same a b ≡ true → same l a ≡ same l b) → owning call ≡ None → owners l ≡ None →
+      OneToOne same owners owning → OneToOne same (put_key same owners l (Some call)) (put_at owning call (Some l))
+  claims call l self alike idle free o = record {
+    one_owner = λ a b e. by a b (same l a) (same l b) (alike a b e) e;
+    owns = owns_more same owners owning call l idle o.owns;
+    owned = owned_more same owners owning call l self free (λ k e. o.one_owner l k e) o.owned;
+  }
+    where
+      by : (a b : L) (x y : Bool) → x ≡ y → same a b ≡ true → cond x (Some call) (owners a) ≡ cond y (Some call) (owners b)
+      by a b true true h e = refl
+      by a b false false h e = o.one_owner a b e
+      by a b true false h e = absurd (false≢true (sym h))
+      by a b false true h e = absurd (false≢true h)
 
 module _ {K V : Type 0} where
   -- how often a number stands with the desk
@@ -145,81 +173,67 @@ module _ {K V : Type 0} where
   stands w x = times x (numbers_of w)
 
   module _ (eq : K → K → Bool) where
-    both : (w : DeskPart K V) → Apart w.holding (stands w) → OneToOne eq w.owners w.owning → SoundDesk eq w
-    both w a o = record {
+    both : (w : DeskPart K V) → Apart w.holding (stands w) → OneToOne (load_eq eq) w.owners w.owning → OneToOne eq w.locks w.locked → SoundDesk eq w
+    both w a o k = record {
       once = a.once;
       held_apart = a.held_apart;
       one_holder = a.one_holder;
       one_owner = o.one_owner;
       owns = o.owns;
       owned = o.owned;
+      one_locker = k.one_owner;
+      locks = k.owns;
+      locked = k.owned;
     }
 
     apart_in : (w : DeskPart K V) → SoundDesk eq w → Apart w.holding (stands w)
     apart_in w h = record { once = h.once; held_apart = h.held_apart; one_holder = h.one_holder }
 
-    loads_in : (w : DeskPart K V) → SoundDesk eq w → OneToOne eq w.owners w.owning
+    loads_in : (w : DeskPart K V) → SoundDesk eq w → OneToOne (load_eq eq) w.owners w.owning
     loads_in w h = record { one_owner = h.one_owner; owns = h.owns; owned = h.owned }
 
-    -- ---- loads
-
-    without_call : (w : DeskPart K V) (call : ℕ) → OneToOne eq w.owners w.owning → OneToOne eq (owners_without w call) (put_at w.owning call None)
-    without_call w call o = record {
-      one_owner = λ a b e. ap (λ v. cond (option_map_or (λ n. n == call) v false) None v) (o.one_owner a b e);
-      owns = owns_fewer (load_eq eq) w.owners w.owning call o.owns;
-      owned = owned_fewer (load_eq eq) w.owners w.owning call o.owned;
-    }
-
-    claims : IsEquivalence eq → (w : DeskPart K V) (call : ℕ) (load : Load K) → w.owning call ≡ None → w.owners load ≡ None → OneToOne eq w.owners w.owning →
-        OneToOne eq (put_key (load_eq eq) w.owners load (Some call)) (put_at w.owning call (Some load))
-    claims laws w call load idle free o = record {
-      one_owner = λ a b e. by a b (load_eq eq load a) (load_eq eq load b) (loads_alike eq laws load a b e) e;
-      owns = owns_more (load_eq eq) w.owners w.owning call load idle o.owns;
-      owned = owned_more (load_eq eq) w.owners w.owning call load (loads_self eq laws load) free (λ l e. o.one_owner load l e) o.owned;
-    }
-      where
-        by : (a b : Load K) (x y : Bool) → x ≡ y → load_eq eq a b ≡ true → cond x (Some call) (w.owners a) ≡ cond y (Some call) (w.owners b)
-        by a b true true h e = refl
-        by a b false false h e = o.one_owner a b e
-        by a b true false h e = absurd (false≢true (sym h))
-        by a b false true h e = absurd (false≢true h)
+    locks_in : (w : DeskPart K V) → SoundDesk eq w → OneToOne eq w.locks w.locked
+    locks_in w h = record { one_owner = h.one_locker; owns = h.locks; owned = h.locked }
 
     -- ---- each visit, in the order of their conditions
 
     pub fresh_sound : FreshIsSound K V eq
-    fresh_sound size = record {
+    fresh_sound rules size = record {
       once = λ x. omega arith;
       held_apart = λ n h e. absurd (none_some e);
       one_holder = λ n m g h e f k. absurd (none_some e);
       one_owner = λ a b e. refl;
       owns = λ l n e. absurd (none_some e);
       owned = λ l n e. absurd (none_some e);
+      one_locker = λ a b e. refl;
+      locks = λ l n e. absurd (none_some e);
+      locked = λ l n e. absurd (none_some e);
     }
 
     took_sound : (w : DeskPart K V) (call : ℕ) → w.holding call ≡ None → SoundDesk eq w → SoundDesk eq (took_owed w call)
     took_sound w call none h = by w.owed refl
       where
-        by : (owed : List Write) → w.owed ≡ owed → SoundDesk eq (took_owed w call)
+        by : (owed : List Owed) → w.owed ≡ owed → SoundDesk eq (took_owed w call)
         by [] e =
             let same : SoundDesk eq (record w { owed = [] }) = subst (λ v. SoundDesk eq (record w { owed = v })) e h in
             rw e same
         by (x ∷ xs) e =
-            let less : (y : ℕ) → stands w y ≡ stands (record w { owed = xs }) y + once y (number_of x) = λ y. omega
-            (arith, numbers_stand y w, numbers_stand y (record w { owed = xs }), ap (among y) e, times_first y (number_of x) (map number_of xs)) in
-            rw e (both (record w { holding = put_at w.holding call (Some (holding.TookUp x)); owed = xs })
-            (takes w.holding (stands w) (stands (record w { owed = xs })) call (holding.TookUp x) none (apart_in w h) (λ y. omega (arith, less y))
-            (omega (arith, less (number_of x), h.once (number_of x), once_same (number_of x)))
-            (λ n g is same. omega (arith, ap (stands w) same, h.held_apart n g is, less (number_of x), once_same (number_of x))))
-            (loads_in w h))
+            let less : (y : ℕ) → stands w y ≡ stands (record w { owed = xs }) y + once y (number_of x.write) = λ y. omega
+            (arith, numbers_stand y w, numbers_stand y (record w { owed = xs }), ap (among_owed y) e, times_first y (number_of x.write) (map (λ o. number_of o.write) xs)) in
+            rw e (both (record w { holding = put_at w.holding call (Some (holding.TookUp x.write)); owed = xs })
+            (takes w.holding (stands w) (stands (record w { owed = xs })) call (holding.TookUp x.write) none (apart_in w h) (λ y. omega (arith, less y))
+            (omega (arith, less (number_of x.write), h.once (number_of x.write), once_same (number_of x.write)))
+            (λ n g is same. omega (arith, ap (stands w) same, h.held_apart n g is, less (number_of x.write), once_same (number_of x.write))))
+            (loads_in w h) (locks_in w h))
 
     stamped_sound : (w : DeskPart K V) (call : ℕ) → w.holding call ≡ None → IsUnused w call → SoundDesk eq w → SoundDesk eq (makes eq w (visit.StampMoment call))
     stamped_sound w call none unused h =
         both (makes eq w (visit.StampMoment call))
         (takes w.holding (stands w) (stands w) call (holding.Own (Some w.clock)) none (apart_in w h) (λ y. omega arith) unused.stands (λ n g is same. unused.held n g is same))
-        (loads_in w h)
+        (loads_in w h) (locks_in w h)
 
     pub decided_sound : DecidingKeepsSound K V eq
-    decided_sound w call h = both (decided w call) (decides w.holding (stands w) (stands w) call (apart_in w h)) (loads_in w h)
+    decided_sound w call h = both (decided w call) (decides w.holding (stands w) (stands w) call (apart_in w h)) (loads_in w h) (locks_in w h)
 
     -- the call hands in a write that it holds
     given : (w v : DeskPart K V) (call : ℕ) (write : Write) (o : Option Holding) → w.holding call ≡ o → IsPlaceOf o call write → SoundDesk eq w →
@@ -236,7 +250,7 @@ module _ {K V : Type 0} where
             let v : DeskPart K V = record w { log = w.log ++ write ∷ [] } in
             rw e (both (record v { holding = put_at w.holding call None })
             (given w v call write (w.holding call) refl holds h
-            (λ y. omega (arith, numbers_stand y v, numbers_stand y w, among_last y write w.log))) (loads_in w h))
+            (λ y. omega (arith, numbers_stand y v, numbers_stand y w, among_last y write w.log))) (loads_in w h) (locks_in w h))
         by false e = rw e (decided_sound w call h)
 
     applied_sound : (w : DeskPart K V) (call : ℕ) → SoundDesk eq w → SoundDesk eq (makes eq w (visit.ApplyOne call))
@@ -254,52 +268,102 @@ module _ {K V : Type 0} where
               once = λ y. omega (arith, same y, h.once y);
               held_apart = λ n g is. same (held_number n g) ∙ h.held_apart n g is;
               one_holder = h.one_holder;
-            }) (loads_in w h))
+            }) (loads_in w h) (locks_in w h))
 
     claimed_sound : IsEquivalence eq → (w : DeskPart K V) (call : ℕ) (load : Load K) → w.owning call ≡ None → (o : Option ℕ) → w.owners load ≡ o → SoundDesk eq w →
         SoundDesk eq (claimed eq w call load o)
-    claimed_sound laws w call load idle None e h = both (claimed eq w call load None) (apart_in w h) (claims laws w call load idle e (loads_in w h))
-    claimed_sound laws w call load idle (Some owner) e h = both (claimed eq w call load (Some owner)) (apart_in w h) (loads_in w h)
+    claimed_sound laws w call load idle None e h = both (claimed eq w call load None) (apart_in w h) (claims (load_eq eq) w.owners w.owning call load (loads_self eq laws load) (loads_alike eq laws load) idle e (loads_in w h)) (locks_in w h)
+    claimed_sound laws w call load idle (Some owner) e h = both (claimed eq w call load (Some owner)) (apart_in w h) (loads_in w h) (locks_in w h)
 
     read_sound : (w : DeskPart K V) (call : ℕ) → SoundDesk eq w → SoundDesk eq (makes eq w (visit.ReadSettled call))
     read_sound w call h = by (is_some (settlement_for w call)) refl
       where
         by : (b : Bool) → is_some (settlement_for w call) ≡ b → SoundDesk eq (makes eq w (visit.ReadSettled call))
-        by true e = rw e (both _ (apart_in w h) (loads_in w h))
+        by true e = rw e (both _ (apart_in w h) (loads_in w h) (locks_in w h))
         by false e = rw e h
 
     pub left_sound : LeavingKeepsSound K V eq
     left_sound w call None h may =
         both (left w call None)
         (clears w.holding (stands w) (stands (left w call None)) call (apart_in w h)
-        (λ y. ap (λ l. times y (numbers_of (record w { owed = l }))) (append-nil w.owed))) (without_call w call (loads_in w h))
-    left_sound w call (Some write) h may =
-        both (left w call (Some write))
-        (given w (left w call (Some write)) call write (w.holding call) refl may h
-        (λ y. omega (arith, numbers_stand y (left w call (Some write)), numbers_stand y w, among_last y write w.owed))) (without_call w call (loads_in w h))
+        (λ y. ap (λ l. times y (numbers_of (record w { owed = l }))) (append-nil w.owed)))
+        (without_call (load_eq eq) w.owners w.owning call (loads_in w h)) (without_call eq w.locks w.locked call (locks_in w h))
+    left_sound w call (Some held) h may =
+        both (left w call (Some held))
+        (given w (left w call (Some held)) call held.write (w.holding call) refl may h
+        (λ y. omega (
+          arith,
+          numbers_stand y (left w call (Some held)),
+          numbers_stand y w,
+          owed_append y w.owed (owed_with w held ∷ []),
+          times_first y (number_of held.write) [],
+        )))
+        (without_call (load_eq eq) w.owners w.owning call (loads_in w h)) (without_call eq w.locks w.locked call (locks_in w h))
+
+    pub heard_sound : (w : DeskPart K V) (call : ℕ) (off : Bool) → SoundDesk eq w → SoundDesk eq (heard w call off)
+    heard_sound w call off h = both (heard w call off) (apart_in w h) (loads_in w h) (locks_in w h)
 
     pub told_sound : TellingKeepsSound K V eq
-    told_sound w call answer h = both (told w call answer) (apart_in w h) (loads_in w h)
+    told_sound w call (answer.Value value) h = both (told w call (answer.Value value)) (apart_in w h) (loads_in w h) (locks_in w h)
+    told_sound w call answer.Done h = heard_sound w call false h
+    told_sound w call answer.Off h = heard_sound w call true h
 
     pub entered_sound : EnteringKeepsSound K V eq
-    entered_sound w n h = both (record w { last = n }) (apart_in w h) (loads_in w h)
+    entered_sound w n h = both (record w { last = n }) (apart_in w h) (loads_in w h) (locks_in w h)
 
     pub clock_sound : ClockKeepsSound K V eq
-    clock_sound w moment h = both (record w { clock = moment }) (apart_in w h) (loads_in w h)
+    clock_sound w moment h = both (record w { clock = moment }) (apart_in w h) (loads_in w h) (locks_in w h)
+
+    locked_sound : IsEquivalence eq → (w : DeskPart K V) (call : ℕ) (key : K) → w.locked call ≡ None → (b : Bool) → is_unlocked_for w call key ≡ b → SoundDesk eq w →
+        SoundDesk eq (locked_by eq w call key b)
+    locked_sound laws w call key idle false e h = h
+    locked_sound laws w call key idle true e h =
+        both (locked_by eq w call key true) (apart_in w h) (loads_in w h)
+        (claims eq w.locks w.locked call key (laws.refl key) (λ a b same. keys_alike key a b same) idle (free (w.locks key) refl e) (locks_in w h))
+      where
+        keys_alike : (k a b : K) → eq a b ≡ true → eq k a ≡ eq k b
+        keys_alike k a b same = laws.symm k a ∙ laws.congr a b k same ∙ laws.symm b k
+
+        -- no call that holds no lock holds this one
+        tested : (holder : ℕ) (b : Bool) → (holder == call) ≡ b → w.locks key ≡ Some holder → b ≡ true → ⊥
+        tested holder false is held ok = false≢true ok
+        tested holder true is held ok =
+            let none : w.locked holder ≡ None = ap w.locked (eqb-true holder call is) ∙ idle in
+            subst (λ o. IsSomeAnd o (λ own. eq own key ≡ true)) none (h.locks key holder held)
+
+        free : (o : Option ℕ) → w.locks key ≡ o → option_map_or (λ holder. holder == call) o true ≡ true → o ≡ None
+        free None held ok = refl
+        free (Some holder) held ok = absurd (tested holder (holder == call) refl held ok)
+
+    unlocked_sound : (w : DeskPart K V) (call : ℕ) → SoundDesk eq w → SoundDesk eq (unlocked w call)
+    unlocked_sound w call h =
+        let d = decided_sound w call h in
+        both (unlocked w call) (apart_in (decided w call) d) (loads_in (decided w call) d) (without_call eq w.locks w.locked call (locks_in w h))
+
+    opened_sound : (w : DeskPart K V) (call : ℕ) (key : K) (value : V) (cause : Cause) → SoundDesk eq w → SoundDesk eq (opened_notice w call key value cause)
+    opened_sound w call key value cause h =
+        let d = decided_sound w call h in
+        both (opened_notice w call key value cause) (apart_in (decided w call) d) (loads_in (decided w call) d) (locks_in (decided w call) d)
 
     pub visit_sound : IsEquivalence eq → VisitsKeepSound K V eq
     visit_sound laws w (visit.Clock call) h may = h
     visit_sound laws w (visit.TakeOwed call) h may = took_sound w call (is_none_of (w.holding call) may) h
+    visit_sound laws w (visit.NoticeEnded call number) h may = h
+    visit_sound laws w (visit.LockKey call key) h may =
+        locked_sound laws w call key (is_none_of (w.locked call) may) (is_unlocked_for w call key) refl h
+    visit_sound laws w (visit.UnlockKey call) h may = unlocked_sound w call h
+    visit_sound laws w (visit.OpenNotice call key value stamp modified cause upsert) h may =
+        opened_sound w call key value (cause_of w stamp modified cause upsert) h
     visit_sound laws w (visit.StampMoment call) h may = stamped_sound w call (is_none_of (w.holding call) may.0) may.1 h
-    visit_sound laws w (visit.Judge key stored) h may = both (makes eq w (visit.Judge key stored)) (apart_in w h) (loads_in w h)
+    visit_sound laws w (visit.Judge key stored) h may = both (makes eq w (visit.Judge key stored)) (apart_in w h) (loads_in w h) (locks_in w h)
     visit_sound laws w (visit.WaitOrOwn call key kind) h may =
         let load : Load K = record { key = key; kind = kind } in
         claimed_sound laws w call load (is_none_of (w.owning call) may.0) (w.owners load) refl h
     visit_sound laws w (visit.ReadSettled call) h may = read_sound w call h
-    visit_sound laws w (visit.Settle call with) h may = both (makes eq w (visit.Settle call with)) (apart_in w h) (without_call w call (loads_in w h))
-    visit_sound laws w (visit.OpenAsk call takes) h may = both (makes eq w (visit.OpenAsk call takes)) (apart_in w h) (loads_in w h)
-    visit_sound laws w (visit.TakeTold call) h may = both (makes eq w (visit.TakeTold call)) (apart_in w h) (loads_in w h)
+    visit_sound laws w (visit.Settle call with) h may = both (makes eq w (visit.Settle call with)) (apart_in w h) (without_call (load_eq eq) w.owners w.owning call (loads_in w h)) (locks_in w h)
+    visit_sound laws w (visit.OpenAsk call takes) h may = both (makes eq w (visit.OpenAsk call takes)) (apart_in w h) (loads_in w h) (locks_in w h)
+    visit_sound laws w (visit.TakeTold call) h may = both (makes eq w (visit.TakeTold call)) (apart_in w h) (loads_in w h) (locks_in w h)
     visit_sound laws w (visit.PostWrite call write) h may = posted_sound w call write may h
-    visit_sound laws w (visit.TakeTurn call) h may = both (makes eq w (visit.TakeTurn call)) (apart_in w h) (loads_in w h)
+    visit_sound laws w (visit.TakeTurn call) h may = both (makes eq w (visit.TakeTurn call)) (apart_in w h) (loads_in w h) (locks_in w h)
     visit_sound laws w (visit.ApplyOne call) h may = applied_sound w call h
-    visit_sound laws w (visit.EndTurn call) h may = both (makes eq w (visit.EndTurn call)) (apart_in w h) (loads_in w h)
+    visit_sound laws w (visit.EndTurn call) h may = both (makes eq w (visit.EndTurn call)) (apart_in w h) (loads_in w h) (locks_in w h)

@@ -8,6 +8,7 @@ use Rattle.moka_hist.specs.Bound.{times_of, stayed, decided_by, most_undecided}
 use Rattle.moka_hist.specs.Next.{Next, waits}
 use Rattle.moka_hist.specs.Step.{Access, On_table, On_desk, access_for, access_of, after_table, after_visit, next_of, Gets, state_after, Step}
 use Rattle.moka_hist.specs.declared.records.Mode.{Mode}
+use Rattle.moka_hist.specs.declared.rules.Rules.{Rules}
 use Rattle.moka_hist.specs.declared.accesses.Got.{Got}
 use Rattle.moka_hist.specs.declared.accesses.Got.TheVariants as got
 use Rattle.moka_hist.specs.declared.accesses.Turn.{Turn}
@@ -44,16 +45,16 @@ module _ {K V : Type 0} (eq : K → K → Bool) where
   by_access M w n c item rest (On_table op) (got.Desk f) new h m = absurd h
   by_access M w n c item rest (On_desk made) (got.Table turn) new h m = absurd h
 
-  by_plan : (M : World K V → Next K V → Type 0) (w : World K V) (n : ℕ) (mode : Mode) (plan : List (Item K V)) (aborts : ℕ)
+  by_plan : (M : World K V → Next K V → Type 0) (w : World K V) (n : ℕ) (rules : Rules) (mode : Mode) (plan : List (Item K V)) (aborts : ℕ)
       (given : Got K V) (new : World K V) →
-      let c : Call K V = record { mode = mode; plan = plan; aborts = aborts } in
+      let c : Call K V = record { rules = rules; mode = mode; plan = plan; aborts = aborts } in
       Gets eq n w (access_of n c) given new → OnStep M w n c plan → M new (next_of n c given)
-  by_plan M w n mode [] aborts (got.Desk f) new h m = rw h.1 m
-  by_plan M w n mode [] aborts (got.Table turn) new h m = absurd h
-  by_plan M w n mode (item ∷ rest) aborts (got.Table turn) new h m = by_access M w n
-      (record { mode = mode; plan = item ∷ rest; aborts = aborts }) item rest (access_for n item) (got.Table turn) new h m
-  by_plan M w n mode (item ∷ rest) aborts (got.Desk f) new h m = by_access M w n
-      (record { mode = mode; plan = item ∷ rest; aborts = aborts }) item rest (access_for n item) (got.Desk f) new h m
+  by_plan M w n rules mode [] aborts (got.Desk f) new h m = rw h.1 m
+  by_plan M w n rules mode [] aborts (got.Table turn) new h m = absurd h
+  by_plan M w n rules mode (item ∷ rest) aborts (got.Table turn) new h m = by_access M w n
+      (record { rules = rules; mode = mode; plan = item ∷ rest; aborts = aborts }) item rest (access_for n item) (got.Table turn) new h m
+  by_plan M w n rules mode (item ∷ rest) aborts (got.Desk f) new h m = by_access M w n
+      (record { rules = rules; mode = mode; plan = item ∷ rest; aborts = aborts }) item rest (access_for n item) (got.Desk f) new h m
 
   more_access : (M N : World K V → Next K V → Type 0) → ((w : World K V) (next : Next K V) → M w next → N w next) →
       (w : World K V) (n : ℕ) (c : Call K V) (item : Item K V) (rest : List (Item K V)) (a : Access K V) → OnAccess M w n c item rest a →
@@ -67,7 +68,7 @@ module _ {K V : Type 0} (eq : K → K → Bool) where
   more_step M N f w n c (item ∷ rest) m = more_access M N f w n c item rest (access_for n item) m
 
   -- what follows from all that a step may make holds of what it made
-  pub step_cases : (M : World K V → Next K V → Type 0) (P : State K V → Turn V → Type 0) (s t : State K V) (n : ℕ) (turn : Turn V)
+  pub step_cases : (M : World K V → Next K V → Type 0) (P : State K V → Turn K V → Type 0) (s t : State K V) (n : ℕ) (turn : Turn K V)
       (step : Step eq s n turn t) →
       OnStep M s.world n step.call step.call.plan → ((w : World K V) (next : Next K V) → M w next → P (state_after s n w next) next.turn) → P t turn
   step_cases M P s t n turn step cases follows =
@@ -75,5 +76,5 @@ module _ {K V : Type 0} (eq : K → K → Bool) where
       let on_plan : OnStep (λ w next. P (state_after s n w next) next.turn) s.world n c c.plan = more_step M
       (λ w next. P (state_after s n w next) next.turn) follows s.world n c c.plan cases in
       let p : P (state_after s n step.world (next_of n c step.given)) (next_of n c step.given).turn =
-      by_plan (λ w next. P (state_after s n w next) next.turn) s.world n c.mode c.plan c.aborts step.given step.world step.gets on_plan in
+      by_plan (λ w next. P (state_after s n w next) next.turn) s.world n c.rules c.mode c.plan c.aborts step.given step.world step.gets on_plan in
       subst (λ v. P v turn) (sym step.after) (subst (λ v. P (state_after s n step.world (next_of n c step.given)) v) (sym step.turns) p)

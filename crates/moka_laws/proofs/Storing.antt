@@ -1,5 +1,5 @@
 -- A call whose answer says that it has stored a value has committed its write.
-use Rattle.std.proofs.Common.{◌≡◌, ℕ, ◌+◌, ◌≤◌, ◌==◌, Bool, true, false, cond, List, [], ◌∷◌, Some, None, refl, sym, ap, subst, arith}
+use Rattle.std.proofs.Common.{◌≡◌, ℕ, ◌+◌, ◌≤◌, ◌==◌, Bool, true, false, cond, List, [], ◌∷◌, ◌++◌, Some, None, refl, sym, ap, subst, arith}
 use Rattle.moka_hist.specs.Finite.{put_at, times}
 use Rattle.moka_hist.specs.State.{State, World, Call}
 use Rattle.moka_hist.specs.Plan.{Item, Aim, plan_of}
@@ -10,6 +10,7 @@ use Rattle.moka_hist.specs.Loading.{after_read, after_told, after_abort, retries
 use Rattle.moka_hist.specs.Run.{fresh_call}
 use Rattle.moka_hist.specs.declared.accesses.Turn.{Turn}
 use Rattle.moka_hist.specs.declared.accesses.Turn.TheVariants as turn
+use Rattle.moka_hist.specs.declared.rules.Rules.{Rules}
 use Rattle.moka_hist.specs.declared.events.Start.{Start}
 use Rattle.moka_hist.specs.declared.events.Start.TheVariants as start
 use Rattle.moka_hist.specs.declared.events.Told.{Told}
@@ -28,6 +29,7 @@ use Rattle.moka_laws.proofs.OnePlace.{times_contains}
 use Rattle.moka_laws.proofs.Owning.{plan_left}
 use Rattle.moka_laws.proofs.Roles.{IsLast}
 use Rattle.moka_laws.proofs.Safe.{IsWell, well_kept}
+use Rattle.moka_laws.proofs.Rules.{put_plans}
 use Rattle.moka_laws.proofs.Kept.{IsKept, in_reached}
 use Rattle.moka_laws.proofs.StepCases.{OnStep, step_cases}
 use Rattle.moka_laws.proofs.Outcomes.{Outcomes, outcomes}
@@ -36,7 +38,7 @@ use Rattle.moka_laws.proofs.Outcomes.{Outcomes, outcomes}
 abbrev stored : {V : Type 0} → Answer V → ℕ
 stored a = cond (says_stored a) 1 0
 
-same_answer : {V : Type 0} (a b : Answer V) → ◌≡◌ {A = Turn V} (turn.Answer a) (turn.Answer b) → a ≡ b
+same_answer : {K V : Type 0} (a b : Answer V) → ◌≡◌ {A = Turn K V} (turn.Answer a) (turn.Answer b) → a ≡ b
 same_answer a b e = cc
 
 module _ {K V : Type 0} where
@@ -85,13 +87,17 @@ module _ {K V : Type 0} where
 
     told_says : (c : Call K V) (load : Load K) (given : Told V) → weigh says c.plan ≤ weigh makes c.plan + k →
         Says k (after_told c load (found.TakeTold (Some given)))
-    told_says c load (answer.Value value) p = record { left = omega arith; now = λ b e. cc }
+    told_says c load (answer.Value value) p =
+        put_plans (λ q. Says k (goes c q)) c.rules load.key value (plan.Settle (settled.Ready value) ∷ plan.Reply (reply.Loaded value true) ∷ [])
+        (record { left = omega arith; now = λ b e. cc }) (record { left = omega arith; now = λ b e. cc })
     told_says c load answer.Done p = record { left = p; now = λ b e. cc }
+    told_says c load answer.Off p = record { left = p; now = λ b e. cc }
 
-  fresh_says : (s : Start K V) → weigh says (plan_of s) ≤ weigh makes (plan_of s)
-  fresh_says (start.Get key) = omega arith
-  fresh_says (start.Insert key value) = omega arith
-  fresh_says (start.GetWith key) = omega arith
+  fresh_says : (rules : Rules) (s : Start K V) → weigh says (plan_of rules s) ≤ weigh makes (plan_of rules s)
+  fresh_says rules (start.Get key) = omega arith
+  fresh_says rules (start.Insert key value) =
+      put_plans (λ p. weigh says p ≤ weigh makes p) rules key value (plan.Reply reply.Done ∷ []) (omega arith) (omega arith)
+  fresh_says rules (start.GetWith key) = omega arith
 
   -- what a step has to show
   record Leaves (w : World K V) (n : ℕ) (new : World K V) (next : Next K V) : Type 0 where
@@ -105,7 +111,17 @@ module _ {K V : Type 0} where
 
     on_item : (item : Item K V) (rest : List (Item K V)) → IsLast (item ∷ rest) → weigh says c.plan ≤ weigh makes c.plan + times n w.table.committed →
         weigh says (item ∷ rest) ≤ weigh makes (item ∷ rest) + times n w.table.committed → Outcomes eq (Leaves w n) w n c item rest
-    on_item plan.Drain rest l p q = (λ e. none refl (goes_says _ c rest (omega arith)), λ x xs e. none refl (record { left = omega arith; now = λ b e. cc }))
+    on_item plan.Drain rest l p q = (
+      λ e. none refl (goes_says _ c rest (omega arith)),
+      λ x xs e. none refl (record { left = omega arith; now = λ b e. cc }),
+      λ x number xs e. none refl (record { left = omega arith; now = λ b e. cc }),
+    )
+    on_item (plan.Ended number) rest l p q =
+        (λ e. none refl (goes_says _ c rest (omega arith)), λ e. none refl (record { left = p; now = λ b e. cc }))
+    on_item plan.Heard rest l p q = (λ e. none refl (goes_says _ c rest (omega arith)), λ e. none refl (record { left = p; now = λ b e. cc }))
+    on_item (plan.Lock key) rest l p q = (λ e. none refl (goes_says _ c rest (omega arith)), λ e. none refl (record { left = p; now = λ b e. cc }))
+    on_item plan.Unlock rest l p q = none refl (goes_says _ c rest (omega arith))
+    on_item (plan.Notice key old) rest l p q = (λ e. none refl (goes_says _ c rest (omega arith)), λ e. none refl (record { left = omega arith; now = λ b e. cc }))
     on_item (plan.Post write) rest l p q = (λ e. none refl (goes_says _ c rest (omega arith)), λ e. none refl (record { left = omega arith; now = λ b e. cc }))
     on_item plan.Turn rest l p q = (λ e. none refl (goes_says _ c rest (omega arith)), λ e. none refl (record { left = p; now = λ b e. cc }))
     on_item plan.Apply rest l p q = (λ e. none refl (goes_says _ c rest (omega arith)), λ x xs e. none refl (record { left = omega arith; now = λ b e. cc }))
@@ -121,11 +137,16 @@ module _ {K V : Type 0} where
     on_item (plan.Moment key value) rest l p q = none refl (record { left = omega arith; now = λ b e. cc })
     on_item (plan.Write key value moment) rest l p q = (
       λ more. none refl (record { left = p; now = λ b e. cc }),
-      record {
-        own = record { left = omega (arith, times_last n n w.table.committed, ap (λ b. cond {A = ℕ} b 1 0) (same_number n)); now = λ b e. cc };
-        others = λ m h. omega (arith, times_last m n w.table.committed, ap (λ b. cond {A = ℕ} b 1 0) (other_number n m h));
-      },
+      λ off old. record { own = record { left = omega (arith, one); now = λ b e. cc }; others = theirs },
+      λ on. record { own = record { left = omega (arith, one); now = λ b e. cc }; others = theirs },
+      λ k old on some. record { own = record { left = omega (arith, one); now = λ b e. cc }; others = theirs },
     )
+      where
+        one : times n (w.table.committed ++ n ∷ []) ≡ times n w.table.committed + 1
+        one = omega (arith, times_last n n w.table.committed, ap (λ b. cond {A = ℕ} b 1 0) (same_number n))
+
+        theirs : (m : ℕ) → (n == m) ≡ false → times m (w.table.committed ++ n ∷ []) ≡ times m w.table.committed
+        theirs m h = omega (arith, times_last m n w.table.committed, ap (λ b. cond {A = ℕ} b 1 0) (other_number n m h))
     on_item (plan.Reply a) rest l p q =
         let alone : weigh says (plan.Reply a ∷ []) ≤ weigh makes (plan.Reply a ∷ []) + times n w.table.committed =
         subst (λ v. weigh says (plan.Reply a ∷ v) ≤ weigh makes (plan.Reply a ∷ v) + times n w.table.committed) l q in
@@ -155,13 +176,13 @@ module _ {K V : Type 0} (eq : K → K → Bool) where
 
   saying_kept : IsKept eq IsSaying
   saying_kept = record {
-    fresh = λ size has_log. record { well = (well_kept eq).fresh size has_log; says = λ n c live. absurd (none_some live) };
+    fresh = λ rules size has_log. record { well = (well_kept eq).fresh rules size has_log; says = λ n c live. absurd (none_some live) };
     at = λ s moment i. record { well = (well_kept eq).at s moment i.well; says = i.says };
     start = λ s start i. record {
       well = (well_kept eq).start s start i.well;
-      says = λ m d live. put_cases s.calls (s.world.desk.last + 1) (Some (fresh_call start)) m (Some d)
+      says = λ m d live. put_cases s.calls (s.world.desk.last + 1) (Some (fresh_call s.world.desk.rules start)) m (Some d)
           (weigh says d.plan ≤ weigh makes d.plan + times m s.world.table.committed) live
-          (λ here is. subst (λ v. weigh_call says v ≤ weigh_call makes v + times m s.world.table.committed) is (omega (arith, fresh_says start)))
+          (λ here is. subst (λ v. weigh_call says v ≤ weigh_call makes v + times m s.world.table.committed) is (omega (arith, fresh_says s.world.desk.rules start)))
           (λ there is. i.says m d is);
     };
     step = λ s t n turn i step. record {
@@ -172,6 +193,7 @@ module _ {K V : Type 0} (eq : K → K → Bool) where
           (λ w next b. says_on s n w next i b);
     };
     tell = λ s n given asked i. record { well = (well_kept eq).tell s n given asked i.well; says = i.says };
+    hear = λ s n off running i. record { well = (well_kept eq).hear s n off running i.well; says = i.says };
     drop = λ s n c live between i. record {
       well = (well_kept eq).drop s n c live between i.well;
       says = λ m d lives. put_cases s.calls n None m (Some d) (weigh says d.plan ≤ weigh makes d.plan + times m s.world.table.committed) lives
@@ -182,7 +204,7 @@ module _ {K V : Type 0} (eq : K → K → Bool) where
   pub stored_committed : StoredIsCommitted K V eq
   stored_committed s t n a h step says =
       let i : IsSaying s = in_reached eq IsSaying saying_kept s h in
-      let enough : (b : Answer V) → ◌≡◌ {A = Turn V} (turn.Answer a) (turn.Answer b) → stored b ≤ times n t.world.table.committed =
+      let enough : (b : Answer V) → ◌≡◌ {A = Turn K V} (turn.Answer a) (turn.Answer b) → stored b ≤ times n t.world.table.committed =
       step_cases eq (Leaves s.world n) (λ v r. (b : Answer V) → r ≡ turn.Answer b → stored b ≤ times n v.world.table.committed) s t n (turn.Answer a) step
       (on_plan eq s.world n step.call step.call.plan refl (last_of s n step.call i.well step.live) (i.says n step.call step.live))
       (λ w next l. l.own.now) in

@@ -76,3 +76,9 @@ sum_has (suc k) f h = by (f (suc k)) refl (sum_has k f)
     by : (v : ℕ) → f (suc k) ≡ v → (0 < sum_to k f → (n : ℕ) × (0 < f n)) → (n : ℕ) × (0 < f n)
     by zero e below = below (omega arith)
     by (suc v) e below = (suc k, omega arith)
+
+-- a sum of less is less
+pub sum_few : (k : ℕ) (f g : ℕ → ℕ) → ((m : ℕ) → f m ≤ g m) → sum_to k f ≤ sum_to k g
+unfolding sum_to
+sum_few zero f g h = h 0
+sum_few (suc k) f g h = let e = sum_few k f g h in omega (arith, h (suc k))

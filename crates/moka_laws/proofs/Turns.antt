@@ -14,6 +14,7 @@ use Rattle.moka_hist.specs.Step.{Step}
 use Rattle.moka_hist.specs.Run.{IsReached, fresh_call}
 use Rattle.moka_hist.specs.declared.records.Mode.TheVariants as mode
 use Rattle.moka_hist.specs.declared.loads.Load.{Load}
+use Rattle.moka_hist.specs.declared.rules.Rules.{Rules}
 use Rattle.moka_hist.specs.declared.events.Start.{Start}
 use Rattle.moka_hist.specs.declared.events.Start.TheVariants as start
 use Rattle.moka_hist.specs.declared.events.Told.{Told}
@@ -23,6 +24,7 @@ use Rattle.moka_hist.specs.declared.visits.Settled.TheVariants as settled
 use Rattle.moka_hist.specs.declared.visits.Found.TheVariants as found
 use Rattle.moka_hist.specs.declared.accesses.Turn.{Turn}
 use Rattle.moka_laws.specs.Missing.{TurnIsHeld, AppliesLog, IsApplying}
+use Rattle.moka_laws.proofs.Rules.{put_plans}
 use Rattle.moka_laws.proofs.Counting.{none_some, some_same, put_here, put_there, differ_not, other_number}
 use Rattle.moka_laws.proofs.Weights.{weigh}
 use Rattle.moka_laws.proofs.Balance.{IsBalanced}
@@ -132,13 +134,15 @@ module _ {K V : Type 0} where
 
   told_calm : (c : Call K V) (load : Load K) (given : Told V) → weigh of_turn c.plan ≡ 0 →
       weigh of_turn (plan_left (after_told c load (found.TakeTold (Some given))).left) ≡ 0
-  told_calm c load (answer.Value value) h = refl
+  told_calm c load (answer.Value value) h = put_plans (λ p. weigh of_turn (plan_left (goes c p).left) ≡ 0) c.rules load.key value _ refl refl
   told_calm c load answer.Done h = h
+  told_calm c load answer.Off h = h
 
-  fresh_calm : (start : Start K V) → weigh of_turn (plan_of start) ≡ 0
-  fresh_calm (start.Get key) = refl
-  fresh_calm (start.Insert key value) = refl
-  fresh_calm (start.GetWith key) = refl
+  fresh_calm : (rules : Rules) (start : Start K V) → weigh of_turn (plan_of rules start) ≡ 0
+  fresh_calm rules (start.Get key) = refl
+  fresh_calm rules (start.Insert key value) =
+      put_plans (λ p. weigh of_turn p ≡ 0) rules key value _ (refl) (refl)
+  fresh_calm rules (start.GetWith key) = refl
 
   -- ---- a step
 
@@ -166,7 +170,22 @@ module _ {K V : Type 0} where
 
     on_item : (item : Item K V) (rest : List (Item K V)) → c.plan ≡ item ∷ rest → TurnFits w.desk.turn n (item ∷ rest) →
         Outcomes eq Leaves w n c item rest
-    on_item plan.Drain rest e q = (λ none. calm _ n (goes_calm c rest q.first) q.has, λ x xs some. calm _ n (omega (arith, q.first)) q.has)
+    on_item plan.Drain rest e q = (
+      λ none. calm _ n (goes_calm c rest q.first) q.has,
+      λ x xs some. calm _ n (omega (arith, q.first)) q.has,
+      λ x number xs some. calm _ n (omega (arith, q.first)) q.has,
+    )
+    on_item (plan.Ended number) rest e q =
+        let c_calm : weigh of_turn c.plan ≡ 0 = omega (arith, ap (weigh of_turn) e, q.first) in
+        (λ ended. calm _ n (goes_calm c rest q.first) q.has, λ runs. calm _ n c_calm q.has)
+    on_item plan.Heard rest e q =
+        let c_calm : weigh of_turn c.plan ≡ 0 = omega (arith, ap (weigh of_turn) e, q.first) in
+        (λ ended. calm _ n (goes_calm c rest q.first) q.has, λ runs. calm _ n c_calm q.has)
+    on_item (plan.Lock key) rest e q =
+        let c_calm : weigh of_turn c.plan ≡ 0 = omega (arith, ap (weigh of_turn) e, q.first) in
+        (λ free. calm _ n (goes_calm c rest q.first) q.has, λ held. calm _ n c_calm q.has)
+    on_item plan.Unlock rest e q = calm _ n (goes_calm c rest q.first) q.has
+    on_item (plan.Notice key old) rest e q = (λ off. calm _ n (goes_calm c rest q.first) q.has, λ on. calm _ n (omega (arith, q.first)) q.has)
     on_item (plan.Post write) rest e q = (
       λ room. calm _ n (goes_calm c rest q.first) q.has,
       λ full. record {
@@ -211,8 +230,12 @@ module _ {K V : Type 0} where
         (λ none. calm _ n c_calm q.has, λ given some. calm _ n (told_calm c load given c_calm) q.has)
     on_item (plan.Moment key value) rest e q = calm _ n (omega (arith, q.first)) q.has
     on_item (plan.Write key value moment) rest e q =
-        let c_calm : weigh of_turn c.plan ≡ 0 = omega (arith, ap (weigh of_turn) e, q.first) in
-        ((λ more. calm _ n c_calm q.has), calm _ n (omega (arith, q.first)) q.has)
+        let c_calm : weigh of_turn c.plan ≡ 0 = omega (arith, ap (weigh of_turn) e, q.first) in (
+          (λ more. calm _ n c_calm q.has),
+          (λ off old. calm _ n (omega (arith, q.first)) q.has),
+          (λ on. calm _ n (omega (arith, q.first)) q.has),
+          λ k old on some. calm _ n (omega (arith, q.first)) q.has,
+        )
     on_item (plan.Reply answer) rest e q = calm _ n refl q.has
 
     on_plan : (plan : List (Item K V)) → c.plan ≡ plan → TurnFits w.desk.turn n c.plan → OnStep eq Leaves w n c plan
@@ -248,7 +271,7 @@ module _ {K V : Type 0} where
       between m false e = subst (λ v. InTurn (plan_left v) → IsMid v) (sym (put_there s.calls n left m e)) (i.mid m)
 
 module _ {K V : Type 0} (eq : K → K → Bool) where
-  turning_step : (s t : State K V) (n : ℕ) (turn : Turn V) → IsTurning s → Step eq s n turn t → IsTurning t
+  turning_step : (s t : State K V) (n : ℕ) (turn : Turn K V) → IsTurning s → Step eq s n turn t → IsTurning t
   turning_step s t n turn i step =
       let c : Call K V = step.call in
       let fits : TurnFits s.world.desk.turn n c.plan = subst (λ v. TurnFits s.world.desk.turn n (plan_left v)) step.live (i.fits n) in
@@ -259,8 +282,8 @@ module _ {K V : Type 0} (eq : K → K → Bool) where
 
   pub turning_kept : IsKept eq (IsTurning {K = K} {V = V})
   turning_kept = record {
-    fresh = λ size has_log. record {
-      balanced = (balanced_kept eq).fresh size has_log;
+    fresh = λ rules size has_log. record {
+      balanced = (balanced_kept eq).fresh rules size has_log;
       fits = λ n. record { first = tt; has = λ e. absurd (none_some e); applies = λ t. absurd t };
       mid = λ n t. t;
     };
@@ -268,11 +291,13 @@ module _ {K V : Type 0} (eq : K → K → Bool) where
     start = λ s start i.
         let new : ℕ = s.world.desk.last + 1 in
         let free : plan_left (s.calls new) ≡ [] = ap plan_left (next_free s i.balanced) in
-        turns s new _ (Some (fresh_call start)) i
-        (calm s.world.desk.turn new (fresh_calm start) (λ e. subst InTurn free ((i.fits new).has e)))
+        turns s new _ (Some (fresh_call s.world.desk.rules start)) i
+        (calm s.world.desk.turn new (fresh_calm s.world.desk.rules start) (λ e. subst InTurn free ((i.fits new).has e)))
         ((balanced_kept eq).start s start i.balanced);
     step = turning_step;
     tell = λ s n given asked i. record { balanced = (balanced_kept eq).tell s n given asked i.balanced; fits = i.fits; mid = i.mid };
+    hear = λ s n off running i.
+        record { balanced = (balanced_kept eq).hear s n off running i.balanced; fits = i.fits; mid = i.mid };
     drop = λ s n c live between i.
         let idle : s.world.desk.turn ≢ Some n = λ e. between (subst IsMid live (i.mid n ((i.fits n).has e))) in
         turns s n _ None i (calm s.world.desk.turn n refl idle) ((balanced_kept eq).drop s n c live between i.balanced);

@@ -1,10 +1,10 @@
 -- An insert and then a get, with no step of others between.
 use Rattle.std.proofs.Common.{◌≡◌, ℕ, zero, suc, ◌+◌, Bool, true, cond, List, [], ◌∷◌, Option, Some, refl, sym, ap, ◌∙◌, subst}
 use Rattle.moka_hist.specs.State.{State, World, Call, DeskPart}
-use Rattle.moka_hist.specs.Plan.{Item}
+use Rattle.moka_hist.specs.Plan.{Item, plan_of}
 use Rattle.moka_hist.specs.Plan as plan
 use Rattle.moka_hist.specs.Next.{Next, goes, answers, waits}
-use Rattle.moka_hist.specs.Tables.{answer_of}
+use Rattle.moka_hist.specs.Tables.{answer_of, written}
 use Rattle.moka_hist.specs.Step.{Step}
 use Rattle.moka_hist.specs.Run.{Goings, Any, started, fresh_call}
 use Rattle.moka_hist.specs.declared.accesses.Turn.{Turn}
@@ -16,10 +16,11 @@ use Rattle.moka_hist.specs.declared.replies.Answer.{Answer}
 use Rattle.moka_hist.specs.declared.replies.Answer.TheVariants as answer
 use Rattle.moka_laws.specs.Alone.{AnswersAlone, InsertThenGet}
 use Rattle.moka_laws.proofs.Counting.{some_same, put_here}
+use Rattle.moka_laws.proofs.Rules.{put_plans}
 use Rattle.moka_laws.proofs.StepCases.{OnStep, step_cases}
 use Rattle.moka_laws.proofs.Outcomes.{outcomes, on_desk}
 
-same_answer : {V : Type 0} (a b : Answer V) → ◌≡◌ {A = Turn V} (turn.Answer a) (turn.Answer b) → a ≡ b
+same_answer : {K V : Type 0} (a b : Answer V) → ◌≡◌ {A = Turn K V} (turn.Answer a) (turn.Answer b) → a ≡ b
 same_answer a b e = cc
 
 -- what is stored by key
@@ -27,8 +28,14 @@ abbrev Map : Type 0 → Type 0 → Type 0
 Map K V = K → Option (K × Stored V)
 
 module _ {K V : Type 0} where
-  -- the item takes owed writes up, or posts one
+  -- the item neither looks a key up nor stores anything: it takes owed writes up, posts one, or has part
+  -- in a lock or a notice
   abbrev IsPosting : Item K V → Type 0
+  IsPosting (plan.Ended number) = Unit {0}
+  IsPosting (plan.Lock key) = Unit {0}
+  IsPosting plan.Unlock = Unit {0}
+  IsPosting (plan.Notice key old) = Unit {0}
+  IsPosting plan.Heard = Unit {0}
   IsPosting plan.Drain = Unit {0}
   IsPosting (plan.Post write) = Unit {0}
   IsPosting plan.Turn = Unit {0}
@@ -36,7 +43,7 @@ module _ {K V : Type 0} where
   IsPosting plan.End = Unit {0}
   IsPosting _ = ⊥
 
-  -- the plan takes up and posts writes, and then is this one
+  -- the plan has such items, and then is this one
   data Before (last : List (Item K V)) : List (Item K V) → Type 0 where
     Here : Before last last
     Then : (item : Item K V) (rest : List (Item K V)) → IsPosting item → Before last rest → Before last (item ∷ rest)
@@ -48,6 +55,11 @@ module _ {K V : Type 0} where
   before_reply last a p e (Then plan.Turn rest i b) = cc
   before_reply last a p e (Then plan.Apply rest i b) = cc
   before_reply last a p e (Then plan.End rest i b) = cc
+  before_reply last a p e (Then (plan.Ended number) rest i b) = cc
+  before_reply last a p e (Then (plan.Lock key) rest i b) = cc
+  before_reply last a p e (Then plan.Unlock rest i b) = cc
+  before_reply last a p e (Then (plan.Notice key old) rest i b) = cc
+  before_reply last a p e (Then plan.Heard rest i b) = cc
   before_reply last a p e (Then _ rest i b) = absurd i
 
   module _ (Phase : Map K V → List (Item K V) → Type 0) (Ends : Map K V → Answer V → Type 0) where
@@ -84,7 +96,15 @@ module _ {K V : Type 0} where
       before_step p here (Then plan.Drain rest i b) = outcomes eq Goes w n c plan.Drain rest (
         (λ e. follows w.desk rest b),
         λ x xs e. on (on_desk eq w _) c (plan.Post x ∷ plan.Drain ∷ rest) (phase _ (Then (plan.Post x) (plan.Drain ∷ rest) tt (Then plan.Drain rest tt b))),
+        λ x number xs e. on (on_desk eq w _) c (plan.Ended number ∷ plan.Post x ∷ plan.Drain ∷ rest)
+            (phase _ (Then (plan.Ended number) _ tt (Then (plan.Post x) (plan.Drain ∷ rest) tt (Then plan.Drain rest tt b)))),
       )
+      before_step p here (Then (plan.Ended number) rest i b) = outcomes eq Goes w n c (plan.Ended number) rest ((λ e. follows w.desk rest b), λ e. parks w c)
+      before_step p here (Then (plan.Lock key) rest i b) = outcomes eq Goes w n c (plan.Lock key) rest ((λ e. follows _ rest b), λ e. parks w c)
+      before_step p here (Then plan.Unlock rest i b) = outcomes eq Goes w n c plan.Unlock rest (follows _ rest b)
+      before_step p here (Then (plan.Notice key old) rest i b) = outcomes eq Goes w n c (plan.Notice key old) rest
+          ((λ e. follows _ rest b), λ e. record { going = λ f. cc; ends = λ a f. cc })
+      before_step p here (Then plan.Heard rest i b) = outcomes eq Goes w n c plan.Heard rest ((λ e. follows w.desk rest b), λ e. parks w c)
       before_step p here (Then (plan.Post write) rest i b) = outcomes eq Goes w n c (plan.Post write) rest (
         (λ e. follows _ rest b),
         λ e. on (on_desk eq w _) c (plan.Turn ∷ plan.Apply ∷ plan.End ∷ plan.Post write ∷ rest)
@@ -104,7 +124,7 @@ module _ {K V : Type 0} where
       In s = (c : Call K V) × (s.calls n ≡ Some c) × Phase s.world.table.stored c.plan
 
       -- each step leaves it in the phase, or ends it
-      one_step : (s t : State K V) (r : Turn V) → In s → Step eq s n r t → (r ≡ turn.Going → In t) × ((a : Answer V) → r ≡ turn.Answer a → Ends t.world.table.stored a)
+      one_step : (s t : State K V) (r : Turn K V) → In s → Step eq s n r t → (r ≡ turn.Going → In t) × ((a : Answer V) → r ≡ turn.Answer a → Ends t.world.table.stored a)
       one_step s t r i step =
           let is : i.0 ≡ step.call = some_same (sym i.1 ∙ step.live) in
           step_cases eq Goes (λ v r. (r ≡ turn.Going → In v) × ((a : Answer V) → r ≡ turn.Answer a → Ends v.world.table.stored a)) s t n r step
@@ -144,9 +164,18 @@ module _ {K V : Type 0} (eq : K → K → Bool) (key q : K) (value : V) (same : 
       (on Inserts Inserted (on_desk eq w _) c _ (Writing w.desk.clock))) b
   inserts n w c p e (Writing moment) = outcomes eq (Goes Inserts Inserted) w n c (plan.Write key value moment) (plan.Reply answer.Done ∷ []) (
     (λ more. record { going = λ f. (record c { mode = mode.Mid }, refl, subst (Inserts w.table.stored) (sym e) (Writing moment)); ends = λ a f. cc }),
-    on Inserts Inserted _ c _ (Late _ (key, record { value = value; stamp = n; modified = moment }, ap (λ b. cond b (Some (key, record { value = value; stamp = n; modified = moment })) (w.table.stored q)) same, refl)
-        (Then (plan.Post _) _ tt Here)),
+    λ off old. on Inserts Inserted _ c _ (Late _ has (Then (plan.Post _) _ tt Here)),
+    λ l. on Inserts Inserted _ c _ (Late _ has (Then plan.Unlock _ tt (Then (plan.Post _) _ tt Here))),
+    λ k old l some. on Inserts Inserted _ c _ (Late _ has (Then (plan.Notice key old) _ tt (Then plan.Unlock _ tt (Then (plan.Post _) _ tt Here)))),
   )
+    where
+      has : Has (written eq n w.table key (record { value = value; stamp = n; modified = moment })).stored
+      has = (
+        key,
+        record { value = value; stamp = n; modified = moment },
+        ap (λ b. cond b (Some (key, record { value = value; stamp = n; modified = moment })) (w.table.stored q)) same,
+        refl,
+      )
   inserts n w c p e (Late q has b) =
       before_step Inserts Inserted eq w n c (plan.Reply answer.Done ∷ []) (λ r d. Late r has d) (λ a f. has) p
       (outcomes eq (Goes Inserts Inserted) w n c (plan.Reply answer.Done) [] (ended Inserts Inserted w answer.Done has)) b
@@ -172,14 +201,18 @@ module _ {K V : Type 0} (eq : K → K → Bool) (key q : K) (value : V) (same : 
 
   -- ---- both
 
-  found : (s t u : State K V) (n : ℕ) (a : Answer V) → s.calls n ≡ Some (fresh_call (start.Insert key value)) → AnswersAlone eq s n answer.Done t →
+  found : (s t u : State K V) (n : ℕ) (a : Answer V) → s.calls n ≡ Some (fresh_call s.world.desk.rules (start.Insert key value)) → AnswersAlone eq s n answer.Done t →
       AnswersAlone eq (started t (start.Get q)) (t.world.desk.last + 1) a u → a ≡ answer.Found (Some value)
   found s t u n a live inserted got =
       let has : Has t.world.table.stored =
       in_end Inserts Inserted eq n (λ w c p. inserts n w c c.plan refl p) s t answer.Done
-      (fresh_call (start.Insert key value), live, Early _ (Then plan.Drain _ tt Here)) inserted in
+      (fresh_call s.world.desk.rules (start.Insert key value), live, early) inserted in
       in_end Looks Finds eq (t.world.desk.last + 1) (λ w c p. looks (t.world.desk.last + 1) w c c.plan refl p) (started t (start.Get q)) u a
-      (fresh_call (start.Get q), put_here t.calls (t.world.desk.last + 1) (Some (fresh_call (start.Get q))), Seeking _ has (Then plan.Drain _ tt Here)) got
+      (fresh_call t.world.desk.rules (start.Get q), put_here t.calls (t.world.desk.last + 1) (Some (fresh_call t.world.desk.rules (start.Get q))), Seeking _ has (Then plan.Drain _ tt Here)) got
+    where
+      early : Inserts s.world.table.stored (plan_of s.world.desk.rules (start.Insert key value))
+      early = put_plans (Inserts s.world.table.stored) s.world.desk.rules key value (plan.Reply answer.Done ∷ [])
+          (Early _ (Then plan.Drain _ tt Here)) (Early _ (Then plan.Drain _ tt (Then (plan.Lock key) _ tt Here)))
 
 module _ {K V : Type 0} (eq : K → K → Bool) where
   pub inserted_is_found : InsertThenGet K V eq

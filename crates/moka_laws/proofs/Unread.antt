@@ -5,10 +5,10 @@ use Rattle.std.proofs.lemmas.Bool.Decides.{nat_tests}
 use Rattle.std.specs.Option.{option_map_or}
 use Rattle.moka_hist.specs.Finite.{put_at}
 use Rattle.moka_hist.specs.State.{State, World, Call, DeskPart}
-use Rattle.moka_hist.specs.Plan.{Item, held_by}
-use Rattle.moka_hist.specs.Visits.{claimed, is_reader_of, makes, readers_without, settled_as, settled_with, settled_without, settlement_for}
+use Rattle.moka_hist.specs.Plan.{Item}
+use Rattle.moka_hist.specs.Visits.{claimed, is_reader_of, is_unlocked_for, locked_by, makes, readers_without, settled_as, settled_with, settled_without, settlement_for}
 use Rattle.moka_hist.specs.Step.{Access, On_table, On_desk, Gets, access_of}
-use Rattle.moka_hist.specs.Dropping.{left}
+use Rattle.moka_hist.specs.Dropping.{left, owed_by}
 use Rattle.moka_hist.specs.declared.accesses.Got.{Got}
 use Rattle.moka_hist.specs.declared.accesses.Got.TheVariants as got
 use Rattle.moka_hist.specs.declared.loads.Load.{Load}
@@ -17,13 +17,13 @@ use Rattle.moka_hist.specs.declared.visits.Settled.{Settled}
 use Rattle.moka_hist.specs.declared.visits.Settled.TheVariants as settled
 use Rattle.moka_hist.specs.declared.visits.Visit.{Visit}
 use Rattle.moka_hist.specs.declared.visits.Visit.TheVariants as visit
-use Rattle.moka_hist.specs.declared.writes.Write.{Write}
+use Rattle.moka_hist.specs.declared.writes.Owed.{Owed}
 use Rattle.moka_laws.specs.Readers.{how_many, ReadersAreCounted, NothingUnreadIsKept}
 use Rattle.moka_laws.proofs.Sums.{sum_to, sum_has, sum_zero, sum_suc}
 use Rattle.moka_laws.proofs.Kept.{IsKept, in_reached}
 use Rattle.moka_laws.proofs.Weights.{weigh}
 use Rattle.moka_laws.proofs.Owning.{plan_left}
-use Rattle.moka_laws.proofs.Plans.{IsTail, Answering, Settling, IsDrained, Looking, Putting, IsPosted, Draining, Ended, IsPlan, Posted, Drained, Posting, Turning, Applying, Ending, Judging, Owning, Reading, Asking, Telling, Writing}
+use Rattle.moka_laws.proofs.Plans.{IsTail, Answering, Settling, IsDrained, Looking, Putting, IsPosted, Draining, Ended, Locking, IsPlan, Posted, Drained, Posting, Hearing, Noticing, Listening, Unlocking, Turning, Applying, Ending, Judging, Owning, Reading, Asking, Telling, Writing}
 use Rattle.moka_laws.proofs.Reading.{joins, reader_joins}
 use Rattle.moka_laws.proofs.Roles.{Fits, awaited, owners}
 use Rattle.moka_laws.proofs.Safe.{IsWell, well_kept, in_well}
@@ -87,10 +87,15 @@ module _ {K V : Type 0} where
       by true e = rw e (reads_awaited d call a)
       by false e = rw e a
   visit_awaited eq d (visit.Settle call with) a = settled_awaited d call with a
+  visit_awaited eq d (visit.LockKey call key) a = by (is_unlocked_for d call key)
+    where
+      by : (b : Bool) → Awaited (locked_by eq d call key b)
+      by true = a
+      by false = a
   visit_awaited eq d _ a = a
 
   -- a call that leaves owns nothing or waits for nobody
-  left_awaited : (d : DeskPart K V) (call : ℕ) (held : Option Write) → (is_some (d.owning call) ≡ true → is_some (d.joined call) ≡ false) → Awaited d →
+  left_awaited : (d : DeskPart K V) (call : ℕ) (held : Option Owed) → (is_some (d.owning call) ≡ true → is_some (d.joined call) ≡ false) → Awaited d →
       Awaited (left d call held)
   left_awaited d call held alone a o some = by (ends_awaited d call settled.Aborted (settled_without d call) o some)
     where
@@ -115,6 +120,7 @@ module _ {K V : Type 0} where
   pub drained_role : (p : List (Item K V)) → IsDrained p → awaited p ≡ None
   drained_role p (Looking aim key) = refl
   drained_role p (Putting key value rest t) = tail_role rest t
+  drained_role p (Locking key value rest t) = tail_role rest t
 
   pub posted_role : (p : List (Item K V)) → IsPosted p → awaited p ≡ None
   posted_role p (Draining rest d) = drained_role rest d
@@ -125,6 +131,10 @@ module _ {K V : Type 0} where
   plan_role p (Posted rest d) = inr (posted_role rest d)
   plan_role p (Drained rest d) = inr (drained_role rest d)
   plan_role p (Posting x rest d) = inr (posted_role rest d)
+  plan_role p (Hearing number x rest d) = inr (posted_role rest d)
+  plan_role p (Noticing key old x rest t) = inr (tail_role rest t)
+  plan_role p (Listening x rest t) = inr (tail_role rest t)
+  plan_role p (Unlocking x rest t) = inr (tail_role rest t)
   plan_role p (Turning x rest d) = inr (posted_role rest d)
   plan_role p (Applying x rest d) = inr (posted_role rest d)
   plan_role p (Ending x rest d) = inr (posted_role rest d)
@@ -158,7 +168,7 @@ module _ {K V : Type 0} (eq : K → K → Bool) where
 
   awaited_kept : IsKept eq IsAwaited
   awaited_kept = record {
-    fresh = λ size has_log. record { well = (well_kept eq).fresh size has_log; awaited = λ o some. absurd (false≢true some) };
+    fresh = λ rules size has_log. record { well = (well_kept eq).fresh rules size has_log; awaited = λ o some. absurd (false≢true some) };
     at = λ s moment i. record { well = (well_kept eq).at s moment i.well; awaited = i.awaited };
     start = λ s start i. record { well = (well_kept eq).start s start i.well; awaited = i.awaited };
     step = λ s t n turn i step. record {
@@ -167,9 +177,10 @@ module _ {K V : Type 0} (eq : K → K → Bool) where
           (access_awaited n s.world step.world (access_of n step.call) step.given step.gets i.awaited);
     };
     tell = λ s n given asked i. record { well = (well_kept eq).tell s n given asked i.well; awaited = i.awaited };
+    hear = λ s n off running i. record { well = (well_kept eq).hear s n off running i.well; awaited = i.awaited };
     drop = λ s n c live between i. record {
       well = (well_kept eq).drop s n c live between i.well;
-      awaited = left_awaited s.world.desk n (held_by c.plan) (alone_live s n c i.well live) i.awaited;
+      awaited = left_awaited s.world.desk n (owed_by n c) (alone_live s n c i.well live) i.awaited;
     };
   }
 

@@ -9,6 +9,7 @@ use Rattle.moka_hist.specs.Looking.{hits, misses}
 use Rattle.moka_hist.specs.Loading.{after_read, after_told, after_abort, retries}
 use Rattle.moka_hist.specs.Missing.{IsMissing}
 use Rattle.moka_hist.specs.declared.records.Mode.TheVariants as mode
+use Rattle.moka_hist.specs.declared.replies.Answer.TheVariants as reply
 use Rattle.moka_hist.specs.declared.loads.Load.{Load}
 use Rattle.moka_hist.specs.declared.events.Told.{Told}
 use Rattle.moka_hist.specs.declared.events.Told.TheVariants as answer
@@ -18,9 +19,10 @@ use Rattle.moka_hist.specs.declared.visits.Found.TheVariants as found
 use Rattle.moka_hist.specs.declared.accesses.Turn.TheVariants as turn
 use Rattle.moka_laws.specs.Waiting.{WaitsByCause, WaitsFor}
 use Rattle.moka_laws.proofs.Counting.{none_some}
+use Rattle.moka_laws.proofs.Rules.{put_plans}
 use Rattle.moka_laws.proofs.StepCases.{OnStep, step_cases}
 use Rattle.moka_laws.proofs.Outcomes.{Outcomes, outcomes}
-use Rattle.moka_laws.proofs.Answering.{HasAnswers, answering, settlement_ready}
+use Rattle.moka_laws.proofs.Answering.{IsValue, HasAnswers, answering, settlement_ready}
 use Rattle.moka_laws.proofs.Asking.{AsksWhole, ask_open, ask_closed, in_asking, whole}
 
 not_none : {A : Type 0} {a : A} (o : Option A) → o ≡ Some a → ¬ IsNone o
@@ -58,10 +60,13 @@ module _ {K V : Type 0} where
       by true e = rw e (λ e. cc)
       by false e = rw e (λ e. cc)
 
-  told_on : (c : Call K V) (load : Load K) (given : Told V) → Some given ≢ Some answer.Done →
+  told_on : (c : Call K V) (load : Load K) (given : Told V) → IsValue (Some given) →
       GoesOn (after_told c load (found.TakeTold (Some given)))
-  told_on c load (answer.Value value) h = λ e. cc
-  told_on c load answer.Done h = absurd (h refl)
+  told_on c load (answer.Value value) is =
+      let after : List (Item K V) = plan.Settle (settled.Ready value) ∷ plan.Reply (reply.Loaded value true) ∷ [] in
+      put_plans (λ p. GoesOn (goes c p)) c.rules load.key value after (goes_on c (plan.Drain ∷ plan.Moment load.key value ∷ after)) (goes_on c (plan.Drain ∷ plan.Lock load.key ∷ plan.Moment load.key value ∷ after))
+  told_on c load answer.Done is = absurd is
+  told_on c load answer.Off is = absurd is
 
   -- what a step has to show: it waits where Q holds, and then it changes nothing
   record Waits (w : World K V) (c : Call K V) (Q : Type 0) (new : World K V) (next : Next K V) : Type 0 where
@@ -78,7 +83,16 @@ module _ {K V : Type 0} where
 
   module _ (eq : K → K → Bool) (w : World K V) (n : ℕ) (c : Call K V) (has : HasAnswers w.desk) (asked : AsksWhole w.desk n c.plan) where
     on_item : (item : Item K V) (rest : List (Item K V)) → c.plan ≡ item ∷ rest → Outcomes eq (Waits w c (IsMissing w.desk n item)) w n c item rest
-    on_item plan.Drain rest p = (λ e. never w c (λ q. q) (goes_on c rest), λ x xs e. never w c (λ q. q) (λ e. cc))
+    on_item plan.Drain rest p = (
+      λ e. never w c (λ q. q) (goes_on c rest),
+      λ x xs e. never w c (λ q. q) (λ e. cc),
+      λ x number xs e. never w c (λ q. q) (λ e. cc),
+    )
+    on_item (plan.Ended number) rest p = (λ e. never w c (λ q. false≢true (sym e ∙ q)) (goes_on c rest), λ e. always w c e)
+    on_item plan.Heard rest p = (λ e. never w c (λ q. false≢true (sym e ∙ q)) (goes_on c rest), λ e. always w c e)
+    on_item (plan.Lock key) rest p = (λ e. never w c (λ q. false≢true (sym q ∙ e)) (goes_on c rest), λ e. always w c e)
+    on_item plan.Unlock rest p = never w c (λ q. q) (goes_on c rest)
+    on_item (plan.Notice key old) rest p = (λ e. never w c (λ q. q) (goes_on c rest), λ e. never w c (λ q. q) (λ e. cc))
     on_item (plan.Post write) rest p = (λ e. never w c (λ q. q) (goes_on c rest), λ e. never w c (λ q. q) (λ e. cc))
     on_item plan.Turn rest p = (λ e. never w c (λ q. false≢true (sym q ∙ e)) (goes_on c rest), λ e. always w c e)
     on_item plan.Apply rest p = (λ e. never w c (λ q. q) (goes_on c rest), λ x xs e. never w c (λ q. q) (λ e. cc))
@@ -94,10 +108,15 @@ module _ {K V : Type 0} where
     on_item (plan.Ask load) rest p = never w c (λ q. q) (λ e. cc)
     on_item (plan.Told load) rest p = (
       λ e. always w c (ask_open w.desk n load rest (subst (AsksWhole w.desk n) p asked) (ap is_some e)),
-      λ given e. never w c (ask_closed w.desk n load rest (subst (AsksWhole w.desk n) p asked) (ap is_some e)) (told_on c load given (λ h. has.told n (e ∙ h))),
+      λ given e. never w c (ask_closed w.desk n load rest (subst (AsksWhole w.desk n) p asked) (ap is_some e)) (told_on c load given (subst IsValue e (has.told n))),
     )
     on_item (plan.Moment key value) rest p = never w c (λ q. q) (λ e. cc)
-    on_item (plan.Write key value moment) rest p = ((λ more. never w c (λ q. q) (λ e. cc)), never w c (λ q. q) (λ e. cc))
+    on_item (plan.Write key value moment) rest p = (
+      λ more. never w c (λ q. q) (λ e. cc),
+      λ off old. never w c (λ q. q) (λ e. cc),
+      λ on. never w c (λ q. q) (λ e. cc),
+      λ k old on some. never w c (λ q. q) (λ e. cc),
+    )
     on_item (plan.Reply answer) rest p = never w c (λ q. q) (λ e. cc)
 
 module _ {K V : Type 0} (eq : K → K → Bool) where

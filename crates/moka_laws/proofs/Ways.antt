@@ -30,7 +30,7 @@ use Rattle.moka_bound.proofs.Size.{access_size}
 use Rattle.moka_laws.specs.Bounded.{LogsHaveRoom, StepsAreBounded, StepEventsAreBounded}
 use Rattle.moka_laws.proofs.Counting.{none_some, put_here, same_number}
 use Rattle.moka_laws.proofs.Kept.{IsKept, in_reached}
-use Rattle.moka_laws.proofs.Plans.{IsTail, Answering, Settling, IsDrained, Looking, Putting, IsPosted, Draining, Ended, IsPlan, Posted, Drained, Posting, Turning, Applying, Ending, Judging, Owning, Reading, Asking, Telling, Writing, calls_known}
+use Rattle.moka_laws.proofs.Plans.{IsTail, Answering, Settling, IsDrained, Looking, Putting, IsPosted, Draining, Ended, Locking, IsPlan, Posted, Drained, Posting, Hearing, Noticing, Listening, Unlocking, Turning, Applying, Ending, Judging, Owning, Reading, Asking, Telling, Writing, calls_known}
 use Rattle.moka_laws.proofs.Reached.{step_reached, steps_reached}
 
 -- ---- what a plan takes at most
@@ -53,15 +53,20 @@ module _ {K V : Type 0} (owed most aborts left : ℕ) (within : left ≤ most) w
   drained_steps : (room : Bool) (l : ℕ) (p : List (Item K V)) → l ≤ most → IsDrained p → steps_of owed most aborts room l p ≤ 2 * most + 408
   drained_steps room l p h (Looking aim key) = omega (arith, h, judge_few most aborts aim)
   drained_steps room l p h (Putting key value rest t) = omega (arith, put_steps (most + growth) (most + growth) rest t)
+  drained_steps room l p h (Locking key value rest t) = omega (arith, put_steps (most + growth) (most + growth) rest t)
 
-  posted_steps : (room : Bool) (l : ℕ) (p : List (Item K V)) → IsPosted p → steps_of owed most aborts room l p ≤ 7 * owed + 2 * most + 409
+  posted_steps : (room : Bool) (l : ℕ) (p : List (Item K V)) → IsPosted p → steps_of owed most aborts room l p ≤ 8 * owed + 2 * most + 409
   posted_steps room l p (Draining rest d) = omega (arith, drained_steps false most rest (omega arith) d)
   posted_steps room l p (Ended rest t) = omega (arith, tail_steps room l rest t)
 
-  few_steps : (room : Bool) (p : List (Item K V)) → IsPlan p → steps_of owed most aborts room left p ≤ 7 * owed + 2 * most + 416
+  few_steps : (room : Bool) (p : List (Item K V)) → IsPlan p → steps_of owed most aborts room left p ≤ 8 * owed + 2 * most + 416
   few_steps room p (Posted rest d) = omega (arith, posted_steps room left rest d)
   few_steps room p (Drained rest d) = omega (arith, drained_steps room left rest within d)
   few_steps room p (Posting x rest d) = omega (arith, post_worst room, posted_steps false most rest d)
+  few_steps room p (Hearing number x rest d) = omega (arith, posted_steps false most rest d)
+  few_steps room p (Noticing key old x rest t) = omega (arith, tail_steps false most rest t)
+  few_steps room p (Listening x rest t) = omega (arith, tail_steps false most rest t)
+  few_steps room p (Unlocking x rest t) = omega (arith, tail_steps false most rest t)
   few_steps room p (Turning x rest d) = omega (arith, posted_steps false most rest d)
   few_steps room p (Applying x rest d) = omega (arith, posted_steps false most rest d)
   few_steps room p (Ending x rest d) = omega (arith, post_worst room, posted_steps false most rest d)
@@ -90,17 +95,18 @@ module _ {K V : Type 0} (eq : K → K → Bool) where
   access_peak n w new (step.On_desk made) (got.Desk found) gets h = subst (λ (v : World K V). v.table.keys ≤ v.table.peak) (sym gets.1) h
   access_peak n w new _ _ gets h = absurd gets
 
-  peak_step : (s t : State K V) (n : ℕ) (turn : Turn V) → KeysWerePeak s → Step eq s n turn t → KeysWerePeak t
+  peak_step : (s t : State K V) (n : ℕ) (turn : Turn K V) → KeysWerePeak s → Step eq s n turn t → KeysWerePeak t
   peak_step s t n turn h st =
       subst KeysWerePeak (sym st.after) (access_peak n s.world st.world (access_of n st.call) st.given st.gets h)
 
   peak_kept : IsKept {K = K} {V = V} eq KeysWerePeak
   peak_kept = record {
-    fresh = λ size has_log. omega arith;
+    fresh = λ rules size has_log. omega arith;
     at = λ s moment h. h;
     start = λ s start h. h;
     step = peak_step;
     tell = λ s n answer asked h. h;
+    hear = λ s n off running h. h;
     drop = λ s n c live between h. h;
   }
 
@@ -150,16 +156,17 @@ module _ {K V : Type 0} (eq : K → K → Bool) where
   abbrev HasLog : State K V → Type 0
   HasLog s = 0 < s.world.desk.size
 
-  log_step : (s t : State K V) (n : ℕ) (turn : Turn V) → HasLog s → Step eq s n turn t → HasLog t
+  log_step : (s t : State K V) (n : ℕ) (turn : Turn K V) → HasLog s → Step eq s n turn t → HasLog t
   log_step s t n turn h st = subst HasLog (sym st.after) (omega (arith, h, access_size eq n s.world st.world (access_of n st.call) st.given st.gets))
 
   log_kept : IsKept {K = K} {V = V} eq HasLog
   log_kept = record {
-    fresh = λ size has_log. has_log;
+    fresh = λ rules size has_log. has_log;
     at = λ s moment h. h;
     start = λ s start h. h;
     step = log_step;
     tell = λ s n answer asked h. h;
+    hear = λ s n off running h. h;
     drop = λ s n c live between h. h;
   }
 
@@ -219,7 +226,7 @@ module _ {K V : Type 0} (eq : K → K → Bool) where
 
   -- ---- events
 
-  is_going : (t : Turn V) → reply.Going ≡ reply_of t → t ≡ turn.Going
+  is_going : (t : Turn K V) → reply.Going ≡ reply_of t → t ≡ turn.Going
   is_going turn.Going e = refl
   is_going turn.Wait e = cc
   is_going (turn.Ask a) e = cc

@@ -20,7 +20,7 @@ pub record AnswersAlone {K V : Type 0} (eq : K → K → Bool) (s : State K V) (
 abbrev pub InsertThenGet : (K V : Type 0) → (K → K → Bool) → Type 0
 InsertThenGet K V eq =
     (s t u : State K V) (n : ℕ) (key q : K) (value : V) (a : Answer V) →
-    IsReached eq s → s.calls n ≡ Some (fresh_call (start.Insert key value)) →
+    IsReached eq s → s.calls n ≡ Some (fresh_call s.world.desk.rules (start.Insert key value)) →
     AnswersAlone eq s n answer.Done t →
     eq key q ≡ true → AnswersAlone eq (started t (start.Get q)) (t.world.desk.last + 1) a u →
     a ≡ answer.Found (Some value)

@@ -37,5 +37,5 @@ AnsweredIsPosted K V eq =
 -- a write that is logged or applied stays so
 abbrev pub PostedStays : (K V : Type 0) → (K → K → Bool) → Type 0
 PostedStays K V eq =
-    (s t : State K V) (es : List (Event K V)) (rs : List (Reply V)) (n : ℕ) →
+    (s t : State K V) (es : List (Event K V)) (rs : List (Reply K V)) (n : ℕ) →
     IsReached eq s → Run eq (IsLawful eq) s es rs t → IsPosted s n → IsPosted t n

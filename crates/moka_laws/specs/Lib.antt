@@ -7,6 +7,7 @@ pub mod Moving
 pub mod OwnKeys
 pub mod Bounded
 pub mod Sound
+pub mod Listening
 pub mod Readers
 pub mod Answered
 pub mod Alone

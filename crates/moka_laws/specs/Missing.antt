@@ -6,6 +6,9 @@ use Rattle.moka_hist.specs.Plan.{Item}
 use Rattle.moka_hist.specs.Plan as plan
 use Rattle.moka_hist.specs.Run.{IsReached}
 use Rattle.moka_hist.specs.Missing.{IsMissing}
+use Rattle.moka_hist.specs.Notices.{HoldsLock}
+use Rattle.moka_hist.specs.Telling.{is_asked}
+use Rattle.moka_hist.specs.declared.events.Told.TheVariants as told
 use Rattle.moka_hist.specs.declared.loads.Load.{Load}
 use Rattle.moka_hist.specs.declared.records.Mode.TheVariants as mode
 
@@ -40,11 +43,16 @@ module _ {K V : Type 0} where
     pub served : OwnsAlike eq s owner load ⊎ IsSome (s.world.desk.settled owner)
 
   -- What the item may miss can still come: from the call that has the turn, which applies the log;
-  -- from the owner, which owns an equal load; or as the answer to the own ask, which is open.
+  -- from the owner, which owns an equal load; from the call that holds the key's lock, which is live and
+  -- frees it; as the answer to the own ask, which is open; or as the listener's answer to the own notice or
+  -- to that of an owed write, which it would take.
   abbrev pub CanCome : (K → K → Bool) → State K V → ℕ → Item K V → Type 0
   CanCome eq s n plan.Turn = (holder : ℕ) × (s.world.desk.turn ≡ Some holder) × AppliesLog s holder
   CanCome eq s n (plan.Read load) = (owner : ℕ) × (s.world.desk.joined n ≡ Some owner) × OwnsAlike eq s owner load
   CanCome eq s n (plan.Told load) = IsSome (s.world.desk.asks n)
+  CanCome eq s n (plan.Lock key) = (holder : ℕ) × (s.world.desk.locks key ≡ Some holder) × HoldsLock s holder
+  CanCome eq s n plan.Heard = is_asked s.world.desk n told.Done ≡ true
+  CanCome eq s n (plan.Ended number) = is_asked s.world.desk number told.Done ≡ true
   CanCome eq s n _ = ⊥
 
 -- in every reached state a call has the turn exactly where it applies the log

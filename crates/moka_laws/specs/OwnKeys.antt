@@ -18,5 +18,5 @@ ReachedIsUnderOwnKeys K V eq = (s : State K V) → IsReached eq s → UnderOwnKe
 -- what a run through lawful states leaves of a reached state is reached
 abbrev pub ReachedByLawfulRun : (K V : Type 0) → (K → K → Bool) → Type 0
 ReachedByLawfulRun K V eq =
-    (s t : State K V) (es : List (Event K V)) (rs : List (Reply V)) →
+    (s t : State K V) (es : List (Event K V)) (rs : List (Reply K V)) →
     IsReached eq s → Run eq (IsLawful eq) s es rs t → IsReached eq t

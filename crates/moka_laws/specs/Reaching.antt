@@ -3,23 +3,24 @@ use Rattle.std.specs.Prelude.{ℕ, ◌<◌, Bool, List, [], ◌∷◌, ◌++◌}
 use Rattle.moka_hist.specs.State.{State, fresh}
 use Rattle.moka_hist.specs.Step.{Step}
 use Rattle.moka_hist.specs.Run.{Goings, Happens, Run, Any, IsReached}
+use Rattle.moka_hist.specs.declared.rules.Rules.{Rules}
 use Rattle.moka_hist.specs.declared.events.Event.{Event}
 use Rattle.moka_hist.specs.declared.replies.Reply.{Reply}
 use Rattle.moka_hist.specs.declared.accesses.Turn.{Turn}
 
--- a fresh cache is reached, with a log of any size but none
+-- a fresh cache of any rules is reached, with a log of any size but none
 abbrev pub FreshIsReached : (K V : Type 0) → (K → K → Bool) → Type 0
-FreshIsReached K V eq = (size : ℕ) → 0 < size → IsReached eq (fresh K V size)
+FreshIsReached K V eq = (rules : Rules) (size : ℕ) → 0 < size → IsReached eq (fresh K V rules size)
 
 -- what an event leaves of a reached state is reached
 abbrev pub ReachedByEvent : (K V : Type 0) → (K → K → Bool) → Type 0
 ReachedByEvent K V eq =
-    (s t : State K V) (e : Event K V) (r : Reply V) → IsReached eq s → Happens eq Any s e r t → IsReached eq t
+    (s t : State K V) (e : Event K V) (r : Reply K V) → IsReached eq s → Happens eq Any s e r t → IsReached eq t
 
 -- what a step leaves of a reached state is reached
 abbrev pub ReachedByStep : (K V : Type 0) → (K → K → Bool) → Type 0
 ReachedByStep K V eq =
-    (s t : State K V) (n : ℕ) (turn : Turn V) → IsReached eq s → Step eq s n turn t → IsReached eq t
+    (s t : State K V) (n : ℕ) (turn : Turn K V) → IsReached eq s → Step eq s n turn t → IsReached eq t
 
 -- what steps of one call leave of a reached state is reached
 abbrev pub ReachedBySteps : (K V : Type 0) → (K → K → Bool) → Type 0
@@ -29,11 +30,11 @@ ReachedBySteps K V eq =
 -- what a run leaves of a reached state is reached
 abbrev pub ReachedByRun : (K V : Type 0) → (K → K → Bool) → Type 0
 ReachedByRun K V eq =
-    (s t : State K V) (es : List (Event K V)) (rs : List (Reply V)) →
+    (s t : State K V) (es : List (Event K V)) (rs : List (Reply K V)) →
     IsReached eq s → Run eq Any s es rs t → IsReached eq t
 
 -- a run goes on by one event at its end
 abbrev pub RunGoesOn : (K V : Type 0) → (K → K → Bool) → Type 0
 RunGoesOn K V eq =
-    (s m t : State K V) (es : List (Event K V)) (rs : List (Reply V)) (e : Event K V) (r : Reply V) →
+    (s m t : State K V) (es : List (Event K V)) (rs : List (Reply K V)) (e : Event K V) (r : Reply K V) →
     Run eq Any s es rs m → Happens eq Any m e r t → Run eq Any s (es ++ e ∷ []) (rs ++ r ∷ []) t

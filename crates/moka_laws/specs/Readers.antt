@@ -44,14 +44,14 @@ pub record Settles {K V : Type 0} (eq : K → K → Bool) (s : State K V) (owner
   pub rest : List (Item K V)
   pub live : s.calls owner ≡ Some call
   pub settling : call.plan ≡ plan.Settle (settled.Ready value) ∷ rest
-  pub turn : Turn V
+  pub turn : Turn K V
   pub step : Step eq s owner turn t
 
 -- a call that waits for an owner as that ends its load with a value answers that value with its next
 -- step, whatever other calls do before
 abbrev pub WaitersAnswerSettled : (K V : Type 0) → (K → K → Bool) → Type 0
 WaitersAnswerSettled K V eq =
-    (s t u v : State K V) (es : List (Event K V)) (rs : List (Reply V)) (owner n : ℕ) (value : V) (reply : Turn V) →
+    (s t u v : State K V) (es : List (Event K V)) (rs : List (Reply K V)) (owner n : ℕ) (value : V) (reply : Turn K V) →
     IsReached eq s → s.world.desk.joined n ≡ Some owner → Settles eq s owner value t →
     Run eq (IsLawful eq) t es rs u → u.world.desk.joined n ≡ Some owner →
     Step eq u n reply v → reply ≡ turn.Answer (answer.Loaded value false)

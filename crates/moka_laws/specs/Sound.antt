@@ -1,5 +1,6 @@
 -- The desk stays sound.
 use Rattle.std.specs.Prelude.{ℕ, Bool, Option}
+use Rattle.std.specs.Option.{option_map}
 use Rattle.moka_hist.specs.State.{DeskPart, State, fresh_desk}
 use Rattle.moka_hist.specs.Visits.{decided, makes}
 use Rattle.moka_hist.specs.Conditions.{MayLeave, MayVisit}
@@ -7,13 +8,14 @@ use Rattle.moka_hist.specs.SoundDesk.{SoundDesk}
 use Rattle.moka_hist.specs.Dropping.{left}
 use Rattle.moka_hist.specs.Telling.{told}
 use Rattle.moka_hist.specs.Run.{IsReached}
+use Rattle.moka_hist.specs.declared.rules.Rules.{Rules}
 use Rattle.moka_hist.specs.declared.events.Told.{Told}
 use Rattle.moka_hist.specs.declared.visits.Visit.{Visit}
-use Rattle.moka_hist.specs.declared.writes.Write.{Write}
+use Rattle.moka_hist.specs.declared.writes.Owed.{Owed}
 
 -- a desk where nothing has happened is sound
 abbrev pub FreshIsSound : (K V : Type 0) → (K → K → Bool) → Type 0
-FreshIsSound K V eq = (size : ℕ) → SoundDesk eq (fresh_desk K V size)
+FreshIsSound K V eq = (rules : Rules) (size : ℕ) → SoundDesk eq (fresh_desk K V rules size)
 
 -- each visit that a sound desk allows leaves it sound
 abbrev pub VisitsKeepSound : (K V : Type 0) → (K → K → Bool) → Type 0
@@ -24,8 +26,8 @@ VisitsKeepSound K V eq =
 -- so does a call that leaves, with no write but one that it holds
 abbrev pub LeavingKeepsSound : (K V : Type 0) → (K → K → Bool) → Type 0
 LeavingKeepsSound K V eq =
-    (w : DeskPart K V) (call : ℕ) (held : Option Write) → SoundDesk eq w → MayLeave w call held →
-    SoundDesk eq (left w call held)
+    (w : DeskPart K V) (call : ℕ) (held : Option Owed) →
+    SoundDesk eq w → MayLeave w call (option_map (λ o. o.write) held) → SoundDesk eq (left w call held)
 
 -- so does a write that is decided, an answer that is told, a number that is given out, and a clock
 -- that moves on

@@ -9,6 +9,7 @@ mod answered;
 mod bounded;
 mod held;
 mod lawful;
+mod listening;
 mod missing;
 mod moving;
 mod reaching;
@@ -20,9 +21,13 @@ mod waiting;
 pub use alone::insert_then_get;
 pub use answered::{answered_is_posted, posted_stays, stored_is_committed};
 pub use bounded::{logs_have_room, step_events_are_bounded, steps_are_bounded};
-pub use held::held_are_known;
+pub use held::{calls_may_leave, held_are_known};
 pub use lawful::{
     event_is_lawful, lawful_run_goes_on, reached_is_lawful, run_is_lawful, steps_are_lawful,
+};
+pub use listening::{
+    asks_are_one, keys_are_locked, locks_are_held, locks_are_one, notices_are_in_order,
+    notices_are_settled,
 };
 pub use missing::{missing_can_come, turn_is_held, waiters_have_owners};
 pub use moving::{calls_are_safe, move_is_step, moves_are_steps, polled_is_poll};

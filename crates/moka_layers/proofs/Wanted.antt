@@ -8,7 +8,7 @@ use Rattle.moka_hist.specs.Finite.{put_at}
 use Rattle.moka_hist.specs.State.{DeskPart, World}
 use Rattle.moka_hist.specs.Step.{Access, May}
 use Rattle.moka_hist.specs.Step as step
-use Rattle.moka_hist.specs.Visits.{makes, claimed, settlement_for, readers_without, settled_without}
+use Rattle.moka_hist.specs.Visits.{makes, claimed, is_unlocked_for, locked_by, settlement_for, readers_without, settled_without}
 use Rattle.moka_hist.specs.declared.loads.Load.{Load}
 use Rattle.moka_hist.specs.declared.tables.TableOp.{TableOp}
 use Rattle.moka_hist.specs.declared.tables.TableTurn.TheVariants as turn
@@ -91,6 +91,11 @@ module _ {K V : Type 0} where
       by : (b : Bool) → (cond b (record w { joined = put_at w.joined n None; readers = readers_without w n; settled = settled_without w n }) w).last ≡ w.last
       by true = refl
       by false = refl
+  last_same eq w (visit.LockKey n key) = by (is_unlocked_for w n key)
+    where
+      by : (b : Bool) → (locked_by eq w n key b).last ≡ w.last
+      by true = refl
+      by false = refl
   last_same eq w _ = refl
 
 module _ {K V T C : Type 0} (t : Table.Ghosts T K V C) where
@@ -117,6 +122,18 @@ module _ {K V T C : Type 0} {same : PartialEq.Ghosts K} {hash : Hash.Ghosts K} (
           within = left;
           patient = omega (arith, patient, left);
         };
+        given = h.given;
+      }
+
+  -- the layers where the operation ends that was begun without memory: none is begun, as before
+  pub begins_none : (old new : Layers K V T C same hash) (w : World K V) → old.begun ≡ None → new.call ≡ old.call → most_on t new.table ≡ most_on t old.table
+      → GroundIs eq t old w → GroundIs eq t new w → GroundIs eq t (record new { begun = None }) w
+  begins_none old new w none call most was h =
+      let patient : times_of w.stay old.call + most_on t old.table ≤ most_undecided w.table =
+      subst (λ (b : Option C). times_of w.stay old.call + left_in t old.table b ≤ most_undecided w.table) none was.begun.patient in
+      record {
+        world = record { table = h.world.table; desk = h.world.desk; stay = h.world.stay };
+        begun = record { fits = tt; within = omega arith; patient = rw (call, most) patient };
         given = h.given;
       }
 

@@ -11,6 +11,7 @@ use Rattle.moka_hist.specs.declared.visits.Found.TheVariants as found
 use Rattle.moka_desk.specs.StandsFor.{StandsFor}
 use Rattle.moka_desk.specs.declared.state.Desk.{Desk}
 use Rattle.moka_init.specs.Forms.{IsFoundBy}
+use Rattle.moka_init.specs.Grounds.{VisitNeedsMemory}
 
 module _ {K V : Type 0} {same : PartialEq.Ghosts K} {hash : Hash.Ghosts K} where
   -- The visit found what belongs to it: what the reference's finds, where the desk stands for one that allows it. It made what
@@ -27,3 +28,7 @@ module _ {K V : Type 0} {same : PartialEq.Ghosts K} {hash : Hash.Ghosts K} where
   -- the desk stands for what it stood for
   abbrev pub Keeps : (K → K → Bool) → Desk K V same hash → Desk K V same hash → Type 0
   Keeps eq old new = (w : DeskPart K V) → StandsFor eq old w → StandsFor eq new w
+
+  -- memory was wanting for the visit: in each state that the desk stood for it may be
+  abbrev pub Lacks : (K → K → Bool) → Desk K V same hash → Visit K V → Type 0
+  Lacks eq old visit = (w : DeskPart K V) → StandsFor eq old w → VisitNeedsMemory w visit

@@ -31,7 +31,7 @@ impl<K: Eq + Hash + Clone + Drop, V: Clone + Drop, C: Drop, T: Table<K, V, Call 
     ghost use Rattle.moka_hist.specs.State.{World};
     ghost use Rattle.moka_hist.specs.Step.{Access, On_table, On_desk};
     ghost use Rattle.moka_hist.specs.declared.tables.TableOp.{TableOp};
-    ghost use Rattle.moka_init.specs.Grounds.{Accesses, OfWanted, VisitNeedsMemory, NeedsMemory};
+    ghost use Rattle.moka_init.specs.Grounds.{Accesses, Lacks, OfWanted, VisitNeedsMemory, NeedsMemory, still_begun};
     ghost use Rattle.moka_layers.specs.Layers.{GroundIs, Allows, Serves, Keeps, account_of, most_on, operation_in};
 
     // Makes a step of the operation that was begun. It stays begun where it is undecided, or memory
@@ -128,7 +128,8 @@ impl<K: Eq + Hash + Clone + Drop, V: Clone + Drop, C: Drop, T: Table<K, V, Call 
         ensures tells { IfOk result (λ given. Accesses (account_of T.Table self.old)
             (On_desk visit) given (account_of T.Table self.new)) }
         ensures err { OnErr result (Keeps K.eq T.Table self.old self.new) }
-        ensures err_needs { OnErr result (VisitNeedsMemory visit) }
+        ensures err_needs { OnErr result ((w : World K V) → GroundIs K.eq T.Table self.old w
+            → VisitNeedsMemory w.desk visit) }
         ensures err_account { OnErr result
             (account_of T.Table self.new ≡ account_of T.Table self.old) }
         ensures call { self.new.call ≡ self.old.call }
@@ -155,8 +156,8 @@ impl<K: Eq + Hash + Clone + Drop, V: Clone + Drop, C: Drop, T: Table<K, V, Call 
         ensures err { OnErr result (Keeps K.eq T.Table self.old self.new) }
         ensures err_account { OnErr result
             (account_of T.Table self.new ≡ account_of T.Table self.old) }
-        ensures err_needs { OnErr result
-            (OfWanted (account_of T.Table self.old) want NeedsMemory) }
+        ensures err_needs { OnErr result (OfWanted (account_of T.Table self.old) want
+            (Lacks (GroundIs K.eq T.Table self.old) NeedsMemory)) }
     {
         match want {
             Want::Begin(operation) => self.begin(operation),
@@ -171,7 +172,7 @@ impl<K: Eq + Hash + Clone + Drop, V: Clone + Drop, C: Drop, T: Table<K, V, Call 
     V,
 > for Layers<K, V, T, C> {
     ghost use Rattle.moka_hist.specs.State.{World};
-    ghost use Rattle.moka_init.specs.Grounds.{Accesses, Gives, NeedsMemory, OfWanted};
+    ghost use Rattle.moka_init.specs.Grounds.{Accesses, Gives, Lacks, NeedsMemory, OfWanted};
     ghost use Rattle.moka_layers.specs.Layers.{GroundIs, Allows, account_of};
 
     ghost stands = { λ l w. GroundIs K.eq T.Table l w };
@@ -209,8 +210,8 @@ impl<K: Eq + Hash + Clone + Drop, V: Clone + Drop, C: Drop, T: Table<K, V, Call 
             (account_of T.Table self.new ≡ account_of T.Table self.old) }
         ensures err_stands { OnErr result ((w : World K V) → GroundIs K.eq T.Table self.old w
             → GroundIs K.eq T.Table self.new w) }
-        ensures err_needs { OnErr result
-            (OfWanted (account_of T.Table self.old) want NeedsMemory) }
+        ensures err_needs { OnErr result (OfWanted (account_of T.Table self.old) want
+            (Lacks (GroundIs K.eq T.Table self.old) NeedsMemory)) }
     {
         Layers::access(self, want)
     }

@@ -2,15 +2,15 @@
 ghost use Rattle.std.specs.Prelude.{IfOk, OnErr};
 ghost use Rattle.moka_hist.specs.Finite.{IsExact};
 ghost use Rattle.moka_desk.specs.StandsFor.{Can};
-ghost use Rattle.moka_init.specs.Grounds.{VisitNeedsMemory};
-ghost use Rattle.moka_layers.specs.Visiting.{VisitIs, JudgeIs, Keeps};
+ghost use Rattle.moka_layers.specs.Visiting.{VisitIs, JudgeIs, Keeps, Lacks};
 
 use moka_desk::Desk;
-use moka_hist::{Found, Load, Settled, Takes, Visit};
+use moka_hist::{Cause, Found, Load, Settled, Takes, Visit};
 use std::alloc::AllocError;
 use std::hash::Hash;
 
-/// Makes the visit. After want of memory the desk stands for what it stood for.
+/// Makes the visit. After want of memory the desk stands for what it stood for. Which calls it woke is
+/// let go: nobody polls them here.
 pub(crate) fn make_visit<K: Eq + Hash + Clone + Drop, V: Clone + Drop>(
     desk: &mut Desk<K, V>,
     visit: Visit<K, V>,
@@ -20,11 +20,23 @@ pub(crate) fn make_visit<K: Eq + Hash + Clone + Drop, V: Clone + Drop>(
     requires can { Can K.eq desk.old visit }
     ensures ok { IfOk result (λ found. VisitIs K.eq desk.old visit found desk.new) }
     ensures err { OnErr result (Keeps K.eq desk.old desk.new) }
-    ensures err_needs { OnErr result (VisitNeedsMemory visit) }
+    ensures err_needs { OnErr result (Lacks K.eq desk.old visit) }
 {
     match visit {
         Visit::Clock { .. } => Ok(Found::Clock(desk.clock())),
         Visit::TakeOwed { call } => Ok(Found::TakeOwed(desk.take_owed(call))),
+        Visit::NoticeEnded { call, notice } => notice_ended(desk, call, notice),
+        Visit::LockKey { call, key } => lock_key(desk, call, key),
+        Visit::UnlockKey { call } => Ok(unlock_key(desk, call)),
+        Visit::OpenNotice {
+            call,
+            key,
+            value,
+            stamp,
+            modified,
+            cause,
+            upsert,
+        } => open_notice(desk, call, key, value, stamp, modified, cause, upsert),
         Visit::StampMoment { call } => stamp_moment(desk, call),
         Visit::Judge { stored, .. } => judge(desk, stored.stamp, stored.modified),
         Visit::WaitOrOwn { call, key, kind } => wait_or_own(desk, call, Load { key, kind }),
@@ -33,7 +45,7 @@ pub(crate) fn make_visit<K: Eq + Hash + Clone + Drop, V: Clone + Drop>(
         Visit::OpenAsk { call, takes } => open_ask(desk, call, takes),
         Visit::TakeTold { call } => Ok(Found::TakeTold(desk.take_told(call))),
         Visit::PostWrite { call, write } => Ok(Found::PostWrite(desk.post_write(call, write))),
-        Visit::TakeTurn { call } => Ok(Found::TakeTurn(desk.take_turn(call))),
+        Visit::TakeTurn { call } => take_turn(desk, call),
         Visit::ApplyOne { call } => Ok(Found::ApplyOne(desk.apply_one(call))),
         Visit::EndTurn { call } => Ok(end_turn(desk, call)),
     }
@@ -115,7 +127,7 @@ fn settle<K: Eq + Hash + Clone + Drop, V: Clone + Drop>(
     requires { Can K.eq desk.old (Visit.Settle call with) }
     ensures { VisitIs K.eq desk.old (Visit.Settle call with) result desk.new }
 {
-    desk.settle(call, with);
+    let _ = desk.settle(call, with);
     Found::Settle
 }
 
@@ -126,6 +138,80 @@ fn end_turn<K: Eq + Hash + Clone + Drop, V: Clone + Drop>(
     requires { Can K.eq desk.old (Visit.EndTurn call) }
     ensures { VisitIs K.eq desk.old (Visit.EndTurn call) result desk.new }
 {
-    desk.end_turn(call);
+    let _ = desk.end_turn(call);
     Found::EndTurn
+}
+
+fn notice_ended<K: Eq + Hash + Clone + Drop, V: Clone + Drop>(
+    desk: &mut Desk<K, V>,
+    call: u64,
+    notice: u64,
+) -> Result<Found<V>, AllocError>
+    ensures ok { IfOk result (λ found.
+        VisitIs K.eq desk.old (Visit.NoticeEnded call notice) found desk.new) }
+    ensures err { OnErr result (Keeps K.eq desk.old desk.new) }
+    ensures err_needs { OnErr result (Lacks K.eq desk.old (Visit.NoticeEnded call notice)) }
+{
+    let ended = desk.notice_ended(call, notice)?;
+    Ok(Found::NoticeEnded(ended))
+}
+
+fn lock_key<K: Eq + Hash + Clone + Drop, V: Clone + Drop>(
+    desk: &mut Desk<K, V>,
+    call: u64,
+    key: K,
+) -> Result<Found<V>, AllocError>
+    requires keys { IsExact K.is_clone }
+    requires can { Can K.eq desk.old (Visit.LockKey call key) }
+    ensures ok { IfOk result (λ found.
+        VisitIs K.eq desk.old (Visit.LockKey call key) found desk.new) }
+    ensures err { OnErr result (Keeps K.eq desk.old desk.new) }
+{
+    let locked = desk.lock_key(call, &key)?;
+    Ok(Found::LockKey(locked))
+}
+
+fn unlock_key<K: Eq + Hash + Clone + Drop, V: Clone + Drop>(
+    desk: &mut Desk<K, V>,
+    call: u64,
+) -> Found<V>
+    requires { Can K.eq desk.old (Visit.UnlockKey call) }
+    ensures { VisitIs K.eq desk.old (Visit.UnlockKey call) result desk.new }
+{
+    let _ = desk.unlock_key(call);
+    Found::UnlockKey
+}
+
+fn open_notice<K: Eq + Hash + Clone + Drop, V: Clone + Drop>(
+    desk: &mut Desk<K, V>,
+    call: u64,
+    key: K,
+    value: V,
+    stamp: u64,
+    modified: u64,
+    cause: Option<Cause>,
+    upsert: bool,
+) -> Result<Found<V>, AllocError>
+    requires { Can K.eq desk.old
+        (Visit.OpenNotice call key value stamp modified cause upsert) }
+    ensures ok { IfOk result (λ found. VisitIs K.eq desk.old
+        (Visit.OpenNotice call key value stamp modified cause upsert) found desk.new) }
+    ensures err { OnErr result (Keeps K.eq desk.old desk.new) }
+{
+    let told = desk.open_notice(call, key, value, stamp, modified, cause, upsert)?;
+    Ok(Found::OpenNotice(told))
+}
+
+fn take_turn<K: Eq + Hash + Clone + Drop, V: Clone + Drop>(
+    desk: &mut Desk<K, V>,
+    call: u64,
+) -> Result<Found<V>, AllocError>
+    requires { Can K.eq desk.old (Visit.TakeTurn call) }
+    ensures ok { IfOk result (λ found.
+        VisitIs K.eq desk.old (Visit.TakeTurn call) found desk.new) }
+    ensures err { OnErr result (Keeps K.eq desk.old desk.new) }
+    ensures err_needs { OnErr result (Lacks K.eq desk.old (Visit.TakeTurn call)) }
+{
+    let taken = desk.take_turn(call)?;
+    Ok(Found::TakeTurn(taken))
 }

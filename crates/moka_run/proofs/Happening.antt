@@ -24,12 +24,12 @@ given_out false n x e = (refl, cc)
 
 module _ {K V : Type 0} (eq : K → K → Bool) where
   -- a step of a live call
-  pub happens_step : (s : State K V) (n : ℕ) (c : Call K V) (r : Reply V) (t : State K V) → s.calls n ≡ Some c → Steps eq s n r t → Happens eq Any s (event.Step n) r t
+  pub happens_step : (s : State K V) (n : ℕ) (c : Call K V) (r : Reply K V) (t : State K V) → s.calls n ≡ Some c → Steps eq s n r t → Happens eq Any s (event.Step n) r t
   happens_step s n c r t live steps =
       subst (λ (o : Option (Call K V)). MatchOption o (Refuses s refusal.UnknownCall r t) (λ _. Steps eq s n r t)) (sym live) steps
 
   -- a drop of a live call
-  pub happens_drop : (s : State K V) (n : ℕ) (c : Call K V) (r : Reply V) (t : State K V) → s.calls n ≡ Some c → Drops s n c c.mode r t → Happens eq Any s (event.Drop n) r t
+  pub happens_drop : (s : State K V) (n : ℕ) (c : Call K V) (r : Reply K V) (t : State K V) → s.calls n ≡ Some c → Drops s n c c.mode r t → Happens eq Any s (event.Drop n) r t
   happens_drop s n c r t live drops =
       subst (λ (o : Option (Call K V)). MatchOption o (Refuses s refusal.UnknownCall r t) (λ d. Drops s n d d.mode r t)) (sym live) drops
 

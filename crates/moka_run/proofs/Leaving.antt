@@ -1,22 +1,25 @@
 -- What a call that is dropped may leave.
-use Rattle.std.proofs.Common.{◌≡◌, ℕ, Bool, Option, Some, None, sym}
-use Rattle.std.specs.declared.cmp.PartialEq as PartialEq
-use Rattle.std.specs.declared.hash.Hash as Hash
+use Rattle.std.proofs.Common.{◌≡◌, ℕ, Option, Some, None, refl, sym, ap, subst, ◌∙◌}
+use Rattle.std.specs.Option.{option_map}
 use Rattle.moka_hist.specs.Conditions.{MayLeave}
-use Rattle.moka_hist.specs.Places.{HeldAreKnown}
+use Rattle.moka_hist.specs.Dropping.{owed_by}
 use Rattle.moka_hist.specs.Plan.{held_by}
-use Rattle.moka_hist.specs.State.{Call, DeskPart, State}
+use Rattle.moka_hist.specs.State.{Call, State}
+use Rattle.moka_hist.specs.declared.writes.Owed.{Owed}
 use Rattle.moka_hist.specs.declared.writes.Write.{Write}
-use Rattle.moka_desk.specs.StandsFor.{StandsFor, CanLeave}
-use Rattle.moka_desk.specs.declared.state.Desk.{Desk}
+use Rattle.moka_laws.specs.Held.{MayAllLeave}
+
+-- the write that is owed is the one that was held
+writes_of : (notice : Option ℕ) (o : Option Write) → option_map (λ (v : Owed). v.write) (option_map (λ w. record { write = w; notice = notice }) o) ≡ o
+writes_of notice None = refl
+writes_of notice (Some write) = refl
 
 module _ {K V : Type 0} where
-  -- the write that its plan holds
-  pub may_leave : (s : State K V) (n : ℕ) (c : Call K V) (held : Option Write) → s.calls n ≡ Some c → held ≡ held_by c.plan → HeldAreKnown s → MayLeave s.world.desk n held
-  may_leave s n c None live is known = tt
-  may_leave s n c (Some write) live is known = known n c write live (sym is)
+  -- the call may leave what it holds
+  pub may_leave : (s : State K V) (n k : ℕ) (c : Call K V) (held : Option Owed) → s.calls n ≡ Some c → k ≡ n → held ≡ owed_by k c → MayAllLeave s
+      → MayLeave s.world.desk n (option_map (λ (v : Owed). v.write) held)
+  may_leave s n k c held live number is all =
+      subst (λ (o : Option Write). MayLeave s.world.desk n o) (sym (ap (option_map (λ (v : Owed). v.write)) is ∙ writes_of _ (held_by c.plan))) (all n c live)
 
-module _ {K V : Type 0} {same : PartialEq.Ghosts K} {hash : Hash.Ghosts K} (eq : K → K → Bool) where
-  pub can_leave : (desk : Desk K V same hash) (w : DeskPart K V) (n : ℕ) (held : Option Write) → StandsFor eq desk w → MayLeave w n held → CanLeave eq desk n held
-  can_leave desk w n None stands may = tt
-  can_leave desk w n (Some write) stands may = (w, stands, may)
+  pub owed_here : (n k : ℕ) (c : Call K V) (held : Option Owed) → k ≡ n → held ≡ owed_by k c → held ≡ owed_by n c
+  owed_here n k c held number is = is ∙ ap (λ m. owed_by m c) number

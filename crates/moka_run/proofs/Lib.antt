@@ -12,3 +12,5 @@ pub mod ByKey
 pub mod OneWord
 pub mod Reported
 pub mod Due
+pub mod ReportNotices
+pub mod Telling

@@ -1,5 +1,5 @@
 -- The live calls, listed by the places of a machine's calls.
-use Rattle.std.proofs.Common.{◌≡◌, ℕ, Bool, true, false, cond, List, [], ◌∷◌, Option, Some, None, nat_eq, refl, ap, ◌∙◌}
+use Rattle.std.proofs.Common.{◌≡◌, ℕ, Bool, true, false, cond, List, [], ◌∷◌, Option, Some, None, nat_eq, refl, sym, ap, subst, ◌∙◌}
 use Rattle.std.specs.Cmp.{nat_eq_equiv}
 use Rattle.std.specs.List.{IsDistinct, AllByRecursion, filter_map, cons_option}
 use Rattle.std.specs.Map.{lookup, keys_of, values_of}
@@ -7,7 +7,9 @@ use Rattle.std.specs.Option.{option_map, option_and_then}
 use Rattle.std.proofs.lemmas.Map.{lookup-none}
 use Rattle.std.proofs.lemmas.Map.Entries.{none_past_head}
 use Rattle.moka_hist.specs.State.{Call}
-use Rattle.moka_run.specs.Calls.{held_in}
+use Rattle.moka_hist.specs.declared.visits.Visit.{Visit}
+use Rattle.moka_init.specs.FlowPlan.{opening}
+use Rattle.moka_run.specs.Calls.{held_in, due_in, opening_of, AreDue, AreNumbered}
 use Rattle.moka_run.specs.Machine.{call_in}
 use Rattle.moka_run.specs.Report.{held_number, AreHeld}
 use Rattle.moka_run.specs.declared.calls.Running.{Running}
@@ -69,4 +71,38 @@ module _ {K V : Type 0} where
         calls = filter_map live es;
         lists = record { distinct = distinct es unique; same = λ q. looked_up q es unique };
         are = e ∙ same_numbers es;
+      }
+
+  -- each running call of the places is of its number
+  abbrev Numbered : List (ℕ × Option (Running K V)) → Type 0
+  Numbered es = AreNumbered (λ n. option_and_then (λ place. place) (lookup (nat_eq n) es))
+
+  tail_numbered : (k : ℕ) (p : Option (Running K V)) (es : List (ℕ × Option (Running K V))) → IsDistinct nat_eq (keys_of ((k, p) ∷ es)) → Numbered ((k, p) ∷ es) → Numbered es
+  tail_numbered k p es h numbered n r e = by (nat_eq n k) refl
+    where
+      by : (b : Bool) → nat_eq n k ≡ b → r.flow.call ≡ n
+      by true f =
+          let none : None ≡ Some r = sym (ap (option_and_then (λ place. place)) (lookup-none (nat_eq n) es (none_past_head nat_eq_equiv n (k, p) es h f))) ∙ e in
+          absurd (cc)
+      by false f = numbered n r (subst (λ (b : Bool). option_and_then (λ place. place) (cond b (Some p) (lookup (nat_eq n) es)) ≡ Some r) (sym f) e)
+
+  -- the visits that open the notices of the places are those of the live calls
+  same_due : (es : List (ℕ × Option (Running K V))) → IsDistinct nat_eq (keys_of es) → Numbered es
+      → filter_map due_in (values_of es) ≡ filter_map opening_of (filter_map live es)
+  same_due [] h numbered = refl
+  same_due ((k, None) ∷ es) h numbered = same_due es (tail (k, None) es h) (tail_numbered k None es h numbered)
+  same_due ((k, Some r) ∷ es) h numbered =
+      let itself : nat_eq k k ≡ true = nat_eq_equiv.refl k in
+      let own : r.flow.call ≡ k =
+      numbered k r (subst (λ (b : Bool). option_and_then (λ place. place) (cond b (Some (Some r)) (lookup (nat_eq k) es)) ≡ Some r) (sym itself) refl) in
+      ap (λ m. cons_option (opening m (call_in r).plan) (filter_map due_in (values_of es))) own
+      ∙ ap (cons_option (opening_of (k, call_in r))) (same_due es (tail (k, Some r) es h) (tail_numbered k (Some r) es h numbered))
+
+  pub live_due : (es : List (ℕ × Option (Running K V))) → IsDistinct nat_eq (keys_of es) → (visits : List (Visit K V)) → visits ≡ filter_map due_in (values_of es) → Numbered es
+      → AreDue visits (λ n. at_key (lookup (nat_eq n) es))
+  live_due es unique visits e numbered =
+      record {
+        calls = filter_map live es;
+        lists = record { distinct = distinct es unique; same = λ q. looked_up q es unique };
+        are = e ∙ same_due es unique numbered;
       }

@@ -1,5 +1,5 @@
 -- The machine as the ground of the call that was taken out: the other calls are as they were.
-use Rattle.std.proofs.Common.{◌≡◌, ◌≢◌, ◌≤◌, ℕ, Bool, Option, Some, None, sym, ap, subst, ◌∙◌}
+use Rattle.std.proofs.Common.{◌≡◌, ◌≢◌, ◌≤◌, ℕ, Bool, Some, None, sym, ap, subst, ◌∙◌}
 use Rattle.std.specs.declared.cmp.PartialEq as PartialEq
 use Rattle.std.specs.declared.hash.Hash as Hash
 use Rattle.moka_hist.specs.State.{World}
@@ -15,7 +15,6 @@ use Rattle.moka_run.specs.Calls.{running_at}
 use Rattle.moka_run.specs.Machine.{Reaches}
 use Rattle.moka_run.specs.TheTable.{TheCall, TheTable, the_table}
 use Rattle.moka_run.specs.declared.calls.Calls.{Calls}
-use Rattle.moka_run.specs.declared.calls.Running.{Running}
 
 module _ {K V : Type 0} (eq : K → K → Bool) where
   -- no access gives a call number out

@@ -5,13 +5,14 @@ use Rattle.moka_hist.specs.State.{Call, State}
 use Rattle.moka_hist.specs.Visits.{number_of}
 use Rattle.moka_hist.specs.declared.writes.Place.{Place}
 use Rattle.moka_hist.specs.declared.writes.Place.TheVariants as place
+use Rattle.moka_hist.specs.declared.writes.Owed.{Owed}
 use Rattle.moka_hist.specs.declared.writes.Write.{Write}
 use Rattle.moka_run.specs.Report.{at_place, held_number, all_places}
 
 -- the four lists, one after the other, are all places
-pub places_joined : {K V : Type 0} (calls : List (ℕ × Call K V)) (s : State K V) (none first second third fourth : List (ℕ × Place)) (numbers : List ℕ) (owed log applied : List Write)
+pub places_joined : {K V : Type 0} (calls : List (ℕ × Call K V)) (s : State K V) (none first second third fourth : List (ℕ × Place)) (numbers : List ℕ) (owed : List Owed) (log applied : List Write)
     → none ≡ [] → first ≡ none ++ at_place place.Held numbers → numbers ≡ filter_map held_number calls
-    → second ≡ first ++ at_place place.Owed (map number_of owed) → owed ≡ s.world.desk.owed
+    → second ≡ first ++ at_place place.Owed (map (λ o. number_of o.write) owed) → owed ≡ s.world.desk.owed
     → third ≡ second ++ at_place place.Logged (map number_of log) → log ≡ s.world.desk.log
     → fourth ≡ third ++ at_place place.Applied (map number_of applied) → applied ≡ s.world.desk.applied
     → fourth ≡ all_places calls s

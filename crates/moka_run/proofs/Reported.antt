@@ -2,6 +2,8 @@
 use Rattle.std.proofs.Common.{◌≡◌, ℕ, List, IsPermutation, nat_eq, refl}
 use Rattle.std.specs.List.Sorted.{IsSortedByKey}
 use Rattle.std.specs.Ordering.{nat_cmp}
+use Rattle.moka_hist.specs.declared.notices.Notice.{Notice}
+use Rattle.moka_hist.specs.declared.rules.Rules.{Rules}
 use Rattle.moka_hist.specs.declared.events.Event.{Event}
 use Rattle.moka_hist.specs.declared.records.Stored.{Stored}
 use Rattle.moka_hist.specs.declared.replies.Reply.{Reply}
@@ -13,12 +15,12 @@ use Rattle.moka_run.specs.declared.report.Report.{Report}
 use Rattle.moka_run.proofs.ByKey.{sorted_list}
 
 -- a text of the replies, of the stored pairs sorted by key, and of the places reports the run
-pub reported : (log : ℕ) (events : List (Event ℕ ℕ)) (report : Report ℕ ℕ) (sorted entries : List (ℕ × Stored ℕ)) (replies : List (Reply ℕ)) (places : List (ℕ × Place)) (text : List ℕ)
-    → RunsFresh log events report → ReachedIsUnderOwnKeys ℕ ℕ nat_eq
+pub reported : (rules : Rules) (log : ℕ) (events : List (Event ℕ ℕ)) (report : Report ℕ ℕ) (sorted entries : List (ℕ × Stored ℕ)) (replies : List (Reply ℕ ℕ)) (places : List (ℕ × Place)) (notices : List (Notice ℕ ℕ)) (text : List ℕ)
+    → RunsFresh rules log events report → ReachedIsUnderOwnKeys ℕ ℕ nat_eq
     → IsPermutation report.entries sorted → IsSortedByKey (λ e. e.0) nat_cmp sorted
-    → replies ≡ report.replies → entries ≡ sorted → places ≡ report.places
-    → text ≡ report_text replies entries places → ReportsRun log events text
-reported log events report sorted entries replies places text ran own all ascending same_replies same_entries same_places is =
+    → replies ≡ report.replies → entries ≡ sorted → places ≡ report.places → notices ≡ report.notices
+    → text ≡ report_text replies entries places notices → ReportsRun rules log events text
+reported rules log events report sorted entries replies places notices text ran own all ascending same_replies same_entries same_places same_notices is =
     record {
       replies = report.replies;
       final = ran.final;
@@ -27,5 +29,7 @@ reported log events report sorted entries replies places text ran own all ascend
       stored = sorted_list report.entries sorted ran.final.world.table.stored ran.reports.entries (own ran.final ran.reached) all ascending;
       places = report.places;
       stand = ran.reports.places;
-      is = rw (is, same_replies, same_entries, same_places) refl;
+      notices = report.notices;
+      noticed = ran.reports.notices;
+      is = rw (is, same_replies, same_entries, same_places, same_notices) refl;
     }

@@ -1,18 +1,17 @@
 -- Calls that run, as the machine's world moves on.
-use Rattle.std.proofs.Common.{◌≡◌, ◌≢◌, ◌<◌, ◌≤◌, ◌==◌, ℕ, ◌+◌, Bool, true, false, cond, Option, Some, None, refl, sym, ap, subst, ◌∙◌, ◌⊎◌, inl, inr, arith}
+use Rattle.std.proofs.Common.{◌≡◌, ◌≢◌, ◌<◌, ◌≤◌, ◌==◌, ℕ, Bool, true, false, cond, Option, Some, None, refl, sym, ap, subst, ◌∙◌, ◌⊎◌, inl, inr, arith}
 use Rattle.std.proofs.lemmas.Bool.Decides.{eqb_tells}
 use Rattle.std.specs.declared.cmp.PartialEq as PartialEq
 use Rattle.std.specs.declared.hash.Hash as Hash
-use Rattle.std.specs.Option.{option_map}
-use Rattle.moka_hist.specs.Bound.{times_of, most_undecided}
+use Rattle.moka_hist.specs.Bound.{times_of}
 use Rattle.moka_hist.specs.State.{Call, Stay, TablePart, World}
 use Rattle.moka_hist.specs.Finite.{put_at}
 use Rattle.moka_init.specs.declared.flow.Flow.{Flow}
-use Rattle.moka_init.specs.FlowPlan.{call_of, IsLive}
+use Rattle.moka_init.specs.FlowPlan.{call_of}
 use Rattle.moka_init.specs.Grounds.{HasBegun}
-use Rattle.moka_layers.specs.Layers.{BegunIs, TableIs, most_on, operation_in}
+use Rattle.moka_layers.specs.Layers.{BegunIs, TableIs, operation_in}
 use Rattle.moka_run.specs.Calls.{running_at}
-use Rattle.moka_run.specs.Machine.{IsOf, IsOut, Without, StandsFor, call_in}
+use Rattle.moka_run.specs.Machine.{IsOf, IsOut, Without, StandsFor}
 use Rattle.moka_run.specs.TheTable.{TheCall, TheTable, the_table}
 use Rattle.moka_run.specs.declared.calls.Calls.{Calls}
 use Rattle.moka_run.specs.declared.calls.Running.{Running}

@@ -1,8 +1,12 @@
 -- The live calls of a machine, by number.
-use Rattle.std.specs.Prelude.{ℕ, Option, IsSome, nat_eq}
+use Rattle.std.specs.Prelude.{◌≡◌, ℕ, List, Option, Some, IsSome, nat_eq}
+use Rattle.std.specs.List.{filter_map}
 use Rattle.std.specs.Option.{option_and_then, option_map}
 use Rattle.std.specs.HashMap.{get}
-use Rattle.moka_init.specs.FlowPlan.{call_of}
+use Rattle.moka_init.specs.FlowPlan.{call_of, due_of, opening}
+use Rattle.moka_hist.specs.Finite.{Lists}
+use Rattle.moka_hist.specs.State.{Call}
+use Rattle.moka_hist.specs.declared.visits.Visit.{Visit}
 use Rattle.moka_hist.specs.Plan.{held_by}
 use Rattle.moka_hist.specs.Visits.{number_of}
 use Rattle.moka_run.specs.declared.calls.Calls.{Calls}
@@ -20,3 +24,21 @@ module _ {K V : Type 0} where
   -- the number of the write that the call of this place holds, where one runs
   abbrev pub held_in : Option (Running K V) → Option ℕ
   held_in place = option_and_then (λ r. option_map number_of (held_by (call_of r.flow).plan)) place
+
+  -- the visit that opens the notice of the call of this place, where one runs and its notice is due
+  abbrev pub due_in : Option (Running K V) → Option (Visit K V)
+  due_in place = option_and_then (λ r. due_of r.flow) place
+
+  -- the visit that opens the notice of the call of this number, where it is due
+  abbrev pub opening_of : ℕ × Call K V → Option (Visit K V)
+  opening_of c = opening c.0 c.1.plan
+
+  -- each running call is of its number
+  abbrev pub AreNumbered : (ℕ → Option (Running K V)) → Type 0
+  AreNumbered running = (n : ℕ) (r : Running K V) → running n ≡ Some r → r.flow.call ≡ n
+
+  -- the visits are those that open the notices of the live calls that are due
+  pub record AreDue (visits : List (Visit K V)) (live : ℕ → Option (Call K V)) : Type 0 where
+    pub calls : List (ℕ × Call K V)
+    pub lists : Lists nat_eq calls live
+    pub are : visits ≡ filter_map opening_of calls

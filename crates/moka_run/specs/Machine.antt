@@ -88,7 +88,7 @@ module _ {K V : Type 0} {same : PartialEq.Ghosts K} {hash : Hash.Ghosts K} where
     pub live : IsLive flow
 
   -- the event was carried out or refused with this reply, from whatever state the machine stood for
-  abbrev pub Serves : (K → K → Bool) → Machine K V same hash → Event K V → Reply V → Machine K V same hash → Type 0
+  abbrev pub Serves : (K → K → Bool) → Machine K V same hash → Event K V → Reply K V → Machine K V same hash → Type 0
   Serves eq old e r new =
       (s : State K V) → StandsFor eq old s → IsReached eq s → (t : State K V) × Happens eq Any s e r t × StandsFor eq new t
 
@@ -102,7 +102,7 @@ module _ {K V : Type 0} {same : PartialEq.Ghosts K} {hash : Hash.Ghosts K} where
       (s : State K V) → StandsFor eq old s → IsReached eq s → (t : State K V) × Begins eq Any s (Some e) steps t × StandsFor eq new t
 
   -- a step of a call that was taken out: the call made it, and was put back or has ended
-  abbrev pub StepOut : (K → K → Bool) → Machine K V same hash → ℕ → Flow K V → Reply V → Machine K V same hash → Type 0
+  abbrev pub StepOut : (K → K → Bool) → Machine K V same hash → ℕ → Flow K V → Reply K V → Machine K V same hash → Type 0
   StepOut eq old n flow r new =
       (others : ℕ → Option (Call K V)) (w : World K V) → Without eq old n others w → May w (access_at flow)
       → (next : Next K V) × (after : World K V) × Moves eq n (call_of flow) w next after × (r ≡ reply_of next.turn)
@@ -115,7 +115,7 @@ module _ {K V : Type 0} {same : PartialEq.Ghosts K} {hash : Hash.Ghosts K} where
       → StandsFor eq new (record { world = w; calls = put_at others n (Some (call_of flow)) })
 
   -- a poll of a call that was taken out
-  abbrev pub PollOut : (K → K → Bool) → Machine K V same hash → ℕ → Flow K V → Reply V → Machine K V same hash → Type 0
+  abbrev pub PollOut : (K → K → Bool) → Machine K V same hash → ℕ → Flow K V → Reply K V → Machine K V same hash → Type 0
   PollOut eq old n flow r new =
       (others : ℕ → Option (Call K V)) (w : World K V) → Without eq old n others w → IsSafe eq n (call_of flow) w
       → (next : Next K V) × (after : World K V) × Polled eq n (call_of flow) w next after × (r ≡ reply_of next.turn)
@@ -127,4 +127,4 @@ module _ {K V : Type 0} {same : PartialEq.Ghosts K} {hash : Hash.Ghosts K} where
       (made : ℕ) × (steps ≡ as_told made)
       × ((others : ℕ → Option (Call K V)) (w : World K V) → Without eq old n others w → IsSafe eq n (call_of flow) w
       → (d : Call K V) × (after : World K V) × MovesOn eq made n (call_of flow) w d after
-      × StandsFor eq new (record { world = after; calls = put_at others n (Some d) }) × NeedsMemory (access_of n d))
+      × StandsFor eq new (record { world = after; calls = put_at others n (Some d) }) × NeedsMemory after (access_of n d))

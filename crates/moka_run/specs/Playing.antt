@@ -10,6 +10,8 @@ use Rattle.moka_ends.specs.Bytes.{GivesAll, Extends}
 use Rattle.moka_hist.specs.State.{State, fresh}
 use Rattle.moka_hist.specs.Places.{IsLawful}
 use Rattle.moka_hist.specs.Run.{Run, IsReached}
+use Rattle.moka_hist.specs.declared.rules.Rules.{Rules}
+use Rattle.moka_hist.specs.declared.notices.Notice.{Notice}
 use Rattle.moka_hist.specs.declared.events.Event.{Event}
 use Rattle.moka_hist.specs.declared.records.Stored.{Stored}
 use Rattle.moka_hist.specs.declared.replies.Reply.{Reply}
@@ -17,7 +19,7 @@ use Rattle.moka_hist.specs.declared.writes.Place.{Place}
 use Rattle.moka_table.specs.Map.{Pairs}
 use Rattle.moka_text.specs.ReportText.{report_text}
 use Rattle.moka_text.specs.ScheduleText.{Says, IsFirstBad}
-use Rattle.moka_run.specs.Report.{ArePlaces, Reports}
+use Rattle.moka_run.specs.Report.{AreNotices, ArePlaces, Reports}
 use Rattle.moka_run.specs.declared.report.Report.{Report}
 use Rattle.moka_run.specs.declared.status.Status.{Status}
 use Rattle.moka_run.specs.declared.status.Status.TheVariants as status
@@ -36,30 +38,33 @@ pub record ListsByKey (entries : List (ℕ × Stored ℕ)) (stored : Pairs ℕ �
   pub ascending : IsStrictlyIncreasing (keys_of entries)
 
 -- What was run on a fresh cache with a log of this size is to be reported so.
-pub record RunsFresh (log : ℕ) (events : List (Event ℕ ℕ)) (report : Report ℕ ℕ) : Type 0 where
+pub record RunsFresh (rules : Rules) (log : ℕ) (events : List (Event ℕ ℕ)) (report : Report ℕ ℕ) : Type 0 where
   pub final : State ℕ ℕ
-  pub run : Run nat_eq (IsLawful nat_eq) (fresh ℕ ℕ log) events report.replies final
-  pub reports : Reports nat_eq report.entries report.places final
+  pub run : Run nat_eq (IsLawful nat_eq) (fresh ℕ ℕ rules log) events report.replies final
+  pub reports : Reports nat_eq report.entries report.places report.notices final
   pub reached : IsReached nat_eq final
 
 -- The text reports a run of the reference cache on the events, from a fresh cache with a log of this
 -- size, in which each state is lawful: its replies, and what stands after it.
-pub record ReportsRun (log : ℕ) (events : List (Event ℕ ℕ)) (text : List ℕ) : Type 0 where
-  pub replies : List (Reply ℕ)
+pub record ReportsRun (rules : Rules) (log : ℕ) (events : List (Event ℕ ℕ)) (text : List ℕ) : Type 0 where
+  pub replies : List (Reply ℕ ℕ)
   pub final : State ℕ ℕ
-  pub run : Run nat_eq (IsLawful nat_eq) (fresh ℕ ℕ log) events replies final
+  pub run : Run nat_eq (IsLawful nat_eq) (fresh ℕ ℕ rules log) events replies final
   pub entries : List (ℕ × Stored ℕ)
   pub stored : ListsByKey entries final.world.table.stored
   pub places : List (ℕ × Place)
   pub stand : ArePlaces places final
-  pub is : text ≡ report_text replies entries places
+  pub notices : List (Notice ℕ ℕ)
+  pub noticed : AreNotices notices final
+  pub is : text ≡ report_text replies entries places notices
 
 -- the text is the report of the schedule that the bytes say
 pub record IsReport (bytes text : List ℕ) : Type 0 where
   pub log : ℕ
+  pub rules : Rules
   pub events : List (Event ℕ ℕ)
-  pub says : Says bytes log events
-  pub report : ReportsRun log events text
+  pub says : Says bytes log rules events
+  pub report : ReportsRun rules log events text
 
 -- the most bytes that a schedule may have
 abbrev pub most_bytes : ℕ
@@ -104,7 +109,7 @@ pub record FindsBadLine (left left' : Option (List ℕ)) (line : ℕ) : Type 0 w
 
 -- no text both says a schedule and has a bad line
 abbrev pub SaysOrIsBad : Type 0
-SaysOrIsBad = (text : List ℕ) (log : ℕ) (events : List (Event ℕ ℕ)) (line : ℕ) → Says text log events → IsFirstBad text line → ⊥
+SaysOrIsBad = (text : List ℕ) (log : ℕ) (rules : Rules) (events : List (Event ℕ ℕ)) (line : ℕ) → Says text log rules events → IsFirstBad text line → ⊥
 
 -- how a play may end once the source was read to its end
 abbrev pub IsAfterReading : Status → Type 0
@@ -135,7 +140,7 @@ EndsAs due ended = (ended ≡ due) ⊎ IsBroken ended
 pub record IsDue (bytes : List ℕ) (ended : Status) : Type 0 where
   pub too_long : most_bytes < length bytes → EndsAs status.TooLong ended
   pub bad_line : (line : ℕ) → length bytes ≤ most_bytes → IsFirstBad bytes line → EndsAs (status.BadLine line) ended
-  pub done : (log : ℕ) (events : List (Event ℕ ℕ)) → length bytes ≤ most_bytes → Says bytes log events → EndsAs status.Done ended
+  pub done : (log : ℕ) (rules : Rules) (events : List (Event ℕ ℕ)) → length bytes ≤ most_bytes → Says bytes log rules events → EndsAs status.Done ended
 
 -- the status after the source failed so
 abbrev pub status_of_read : ReadError → Status

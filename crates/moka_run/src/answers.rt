@@ -2,13 +2,13 @@
 ghost use Rattle.std.specs.Prelude.{◌≡◌, ◌<◌, ◌≤◌, ℕ, length, nat_eq, IfOk, IsErrOf, IsPermutation, IsSortedByKey};
 ghost use Rattle.std.specs.Ordering.{nat_cmp};
 ghost use Rattle.std.specs.String.{string_bytes};
-ghost use Rattle.moka_text.specs.ScheduleText.{IsFirstBad, Says};
+ghost use Rattle.moka_text.specs.ScheduleText.{IsFirstBad, Says, listening};
 ghost use Rattle.moka_run.specs.Playing.{IsReport, ReportsRun, RunsFresh};
 
 use crate::machine::Machine;
 use crate::report::Report;
 use crate::run;
-use moka_hist::{Event, Stored};
+use moka_hist::{Event, Rules, Stored};
 use moka_table::EntryList;
 use moka_text::{Schedule, ScheduleError, read_schedule, write_report};
 use std::alloc::{AllocError, Global};
@@ -26,15 +26,17 @@ fn sorted(entries: EntryList<u32, u32>) -> Vec<(u32, Stored<u32>)>
 /// Runs the events on a fresh cache, and answers what is to be reported.
 fn run_fresh(
     alloc: Global,
+    rules: Rules,
     log: usize,
     events: &[Event<u32, u32>],
 ) -> Result<Report<u32, u32>, AllocError>
+    requires rules { rules ≡ listening rules.listener }
     requires least { 1 ≤ log }
     requires most { log ≤ 65536 }
-    ensures { IfOk result (λ report. RunsFresh log events.now report) }
+    ensures { IfOk result (λ report. RunsFresh rules log events.now report) }
 {
     moka_laws::reached_by_lawful_run::<u32, u32>();
-    let mut machine = Machine::build(alloc, log)?;
+    let mut machine = Machine::build(alloc, rules, log)?;
     match run(alloc, &mut machine, events) {
         Ok(report) => Ok(report),
         Err(_) => Err(AllocError),
@@ -44,37 +46,52 @@ fn run_fresh(
 /// The same, of events that are given up then.
 fn run_given(
     alloc: Global,
+    rules: Rules,
     log: usize,
     events: Vec<Event<u32, u32>>,
 ) -> Result<Report<u32, u32>, AllocError>
+    requires rules { rules ≡ listening rules.listener }
     requires least { 1 ≤ log }
     requires most { log ≤ 65536 }
-    ensures { IfOk result (λ report. RunsFresh log events.items report) }
+    ensures { IfOk result (λ report. RunsFresh rules log events.items report) }
 {
-    run_fresh(alloc, log, &events)
+    run_fresh(alloc, rules, log, &events)
 }
 
-/// Runs the events on a fresh cache with a log of this many writes, and answers the report's text. The
+/// Runs the events on a fresh cache of these rules with a log of this many writes, and answers the report's text. The
 /// events are given up before that is made.
-fn report_on(alloc: Global, log: usize, events: Vec<Event<u32, u32>>) -> Result<String, AllocError>
+fn report_on(
+    alloc: Global,
+    rules: Rules,
+    log: usize,
+    events: Vec<Event<u32, u32>>,
+) -> Result<String, AllocError>
+    requires rules { rules ≡ listening rules.listener }
     requires least { 1 ≤ log }
     requires most { log ≤ 65536 }
-    ensures { IfOk result (λ text. ReportsRun log events.items (string_bytes text)) }
+    ensures { IfOk result (λ text. ReportsRun rules log events.items (string_bytes text)) }
 {
     moka_laws::stored_under_own_keys::<u32, u32>();
-    let report = run_given(alloc, log, events)?;
+    let report = run_given(alloc, rules, log, events)?;
     let Report {
         replies,
         entries,
         places,
+        notices,
     } = report;
     let entries = sorted(entries);
-    write_report(alloc, replies.as_slice(), &entries, places.as_slice())
+    write_report(
+        alloc,
+        replies.as_slice(),
+        &entries,
+        places.as_slice(),
+        notices.as_slice(),
+    )
 }
 
 /// Reads the schedule that the bytes say, which are given up then.
 fn read_given(alloc: Global, bytes: Vec<u8>) -> Result<Schedule, ScheduleError>
-    ensures found { IfOk result (λ s. Says bytes.items s.log s.events.items) }
+    ensures found { IfOk result (λ s. Says bytes.items s.log s.rules s.events.items) }
     ensures bad_line { (line : ℕ) → IsErrOf result (ScheduleError.BadLine line)
         → IsFirstBad bytes.items line }
     ensures memory { IsErrOf result ScheduleError.Memory → 0 < length bytes.items }
@@ -93,7 +110,7 @@ pub(crate) fn answer(alloc: Global, bytes: Vec<u8>) -> Result<String, ScheduleEr
     ensures memory { IsErrOf result ScheduleError.Memory → 0 < length bytes.items }
 {
     let schedule = read_given(alloc, bytes)?;
-    match report_on(alloc, schedule.log, schedule.events) {
+    match report_on(alloc, schedule.rules, schedule.log, schedule.events) {
         Ok(text) => Ok(text),
         Err(_) => Err(ScheduleError::Memory),
     }

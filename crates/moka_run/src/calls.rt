@@ -2,13 +2,14 @@
 ghost use Rattle.std.specs.Prelude.{◌≡◌, ℕ, ◌<◌, Some, None, IfOk, OnOk, OnSome};
 ghost use Rattle.std.specs.Option.{option_map};
 ghost use Rattle.std.specs.HashMap.{spare};
-ghost use Rattle.moka_hist.specs.Finite.{put_at};
-ghost use Rattle.moka_run.specs.Calls.{running_at, held_in, HasPlace};
+ghost use Rattle.moka_hist.specs.Finite.{IsExact, put_at};
+ghost use Rattle.moka_run.specs.Calls.{running_at, held_in, due_in, HasPlace, AreDue, AreNumbered};
 ghost use Rattle.moka_run.specs.Machine.{call_in};
 ghost use Rattle.moka_run.specs.Report.{AreHeld};
 
-use crate::lists::number_of;
+use crate::lists::number_owed;
 use crate::machine::TheCall;
+use moka_hist::Visit;
 use moka_init::Flow;
 use std::alloc::{AllocError, Global};
 use std::collections::HashMap;
@@ -100,6 +101,39 @@ impl<K: Drop, V: Drop> Calls<K, V> {
         }
         Ok(numbers)
     }
+
+    /// Lists the visits that open the notices of running calls that are due.
+    pub(crate) fn due(&self, alloc: Global) -> Result<Vec<Visit<K, V>>, AllocError>
+    where
+        K: Clone,
+        V: Clone,
+        requires keys { IsExact K.is_clone }
+        requires values { IsExact V.is_clone }
+        ensures { IfOk result (λ visits. AreNumbered (running_at self.now)
+            → AreDue visits.items (λ n. option_map call_in (running_at self.now n))) }
+    {
+        let mut visits = Vec::new(alloc);
+        for place in self.places.values() {
+            if let Some(visit) = due_at(place)? {
+                visits.push(visit)?;
+            }
+        }
+        Ok(visits)
+    }
+}
+
+/// The visit that opens the notice of the call of this place, where that is due.
+fn due_at<K: Clone + Drop, V: Clone + Drop>(
+    place: &Option<Running<K, V>>,
+) -> Result<Option<Visit<K, V>>, AllocError>
+    requires keys { IsExact K.is_clone }
+    requires values { IsExact V.is_clone }
+    ensures { IfOk result (λ due. due ≡ due_in place.now) }
+{
+    match place {
+        Some(running) => running.flow.due(),
+        None => Ok(None),
+    }
 }
 
 /// The number of the write that the call of this place holds, where one runs.
@@ -107,7 +141,7 @@ fn held_number<K, V>(place: &Option<Running<K, V>>) -> Option<u64>
     ensures { result ≡ held_in place.now }
 {
     match place {
-        Some(running) => running.flow.held().map(number_of),
+        Some(running) => running.flow.held().map(number_owed),
         None => None,
     }
 }

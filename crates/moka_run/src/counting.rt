@@ -12,7 +12,7 @@ ghost use Rattle.moka_run.specs.Machine.{IsOut, IsValid, TakenOut};
 
 use crate::machine::Machine;
 use crate::runs::run;
-use moka_hist::{Event, Got, Refusal, Reply, Want};
+use moka_hist::{Event, Got, Refusal, Reply, Rules, Want};
 use moka_init::{Alone, Flow, Ground, step};
 use moka_text::read_schedule;
 use std::alloc::{AllocError, Global};
@@ -29,7 +29,7 @@ struct Counting<K: Eq + Hash, V> {
 
 impl<K: Eq + Hash + Clone + Drop, V: Clone + Drop> Ground<K, V> for Counting<K, V> {
     ghost use Rattle.moka_hist.specs.State.{World};
-    ghost use Rattle.moka_init.specs.Grounds.{Accesses, Gives, NeedsMemory, OfWanted};
+    ghost use Rattle.moka_init.specs.Grounds.{Accesses, Gives, Lacks, NeedsMemory, OfWanted};
     ghost use Rattle.moka_layers.specs.Layers.{account_of};
     ghost use Rattle.moka_run.specs.Machine.{Reaches, Allows};
     ghost use Rattle.moka_run.specs.TheTable.{the_table};
@@ -72,7 +72,8 @@ impl<K: Eq + Hash + Clone + Drop, V: Clone + Drop> Ground<K, V> for Counting<K, 
         ensures err_stands { OnErr result ((w : World K V) → Reaches K.eq self.old.machine w
             → Reaches K.eq self.new.machine w) }
         ensures err_needs { OnErr result
-            (OfWanted (account_of (the_table K.eq) self.old.machine.layers) want NeedsMemory) }
+            (OfWanted (account_of (the_table K.eq) self.old.machine.layers) want
+            (Lacks (Reaches K.eq self.old.machine) NeedsMemory)) }
     {
         self.accesses = self.accesses.saturating_add(1);
         self.machine.access(want)
@@ -85,7 +86,7 @@ impl<K: Eq + Hash + Clone + Drop, V: Clone + Drop> Alone<K, V> for Counting<K, V
 #[derive(Drop)]
 struct Counted<K: Eq + Hash, V> {
     machine: Machine<K, V>,
-    reply: Option<Reply<V>>,
+    reply: Option<Reply<K, V>>,
     accesses: u64,
 }
 
@@ -230,7 +231,14 @@ fn accesses_of(alloc: Global, row: &str) -> Result<Option<u64>, AllocError> {
     if schedule.log < 1 || schedule.log > 65536 {
         return Err(AllocError);
     }
-    let mut machine = Machine::build(alloc, schedule.log)?;
+    let rules = Rules {
+        max_capacity: None,
+        time_to_live: None,
+        time_to_idle: None,
+        listener: schedule.rules.listener,
+        closures: false,
+    };
+    let mut machine = Machine::build(alloc, rules, schedule.log)?;
     let mut total: u64 = 0;
     for event in &schedule.events {
         let driven = drive(alloc, machine, event);

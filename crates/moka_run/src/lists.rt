@@ -8,8 +8,8 @@ ghost use Rattle.moka_run.specs.Machine.{StandsFor};
 ghost use Rattle.moka_run.specs.Report.{at_place, all_places, ArePlaces, Reports};
 
 use crate::machine::Machine;
-use crate::report::PlaceList;
-use moka_hist::{Place, Write};
+use crate::report::{NoticeList, PlaceList};
+use moka_hist::{Owed, Place, Write};
 use moka_table::{EntryList, Table};
 use std::alloc::{AllocError, Global};
 use std::collections::VecDeque;
@@ -22,6 +22,13 @@ pub(crate) fn number_of(write: Write) -> u64
     match write {
         Write::Upsert { number, .. } => number,
     }
+}
+
+/// The number of the call that made the owed write.
+pub(crate) fn number_owed(owed: Owed) -> u64
+    ensures { result ≡ number_of owed.write }
+{
+    number_of(owed.write)
 }
 
 /// Appends the numbers, each with the place.
@@ -49,6 +56,17 @@ fn push_writes(
 {
     for write in writes {
         places.push((number_of(*write), place))?;
+    }
+    Ok(())
+}
+
+/// Appends the numbers of the owed writes, each with the place.
+fn push_owed(places: &mut Vec<(u64, Place)>, owed: &VecDeque<Owed>) -> Result<(), AllocError>
+    ensures { OnOk result (places.new.items ≡ places.old.items
+        ++ at_place Place.Owed (map (λ o. number_of o.write) owed.now.items)) }
+{
+    for write in owed {
+        places.push((number_owed(*write), Place::Owed))?;
     }
     Ok(())
 }
@@ -98,7 +116,7 @@ impl<K: Eq + Hash + Clone + Drop, V: Clone + Drop> Machine<K, V> {
         let held = self.calls.held(alloc)?;
         let mut places = Vec::new(alloc);
         push_numbers(&mut places, &held, Place::Held)?;
-        push_queue(&mut places, self.layers.desk.owed(), Place::Owed)?;
+        push_owed(&mut places, self.layers.desk.owed())?;
         push_queue(&mut places, self.layers.desk.logged(), Place::Logged)?;
         push_writes(&mut places, self.layers.desk.applied(), Place::Applied)?;
         Ok(places)
@@ -106,16 +124,26 @@ impl<K: Eq + Hash + Clone + Drop, V: Clone + Drop> Machine<K, V> {
 }
 
 /// The lists of a report on the machine's state.
-pub(crate) fn lists<K: Eq + Hash + Clone + Drop, V: Clone + Drop>(
+#[derive(Drop)]
+pub(crate) struct ReportLists<K, V> {
+    pub(crate) entries: EntryList<K, V>,
+    pub(crate) places: PlaceList,
+    pub(crate) notices: NoticeList<K, V>,
+}
+
+/// Makes the lists of a report on the machine's state.
+pub(crate) fn list_all<K: Eq + Hash + Clone + Drop, V: Clone + Drop>(
     alloc: Global,
     machine: &Machine<K, V>,
-) -> Result<(EntryList<K, V>, PlaceList), AllocError>
+) -> Result<ReportLists<K, V>, AllocError>
     requires keys { IsExact K.is_clone }
     requires values { IsExact V.is_clone }
     ensures { IfOk result (λ lists. (s : State K V) → StandsFor K.eq machine.now s
-        → Reports K.eq lists.0 lists.1 s) }
+        → Reports K.eq lists.entries lists.places lists.notices s) }
 {
-    let entries = machine.entries(alloc)?;
-    let places = machine.places(alloc)?;
-    Ok((entries, places))
+    Ok(ReportLists {
+        entries: machine.entries(alloc)?,
+        places: machine.places(alloc)?,
+        notices: machine.notices(alloc)?,
+    })
 }

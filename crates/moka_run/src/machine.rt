@@ -1,11 +1,11 @@
 //! The schedule machine: a table, a desk and the live calls.
-ghost use Rattle.std.specs.Prelude.{◌≤◌, IfOk, IfErr, OnErr};
+ghost use Rattle.std.specs.Prelude.{◌≡◌, ◌≤◌, IfOk, IfErr, OnErr};
 ghost use Rattle.moka_hist.specs.Finite.{IsExact};
 
 use crate::calls::Calls;
 use crate::serving::unpolled;
 use moka_desk::Desk;
-use moka_hist::{Event, Reply};
+use moka_hist::{Event, Reply, Rules};
 use moka_init::Unfinished;
 use moka_layers::Layers;
 use moka_table::{PlainCall, PlainTable};
@@ -33,17 +33,20 @@ pub struct Machine<K: Eq + Hash, V> {
 
 impl<K: Eq + Hash + Clone + Drop, V: Clone + Drop> Machine<K, V> {
     ghost use Rattle.moka_hist.specs.State.{State, fresh};
+    ghost use Rattle.moka_text.specs.ScheduleText.{listening};
     ghost use Rattle.moka_run.specs.Machine.{StandsFor, IsValid, Serves, Stops};
     ghost use Rattle.moka_run.specs.Running.{MayStopIn};
 
-    /// A fresh cache, with a log of this many writes: 1 to 65536.
-    pub fn build(alloc: Global, log: usize) -> Result<Self, AllocError>
+    /// A fresh cache of these rules, of which none is set but that a listener may be, with a log of this
+    /// many writes: 1 to 65536.
+    pub fn build(alloc: Global, rules: Rules, log: usize) -> Result<Self, AllocError>
+        requires rules { rules ≡ listening rules.listener }
         requires least { 1 ≤ log }
         requires most { log ≤ 65536 }
-        ensures fresh { IfOk result (λ m. StandsFor K.eq m (fresh K V log)) }
+        ensures fresh { IfOk result (λ m. StandsFor K.eq m (fresh K V rules log)) }
         ensures valid { IfOk result (λ m. IsValid K.eq m) }
     {
-        let desk = Desk::new(alloc, log)?;
+        let desk = Desk::new(alloc, rules, log)?;
         Ok(Machine {
             layers: Layers {
                 table: TheTable::new(alloc),
@@ -57,7 +60,7 @@ impl<K: Eq + Hash + Clone + Drop, V: Clone + Drop> Machine<K, V> {
 
     /// Carries one event out, or refuses it. Want of memory tells how many steps of a poll were made;
     /// of any other event nothing was done then.
-    pub fn serve(&mut self, event: &Event<K, V>) -> Result<Reply<V>, Unfinished>
+    pub fn serve(&mut self, event: &Event<K, V>) -> Result<Reply<K, V>, Unfinished>
         requires keys { IsExact K.is_clone }
         requires values { IsExact V.is_clone }
         requires valid { IsValid K.eq self.old }

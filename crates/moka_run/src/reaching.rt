@@ -12,7 +12,7 @@ use std::hash::Hash;
 
 impl<K: Eq + Hash + Clone + Drop, V: Clone + Drop> Ground<K, V> for Machine<K, V> {
     ghost use Rattle.moka_hist.specs.State.{World};
-    ghost use Rattle.moka_init.specs.Grounds.{Accesses, Gives, NeedsMemory, OfWanted};
+    ghost use Rattle.moka_init.specs.Grounds.{Accesses, Gives, Lacks, NeedsMemory, OfWanted};
     ghost use Rattle.moka_layers.specs.Layers.{account_of};
     ghost use Rattle.moka_run.specs.Machine.{Reaches, Allows};
     ghost use Rattle.moka_run.specs.TheTable.{the_table};
@@ -55,7 +55,8 @@ impl<K: Eq + Hash + Clone + Drop, V: Clone + Drop> Ground<K, V> for Machine<K, V
         ensures err_stands { OnErr result ((w : World K V) → Reaches K.eq self.old w
             → Reaches K.eq self.new w) }
         ensures err_needs { OnErr result
-            (OfWanted (account_of (the_table K.eq) self.old.layers) want NeedsMemory) }
+            (OfWanted (account_of (the_table K.eq) self.old.layers) want
+            (Lacks (Reaches K.eq self.old) NeedsMemory)) }
     {
         self.layers.access(want)
     }

@@ -7,13 +7,14 @@ ghost use Rattle.moka_hist.specs.Run.{IsReached};
 ghost use Rattle.moka_laws.specs.Alone.{InsertThenGet};
 ghost use Rattle.moka_laws.specs.Answered.{AnsweredIsPosted, PostedStays, StoredIsCommitted};
 ghost use Rattle.moka_laws.specs.Bounded.{StepEventsAreBounded, StepsAreBounded};
+ghost use Rattle.moka_laws.specs.Listening.{AsksAreOne, ReachedLocksAreHeld, ReachedNoticesAreInOrder};
 ghost use Rattle.moka_laws.specs.Readers.{NothingUnreadIsKept, ReadersAreCounted, WaitersAnswerSettled};
 ghost use Rattle.moka_laws.specs.Waiting.{WaitsByCause};
 ghost use Rattle.moka_run.specs.Machine.{StandsFor, IsValid};
 ghost use Rattle.moka_run.specs.Running.{Answers, StopsAt};
 ghost use Rattle.moka_run.specs.Report.{Reports};
 
-use crate::lists::lists;
+use crate::lists::list_all;
 use crate::machine::Machine;
 use crate::report::{Memory, ReplyList, Report};
 use moka_hist::{Event, Reply};
@@ -24,7 +25,8 @@ use std::hash::Hash;
 ///
 /// On Ok the replies answer every event in order, and they are, with the state left behind, a run of
 /// the reference cache, in which no key and kind has two open initializers and each committed write
-/// stands in exactly one place. The report's lists are those of the last state. `Memory` tells how far
+/// stands in exactly one place, and each that replaced a record has its notice where a listener is set. The
+/// report's lists are those of the last state. `Memory` tells how far
 /// it came, with a reply for each event done; the machine stands in that state, and can be run on.
 ///
 /// A call that is stepped alone has another reply than Going after fewer steps than
@@ -38,12 +40,13 @@ pub fn run<K: Eq + Hash + Clone + Drop, V: Clone + Drop>(
     alloc: Global,
     cache: &mut Machine<K, V>,
     events: &[Event<K, V>],
-) -> Result<Report<K, V>, Memory<V>>
+) -> Result<Report<K, V>, Memory<K, V>>
     requires keys { IsExact K.is_clone }
     requires values { IsExact V.is_clone }
     requires valid { IsValid K.eq cache.old }
     ensures run { IfOk result (λ report. (s : State K V) → StandsFor K.eq cache.old s → IsReached K.eq s
-        → (a : Answers K.eq events.now report.replies cache.new s) × Reports K.eq report.entries report.places a.final) }
+        → (a : Answers K.eq events.now report.replies cache.new s) × Reports K.eq report.entries report.places
+        report.notices a.final) }
     ensures answered { IfOk result (λ report. length report.replies ≡ length events.now) }
     ensures memory { IfErr result (λ m. (s : State K V) → StandsFor K.eq cache.old s → IsReached K.eq s
         → StopsAt K.eq events.now m.done m.steps m.replies cache.new s) }
@@ -51,6 +54,9 @@ pub fn run<K: Eq + Hash + Clone + Drop, V: Clone + Drop>(
     ensures valid { IsValid K.eq cache.new }
     // of whatever state, not of this run alone
     ensures waits { WaitsByCause K V K.eq }
+    ensures locks { ReachedLocksAreHeld K V K.eq }
+    ensures order { ReachedNoticesAreInOrder K V K.eq }
+    ensures asks { AsksAreOne K V K.eq }
     ensures steps { StepsAreBounded K V K.eq }
     ensures events { StepEventsAreBounded K V K.eq }
     ensures stored { StoredIsCommitted K V K.eq }
@@ -62,6 +68,9 @@ pub fn run<K: Eq + Hash + Clone + Drop, V: Clone + Drop>(
     ensures gives { InsertThenGet K V K.eq }
 {
     moka_laws::waits_by_cause::<K, V>();
+    moka_laws::locks_are_held::<K, V>();
+    moka_laws::notices_are_in_order::<K, V>();
+    moka_laws::asks_are_one::<K, V>();
     moka_laws::steps_are_bounded::<K, V>();
     moka_laws::step_events_are_bounded::<K, V>();
     moka_laws::stored_is_committed::<K, V>();
@@ -73,11 +82,12 @@ pub fn run<K: Eq + Hash + Clone + Drop, V: Clone + Drop>(
     moka_laws::insert_then_get::<K, V>();
     let replies = run_events(alloc, cache, events)?;
     let replies = ReplyList::from_vec(replies);
-    match lists(alloc, cache) {
-        Ok((entries, places)) => Ok(Report {
+    match list_all(alloc, cache) {
+        Ok(lists) => Ok(Report {
             replies,
-            entries,
-            places,
+            entries: lists.entries,
+            places: lists.places,
+            notices: lists.notices,
         }),
         Err(_) => Err(Memory {
             done: events.len() as u64,
@@ -92,7 +102,7 @@ fn run_events<K: Eq + Hash + Clone + Drop, V: Clone + Drop>(
     alloc: Global,
     cache: &mut Machine<K, V>,
     events: &[Event<K, V>],
-) -> Result<Vec<Reply<V>>, Memory<V>>
+) -> Result<Vec<Reply<K, V>>, Memory<K, V>>
     requires keys { IsExact K.is_clone }
     requires values { IsExact V.is_clone }
     requires valid { IsValid K.eq cache.old }
@@ -124,7 +134,7 @@ fn run_events<K: Eq + Hash + Clone + Drop, V: Clone + Drop>(
 }
 
 /// Appends a reply that has its place. It takes no memory.
-fn push_reserved<V: Drop>(replies: &mut Vec<Reply<V>>, reply: Reply<V>)
+fn push_reserved<K: Drop, V: Drop>(replies: &mut Vec<Reply<K, V>>, reply: Reply<K, V>)
     requires { vec_len replies.old < vec_capacity replies.old }
     ensures items { replies.new.items ≡ replies.old.items ++ reply ∷ [] }
     ensures len { vec_len replies.new ≡ vec_len replies.old + 1 }
@@ -137,7 +147,7 @@ fn push_reserved<V: Drop>(replies: &mut Vec<Reply<V>>, reply: Reply<V>)
 }
 
 /// Memory was wanting after these replies, and so many steps of a poll.
-fn stopped<V>(replies: Vec<Reply<V>>, steps: u64) -> Memory<V>
+fn stopped<K, V>(replies: Vec<Reply<K, V>>, steps: u64) -> Memory<K, V>
     ensures { result ≡ record { done = vec_len replies; steps = steps; replies = replies.items } }
 {
     Memory {

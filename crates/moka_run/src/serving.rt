@@ -1,5 +1,5 @@
 //! The events of a schedule, one at a time.
-ghost use Rattle.std.specs.Prelude.{◌≡◌, ◌<◌, ℕ, Some, None, IfOk, is_ok, false, OnOk, OnErr, MatchResult};
+ghost use Rattle.std.specs.Prelude.{◌≡◌, ◌<◌, ℕ, Some, None, IsSome, IfOk, IfErr, is_ok, false, OnOk, OnErr, MatchResult, if◌then◌else◌};
 ghost use Rattle.std.specs.HashMap.{spare};
 ghost use Rattle.moka_hist.specs.Finite.{IsExact};
 ghost use Rattle.moka_run.specs.Running.{ToldNeedsMemory};
@@ -14,15 +14,17 @@ use std::hash::Hash;
 impl<K: Eq + Hash + Clone + Drop, V: Clone + Drop> Machine<K, V> {
     ghost use Rattle.moka_hist.specs.declared.events.Event.{Event};
     ghost use Rattle.moka_hist.specs.Dropping.{dropped};
-    ghost use Rattle.moka_hist.specs.Places.{HeldAreKnown};
+    ghost use Rattle.moka_laws.specs.Held.{MayAllLeave};
     ghost use Rattle.moka_hist.specs.Run.{Drops};
-    ghost use Rattle.moka_hist.specs.State.{State};
+    ghost use Rattle.moka_hist.specs.State.{DeskPart, State};
+    ghost use Rattle.moka_hist.specs.Telling.{is_asked, told};
+    ghost use Rattle.moka_desk.specs.StandsFor.{StandsFor as DeskStandsFor, Becomes as DeskBecomes};
     ghost use Rattle.moka_init.specs.FlowPlan.{call_of};
     ghost use Rattle.moka_run.specs.Calls.{HasPlace};
     ghost use Rattle.moka_run.specs.Machine.{StandsFor, TakenOut, IsOut, IsValid, Serves, Keeps};
 
     /// Moves the clock on. It takes no memory.
-    pub(crate) fn at(&mut self, moment: u64) -> Reply<V>
+    pub(crate) fn at(&mut self, moment: u64) -> Reply<K, V>
         ensures { Serves K.eq self.old (Event.At moment) result self.new }
     {
         if self.layers.desk.at(moment) {
@@ -33,7 +35,7 @@ impl<K: Eq + Hash + Clone + Drop, V: Clone + Drop> Machine<K, V> {
     }
 
     /// Starts a call under the next number.
-    pub(crate) fn start(&mut self, start: &Start<K, V>) -> Result<Reply<V>, AllocError>
+    pub(crate) fn start(&mut self, start: &Start<K, V>) -> Result<Reply<K, V>, AllocError>
         requires keys { IsExact K.is_clone }
         requires values { IsExact V.is_clone }
         ensures serves { IfOk result (λ r.
@@ -54,22 +56,23 @@ impl<K: Eq + Hash + Clone + Drop, V: Clone + Drop> Machine<K, V> {
     }
 
     // Starts a call. There is room for it, so it takes no memory.
-    fn enter(&mut self, start: Start<K, V>) -> Reply<V>
+    fn enter(&mut self, start: Start<K, V>) -> Reply<K, V>
         requires { 0 < spare self.old.calls.places }
         ensures { Serves K.eq self.old (Event.Start start) result self.new }
     {
         match self.layers.desk.enter() {
             None => Reply::Refused(Refusal::CallsSpent),
             Some(call) => {
-                let flow = Flow::new(start, call);
+                let flow = Flow::new(start, call, self.layers.desk.rules());
                 self.calls.add(call, Running { flow, begun: None });
                 Reply::Call(call)
             }
         }
     }
 
-    /// Answers the open ask of a call.
-    pub(crate) fn tell(&mut self, call: u64, answer: &Told<V>) -> Result<Reply<V>, AllocError>
+    /// Answers the open ask of a call, or of the listener by the number of its notice. Who waited for it
+    /// is let go: nobody polls calls here but events.
+    pub(crate) fn tell(&mut self, call: u64, answer: &Told<V>) -> Result<Reply<K, V>, AllocError>
         requires { IsExact V.is_clone }
         ensures serves { IfOk result (λ r.
             Serves K.eq self.old (Event.Tell call answer.now) r self.new) }
@@ -77,19 +80,32 @@ impl<K: Eq + Hash + Clone + Drop, V: Clone + Drop> Machine<K, V> {
         ensures err_needs { OnErr result (ToldNeedsMemory answer.now) }
     {
         let answer = cloned_told(answer)?;
-        if self.layers.desk.tell(call, answer) {
+        if self.tell_desk(call, answer) {
             Ok(Reply::Told)
         } else {
             Ok(Reply::Refused(Refusal::NotAsked))
         }
     }
 
+    // Tells the desk the answer. Answers whether an ask was open that takes it.
+    fn tell_desk(&mut self, call: u64, answer: Told<V>) -> bool
+        ensures finds { (w : DeskPart K V) → DeskStandsFor K.eq self.old.layers.desk w
+            → result ≡ is_asked w call answer }
+        ensures makes { DeskBecomes K.eq self.old.layers.desk
+            (λ w. if result then told w call answer else w) self.new.layers.desk }
+        ensures rest { self.new ≡ record self.old {
+          layers = record self.old.layers { desk = self.new.layers.desk };
+        } }
+    {
+        self.layers.desk.tell(call, answer).is_some()
+    }
+
     /// Drops a call where it stands, unless it is between two steps. It takes no memory.
-    pub(crate) fn drop_call(&mut self, call: u64) -> Reply<V>
+    pub(crate) fn drop_call(&mut self, call: u64) -> Reply<K, V>
         requires { IsValid K.eq self.old }
         ensures { Serves K.eq self.old (Event.Drop call) result self.new }
     {
-        moka_laws::held_are_known::<K, V>();
+        moka_laws::calls_may_leave::<K, V>();
         match self.take_out(call) {
             None => Reply::Refused(Refusal::UnknownCall),
             Some(flow) => self.drop_out(call, flow),
@@ -97,13 +113,12 @@ impl<K: Eq + Hash + Clone + Drop, V: Clone + Drop> Machine<K, V> {
     }
 
     // Drops the call that was taken out, or puts it back.
-    fn drop_out(&mut self, call: u64, flow: Flow<K, V>) -> Reply<V>
+    fn drop_out(&mut self, call: u64, flow: Flow<K, V>) -> Reply<K, V>
         requires place { HasPlace self.old.calls call }
         requires is { IsOut K.eq self.old flow }
-        requires taken { (s : State K V) × TakenOut K.eq self.old call flow s × HeldAreKnown s }
-        ensures { (s : State K V) → TakenOut K.eq self.old call flow s → HeldAreKnown s
-            → (t : State K V) × Drops s call (call_of flow) flow.mode result t
-            × StandsFor K.eq self.new t }
+        requires taken { (s : State K V) × TakenOut K.eq self.old call flow s × MayAllLeave s }
+        ensures { (s : State K V) → TakenOut K.eq self.old call flow s → MayAllLeave s
+            → (t : State K V) × Drops s call (call_of flow) flow.mode result t × StandsFor K.eq self.new t }
     {
         match flow.mode() {
             Mode::Mid => {
@@ -116,14 +131,15 @@ impl<K: Eq + Hash + Clone + Drop, V: Clone + Drop> Machine<K, V> {
     }
 
     // Drops the call that was taken out: what it holds is left to others.
-    fn leave(&mut self, call: u64, flow: Flow<K, V>) -> Reply<V>
-        requires taken { (s : State K V) × TakenOut K.eq self.old call flow s × HeldAreKnown s }
+    fn leave(&mut self, call: u64, flow: Flow<K, V>) -> Reply<K, V>
+        requires is { IsOut K.eq self.old flow }
+        requires taken { (s : State K V) × TakenOut K.eq self.old call flow s × MayAllLeave s }
         ensures reply { result ≡ Reply.Dropped }
-        ensures leaves { (s : State K V) → TakenOut K.eq self.old call flow s → HeldAreKnown s
+        ensures leaves { (s : State K V) → TakenOut K.eq self.old call flow s → MayAllLeave s
             → StandsFor K.eq self.new (dropped s call (call_of flow)) }
     {
         let held = flow.held();
-        self.layers.desk.leave(call, held);
+        let _ = self.layers.desk.leave(call, held);
         self.end(call);
         Reply::Dropped
     }
@@ -164,11 +180,14 @@ fn cloned_told<V: Clone + Drop>(answer: &Told<V>) -> Result<Told<V>, AllocError>
             Ok(Told::Value(value))
         }
         Told::Done => Ok(Told::Done),
+        Told::Off => Ok(Told::Off),
     }
 }
 
 // An event that isn't a poll makes no steps.
-pub(crate) fn unpolled<V>(reply: Result<Reply<V>, AllocError>) -> Result<Reply<V>, Unfinished>
+pub(crate) fn unpolled<K, V>(
+    reply: Result<Reply<K, V>, AllocError>,
+) -> Result<Reply<K, V>, Unfinished>
     ensures { MatchResult result (λ r. reply ≡ Ok r) (λ u. (u.steps ≡ 0) × (is_ok reply ≡ false)) }
 {
     match reply {

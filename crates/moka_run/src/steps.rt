@@ -24,7 +24,7 @@ impl<K: Eq + Hash + Clone + Drop, V: Clone + Drop> Machine<K, V> {
     ghost use Rattle.moka_run.specs.TheTable.{the_table};
 
     /// Makes one step of a call. After want of memory nothing has changed.
-    pub(crate) fn step(&mut self, call: u64) -> Result<Reply<V>, AllocError>
+    pub(crate) fn step(&mut self, call: u64) -> Result<Reply<K, V>, AllocError>
         requires keys { IsExact K.is_clone }
         requires values { IsExact V.is_clone }
         requires valid { IsValid K.eq self.old }
@@ -43,7 +43,7 @@ impl<K: Eq + Hash + Clone + Drop, V: Clone + Drop> Machine<K, V> {
 
     /// Makes steps of a call up to the first whose reply is not Going. After want of memory the steps
     /// made so far stand.
-    pub(crate) fn poll(&mut self, call: u64) -> Result<Reply<V>, Unfinished>
+    pub(crate) fn poll(&mut self, call: u64) -> Result<Reply<K, V>, Unfinished>
         requires keys { IsExact K.is_clone }
         requires values { IsExact V.is_clone }
         requires valid { IsValid K.eq self.old }
@@ -115,7 +115,12 @@ impl<K: Eq + Hash + Clone + Drop, V: Clone + Drop> Machine<K, V> {
     }
 
     // The call after a step: it is put back, or has ended.
-    pub(crate) fn after_step(&mut self, call: u64, flow: Flow<K, V>, turn: Turn<V>) -> Reply<V>
+    pub(crate) fn after_step(
+        &mut self,
+        call: u64,
+        flow: Flow<K, V>,
+        turn: Turn<K, V>,
+    ) -> Reply<K, V>
         requires place { HasPlace self.old.calls call }
         ensures reply { result ≡ reply_of turn }
         ensures stands { (others : ℕ → Option (Call K V)) (w : World K V)
@@ -145,7 +150,7 @@ impl<K: Eq + Hash + Clone + Drop, V: Clone + Drop> Machine<K, V> {
     }
 
     // Makes a step of the call that was taken out, and puts it back unless it has ended.
-    fn step_out(&mut self, call: u64, mut flow: Flow<K, V>) -> Result<Reply<V>, AllocError>
+    fn step_out(&mut self, call: u64, mut flow: Flow<K, V>) -> Result<Reply<K, V>, AllocError>
         requires keys { IsExact K.is_clone }
         requires values { IsExact V.is_clone }
         requires place { HasPlace self.old.calls call }
@@ -153,7 +158,8 @@ impl<K: Eq + Hash + Clone + Drop, V: Clone + Drop> Machine<K, V> {
         requires may { (w : World K V) × Reaches K.eq self.old w × May w (access_at flow) }
         ensures steps { IfOk result (λ r. StepOut K.eq self.old call flow r self.new) }
         ensures err { OnErr result (KeepsOut K.eq self.old call flow self.new) }
-        ensures err_needs { OnErr result (NeedsMemory (access_at flow)) }
+        ensures err_needs { OnErr result ((w : World K V) → Reaches K.eq self.old w
+            → May w (access_at flow) → NeedsMemory w (access_at flow)) }
     {
         match step(&mut flow, self) {
             Ok(turn) => Ok(self.after_step(call, flow, turn)),
@@ -166,7 +172,7 @@ impl<K: Eq + Hash + Clone + Drop, V: Clone + Drop> Machine<K, V> {
 
     // Makes steps of the call that was taken out, up to the first that doesn't leave it going, and
     // puts it back unless it has ended.
-    fn poll_out(&mut self, call: u64, mut flow: Flow<K, V>) -> Result<Reply<V>, Unfinished>
+    fn poll_out(&mut self, call: u64, mut flow: Flow<K, V>) -> Result<Reply<K, V>, Unfinished>
         requires keys { IsExact K.is_clone }
         requires values { IsExact V.is_clone }
         requires place { HasPlace self.old.calls call }

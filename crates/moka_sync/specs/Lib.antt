@@ -3,3 +3,4 @@ pub mod Standing
 pub mod CallsLeft
 pub mod WaitView
 pub mod Holders
+pub mod OnePlace

@@ -1,6 +1,6 @@
 //! Calls that are handed out, to be woken.
 
-ghost use Rattle.std.specs.Prelude.{◌≡◌, ◌↔◌, IsTrue, length, map, slice_get};
+ghost use Rattle.std.specs.Prelude.{◌≡◌, ◌↔◌, IsTrue, length, map, ◌++◌, slice_get};
 ghost use Rattle.std.specs.Iterator.{YieldsFirst, item_count};
 ghost use Rattle.moka_sync.specs.CallsLeft.{calls_left};
 
@@ -13,36 +13,37 @@ use std::marker::Model;
 #[derive(Debug, Drop)]
 pub struct CallList {
     places: LinkedList<Place>,
+    more: LinkedList<Place>,
 }
 
 impl Model for CallList {
-    ghost use Rattle.std.specs.Prelude.{ℕ, List, map};
+    ghost use Rattle.std.specs.Prelude.{ℕ, List, map, ◌++◌};
 
     ghost Value = { List ℕ };
 
-    ghost view = { λ l. map (λ p. p.call) l.places };
+    ghost view = { λ l. map (λ p. p.call) (l.places ++ l.more) };
 }
 
 impl CallList {
-    /// Makes the list of the places' calls.
-    pub(crate) fn from_places(places: LinkedList<Place>) -> CallList
-        ensures { result ≡ map (λ p. p.call) places }
+    /// Makes the list of the calls of both, those of the first places first.
+    pub(crate) fn from_places(places: LinkedList<Place>, more: LinkedList<Place>) -> CallList
+        ensures { result ≡ map (λ p. p.call) (places ++ more) }
     {
-        CallList { places }
+        CallList { places, more }
     }
 
     /// Answers how many calls there are.
     pub fn len(&self) -> usize
         ensures { result ≡ length self.now }
     {
-        self.places.len()
+        self.places.len() + self.more.len()
     }
 
     /// Answers whether there is no call.
     pub fn is_empty(&self) -> bool
         ensures { IsTrue result ↔ (length self.now ≡ 0) }
     {
-        self.places.is_empty()
+        self.places.is_empty() && self.more.is_empty()
     }
 
     /// Answers the call at `index`, from 0, or `None` past the end. It walks that far: to go over all
@@ -59,6 +60,7 @@ impl CallList {
     {
         Calls {
             places: self.places.iter(),
+            more: self.more.iter(),
         }
     }
 }
@@ -67,6 +69,7 @@ impl CallList {
 #[derive(Drop)]
 pub struct Calls<'a> {
     places: Iter<'a, Place>,
+    more: Iter<'a, Place>,
 }
 
 impl<'a> Iterator for Calls<'a> {
@@ -77,7 +80,10 @@ impl<'a> Iterator for Calls<'a> {
     ghost remaining = { item_count calls_left };
 
     fn next(&mut self) -> Option<u64> {
-        match self.places.next() {
+        if let Some(place) = self.places.next() {
+            return Some(place.call);
+        }
+        match self.more.next() {
             Some(place) => Some(place.call),
             None => None,
         }

@@ -7,12 +7,14 @@ mod mutex;
 mod places;
 mod rw_lock;
 mod wait_list;
+mod wait_place;
 
 pub use call_list::{CallList, Calls};
 pub use event::Event;
 pub use mutex::PolledMutex;
 pub use rw_lock::PolledRwLock;
 pub use wait_list::WaitList;
+pub use wait_place::WaitPlace;
 
 #[cfg(test)]
 mod tests;

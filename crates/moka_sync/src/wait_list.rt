@@ -1,6 +1,6 @@
 //! A list of calls that wait.
 
-ghost use Rattle.std.specs.Prelude.{◌≡◌, ◌+◌, ◌-◌, ◌<◌, ◌↔◌, true, false, IsTrue, [], ◌∷◌, ◌++◌, length, IfOk, OnOk, OnErr};
+ghost use Rattle.std.specs.Prelude.{◌≡◌, ◌+◌, ◌-◌, ◌<◌, ◌↔◌, true, false, IsTrue, [], ◌∷◌, ◌++◌, length, map, IfOk, OnOk, OnErr};
 ghost use Rattle.moka_sync.specs.Waiting.{Waiting, waits, IsListed, AreOnce, without};
 
 use crate::CallList;
@@ -141,11 +141,29 @@ impl WaitList {
         ensures once { AreOnce result }
         ensures none { self.new ≡ record self.old { calls = [] } }
     {
+        let places = self.take_places();
+        CallList::from_places(places, LinkedList::new(self.alloc))
+    }
+
+    /// Hands out all calls that wait on this list, and then those on the other, each in order.
+    pub fn take_both(mut self, mut other: WaitList) -> CallList
+        ensures { result ≡ self.calls ++ other.calls }
+    {
+        let places = self.take_places();
+        let more = other.take_places();
+        CallList::from_places(places, more)
+    }
+
+    // Takes the places that stand, and leaves nobody waiting.
+    fn take_places(&mut self) -> LinkedList<Place>
+        ensures all { map (λ p. p.call) result ≡ self.old.calls }
+        ensures once { AreOnce self.old.calls }
+        ensures none { self.new ≡ record self.old { calls = [] } }
+    {
         sweep(self.alloc, &self.tickets, &mut self.places);
         forget(&mut self.tickets, &self.places);
         self.next = 0;
-        let places = mem::replace(&mut self.places, LinkedList::new(self.alloc));
-        CallList::from_places(places)
+        mem::replace(&mut self.places, LinkedList::new(self.alloc))
     }
 }
 

@@ -1,4 +1,5 @@
 pub mod Numbers
 pub mod Splitting
 pub mod Spelled
+pub mod CacheLine
 pub mod Texts

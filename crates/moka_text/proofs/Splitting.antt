@@ -3,11 +3,12 @@ use Rattle.std.proofs.Common.{◌≡◌, ℕ, suc, ◌+◌, ◌<◌, ◌≤◌, 
 use Rattle.std.specs.List.{position_or_len, onto_first}
 use Rattle.std.proofs.lemmas.Option.{none-some}
 use Rattle.moka_hist.specs.declared.events.Event.{Event}
+use Rattle.moka_hist.specs.declared.rules.Rules.{Rules}
 use Rattle.moka_text.specs.declared.schedules.ScheduleError.{ScheduleError}
 use Rattle.moka_text.specs.declared.schedules.ScheduleError.TheVariants as errors
-use Rattle.moka_text.specs.Words.{before_byte, after_byte}
+use Rattle.moka_text.specs.Words.{before_byte, after_byte, from_byte}
 use Rattle.moka_text.specs.ScheduleText.{lines}
-use Rattle.moka_text.specs.ScheduleReading.{call_after, event_of, event_then, events_from, with_front, with_log, log_of, log_then, schedule_of, schedule, Fails, EventsMayWantMemory, MayWantMemory}
+use Rattle.moka_text.specs.ScheduleReading.{event_of, event_then, events_from, with_front, with_cache, cache_of, cache_then, schedule_of, schedule, Fails, EventsMayWantMemory, MayWantMemory}
 
 -- the mark stands first
 place_here : (m b : ℕ) (bs : List ℕ) → eqb b m ≡ true → position_or_len (λ x. eqb x m) (b ∷ bs) ≡ 0
@@ -18,6 +19,9 @@ before_here m b bs e = ap (λ n. take n (b ∷ bs)) (place_here m b bs e)
 
 pub after_here : (m b : ℕ) (bs : List ℕ) → eqb b m ≡ true → after_byte m (b ∷ bs) ≡ bs
 after_here m b bs e = ap (λ n. drop (n + 1) (b ∷ bs)) (place_here m b bs e)
+
+pub from_here : (m b : ℕ) (bs : List ℕ) → eqb b m ≡ true → from_byte m (b ∷ bs) ≡ b ∷ bs
+from_here m b bs e = ap (λ n. drop n (b ∷ bs)) (place_here m b bs e)
 
 -- another byte stands first
 place_later : (m b : ℕ) (bs : List ℕ) → eqb b m ≡ false → position_or_len (λ x. eqb x m) (b ∷ bs) ≡ suc (position_or_len (λ x. eqb x m) bs)
@@ -30,6 +34,9 @@ pub after_later : (m b : ℕ) (bs : List ℕ) → eqb b m ≡ false → after_by
 after_later m b bs e =
     let next : position_or_len (λ x. eqb x m) (b ∷ bs) + 1 ≡ suc (position_or_len (λ x. eqb x m) bs + 1) = omega (arith, place_later m b bs e) in
     ap (λ n. drop n (b ∷ bs)) next
+
+pub from_later : (m b : ℕ) (bs : List ℕ) → eqb b m ≡ false → from_byte m (b ∷ bs) ≡ from_byte m bs
+from_later m b bs e = ap (λ n. drop n (b ∷ bs)) (place_later m b bs e)
 
 both : {A : Type 0} (a b : A) (c d : List A) → a ≡ b → c ≡ d → a ∷ c ≡ b ∷ d
 both a b c d e f = cc
@@ -93,9 +100,9 @@ pub same_error : {X Y : Type 0} (e f : ScheduleError) (r : Result X ScheduleErro
 same_error e f r h m q g = let same : e ≡ f = cc in g ∙ ap Err same
 
 -- the whole takes memory where its events do
-pub whole_takes_memory : (log : ℕ) (whole : Result (ℕ × List (Event ℕ ℕ)) ℕ) (events : Result (List (Event ℕ ℕ)) ℕ) → whole ≡ with_log log events → EventsMayWantMemory events → MayWantMemory whole
-whole_takes_memory log whole events e h = subst MayWantMemory (sym e) (by events h) where
-  by : (r : Result (List (Event ℕ ℕ)) ℕ) → EventsMayWantMemory r → MayWantMemory (with_log log r)
+pub whole_takes_memory : (cache : ℕ × Rules) (whole : Result (ℕ × Rules × List (Event ℕ ℕ)) ℕ) (events : Result (List (Event ℕ ℕ)) ℕ) → whole ≡ with_cache cache events → EventsMayWantMemory events → MayWantMemory whole
+whole_takes_memory cache whole events e h = subst MayWantMemory (sym e) (by events h) where
+  by : (r : Result (List (Event ℕ ℕ)) ℕ) → EventsMayWantMemory r → MayWantMemory (with_cache cache r)
   by (Ok xs) g = g
   by (Err n) g = g
 
@@ -105,22 +112,21 @@ read_end done number [] h = ap Ok (append-nil done)
 read_end done number (b ∷ bs) h = absurd (omega arith)
 
 -- a first line that says no cache
-pub no_log : (text : List ℕ) → None ≡ log_of (before_byte 10 text) → schedule text ≡ Err 1
+pub no_cache : (text : List ℕ) → None ≡ cache_of (before_byte 10 text) → schedule text ≡ Err 1
 unfolding schedule
-no_log [] h = refl
-no_log (b ∷ bs) h = ap schedule_of (lines_cut (b ∷ bs) (omega arith)) ∙ ap (λ o. log_then o (events_from 2 (lines (after_byte 10 (b ∷ bs))))) (sym h)
+no_cache [] h = refl
+no_cache (b ∷ bs) h = ap schedule_of (lines_cut (b ∷ bs) (omega arith)) ∙ ap (λ o. cache_then o (events_from 2 (lines (after_byte 10 (b ∷ bs))))) (sym h)
 
-no_log_of_nothing : log_of [] ≡ None
-unfolding log_of call_after
-no_log_of_nothing = refl
+no_cache_of_nothing : cache_of [] ≡ None
+no_cache_of_nothing = refl
 
 -- a first line that says one
-pub with_rest : (text : List ℕ) (log : ℕ) → Some log ≡ log_of (before_byte 10 text) → schedule text ≡ with_log log (events_from 2 (lines (after_byte 10 text)))
+pub with_rest : (text : List ℕ) (cache : ℕ × Rules) → Some cache ≡ cache_of (before_byte 10 text) → schedule text ≡ with_cache cache (events_from 2 (lines (after_byte 10 text)))
 unfolding schedule
-with_rest [] log h = absurd (none-some log (sym (h ∙ no_log_of_nothing)))
-with_rest (b ∷ bs) log h = ap schedule_of (lines_cut (b ∷ bs) (omega arith)) ∙ ap (λ o. log_then o (events_from 2 (lines (after_byte 10 (b ∷ bs))))) (sym h)
+with_rest [] cache h = absurd (none-some cache (sym (h ∙ no_cache_of_nothing)))
+with_rest (b ∷ bs) cache h = ap schedule_of (lines_cut (b ∷ bs) (omega arith)) ∙ ap (λ o. cache_then o (events_from 2 (lines (after_byte 10 (b ∷ bs))))) (sym h)
 
 -- an error of the events is one of the whole
-pub passed_on : (e : ScheduleError) (log : ℕ) (whole : Result (ℕ × List (Event ℕ ℕ)) ℕ) (events : Result (List (Event ℕ ℕ)) ℕ) → whole ≡ with_log log events → Fails e events → Fails e whole
-passed_on (errors.BadLine line) log whole events e h = e ∙ ap (with_log log) h
-passed_on errors.Memory log whole events e h = tt
+pub passed_on : (e : ScheduleError) (cache : ℕ × Rules) (whole : Result (ℕ × Rules × List (Event ℕ ℕ)) ℕ) (events : Result (List (Event ℕ ℕ)) ℕ) → whole ≡ with_cache cache events → Fails e events → Fails e whole
+passed_on (errors.BadLine line) cache whole events e h = e ∙ ap (with_cache cache) h
+passed_on errors.Memory cache whole events e h = tt

@@ -3,12 +3,14 @@ use Rattle.std.proofs.Common.{◌≡◌, ℕ, suc, ◌+◌, ◌⊎◌, List, [],
 use Rattle.std.specs.List.{AllByRecursion}
 use Rattle.std.proofs.lemmas.Option.{same_Some, none-some}
 use Rattle.moka_hist.specs.declared.events.Event.{Event}
+use Rattle.moka_hist.specs.declared.rules.Rules.{Rules}
 use Rattle.moka_text.specs.declared.schedules.Schedule.{Schedule}
 use Rattle.moka_text.specs.declared.schedules.ScheduleError.{ScheduleError}
 use Rattle.moka_text.specs.declared.schedules.ScheduleError.TheVariants as errors
 use Rattle.moka_text.specs.ScheduleText.{event_line, EventFits, IsCacheLine, SpellsNone, lines, Says, BeginsBadly, IsFirstBad}
-use Rattle.moka_text.specs.ScheduleReading.{event_of, event_then, events_from, with_front, with_log, log_of, log_then, schedule_of, schedule, Gives, parts}
-use Rattle.moka_text.proofs.Spelled.{event_is, event_read, event_none, log_is, log_read}
+use Rattle.moka_text.specs.ScheduleReading.{event_of, event_then, events_from, with_front, with_cache, cache_of, cache_then, schedule_of, schedule, Gives, parts}
+use Rattle.moka_text.proofs.Spelled.{event_is, event_read, event_none}
+use Rattle.moka_text.proofs.CacheLine.{cache_is, cache_read}
 
 -- a value that is there has what each value there has
 value_has : {X : Type 0} (P : X → Type 0) (o : Option X) (x : X) → IfSome o P → o ≡ Some x → P x
@@ -87,49 +89,50 @@ events_bad : (number : ℕ) (ls : List (List ℕ)) (bad : ℕ) → events_from n
 events_bad number [] bad h = absurd cc
 events_bad number (l ∷ ls) bad h = bad_at number l ls bad (events_bad (suc number) ls bad) (stops number (event_of l) (events_from (suc number) ls) bad h)
 
--- the log's size and the events of what is read
-log_and_events : (o : Option ℕ) (r : Result (List (Event ℕ ℕ)) ℕ) (log : ℕ) (events : List (Event ℕ ℕ)) → log_then o r ≡ Ok (log, events) → (o ≡ Some log) × (r ≡ Ok events)
-log_and_events None r log events h = absurd cc
-log_and_events (Some n) (Err bad) log events h = absurd cc
-log_and_events (Some n) (Ok es) log events h =
-    let p : ◌≡◌ {A = ℕ × List (Event ℕ ℕ)} (n, es) (log, events) = cc in
-    (ap (λ q. Some q.0) p, ap (λ q. Ok q.1) p)
+-- the cache and the events of what is read
+cache_and_events : (o : Option (ℕ × Rules)) (r : Result (List (Event ℕ ℕ)) ℕ) (log : ℕ) (rules : Rules) (events : List (Event ℕ ℕ)) → cache_then o r ≡ Ok (log, rules, events) → (o ≡ Some (log, rules)) × (r ≡ Ok events)
+cache_and_events None r log rules events h = absurd cc
+cache_and_events (Some c) (Err bad) log rules events h = absurd cc
+cache_and_events (Some c) (Ok es) log rules events h =
+    let p : ◌≡◌ {A = ℕ × Rules × List (Event ℕ ℕ)} (c.0, c.1, es) (log, rules, events) = cc in
+    (ap (λ q. Some (q.0, q.1)) p, ap (λ q. Ok q.2) p)
 
-said_of : (text : List ℕ) (ls : List (List ℕ)) (log : ℕ) (events : List (Event ℕ ℕ)) → lines text ≡ ls → schedule_of ls ≡ Ok (log, events) → Says text log events
-said_of text [] log events split h = absurd cc
-said_of text (first ∷ rest) log events split h =
-    let p = log_and_events (log_of first) (events_from 2 rest) log events h in
+said_of : (text : List ℕ) (ls : List (List ℕ)) (log : ℕ) (rules : Rules) (events : List (Event ℕ ℕ)) → lines text ≡ ls → schedule_of ls ≡ Ok (log, rules, events) → Says text log rules events
+said_of text [] log rules events split h = absurd cc
+said_of text (first ∷ rest) log rules events split h =
+    let p = cache_and_events (cache_of first) (events_from 2 rest) log rules events h in
     let said = events_said 2 rest events p.1 in
     record {
       first = first;
-      cache = value_has (IsCacheLine first) (log_of first) log (log_is first) p.0;
+      cache = value_has (λ c. IsCacheLine first c.0 c.1) (cache_of first) (log, rules) (cache_is first) p.0;
       split = split ∙ ap (λ ls. first ∷ ls) said.0;
       fit = said.1;
     }
 
 -- what is read of a text is what it says
-pub schedule_said : (text : List ℕ) (log : ℕ) (events : List (Event ℕ ℕ)) → schedule text ≡ Ok (log, events) → Says text log events
+pub schedule_said : (text : List ℕ) (log : ℕ) (rules : Rules) (events : List (Event ℕ ℕ)) → schedule text ≡ Ok (log, rules, events) → Says text log rules events
 unfolding schedule
-schedule_said text log events h = said_of text (lines text) log events refl h
+schedule_said text log rules events h = said_of text (lines text) log rules events refl h
 
 -- what a text says is read
-pub says_read : (text : List ℕ) (log : ℕ) (events : List (Event ℕ ℕ)) → Says text log events → schedule text ≡ Ok (log, events)
+pub says_read : (text : List ℕ) (log : ℕ) (rules : Rules) (events : List (Event ℕ ℕ)) → Says text log rules events → schedule text ≡ Ok (log, rules, events)
 unfolding schedule
-says_read text log events s =
-    ap schedule_of s.split ∙ ap (λ o. log_then o (events_from 2 (map event_line events))) (log_read s.first log s.cache) ∙ ap (with_log log) (events_read 2 events s.fit)
+says_read text log rules events s =
+    ap schedule_of s.split
+    ∙ ap (λ o. cache_then o (events_from 2 (map event_line events))) (cache_read s.first log rules s.cache) ∙ ap (with_cache (log, rules)) (events_read 2 events s.fit)
 
-first_or_later : (o : Option ℕ) (r : Result (List (Event ℕ ℕ)) ℕ) (bad : ℕ) → log_then o r ≡ Err bad → ((o ≡ None) × (bad ≡ 1)) ⊎ ((log : ℕ) × (o ≡ Some log) × (r ≡ Err bad))
+first_or_later : (o : Option (ℕ × Rules)) (r : Result (List (Event ℕ ℕ)) ℕ) (bad : ℕ) → cache_then o r ≡ Err bad → ((o ≡ None) × (bad ≡ 1)) ⊎ ((c : ℕ × Rules) × (o ≡ Some c) × (r ≡ Err bad))
 first_or_later None r bad h = inl (refl, cc)
-first_or_later (Some n) (Ok events) bad h = absurd cc
-first_or_later (Some n) (Err k) bad h = inr (n, refl, cc)
+first_or_later (Some c) (Ok events) bad h = absurd cc
+first_or_later (Some c) (Err k) bad h = inr (c, refl, cc)
 
-bad_of_lines : (text first : List ℕ) (rest : List (List ℕ)) (bad : ℕ) → lines text ≡ first ∷ rest → ((log_of first ≡ None) × (bad ≡ 1)) ⊎ ((log : ℕ) × (log_of first ≡ Some log) × (events_from 2 rest ≡ Err bad)) → IsFirstBad text bad
+bad_of_lines : (text first : List ℕ) (rest : List (List ℕ)) (bad : ℕ) → lines text ≡ first ∷ rest → ((cache_of first ≡ None) × (bad ≡ 1)) ⊎ ((c : ℕ × Rules) × (cache_of first ≡ Some c) × (events_from 2 rest ≡ Err bad)) → IsFirstBad text bad
 bad_of_lines text first rest bad split (inl h) =
     inl (
       h.1,
-      λ other more log same cache.
+      λ other more log rules same cache.
           let one : other ≡ first = head_of (sym same ∙ split) in
-          none-some log (sym h.0 ∙ ap log_of (sym one) ∙ log_read other log cache),
+          none-some (log, rules) (sym h.0 ∙ ap cache_of (sym one) ∙ cache_read other log rules cache),
     )
 bad_of_lines text first rest bad split (inr h) =
     let r = events_bad 2 rest bad h.2 in
@@ -137,8 +140,9 @@ bad_of_lines text first rest bad split (inr h) =
       r.events,
       record {
         first = first;
-        log = h.0;
-        cache = value_has (IsCacheLine first) (log_of first) h.0 (log_is first) h.1;
+        log = h.0.0;
+        rules = h.0.1;
+        cache = value_has (λ c. IsCacheLine first c.0 c.1) (cache_of first) h.0 (cache_is first) h.1;
         line = r.line;
         rest = r.rest;
         split = split ∙ ap (λ ls. first ∷ ls) r.split;
@@ -149,8 +153,8 @@ bad_of_lines text first rest bad split (inr h) =
     )
 
 bad_of : (text : List ℕ) (ls : List (List ℕ)) (bad : ℕ) → lines text ≡ ls → schedule_of ls ≡ Err bad → IsFirstBad text bad
-bad_of text [] bad split h = inl (cc, λ first rest log same cache. absurd cc)
-bad_of text (first ∷ rest) bad split h = bad_of_lines text first rest bad split (first_or_later (log_of first) (events_from 2 rest) bad h)
+bad_of text [] bad split h = inl (cc, λ first rest log rules same cache. absurd cc)
+bad_of text (first ∷ rest) bad split h = bad_of_lines text first rest bad split (first_or_later (cache_of first) (events_from 2 rest) bad h)
 
 -- a bad line that is read is the first
 pub schedule_bad : (text : List ℕ) (bad : ℕ) → schedule text ≡ Err bad → IsFirstBad text bad
@@ -158,8 +162,8 @@ unfolding schedule
 schedule_bad text bad h = bad_of text (lines text) bad refl h
 
 -- what was returned is what the text says
-pub found_said : (text : List ℕ) (r : Result Schedule ScheduleError) → Gives parts r (schedule text) → IfOk r (λ s. Says text s.log s.events.items)
-found_said text (Ok s) h = schedule_said text s.log s.events.items h
+pub found_said : (text : List ℕ) (r : Result Schedule ScheduleError) → Gives parts r (schedule text) → IfOk r (λ s. Says text s.log s.rules s.events.items)
+found_said text (Ok s) h = schedule_said text s.log s.rules s.events.items h
 found_said text (Err e) h = tt
 
 -- and the bad line that was returned is the first
@@ -182,7 +186,7 @@ read_stops number (e ∷ events) line rest fit none =
 bad_first : (text : List ℕ) (ls : List (List ℕ)) → lines text ≡ ls → BeginsBadly text → schedule_of ls ≡ Err 1
 bad_first text [] split bad = refl
 bad_first text (first ∷ rest) split bad =
-    ap (λ o. log_then o (events_from 2 rest)) (no_value (IsCacheLine first) (log_of first) (log_is first) (λ log cache. bad first rest log split cache))
+    ap (λ o. cache_then o (events_from 2 rest)) (no_value (λ c. IsCacheLine first c.0 c.1) (cache_of first) (cache_is first) (λ c cache. bad first rest c.0 c.1 split cache))
 
 -- the first bad line is read
 pub bad_read : (text : List ℕ) (number : ℕ) → IsFirstBad text number → schedule text ≡ Err number
@@ -191,5 +195,5 @@ bad_read text number (inl h) = bad_first text (lines text) refl h.1 ∙ ap Err (
 bad_read text number (inr h) =
     let g = h.1 in
     ap schedule_of g.split
-    ∙ ap (λ o. log_then o (events_from 2 (map event_line h.0 ++ g.line ∷ g.rest))) (log_read g.first g.log g.cache)
-    ∙ ap (with_log g.log) (read_stops 2 h.0 g.line g.rest g.fit g.none) ∙ ap Err (sym h.2)
+    ∙ ap (λ o. cache_then o (events_from 2 (map event_line h.0 ++ g.line ∷ g.rest))) (cache_read g.first g.log g.rules g.cache)
+    ∙ ap (with_cache (g.log, g.rules)) (read_stops 2 h.0 g.line g.rest g.fit g.none) ∙ ap Err (sym h.2)

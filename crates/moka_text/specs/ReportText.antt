@@ -11,6 +11,11 @@ use Rattle.moka_hist.specs.declared.replies.Reply.TheVariants as reply
 use Rattle.moka_hist.specs.declared.records.Stored.{Stored}
 use Rattle.moka_hist.specs.declared.writes.Place.{Place}
 use Rattle.moka_hist.specs.declared.writes.Place.TheVariants as place
+use Rattle.moka_hist.specs.declared.rules.Cause.{Cause}
+use Rattle.moka_hist.specs.declared.rules.Cause.TheVariants as cause
+use Rattle.moka_hist.specs.declared.notices.Notice.{Notice}
+use Rattle.moka_hist.specs.declared.notices.NoticeState.{NoticeState}
+use Rattle.moka_hist.specs.declared.notices.NoticeState.TheVariants as state
 
 -- a line's words and its end
 abbrev pub ended : List ℕ → List ℕ
@@ -31,11 +36,23 @@ refusal_words refusal.NotAsked = codes "NotAsked"
 refusal_words refusal.ClockBack = codes "ClockBack"
 refusal_words refusal.CallsSpent = codes "CallsSpent"
 
-abbrev pub ask_words : Ask → List ℕ
+-- why a record left
+abbrev pub cause_word : Cause → List ℕ
+cause_word cause.Expired = codes "Expired"
+cause_word cause.Explicit = codes "Explicit"
+cause_word cause.Replaced = codes "Replaced"
+cause_word cause.Size = codes "Size"
+
+-- a key, the value that stood under it, and why it left
+abbrev pub left_words : ℕ → ℕ → Cause → List ℕ
+left_words key value cause = decimal key ++ 32 ∷ decimal value ++ 32 ∷ cause_word cause
+
+abbrev pub ask_words : Ask ℕ ℕ → List ℕ
 ask_words ask.Init = codes "init"
+ask_words (ask.Listener key value cause) = codes "listener " ++ left_words key value cause
 
 -- the words of a reply
-abbrev pub reply_words : Reply ℕ → List ℕ
+abbrev pub reply_words : Reply ℕ ℕ → List ℕ
 reply_words reply.At = codes "at"
 reply_words (reply.Call number) = codes "call " ++ decimal number
 reply_words reply.Going = codes "going"
@@ -47,7 +64,7 @@ reply_words reply.Dropped = codes "dropped"
 reply_words (reply.Refused why) = codes "refused " ++ refusal_words why
 
 -- the line of a reply
-abbrev pub reply_line : Reply ℕ → List ℕ
+abbrev pub reply_line : Reply ℕ ℕ → List ℕ
 reply_line r = ended (reply_words r)
 
 -- the line of a key and its record: the value, the stamp, and the moment of the write
@@ -66,7 +83,22 @@ place_word place.Applied = codes "applied"
 abbrev pub write_line : ℕ × Place → List ℕ
 write_line w = ended (codes "write " ++ decimal w.0 ++ 32 ∷ place_word w.1)
 
--- the replies, then what is stored, then the committed writes
-abbrev pub report_text : List (Reply ℕ) → List (ℕ × Stored ℕ) → List (ℕ × Place) → List ℕ
-report_text replies entries places =
+-- how far a notice is
+abbrev pub state_word : NoticeState → List ℕ
+state_word state.Waiting = codes "waiting"
+state_word state.Running = codes "running"
+state_word state.Ended = codes "ended"
+state_word state.Skipped = codes "skipped"
+
+-- the line of a notice: the number of its write, what left, and how far it is
+abbrev pub notice_line : Notice ℕ ℕ → List ℕ
+notice_line n =
+    ended (codes "notice " ++ decimal n.number ++ 32 ∷ left_words n.key n.value n.cause
+    ++ 32 ∷ state_word n.state)
+
+-- the replies, then what is stored, then the committed writes, then the notices
+abbrev pub report_text :
+    List (Reply ℕ ℕ) → List (ℕ × Stored ℕ) → List (ℕ × Place) → List (Notice ℕ ℕ) → List ℕ
+report_text replies entries places notices =
     flat_map reply_line replies ++ flat_map entry_line entries ++ flat_map write_line places
+    ++ flat_map notice_line notices

@@ -1,28 +1,22 @@
 -- Reading the text of a schedule, line by line.
-use Rattle.std.specs.Prelude.{◌≡◌, ℕ, suc, ◌<◌, ◌&&◌, length, List, [], ◌∷◌, ◌++◌, Option, Some, None, Result, Ok, Err, nat_le, codes, bytes_eq, if◌then◌else◌}
-use Rattle.std.specs.Option.{option_map, option_or, option_and_then}
+use Rattle.std.specs.Prelude.{◌≡◌, ℕ, suc, ◌<◌, ◌&&◌, Bool, true, false, length, List, [], ◌∷◌, ◌++◌, Option, Some, None, Result, Ok, Err, nat_le, codes, bytes_eq, if◌then◌else◌}
+use Rattle.std.specs.Option.{option_map, option_and_then}
 use Rattle.moka_hist.specs.declared.events.Start.{Start}
 use Rattle.moka_hist.specs.declared.events.Start.TheVariants as start
 use Rattle.moka_hist.specs.declared.events.Told.{Told}
 use Rattle.moka_hist.specs.declared.events.Told.TheVariants as told
 use Rattle.moka_hist.specs.declared.events.Event.{Event}
 use Rattle.moka_hist.specs.declared.events.Event.TheVariants as event
+use Rattle.moka_hist.specs.declared.rules.Rules.{Rules}
 use Rattle.moka_text.specs.declared.schedules.Schedule.{Schedule}
 use Rattle.moka_text.specs.declared.schedules.ScheduleError.{ScheduleError}
 use Rattle.moka_text.specs.declared.schedules.ScheduleError.TheVariants as errors
-use Rattle.moka_text.specs.Words.{call_in, key_in, after, before_byte, after_byte}
-use Rattle.moka_text.specs.ScheduleText.{event_line, EventFits, lines, Says, IsFirstBad}
+use Rattle.moka_text.specs.Words.{call_in, key_in, after, before_byte, after_byte, from_byte}
+use Rattle.moka_text.specs.ScheduleText.{event_line, EventFits, listening, lines, Says, IsFirstBad}
 
 infixl 10 ◌>>=◌
 abbrev pub ◌>>=◌ : {A B : Type 0} → Option A → (A → Option B) → Option B
 o >>= f = option_and_then f o
-
--- a number of 64 bits, and one of 32 bits, after these bytes
-unfoldable pub call_after : List ℕ → List ℕ → Option ℕ
-call_after front line = after front line >>= call_in
-
-unfoldable pub key_after : List ℕ → List ℕ → Option ℕ
-key_after front line = after front line >>= key_in
 
 -- a key and a value with a space between them
 unfoldable pub pair_of : List ℕ → Option (ℕ × ℕ)
@@ -31,40 +25,93 @@ pair_of bytes = do
   value ← key_in (after_byte 32 bytes)
   Some (key, value)
 
-unfoldable pub start_of : List ℕ → Option (Start ℕ ℕ)
-start_of bytes =
-    option_or (option_map start.Get (key_after (codes "get ") bytes))
-    (option_or (option_map start.GetWith (key_after (codes "get_with ") bytes))
-    (option_map (λ p. start.Insert p.0 p.1) (after (codes "insert ") bytes >>= pair_of)))
+-- what a call is started for, by a word and what stands after its space
+unfoldable pub start_by : List ℕ → List ℕ → Option (Start ℕ ℕ)
+start_by word rest =
+    if bytes_eq word (codes "get") then option_map start.Get (key_in rest)
+    else if bytes_eq word (codes "insert") then
+    option_map (λ p. start.Insert p.0 p.1) (pair_of rest)
+    else if bytes_eq word (codes "get_with") then option_map start.GetWith (key_in rest)
+    else None
+
+abbrev pub start_of : List ℕ → Option (Start ℕ ℕ)
+start_of bytes = start_by (before_byte 32 bytes) (after_byte 32 bytes)
 
 unfoldable pub told_of : List ℕ → Option (Told ℕ)
 told_of bytes =
     if bytes_eq bytes (codes "done") then Some told.Done
-    else option_map told.Value (key_after (codes "value ") bytes)
+    else if bytes_eq bytes (codes "off") then Some told.Off
+    else option_map told.Value (after (codes "value ") bytes >>= key_in)
 
 -- a call, and after a space what it is told
-unfoldable pub tell_of : List ℕ → Option (Event ℕ ℕ)
+unfoldable pub tell_of : List ℕ → Option (ℕ × Told ℕ)
 tell_of bytes = do
   call ← call_in (before_byte 32 bytes)
   answer ← told_of (after_byte 32 bytes)
-  Some (event.Tell call answer)
+  Some (call, answer)
+
+-- the event of a line, by its first word and what stands after its space
+unfoldable pub event_by : List ℕ → List ℕ → Option (Event ℕ ℕ)
+event_by word rest =
+    if bytes_eq word (codes "at") then option_map event.At (call_in rest)
+    else if bytes_eq word (codes "start") then option_map event.Start (start_of rest)
+    else if bytes_eq word (codes "step") then option_map event.Step (call_in rest)
+    else if bytes_eq word (codes "poll") then option_map event.Poll (call_in rest)
+    else if bytes_eq word (codes "tell") then
+    option_map (λ t. event.Tell t.0 t.1) (tell_of rest)
+    else if bytes_eq word (codes "drop") then option_map event.Drop (call_in rest)
+    else None
 
 -- the event that a line spells
-unfoldable pub event_of : List ℕ → Option (Event ℕ ℕ)
-event_of line =
-    option_or (option_map event.At (call_after (codes "at ") line))
-    (option_or (option_map event.Step (call_after (codes "step ") line))
-    (option_or (option_map event.Poll (call_after (codes "poll ") line))
-    (option_or (option_map event.Drop (call_after (codes "drop ") line))
-    (option_or (option_map event.Start (after (codes "start ") line >>= start_of))
-    (after (codes "tell ") line >>= tell_of)))))
+abbrev pub event_of : List ℕ → Option (Event ℕ ℕ)
+event_of line = event_by (before_byte 32 line) (after_byte 32 line)
 
--- the size of the write log that the first line says
-unfoldable pub log_of : List ℕ → Option ℕ
-log_of line =
-    if bytes_eq line (codes "cache") then Some 384
-    else (call_after (codes "cache log=") line >>=
-    λ log. if nat_le 1 log && nat_le log 65536 then Some log else None)
+-- what is said of an option that these bytes follow, up to a space, and what follows
+abbrev pub said_in : List ℕ → Option (List ℕ) → Option (List ℕ) × List ℕ
+said_in bytes None = (None, bytes)
+said_in bytes (Some rest) = (Some (before_byte 32 rest), from_byte 32 rest)
+
+-- what is said of the option of this name, where it stands at the front, and what follows
+abbrev pub cut_option : List ℕ → List ℕ → Option (List ℕ) × List ℕ
+cut_option name bytes = said_in bytes (after name bytes)
+
+-- the number, where it is one from the least to the greatest
+abbrev pub within : ℕ → ℕ → ℕ → Option ℕ
+within least greatest n = if nat_le least n && nat_le n greatest then Some n else None
+
+-- the size of the write log
+unfoldable pub log_of : Option (List ℕ) → Option ℕ
+log_of None = Some 384
+log_of (Some said) = call_in said >>= within 1 65536
+
+-- whether a switch is set, of which nothing more may be said
+unfoldable pub switch_of : Option (List ℕ) → Option Bool
+switch_of None = Some false
+switch_of (Some []) = Some true
+switch_of (Some (b ∷ bytes)) = None
+
+-- the value, unless bytes are left over
+abbrev pub unless_left : {A : Type 0} → List ℕ → Option A → Option A
+unless_left [] value = value
+unless_left (b ∷ bytes) value = None
+
+-- the size of the write log and the rules, from what is said of each option
+unfoldable pub made_of : Option (List ℕ) → Option (List ℕ) → Option (ℕ × Rules)
+made_of log listener = do
+  size ← log_of log
+  set ← switch_of listener
+  Some (size, listening set)
+
+-- the size of the write log and the rules that the options say, one after the other
+abbrev pub options_of : List ℕ → Option (ℕ × Rules)
+options_of bytes =
+    let log : Option (List ℕ) × List ℕ = cut_option (codes " log=") bytes in
+    let listener : Option (List ℕ) × List ℕ = cut_option (codes " listener") log.1 in
+    unless_left listener.1 (made_of log.0 listener.0)
+
+-- the size of the write log and the rules that the first line says
+abbrev pub cache_of : List ℕ → Option (ℕ × Rules)
+cache_of line = after (codes "cache") line >>= options_of
 
 -- what was read goes before what is read
 abbrev pub with_front : List (Event ℕ ℕ) → Result (List (Event ℕ ℕ)) ℕ → Result (List (Event ℕ ℕ)) ℕ
@@ -82,21 +129,23 @@ abbrev pub events_from : ℕ → List (List ℕ) → Result (List (Event ℕ ℕ
 events_from number [] = Ok []
 events_from number (line ∷ rest) = event_then number (event_of line) (events_from (suc number) rest)
 
--- the log's size beside the events
-abbrev pub with_log : ℕ → Result (List (Event ℕ ℕ)) ℕ → Result (ℕ × List (Event ℕ ℕ)) ℕ
-with_log log (Ok events) = Ok (log, events)
-with_log log (Err number) = Err number
+-- the log's size and the rules beside the events
+abbrev pub with_cache :
+    ℕ × Rules → Result (List (Event ℕ ℕ)) ℕ → Result (ℕ × Rules × List (Event ℕ ℕ)) ℕ
+with_cache cache (Ok events) = Ok (cache.0, cache.1, events)
+with_cache cache (Err number) = Err number
 
-abbrev pub log_then : Option ℕ → Result (List (Event ℕ ℕ)) ℕ → Result (ℕ × List (Event ℕ ℕ)) ℕ
-log_then None events = Err 1
-log_then (Some log) events = with_log log events
+abbrev pub cache_then :
+    Option (ℕ × Rules) → Result (List (Event ℕ ℕ)) ℕ → Result (ℕ × Rules × List (Event ℕ ℕ)) ℕ
+cache_then None events = Err 1
+cache_then (Some cache) events = with_cache cache events
 
-abbrev pub schedule_of : List (List ℕ) → Result (ℕ × List (Event ℕ ℕ)) ℕ
+abbrev pub schedule_of : List (List ℕ) → Result (ℕ × Rules × List (Event ℕ ℕ)) ℕ
 schedule_of [] = Err 1
-schedule_of (first ∷ rest) = log_then (log_of first) (events_from 2 rest)
+schedule_of (first ∷ rest) = cache_then (cache_of first) (events_from 2 rest)
 
--- the log's size and the events of a schedule, or the number of the first bad line
-unfoldable pub schedule : List ℕ → Result (ℕ × List (Event ℕ ℕ)) ℕ
+-- the log's size, the rules and the events of a schedule, or the number of the first bad line
+unfoldable pub schedule : List ℕ → Result (ℕ × Rules × List (Event ℕ ℕ)) ℕ
 schedule text = schedule_of (lines text)
 
 -- this error was returned for this bad line, or for want of memory, whatever is read
@@ -115,13 +164,13 @@ EventsMayWantMemory (Ok events) = 0 < length events
 EventsMayWantMemory (Err number) = 2 < number
 
 -- reading the schedule takes memory: it has an event, or its bad line is past the second
-abbrev pub MayWantMemory : Result (ℕ × List (Event ℕ ℕ)) ℕ → Type 0
-MayWantMemory (Ok s) = 0 < length s.1
+abbrev pub MayWantMemory : Result (ℕ × Rules × List (Event ℕ ℕ)) ℕ → Type 0
+MayWantMemory (Ok s) = 0 < length s.2
 MayWantMemory (Err number) = 2 < number
 
 -- a schedule without where it lies in memory
-abbrev pub parts : Schedule → ℕ × List (Event ℕ ℕ)
-parts s = (s.log, s.events.items)
+abbrev pub parts : Schedule → ℕ × Rules × List (Event ℕ ℕ)
+parts s = (s.log, s.rules, s.events.items)
 
 -- each event's own line is read as that event
 abbrev pub LinesAreRead : Type 0
@@ -130,8 +179,8 @@ LinesAreRead = (e : Event ℕ ℕ) → EventFits e → event_of (event_line e) �
 -- each text that says a schedule is read as that schedule
 abbrev pub TextsAreRead : Type 0
 TextsAreRead =
-    (text : List ℕ) (log : ℕ) (events : List (Event ℕ ℕ)) →
-    Says text log events → schedule text ≡ Ok (log, events)
+    (text : List ℕ) (log : ℕ) (rules : Rules) (events : List (Event ℕ ℕ)) →
+    Says text log rules events → schedule text ≡ Ok (log, rules, events)
 
 -- each text with a bad line is read as the number of the first
 abbrev pub BadLinesAreRead : Type 0

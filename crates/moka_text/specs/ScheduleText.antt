@@ -1,5 +1,6 @@
 -- The text of a schedule: how its lines are spelled, and what a whole text says.
-use Rattle.std.specs.Prelude.{◌≡◌, ℕ, ◌+◌, ◌^◌, ◌<◌, ◌≤◌, ◌==◌, ◌⊎◌, List, [], ◌∷◌, ◌++◌, map, length, codes, decimal, if◌then◌else◌}
+use Rattle.std.specs.Prelude.{◌≡◌, ℕ, ◌+◌, ◌^◌, ◌<◌, ◌≤◌, ◌==◌, ◌⊎◌, Bool, false, List, [], ◌∷◌, ◌++◌, map, length, Option, Some, None, codes, decimal, if◌then◌else◌}
+use Rattle.std.specs.Option.{option_map, unwrap_or}
 use Rattle.std.specs.List.{AllByRecursion, onto_first}
 use Rattle.moka_hist.specs.declared.events.Start.{Start}
 use Rattle.moka_hist.specs.declared.events.Start.TheVariants as start
@@ -7,6 +8,7 @@ use Rattle.moka_hist.specs.declared.events.Told.{Told}
 use Rattle.moka_hist.specs.declared.events.Told.TheVariants as told
 use Rattle.moka_hist.specs.declared.events.Event.{Event}
 use Rattle.moka_hist.specs.declared.events.Event.TheVariants as event
+use Rattle.moka_hist.specs.declared.rules.Rules.{Rules}
 
 -- what a call is started for
 abbrev pub start_words : Start ℕ ℕ → List ℕ
@@ -18,6 +20,7 @@ start_words (start.GetWith key) = codes "get_with " ++ decimal key
 abbrev pub told_words : Told ℕ → List ℕ
 told_words (told.Value value) = codes "value " ++ decimal value
 told_words told.Done = codes "done"
+told_words told.Off = codes "off"
 
 -- the one spelling of an event
 abbrev pub event_line : Event ℕ ℕ → List ℕ
@@ -37,6 +40,7 @@ StartFits (start.GetWith key) = key < 2 ^ 32
 abbrev pub ToldFits : Told ℕ → Type 0
 ToldFits (told.Value value) = value < 2 ^ 32
 ToldFits told.Done = Unit {0}
+ToldFits told.Off = Unit {0}
 
 -- the event's numbers are in their ranges: moments and numbers of calls are of 64 bits
 abbrev pub EventFits : Event ℕ ℕ → Type 0
@@ -47,30 +51,59 @@ EventFits (event.Poll call) = call < 2 ^ 64
 EventFits (event.Tell call answer) = (call < 2 ^ 64) × ToldFits answer
 EventFits (event.Drop call) = call < 2 ^ 64
 
--- the first line says the size of the write log, which is 384 where it doesn't
-abbrev pub IsCacheLine : List ℕ → ℕ → Type 0
-IsCacheLine line log =
-    ((line ≡ codes "cache") × (log ≡ 384))
-    ⊎ ((line ≡ codes "cache log=" ++ decimal log) × (1 ≤ log) × (log ≤ 65536))
+-- an option of the first line, where it is set: its name after a space, and what is said of it
+abbrev pub option_words : List ℕ → Option (List ℕ) → List ℕ
+option_words name None = []
+option_words name (Some said) = 32 ∷ name ++ said
 
--- Each line ends with byte 10, and the last may lack it: what stands after the last byte 10 is a line
--- only where it isn't empty.
+-- a switch that is set stands by its name alone
+abbrev pub switch : Bool → Option (List ℕ)
+switch set = if set then Some [] else None
+
+-- the one spelling of a first line that says the size of the write log, or doesn't, and these rules
+abbrev pub cache_line : Option ℕ → Rules → List ℕ
+cache_line log rules =
+    codes "cache"
+    ++ option_words (codes "log=") (option_map decimal log)
+    ++ option_words (codes "listener") (switch rules.listener)
+
+-- the rules of a cache with a listener or without one, and no other rule
+abbrev pub listening : Bool → Rules
+listening set =
+    record {
+      max_capacity = None;
+      time_to_live = None;
+      time_to_idle = None;
+      listener = set;
+      closures = false;
+    }
+
+-- the first line makes a cache of these rules, with a log of this size: 384 where it isn't said
+pub record IsCacheLine (line : List ℕ) (log : ℕ) (rules : Rules) : Type 0 where
+  pub said : Option ℕ
+  pub spelled : line ≡ cache_line said rules
+  pub size : log ≡ unwrap_or said 384
+  pub range : (1 ≤ log) × (log ≤ 65536)
+  pub others : rules ≡ listening rules.listener
+
+-- Each line ends with byte 10, and the last may lack it: what stands after the last byte 10 is a
+-- line only where it isn't empty.
 abbrev pub lines : List ℕ → List (List ℕ)
 lines [] = []
 lines (b ∷ bytes) = if b == 10 then [] ∷ lines bytes else onto_first b (lines bytes)
 
 -- the text is the first line and a line for each event
-pub record Says (text : List ℕ) (log : ℕ) (events : List (Event ℕ ℕ)) : Type 0 where
+pub record Says (text : List ℕ) (log : ℕ) (rules : Rules) (events : List (Event ℕ ℕ)) : Type 0 where
   pub first : List ℕ
-  pub cache : IsCacheLine first log
+  pub cache : IsCacheLine first log rules
   pub split : lines text ≡ first ∷ map event_line events
   pub fit : AllByRecursion EventFits events
 
 -- the first line is none of a cache, or there is no line
 abbrev pub BeginsBadly : List ℕ → Type 0
 BeginsBadly text =
-    (first : List ℕ) (rest : List (List ℕ)) (log : ℕ) →
-    lines text ≡ first ∷ rest → IsCacheLine first log → ⊥
+    (first : List ℕ) (rest : List (List ℕ)) (log : ℕ) (rules : Rules) →
+    lines text ≡ first ∷ rest → IsCacheLine first log rules → ⊥
 
 -- the line spells no event
 abbrev pub SpellsNone : List ℕ → Type 0
@@ -80,7 +113,8 @@ SpellsNone line = (e : Event ℕ ℕ) → EventFits e → line ≡ event_line e 
 pub record GoesBad (text : List ℕ) (events : List (Event ℕ ℕ)) : Type 0 where
   pub first : List ℕ
   pub log : ℕ
-  pub cache : IsCacheLine first log
+  pub rules : Rules
+  pub cache : IsCacheLine first log rules
   pub line : List ℕ
   pub rest : List (List ℕ)
   pub split : lines text ≡ first ∷ (map event_line events ++ line ∷ rest)

@@ -1,6 +1,6 @@
 -- The parts of a line: numbers, what follows a word, and the two sides of a space.
 use Rattle.std.specs.Prelude.{ℕ, ◌^◌, ◌==◌, ◌&&◌, List, Option, Some, None, length, take, drop, nat_lt, decimal, bytes_eq, if◌then◌else◌}
-use Rattle.std.specs.List.{before_first, after_first}
+use Rattle.std.specs.List.{before_first, after_first, position_or_len}
 use Rattle.std.specs.Str.Parse.{digits_value}
 
 -- the number below the limit of which these bytes are the decimal form
@@ -28,3 +28,7 @@ before_byte mark bytes = before_first (λ b. b == mark) bytes
 
 abbrev pub after_byte : ℕ → List ℕ → List ℕ
 after_byte mark bytes = after_first (λ b. b == mark) bytes
+
+-- what stands from the first such byte on
+abbrev pub from_byte : ℕ → List ℕ → List ℕ
+from_byte mark bytes = drop (position_or_len (λ b. b == mark) bytes) bytes

@@ -5,6 +5,7 @@
 
 mod laws;
 mod lines;
+mod options;
 mod reports;
 mod schedules;
 mod words;

@@ -1,16 +1,18 @@
-//! The lines of a schedule.
+//! The lines of events. A line's first word is cut off, and decides how the rest is read.
 
 ghost use Rattle.std.specs.Prelude.{◌≡◌};
-ghost use Rattle.moka_text.specs.ScheduleReading.{pair_of, start_of, told_of, tell_of, event_of, log_of};
+ghost use Rattle.moka_text.specs.ScheduleReading.{
+  pair_of,
+  start_by,
+  start_of,
+  told_of,
+  tell_of,
+  event_by,
+  event_of,
+};
 
-use crate::words::{after, call_after, call_in, cut, key_after, key_in};
+use crate::words::{after, call_in, cut, key_in};
 use moka_hist::{Event, Start, Told};
-
-/// How many writes the write log has room for where the first line doesn't say.
-const DEFAULT_LOG: usize = 384;
-
-/// The most writes that the first line may give the write log room for.
-const GREATEST_LOG: u64 = 65536;
 
 /// A key and a value, with one space between them.
 #[tactic(auto, unfolding(crate::specs::ScheduleReading::pair_of))]
@@ -23,19 +25,25 @@ fn pair_of(bytes: &[u8]) -> Option<(u32, u32)>
     Some((key, value))
 }
 
+/// What a call is started for, by a word and what stands after its space.
+#[tactic(auto, unfolding(crate::specs::ScheduleReading::start_by))]
+fn start_by(word: &[u8], rest: &[u8]) -> Option<Start<u32, u32>>
+    ensures { result ≡ start_by word.now rest.now }
+{
+    match word {
+        b"get" => key_in(rest).map(|key| Start::Get { key }),
+        b"insert" => pair_of(rest).map(|(key, value)| Start::Insert { key, value }),
+        b"get_with" => key_in(rest).map(|key| Start::GetWith { key }),
+        _ => None,
+    }
+}
+
 /// What a call is started for.
-#[tactic(auto, unfolding(crate::specs::ScheduleReading::start_of))]
 fn start_of(bytes: &[u8]) -> Option<Start<u32, u32>>
     ensures { result ≡ start_of bytes.now }
 {
-    if let Some(key) = key_after(bytes, b"get ") {
-        return Some(Start::Get { key });
-    }
-    if let Some(key) = key_after(bytes, b"get_with ") {
-        return Some(Start::GetWith { key });
-    }
-    let (key, value) = pair_of(after(bytes, b"insert ")?)?;
-    Some(Start::Insert { key, value })
+    let (word, rest) = cut(bytes, b' ');
+    start_by(word, rest)
 }
 
 /// What an ask is told.
@@ -46,56 +54,44 @@ fn told_of(bytes: &[u8]) -> Option<Told<u32>>
     if bytes == b"done".as_slice() {
         return Some(Told::Done);
     }
-    let value = key_after(bytes, b"value ")?;
+    if bytes == b"off".as_slice() {
+        return Some(Told::Off);
+    }
+    let value = key_in(after(bytes, b"value ")?)?;
     Some(Told::Value(value))
 }
 
 /// A call, and after a space what it is told.
 #[tactic(auto, unfolding(crate::specs::ScheduleReading::tell_of))]
-fn tell_of(bytes: &[u8]) -> Option<Event<u32, u32>>
+fn tell_of(bytes: &[u8]) -> Option<(u64, Told<u32>)>
     ensures { result ≡ tell_of bytes.now }
 {
     let (call, answer) = cut(bytes, b' ');
     let call = call_in(call)?;
     let answer = told_of(answer)?;
-    Some(Event::Tell { call, answer })
+    Some((call, answer))
+}
+
+/// The event of a line, by its first word and what stands after its space.
+#[tactic(auto, unfolding(crate::specs::ScheduleReading::event_by))]
+fn event_by(word: &[u8], rest: &[u8]) -> Option<Event<u32, u32>>
+    ensures { result ≡ event_by word.now rest.now }
+{
+    match word {
+        b"at" => call_in(rest).map(|moment| Event::At { moment }),
+        b"start" => start_of(rest).map(|start| Event::Start { start }),
+        b"step" => call_in(rest).map(|call| Event::Step { call }),
+        b"poll" => call_in(rest).map(|call| Event::Poll { call }),
+        b"tell" => tell_of(rest).map(|(call, answer)| Event::Tell { call, answer }),
+        b"drop" => call_in(rest).map(|call| Event::Drop { call }),
+        _ => None,
+    }
 }
 
 /// The event that a line spells, if it spells one.
-#[tactic(auto, unfolding(crate::specs::ScheduleReading::event_of))]
 pub(crate) fn event_of(line: &[u8]) -> Option<Event<u32, u32>>
     ensures { result ≡ event_of line.now }
 {
-    if let Some(moment) = call_after(line, b"at ") {
-        return Some(Event::At { moment });
-    }
-    if let Some(call) = call_after(line, b"step ") {
-        return Some(Event::Step { call });
-    }
-    if let Some(call) = call_after(line, b"poll ") {
-        return Some(Event::Poll { call });
-    }
-    if let Some(call) = call_after(line, b"drop ") {
-        return Some(Event::Drop { call });
-    }
-    if let Some(words) = after(line, b"start ") {
-        let start = start_of(words)?;
-        return Some(Event::Start { start });
-    }
-    tell_of(after(line, b"tell ")?)
-}
-
-/// How many writes the write log has room for, as a schedule's first line says.
-#[tactic(auto, unfolding(crate::specs::ScheduleReading::log_of))]
-pub(crate) fn log_of(line: &[u8]) -> Option<usize>
-    ensures { result ≡ log_of line.now }
-{
-    if line == b"cache".as_slice() {
-        return Some(DEFAULT_LOG);
-    }
-    let log = call_after(line, b"cache log=")?;
-    if log < 1 || log > GREATEST_LOG {
-        return None;
-    }
-    Some(log as usize)
+    let (word, rest) = cut(line, b' ');
+    event_by(word, rest)
 }

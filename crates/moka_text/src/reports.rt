@@ -2,9 +2,17 @@
 
 ghost use Rattle.std.specs.Prelude.{◌≡◌, ◌++◌, flat_map, IfOk, OnOk};
 ghost use Rattle.std.specs.String.{string_bytes};
-ghost use Rattle.moka_text.specs.ReportText.{reply_line, entry_line, write_line, report_text};
+ghost use Rattle.moka_text.specs.ReportText.{
+  reply_line,
+  entry_line,
+  write_line,
+  cause_word,
+  state_word,
+  notice_line,
+  report_text,
+};
 
-use moka_hist::{Answer, Ask, Place, Refusal, Reply, Stored};
+use moka_hist::{Answer, Ask, Cause, Notice, NoticeState, Place, Refusal, Reply, Stored};
 use std::alloc::{AllocError, Global};
 use std::fmt::Write;
 
@@ -58,8 +66,45 @@ fn push_refusal(text: &mut String, why: Refusal) -> Result<(), AllocError>
     }
 }
 
+/// The word of a cause.
+fn cause_word(cause: Cause) -> &'static str
+    ensures { result.now ≡ cause_word cause }
+{
+    match cause {
+        Cause::Expired => "Expired",
+        Cause::Explicit => "Explicit",
+        Cause::Replaced => "Replaced",
+        Cause::Size => "Size",
+    }
+}
+
+/// The word of how far a notice is.
+fn state_word(state: NoticeState) -> &'static str
+    ensures { result.now ≡ state_word state }
+{
+    match state {
+        NoticeState::Waiting => "waiting",
+        NoticeState::Running => "running",
+        NoticeState::Ended => "ended",
+        NoticeState::Skipped => "skipped",
+    }
+}
+
+/// Appends the line of an ask.
+fn push_ask(text: &mut String, ask: &Ask<u32, u32>) -> Result<(), AllocError>
+    ensures { OnOk result (string_bytes text.new
+        ≡ string_bytes text.old ++ reply_line (Reply.Ask ask.now)) }
+{
+    match ask {
+        Ask::Init => text.push_str("ask init\n"),
+        Ask::Listener { key, value, cause } => {
+            write!(text, "ask listener {key} {value} {}\n", cause_word(*cause))
+        }
+    }
+}
+
 /// Appends the line of a reply.
-fn push_reply(text: &mut String, reply: &Reply<u32>) -> Result<(), AllocError>
+fn push_reply(text: &mut String, reply: &Reply<u32, u32>) -> Result<(), AllocError>
     ensures { OnOk result (string_bytes text.new
         ≡ string_bytes text.old ++ reply_line reply.now) }
 {
@@ -68,7 +113,7 @@ fn push_reply(text: &mut String, reply: &Reply<u32>) -> Result<(), AllocError>
         Reply::Call(number) => write!(text, "call {number}\n"),
         Reply::Going => text.push_str("going\n"),
         Reply::Wait => text.push_str("wait\n"),
-        Reply::Ask(Ask::Init) => text.push_str("ask init\n"),
+        Reply::Ask(ask) => push_ask(text, ask),
         Reply::Answer(answer) => push_answer(text, answer),
         Reply::Told => text.push_str("told\n"),
         Reply::Dropped => text.push_str("dropped\n"),
@@ -102,7 +147,7 @@ fn push_write(text: &mut String, number: u64, place: Place) -> Result<(), AllocE
 }
 
 /// Appends the lines of the replies.
-fn push_replies(text: &mut String, replies: &[Reply<u32>]) -> Result<(), AllocError>
+fn push_replies(text: &mut String, replies: &[Reply<u32, u32>]) -> Result<(), AllocError>
     ensures { OnOk result (string_bytes text.new
         ≡ string_bytes text.old ++ flat_map reply_line replies.now) }
 {
@@ -134,20 +179,51 @@ fn push_writes(text: &mut String, places: &[(u64, Place)]) -> Result<(), AllocEr
     Ok(())
 }
 
+/// Appends the line of a notice.
+fn push_notice(text: &mut String, notice: &Notice<u32, u32>) -> Result<(), AllocError>
+    ensures { OnOk result (string_bytes text.new
+        ≡ string_bytes text.old ++ notice_line notice.now) }
+{
+    let Notice {
+        number,
+        key,
+        value,
+        cause,
+        state,
+    } = notice;
+    let cause = cause_word(*cause);
+    let state = state_word(*state);
+    write!(text, "notice {number} {key} {value} {cause} {state}\n")
+}
+
+/// Appends the lines of the notices.
+fn push_notices(text: &mut String, notices: &[Notice<u32, u32>]) -> Result<(), AllocError>
+    ensures { OnOk result (string_bytes text.new
+        ≡ string_bytes text.old ++ flat_map notice_line notices.now) }
+{
+    for notice in notices {
+        push_notice(text, notice)?;
+    }
+    Ok(())
+}
+
 /// Writes a report: a line for each reply, then for each stored record, which stands beside its
-/// key, then for each committed write, by its number. Each list keeps its order.
+/// key, then for each committed write, by its number, then for each notice. Each list keeps its
+/// order.
 pub fn write_report(
     alloc: Global,
-    replies: &[Reply<u32>],
+    replies: &[Reply<u32, u32>],
     entries: &[(u32, Stored<u32>)],
     places: &[(u64, Place)],
+    notices: &[Notice<u32, u32>],
 ) -> Result<String, AllocError>
     ensures { IfOk result (λ text. string_bytes text
-        ≡ report_text replies.now entries.now places.now) }
+        ≡ report_text replies.now entries.now places.now notices.now) }
 {
     let mut text = String::new(alloc);
     push_replies(&mut text, replies)?;
     push_entries(&mut text, entries)?;
     push_writes(&mut text, places)?;
+    push_notices(&mut text, notices)?;
     Ok(text)
 }

@@ -2,21 +2,31 @@
 
 ghost use Rattle.std.specs.Prelude.{◌≡◌, ℕ, Some, IfOk, IsErrOf};
 ghost use Rattle.moka_text.specs.ScheduleText.{lines, Says, IsFirstBad};
-ghost use Rattle.moka_text.specs.ScheduleReading.{events_from, schedule, Gives, parts, EventsMayWantMemory, MayWantMemory};
+ghost use Rattle.moka_text.specs.ScheduleReading.{
+  events_from,
+  schedule,
+  Gives,
+  parts,
+  EventsMayWantMemory,
+  MayWantMemory,
+};
 ghost use Rattle.moka_text.specs.ErrorText.{error_text};
 ghost use Rattle.moka_text.specs.declared.schedules.ScheduleError.TheVariants.{Memory};
 
-use crate::lines::{event_of, log_of};
+use crate::lines::event_of;
+use crate::options::cache_of;
 use crate::words::cut;
-use moka_hist::Event;
+use moka_hist::{Event, Rules};
 use std::alloc::{AllocError, AllocFailed, Global};
 use std::error::Error;
 use std::fmt;
 
-/// A schedule: how many writes the write log has room for, and the events in order.
+/// A schedule: how many writes the write log has room for, the rules of the cache, and the events
+/// in order.
 #[derive(Drop)]
 pub struct Schedule {
     pub log: usize,
+    pub rules: Rules,
     pub events: Vec<Event<u32, u32>>,
 }
 
@@ -85,20 +95,21 @@ fn read_whole(alloc: Global, text: &[u8]) -> Result<Schedule, ScheduleError>
     ensures memory { IsErrOf result ScheduleError.Memory → MayWantMemory (schedule text.now) }
 {
     let (first, rest) = cut(text, b'\n');
-    let Some(log) = log_of(first) else {
+    let Some((log, rules)) = cache_of(first) else {
         return Err(ScheduleError::BadLine { line: 1 });
     };
     let events = read_events(alloc, rest)?;
-    Ok(Schedule { log, events })
+    Ok(Schedule { log, rules, events })
 }
 
-/// Reads a schedule: the log's size that its first line says, and the events of the other lines.
+/// Reads a schedule: the log's size and the rules that its first line says, and the events of the
+/// other lines.
 ///
 /// Answers `BadLine` with the first line that is not in the grammar, and `Memory` where memory
 /// runs out: only past a second line that spells an event.
 pub fn read_schedule(alloc: Global, bytes: &[u8]) -> Result<Schedule, ScheduleError>
     ensures exact { Gives parts result (schedule bytes.now) }
-    ensures found { IfOk result (λ s. Says bytes.now s.log s.events.items) }
+    ensures found { IfOk result (λ s. Says bytes.now s.log s.rules s.events.items) }
     ensures bad_line { (line : ℕ) → IsErrOf result (ScheduleError.BadLine line)
         → IsFirstBad bytes.now line }
     ensures memory { IsErrOf result ScheduleError.Memory → MayWantMemory (schedule bytes.now) }

@@ -1,7 +1,10 @@
 //! What no clause says: tables of texts and what they are read as, and printed lines.
 
 use crate::{Schedule, ScheduleError, read_schedule, write_report};
-use moka_hist::{Answer, Ask, Event, Place, Refusal, Reply, Start, Stored, Told};
+use moka_hist::{
+    Answer, Ask, Cause, Event, Notice, NoticeState, Place, Refusal, Reply, Rules, Start, Stored,
+    Told,
+};
 use std::alloc::Global;
 use std::test::Fail;
 
@@ -33,6 +36,20 @@ fn a_bad_first_line_is_line_1(rt: HostRuntime) {
         "cache  log=8\n",
         "cache log=8 log=8\n",
         "cache size=8\n",
+        "cachelog=8\n",
+        "cache  listener\n",
+        "cache Listener\n",
+        "cache listener \n",
+        "cache listener=1\n",
+        "cache listener listener\n",
+        "cache listener log=8\n",
+        "cache log=8  listener\n",
+        "cache log=8 listener x\n",
+        "cache log= listener\n",
+        "cache log=8listener\n",
+        "cache closures\n",
+        "cache listener closures\n",
+        "cache cap=8\n",
     ];
     for text in texts {
         assert_eq!(rt; bad_line(rt.alloc(), text.as_bytes()), Some(1), "at {text}");
@@ -62,6 +79,10 @@ fn the_first_bad_line_is_numbered(rt: HostRuntime) {
         ("cache\ntell 1\n", 2),
         ("cache\ntell 1 done \n", 2),
         ("cache\ntell 1 value\n", 2),
+        ("cache\ntell 1 Off\n", 2),
+        ("cache\ntell 1 off \n", 2),
+        ("cache\ntell 1 off 2\n", 2),
+        ("cache listener\ntell 1 offer\n", 2),
     ];
     for (text, line) in cases {
         assert_eq!(rt;
@@ -80,7 +101,7 @@ fn bytes_that_are_no_text_are_bad(rt: HostRuntime) {
 #[test]
 fn the_last_line_may_lack_its_end(rt: HostRuntime) -> Result<(), Fail> {
     for text in ["cache log=1\nstep 1\n", "cache log=1\nstep 1"] {
-        let Schedule { log, events } = read_schedule(rt.alloc(), text.as_bytes())?;
+        let Schedule { log, events, .. } = read_schedule(rt.alloc(), text.as_bytes())?;
         assert_eq!(rt; log, 1);
         assert_eq!(rt; events.as_slice(), [Event::Step { call: 1 }].as_slice());
     }
@@ -88,10 +109,34 @@ fn the_last_line_may_lack_its_end(rt: HostRuntime) -> Result<(), Fail> {
 }
 
 #[test]
+fn each_option_stands_or_not(rt: HostRuntime) -> Result<(), Fail> {
+    let cases = [
+        ("cache", 384, false),
+        ("cache log=65536", 65536, false),
+        ("cache listener", 384, true),
+        ("cache log=1 listener", 1, true),
+    ];
+    for (text, size, listener) in cases {
+        let Schedule { log, rules, .. } = read_schedule(rt.alloc(), text.as_bytes())?;
+        let want = Rules {
+            max_capacity: None,
+            time_to_live: None,
+            time_to_idle: None,
+            listener,
+            closures: false,
+        };
+        assert_eq!(rt; log, size, "at {text}");
+        assert_eq!(rt; rules, want, "at {text}");
+    }
+    Ok(())
+}
+
+#[test]
 fn every_form_of_line_is_read(rt: HostRuntime) -> Result<(), Fail> {
     let text = "cache\nat 18446744073709551615\nstart get 0\nstart insert 4294967295 7\n\
-        start get_with 10\nstep 1\npoll 2\ntell 3 value 9\ntell 3 done\ndrop 18446744073709551615\n";
-    let Schedule { log, events } = read_schedule(rt.alloc(), text.as_bytes())?;
+        start get_with 10\nstep 1\npoll 2\ntell 3 value 9\ntell 3 done\n\
+        tell 4 off\ndrop 18446744073709551615\n";
+    let Schedule { log, events, .. } = read_schedule(rt.alloc(), text.as_bytes())?;
     assert_eq!(rt; log, 384);
     let want = [
         Event::At { moment: u64::MAX },
@@ -117,10 +162,25 @@ fn every_form_of_line_is_read(rt: HostRuntime) -> Result<(), Fail> {
             call: 3,
             answer: Told::Done,
         },
+        Event::Tell {
+            call: 4,
+            answer: Told::Off,
+        },
         Event::Drop { call: u64::MAX },
     ];
     assert_eq!(rt; events.as_slice(), want.as_slice());
     Ok(())
+}
+
+/// A notice of the value 9 under the key 3.
+fn notice(number: u64, cause: Cause, state: NoticeState) -> Notice<u32, u32> {
+    Notice {
+        number,
+        key: 3,
+        value: 9,
+        cause,
+        state,
+    }
 }
 
 #[test]
@@ -131,6 +191,16 @@ fn every_form_of_line_is_written(rt: HostRuntime) -> Result<(), Fail> {
         Reply::Going,
         Reply::Wait,
         Reply::Ask(Ask::Init),
+        Reply::Ask(Ask::Listener {
+            key: 1,
+            value: 2,
+            cause: Cause::Expired,
+        }),
+        Reply::Ask(Ask::Listener {
+            key: u32::MAX,
+            value: 0,
+            cause: Cause::Explicit,
+        }),
         Reply::Told,
         Reply::Dropped,
         Reply::Refused(Refusal::UnknownCall),
@@ -165,12 +235,20 @@ fn every_form_of_line_is_written(rt: HostRuntime) -> Result<(), Fail> {
         (3, Place::Logged),
         (4, Place::Applied),
     ];
-    let text = write_report(rt.alloc(), &replies, &entries, &places)?;
-    let want = "at\ncall 18446744073709551615\ngoing\nwait\nask init\ntold\ndropped\n\
+    let notices = [
+        notice(5, Cause::Replaced, NoticeState::Waiting),
+        notice(6, Cause::Size, NoticeState::Running),
+        notice(7, Cause::Replaced, NoticeState::Ended),
+        notice(u64::MAX, Cause::Replaced, NoticeState::Skipped),
+    ];
+    let text = write_report(rt.alloc(), &replies, &entries, &places, &notices)?;
+    let want = "at\ncall 18446744073709551615\ngoing\nwait\nask init\n\
+        ask listener 1 2 Expired\nask listener 4294967295 0 Explicit\ntold\ndropped\n\
         refused UnknownCall\nrefused NotParked\nrefused NotAsked\nrefused ClockBack\n\
         refused CallsSpent\nanswer done\nanswer some 0\nanswer none\nanswer value 5 fresh\n\
         answer value 6\nanswer exhausted\nentry 7 8 stamp 9 at 10\nwrite 1 held\nwrite 2 owed\n\
-        write 3 logged\nwrite 4 applied\n";
+        write 3 logged\nwrite 4 applied\nnotice 5 3 9 Replaced waiting\nnotice 6 3 9 Size running\n\
+        notice 7 3 9 Replaced ended\nnotice 18446744073709551615 3 9 Replaced skipped\n";
     assert_eq!(rt; text.as_str(), want);
     Ok(())
 }

@@ -4,7 +4,6 @@ ghost use Rattle.std.specs.Prelude.{◌≡◌, ◌<◌, ◌≤◌, ◌^◌, leng
 ghost use Rattle.std.specs.Str.Parse.{AllDigits, digits_value};
 ghost use Rattle.std.specs.Option.{option_copied};
 ghost use Rattle.moka_text.specs.Words.{call_in, key_in, after, before_byte, after_byte};
-ghost use Rattle.moka_text.specs.ScheduleReading.{call_after, key_after};
 
 /// The value of decimal digits: none where a byte is no digit, or where it needs more than 64 bits.
 fn value_of(digits: &[u8]) -> Option<u64>
@@ -49,22 +48,6 @@ pub(crate) fn after<'a>(line: &'a [u8], front: &[u8]) -> Option<&'a [u8]>
     ensures { option_copied result ≡ after front.now line.now }
 {
     line.strip_prefix(front)
-}
-
-/// The number of a call after these bytes.
-#[tactic(auto, unfolding(crate::specs::ScheduleReading::call_after))]
-pub(crate) fn call_after(line: &[u8], front: &[u8]) -> Option<u64>
-    ensures { result ≡ call_after front.now line.now }
-{
-    call_in(after(line, front)?)
-}
-
-/// The key or value after these bytes.
-#[tactic(auto, unfolding(crate::specs::ScheduleReading::key_after))]
-pub(crate) fn key_after(line: &[u8], front: &[u8]) -> Option<u32>
-    ensures { result ≡ key_after front.now line.now }
-{
-    key_in(after(line, front)?)
 }
 
 /// What stands before the first such byte, and what stands after it. Where there is none, all

@@ -11,32 +11,32 @@ use Rattle.moka_laws.specs.OwnKeys.{ReachedByLawfulRun}
 use Rattle.moka_run.specs.Machine.{StandsFor}
 use Rattle.moka_run.specs.Running.{Answers}
 use Rattle.moka_run.specs.declared.machine.Machine.{Machine}
-use Rattle.moka_uses.specs.ReadBack.{IsReadBack, found_in, log_size, looking, storing}
+use Rattle.moka_uses.specs.ReadBack.{IsReadBack, found_in, log_size, no_rules, looking, storing}
 
 module _ {K V : Type 0} {same : PartialEq.Ghosts K} {hash : Hash.Ghosts K} where
   -- what a run of these events answers, from whatever reached state the machine stood for
-  abbrev pub Ran : (K → K → Bool) → Machine K V same hash → List (Event K V) → List (Reply V) → Machine K V same hash → Type 0
+  abbrev pub Ran : (K → K → Bool) → Machine K V same hash → List (Event K V) → List (Reply K V) → Machine K V same hash → Type 0
   Ran eq old events replies new = (s : State K V) → StandsFor eq old s → IsReached eq s → Answers eq events replies new s
 
-  pub read_back_of : (eq : K → K → Bool) (m₀ m₁ m₂ : Machine K V same hash) (key : K) (value : V) (stores looks : List (Event K V)) (first second : List (Reply V)) (call last : Reply V) (found : Option V)
-      → ReachedByLawfulRun K V eq → StandsFor eq m₀ (fresh K V log_size)
+  pub read_back_of : (eq : K → K → Bool) (m₀ m₁ m₂ : Machine K V same hash) (key : K) (value : V) (stores looks : List (Event K V)) (first second : List (Reply K V)) (call last : Reply K V) (found : Option V)
+      → ReachedByLawfulRun K V eq → StandsFor eq m₀ (fresh K V no_rules log_size)
       → stores ≡ storing key value → Ran eq m₀ stores first m₁
       → looks ≡ looking key → Ran eq m₁ looks second m₂
       → second ≡ call ∷ last ∷ [] → found ≡ found_in last → IsReadBack eq key value found
   read_back_of eq m₀ m₁ m₂ key value stores looks first second call last found law begun these ran those again two is =
       let has_log : 0 < log_size = omega arith in
-      let reached : IsReached eq (fresh K V log_size) = record { size = log_size; has_log = has_log; events = []; replies = []; run = refl } in
-      let a = ran (fresh K V log_size) begun reached in
-      let there = law (fresh K V log_size) a.final stores first reached a.run in
+      let reached : IsReached eq (fresh K V no_rules log_size) = record { rules = no_rules; size = log_size; has_log = has_log; events = []; replies = []; run = refl } in
+      let a = ran (fresh K V no_rules log_size) begun reached in
+      let there = law (fresh K V no_rules log_size) a.final stores first reached a.run in
       let b = again a.final a.stands there in
       record {
         stored = first;
         mid = a.final;
-        stores = subst (λ (es : List (Event K V)). Run eq (IsLawful eq) (fresh K V log_size) es first a.final) these a.run;
+        stores = subst (λ (es : List (Event K V)). Run eq (IsLawful eq) (fresh K V no_rules log_size) es first a.final) these a.run;
         call = call;
         last = last;
         final = b.final;
-        looks = subst (λ (rs : List (Reply V)). Run eq (IsLawful eq) a.final (looking key) rs b.final) two
+        looks = subst (λ (rs : List (Reply K V)). Run eq (IsLawful eq) a.final (looking key) rs b.final) two
             (subst (λ (es : List (Event K V)). Run eq (IsLawful eq) a.final es second b.final) those b.run);
         is = is;
       }

@@ -1,5 +1,5 @@
 -- What is read back after it was stored.
-use Rattle.std.specs.Prelude.{◌≡◌, ℕ, Bool, List, [], ◌∷◌, Option, None}
+use Rattle.std.specs.Prelude.{◌≡◌, ℕ, Bool, false, List, [], ◌∷◌, Option, None}
 use Rattle.moka_hist.specs.State.{State, fresh}
 use Rattle.moka_hist.specs.Places.{IsLawful}
 use Rattle.moka_hist.specs.Run.{Run}
@@ -7,8 +7,13 @@ use Rattle.moka_hist.specs.declared.events.Event.{Event}
 use Rattle.moka_hist.specs.declared.events.Event.TheVariants as event
 use Rattle.moka_hist.specs.declared.events.Start.TheVariants as start
 use Rattle.moka_hist.specs.declared.replies.Answer.TheVariants as answer
+use Rattle.moka_hist.specs.declared.rules.Rules.{Rules}
 use Rattle.moka_hist.specs.declared.replies.Reply.{Reply}
 use Rattle.moka_hist.specs.declared.replies.Reply.TheVariants as reply
+
+-- no rule is set
+abbrev pub no_rules : Rules
+no_rules = record { max_capacity = None; time_to_live = None; time_to_idle = None; listener = false; closures = false }
 
 -- how many writes the log of the caller's cache has room for
 abbrev pub log_size : ℕ
@@ -24,18 +29,18 @@ module _ {K V : Type 0} where
   looking key = event.Start (start.Get key) ∷ event.Poll 2 ∷ []
 
 -- the value that a lookup answers, where it answers one
-abbrev pub found_in : {V : Type 0} → Reply V → Option V
+abbrev pub found_in : {K V : Type 0} → Reply K V → Option V
 found_in (reply.Answer (answer.Found found)) = found
 found_in _ = None
 
 -- The reference cache, begun with no record, stored the value under the key in one run, and in a second
 -- the lookup of the key found this. Each state on the way is lawful.
 pub record IsReadBack {K V : Type 0} (eq : K → K → Bool) (key : K) (value : V) (found : Option V) : Type 0 where
-  pub stored : List (Reply V)
+  pub stored : List (Reply K V)
   pub mid : State K V
-  pub stores : Run eq (IsLawful eq) (fresh K V log_size) (storing key value) stored mid
-  pub call : Reply V
-  pub last : Reply V
+  pub stores : Run eq (IsLawful eq) (fresh K V no_rules log_size) (storing key value) stored mid
+  pub call : Reply K V
+  pub last : Reply K V
   pub final : State K V
   pub looks : Run eq (IsLawful eq) mid (looking key) (call ∷ last ∷ []) final
   pub is : found ≡ found_in last

@@ -8,10 +8,19 @@ ghost use Rattle.moka_run.specs.Machine.{StandsFor, IsValid};
 ghost use Rattle.moka_run.specs.Running.{Answers};
 ghost use Rattle.moka_uses.specs.ReadBack.{IsReadBack, found_in, looking, storing};
 
-use moka_hist::{Answer, Event, Reply, Start};
+use moka_hist::{Answer, Event, Reply, Rules, Start};
 use moka_run::{Machine, Report, run};
 use std::alloc::{AllocError, Global};
 use std::hash::Hash;
+
+/// No rule is set.
+const RULES: Rules = Rules {
+    max_capacity: None,
+    time_to_live: None,
+    time_to_idle: None,
+    listener: false,
+    closures: false,
+};
 
 /// How many writes the cache's log has room for.
 const LOG: usize = 8;
@@ -37,10 +46,10 @@ fn run_all<K: Eq + Hash + Clone + Drop, V: Clone + Drop>(
 }
 
 /// A copy of the value that the last of two replies found.
-fn found<V: Clone>(replies: &[Reply<V>]) -> Result<Option<V>, AllocError>
+fn found<K, V: Clone>(replies: &[Reply<K, V>]) -> Result<Option<V>, AllocError>
     requires exact { IsExact V.is_clone }
     requires two { length replies.now ≡ 2 }
-    ensures { IfOk result (λ found. (call : Reply V) × (last : Reply V)
+    ensures { IfOk result (λ found. (call : Reply K V) × (last : Reply K V)
         × (replies.now ≡ call ∷ last ∷ []) × (found ≡ found_in last)) }
 {
     match replies {
@@ -89,7 +98,7 @@ pub fn read_back<K: Eq + Hash + Clone + Drop, V: Clone + Drop>(
     moka_laws::reached_by_lawful_run::<K, V>();
     let looks = looking(alloc, key.clone()?)?;
     let stores = storing(alloc, key, value)?;
-    let mut cache = Machine::build(alloc, LOG)?;
+    let mut cache = Machine::build(alloc, RULES, LOG)?;
     run_all(alloc, &mut cache, &stores)?;
     let report = run_all(alloc, &mut cache, &looks)?;
     found(report.replies.as_slice())

@@ -1,8 +1,8 @@
 -- What the steps so far did, and one more.
-use Rattle.std.proofs.Common.{◌≡◌, ◌+◌, true, refl, sym, subst, ◌∙◌, ◌++◌, ◌⊎◌, arith}
+use Rattle.std.proofs.Common.{◌≡◌, ◌+◌, true, refl, sym, subst, ◌∙◌, ◌++◌, arith}
 use Rattle.moka_init.specs.declared.flow.Flow.{Flow}
 use Rattle.moka_init.specs.FlowPlan.{call_of, IsLive}
-use Rattle.moka_init.specs.Grounds.{access_at, NeedsMemory}
+use Rattle.moka_init.specs.Steps.{MayLack}
 use Rattle.moka_init.proofs.Going.{moves_none, live_going, may_fit, safe_next, flow_more, flow_last, has_log_still}
 use Rattle.moka_init.proofs.Told.{told_none, told_more, told_last}
 use Rattle.moka_init.proofs.goings.poll.Goals as goal
@@ -88,13 +88,15 @@ returns-in-Err-clause-unfinished g c =
       so_far.1.so_many,
       (λ w h safe.
           let m = so_far.1.moved w h safe in
-          (m.0, rw c.in-Err.ensures.err m.1, c.in-Err.ensures.err_stands m.0 m.2)),
+          let may = safe_next g.K.PartialEq.eq so_far.0 c.args.flow.now c.loop-turn.flow w m.0 so_far.1.number m.1 safe in (
+            m.0,
+            rw c.in-Err.ensures.err m.1,
+            c.in-Err.ensures.err_stands m.0 m.2,
+            subst (λ (f : Flow g.row.K.Denot g.row.V.Denot). MayLack g.G.Ground.needs m.0 f) (sym c.in-Err.ensures.err)
+                (c.in-Err.ensures.err_needs m.0 m.2 may),
+          )),
       (λ before e. rw (c.in-Err.ensures.err, c.in-Err.ensures.err_account) (so_far.1.told before e)),
     )
-
-pub returns-in-Err-clause-needs : goal.returns-in-Err-clause-needs
-returns-in-Err-clause-needs g c =
-    subst (λ (f : Flow g.row.K.Denot g.row.V.Denot). NeedsMemory (access_at f) ⊎ g.G.Ground.needs (access_at f)) (sym c.in-Err.ensures.err) c.in-Err.ensures.err_needs
 
 pub returns-in-Err-clause-keeps : goal.returns-in-Err-clause-keeps
 returns-in-Err-clause-keeps g c = g.met.G.Ground.keeps_on c.args.ground.now c.loop-turn.ground c.step.new.ground c.loop-turn.invariant.1.keeps c.step.ensures.keeps

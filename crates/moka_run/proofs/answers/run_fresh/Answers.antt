@@ -6,11 +6,11 @@ use Rattle.moka_run.proofs.answers.run_fresh.Goals as goal
 
 pub returns-in-Ok : goal.returns-in-Ok
 returns-in-Ok c =
-    let reached : IsReached nat_eq (fresh ℕ ℕ c.args.log) = record { size = c.args.log; has_log = c.requires.least; events = []; replies = []; run = refl } in
-    let ran = c.in-Ok.ensures.run (fresh ℕ ℕ c.args.log) c.in_ok-machine.ensures.fresh reached in
+    let reached : IsReached nat_eq (fresh ℕ ℕ c.args.rules c.args.log) = record { rules = c.args.rules; size = c.args.log; has_log = c.requires.least; events = []; replies = []; run = refl } in
+    let ran = c.in-Ok.ensures.run (fresh ℕ ℕ c.args.rules c.args.log) c.in_ok-machine.ensures.fresh reached in
     record {
       final = ran.0.final;
       run = ran.0.run;
       reports = ran.1;
-      reached = c.reached_by_lawful_run.ensures.reached (fresh ℕ ℕ c.args.log) ran.0.final _ _ reached ran.0.run;
+      reached = c.reached_by_lawful_run.ensures.reached (fresh ℕ ℕ c.args.rules c.args.log) ran.0.final _ _ reached ran.0.run;
     }

@@ -1,5 +1,5 @@
 -- Two runs, the second of a copy of the key, which is the key.
-use Rattle.std.proofs.Common.{◌∙◌, ap, sym}
+use Rattle.std.proofs.Common.{◌∙◌, ap, length, sym}
 use Rattle.std.proofs.lemmas.Result.{IfOk-weaker}
 use Rattle.moka_uses.specs.ReadBack.{IsReadBack, looking}
 use Rattle.moka_uses.proofs.TwoRuns.{read_back_of}
@@ -16,3 +16,7 @@ returns g c =
     c.reached_by_lawful_run.ensures.reached c.in_ok-cache.ensures.fresh (c.deref.ensures.value ∙ c.in_ok-stores.ensures)
     c.in_ok-run_all.ensures.run looks c.in_ok-report.ensures.run (sym c.as_slice.ensures ∙ is.2) is.3)
     c.found.ensures
+
+pub found-requires-clause-two : goal.found-requires-clause-two
+found-requires-clause-two g c =
+    ap length c.as_slice.ensures ∙ c.in_ok-report.ensures.answered ∙ ap length (c.deref-2.ensures.value ∙ c.in_ok-looks.ensures)

@@ -3,6 +3,7 @@ use Rattle.moka_desk.proofs.state.Desk.apply_one.Goals as goal
 
 pub returns-clause-makes : goal.returns-clause-makes
 returns-clause-makes g c = λ w h may. record {
+  rules = h.rules;
   clock = h.clock;
   accessed = h.accessed;
   turn = h.turn;
@@ -10,5 +11,7 @@ returns-clause-makes g c = λ w h may. record {
   last = h.last;
   writes = c.apply_one.ensures.makes (write_part w) h.writes;
   loads = h.loads;
+  locks = h.locks;
+  notices = h.notices;
   asks = h.asks;
 }

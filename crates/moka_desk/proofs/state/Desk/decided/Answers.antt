@@ -1,8 +1,9 @@
 use Rattle.moka_desk.specs.Writes.{write_part}
 use Rattle.moka_desk.proofs.state.Desk.decided.Goals as goal
 
-pub returns : goal.returns
-returns g c = λ w h. record {
+pub returns-clause-makes : goal.returns-clause-makes
+returns-clause-makes g c = λ w h. record {
+  rules = h.rules;
   clock = h.clock;
   accessed = h.accessed;
   turn = h.turn;
@@ -10,5 +11,7 @@ returns g c = λ w h. record {
   last = h.last;
   writes = c.decide.ensures (write_part w) h.writes;
   loads = h.loads;
+  locks = h.locks;
+  notices = h.notices;
   asks = h.asks;
 }

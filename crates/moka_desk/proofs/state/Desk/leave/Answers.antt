@@ -1,15 +1,60 @@
+use Rattle.std.proofs.Common.{◌≡◌, ℕ, ◌==◌, ◌&&◌, ◌++◌, nat_lt, false, cond, List, Some, None, is_some, IsNone, refl, sym, ap, ◌∙◌, subst, option_to_list}
+use Rattle.moka_sync.specs.Waiting.{without}
+use Rattle.moka_hist.specs.Finite.{put_at}
+use Rattle.moka_hist.specs.Conditions.{MayLeaveWith}
+use Rattle.moka_hist.specs.Visits.{is_reader_of, settled_without}
+use Rattle.moka_hist.specs.declared.visits.Settled.TheVariants as settled
 use Rattle.moka_desk.specs.Asks.{ask_part}
-use Rattle.moka_desk.specs.Writes.{write_part}
+use Rattle.moka_desk.specs.Locks.{lock_part}
+use Rattle.moka_desk.specs.Writes.{write_part, WritesAre}
+use Rattle.moka_desk.specs.Waits.{lock_line, settlement_line}
+use Rattle.moka_desk.proofs.Allowed.{leaves_its_own}
+use Rattle.moka_desk.proofs.Misses.{answers_miss, come_listed, left_listed, none_else, none_still}
 use Rattle.moka_desk.proofs.state.Desk.leave.Goals as goal
 
-pub returns : goal.returns
-returns g c = λ w h may. record {
-  clock = h.clock;
-  accessed = h.accessed;
-  turn = h.turn;
-  published = h.published;
-  last = h.last;
-  writes = c.leave.ensures.makes (write_part w) h.writes;
-  loads = c.leave-2.ensures w c.args.held h.loads;
-  asks = c.leave-3.ensures (ask_part w) h.asks;
-}
+pub leave-requires : goal.leave-requires
+leave-requires g c =
+    let w = c.requires.0 in
+    let h = c.requires.1 in
+    leaves_its_own _ w.holding h.writes.holding c.args.call c.still_heard-held.result
+    (subst (MayLeaveWith (w.holding c.args.call) c.args.call) (sym c.still_heard-held.ensures.same) c.requires.2)
+
+pub returns-clause-makes : goal.returns-clause-makes
+returns-clause-makes g c = λ w h may.
+    let kept = subst (MayLeaveWith (w.holding c.args.call) c.args.call) (sym c.still_heard-held.ensures.same) may in
+    record {
+      rules = h.rules;
+      clock = h.clock;
+      accessed = h.accessed;
+      turn = h.turn;
+      published = h.published;
+      last = h.last;
+      writes = subst (λ held. WritesAre c.leave.new.self (record (write_part w) { holding = put_at w.holding c.args.call None; owed = w.owed ++ option_to_list held }))
+          (c.still_heard-held.ensures.notice w h) (c.leave.ensures.makes (write_part w) h.writes kept);
+      loads = c.leave-2.ensures w c.args.held h.loads;
+      locks = c.free.ensures (lock_part w) h.locks;
+      notices = h.notices;
+      asks = c.leave-3.ensures (ask_part w) h.asks;
+    }
+
+pub returns-clause-misses : goal.returns-clause-misses
+returns-clause-misses g c = λ w h m.
+    let call = c.args.call in
+    let self = c.args.self.now in
+    let others : ℕ → List ℕ = λ n. without call (settlement_line self n) in
+    let lockers : ℕ → List ℕ = λ n. without call (lock_line self n) in
+    record {
+      turns = left_listed _ _ _ _ call c.leave-4.ensures.turns (λ n k other is. is) m.turns;
+      settlements = come_listed others _ (λ n k. ((call == k) ≡ false) × (w.joined k ≡ Some n) × IsNone (w.settled n)) _ call c.leave-4.ensures.settlements
+          (λ n k away is. (
+            ap (λ b. cond b None (w.joined k)) is.0 ∙ is.1,
+            none_else (is_some (w.owning call)) (nat_lt 0 (w.readers call)) (call == n) settled.Aborted (settled_without w call n) away
+                (none_still (is_reader_of w call n && w.readers n == 1) (w.settled n) is.2),
+          ))
+          (left_listed (settlement_line self) others _ _ call (λ n. refl) (λ n k other is. (other, is.0, is.1)) m.settlements);
+      answers = answers_miss c.leave-3.new.self.open_asks (put_at w.asks call None) (c.leave-3.ensures (ask_part w) h.asks).open_asks;
+      locks = come_listed lockers _ _ _ call c.leave-4.ensures.locks
+          (λ n k away is. (ap is_some (ap (λ b. cond b None (w.locked n)) away) ∙ is.0, is.1))
+          (left_listed (lock_line self) lockers _ _ call (λ n. refl) (λ n k other is. is) m.locks);
+      notices = left_listed _ _ _ _ call c.leave-4.ensures.notices (λ n k other is. is) m.notices;
+    }

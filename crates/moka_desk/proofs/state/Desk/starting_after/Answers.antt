@@ -1,8 +1,10 @@
-use Rattle.std.proofs.Common.{refl}
+use Rattle.std.proofs.Common.{None, refl}
+use Rattle.moka_desk.proofs.Misses.{answers_miss, nobody_listed, nothing_asked}
 use Rattle.moka_desk.proofs.state.Desk.starting_after.Goals as goal
 
-pub returns : goal.returns
-returns g c = record {
+pub returns-clause-stands : goal.returns-clause-stands
+returns-clause-stands g c = record {
+  rules = refl;
   clock = refl;
   accessed = λ n. rw c.new.ensures.empty refl;
   turn = refl;
@@ -10,5 +12,16 @@ returns g c = record {
   last = refl;
   writes = c.in_ok-new.ensures;
   loads = c.new-3.ensures;
-  asks = c.new-4.ensures;
+  locks = c.new-4.ensures;
+  notices = c.new-5.ensures;
+  asks = c.new-6.ensures;
+}
+
+pub returns-clause-misses : goal.returns-clause-misses
+returns-clause-misses g c = λ w. record {
+  turns = nobody_listed _ _ c.new-7.ensures.turns;
+  settlements = nobody_listed _ _ c.new-7.ensures.settlements;
+  answers = λ n k on. nothing_asked (answers_miss c.new-6.result.open_asks (λ _. None) c.new-6.ensures.open_asks n k on).1;
+  locks = nobody_listed _ _ c.new-7.ensures.locks;
+  notices = nobody_listed _ _ c.new-7.ensures.notices;
 }

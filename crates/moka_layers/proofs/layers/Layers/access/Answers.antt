@@ -1,8 +1,8 @@
 -- Each way of an access makes the one that is wanted.
 use Rattle.std.proofs.Common.{subst}
-use Rattle.std.proofs.lemmas.Result.{IfOk-weaker}
+use Rattle.std.proofs.lemmas.Result.{IfOk-weaker, on_err_weaker}
 use Rattle.moka_hist.specs.Step.{Access}
-use Rattle.moka_init.specs.Grounds.{Accesses}
+use Rattle.moka_init.specs.Grounds.{Accesses, NeedsMemory}
 use Rattle.moka_layers.specs.Layers.{Serves, account_of, operation_in}
 use Rattle.moka_layers.proofs.Wanted.{wanted_begin, wanted_table, wanted_visit}
 use Rattle.moka_layers.proofs.layers.Layers.access.Goals as goal
@@ -38,3 +38,27 @@ returns-in-Desk-clause-serves g c =
     subst (λ (a : Access g.row.K.Denot g.row.V.Denot). Serves g.K.PartialEq.eq t c.args.self.now a given c.visit.new.self)
     (wanted_visit (operation_in t c.args.self.now.begun) c.args.want access c.in-Desk.visit c.in-Desk.is is) serves)
     c.visit.ensures.serves
+
+pub returns-in-Begin-clause-tells : goal.returns-in-Begin-clause-tells
+returns-in-Begin-clause-tells g c =
+    let t = g.T.Table in
+    IfOk-weaker c.begin.result _ _ (λ given tells access is.
+    subst (λ (a : Access g.row.K.Denot g.row.V.Denot). Accesses (account_of t c.args.self.now) a given (account_of t c.begin.new.self))
+    (wanted_begin (operation_in t c.args.self.now.begun) c.args.want access c.in-Begin.operation c.in-Begin.is is) tells)
+    c.begin.ensures.tells
+
+pub returns-in-Desk-clause-tells : goal.returns-in-Desk-clause-tells
+returns-in-Desk-clause-tells g c =
+    let t = g.T.Table in
+    IfOk-weaker c.visit.result _ _ (λ given tells access is.
+    subst (λ (a : Access g.row.K.Denot g.row.V.Denot). Accesses (account_of t c.args.self.now) a given (account_of t c.visit.new.self))
+    (wanted_visit (operation_in t c.args.self.now.begun) c.args.want access c.in-Desk.visit c.in-Desk.is is) tells)
+    c.visit.ensures.tells
+
+pub returns-in-Desk-clause-err_needs : goal.returns-in-Desk-clause-err_needs
+returns-in-Desk-clause-err_needs g c =
+    let t = g.T.Table in
+    on_err_weaker c.visit.result (λ needs access is w h may.
+    subst (λ (a : Access g.row.K.Denot g.row.V.Denot). NeedsMemory w a)
+    (wanted_visit (operation_in t c.args.self.now.begun) c.args.want access c.in-Desk.visit c.in-Desk.is is) (needs w h))
+    c.visit.ensures.err_needs

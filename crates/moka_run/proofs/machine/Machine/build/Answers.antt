@@ -22,7 +22,7 @@ returns-clause-fresh g c =
 pub returns-clause-valid : goal.returns-clause-valid
 returns-clause-valid g c =
     record {
-      state = fresh g.row.K.Denot g.row.V.Denot c.args.log;
+      state = fresh g.row.K.Denot g.row.V.Denot c.args.rules c.args.log;
       stands = returns-clause-fresh g c;
-      reached = record { size = c.args.log; has_log = c.requires.least; events = []; replies = []; run = refl };
+      reached = record { rules = c.args.rules; size = c.args.log; has_log = c.requires.least; events = []; replies = []; run = refl };
     }

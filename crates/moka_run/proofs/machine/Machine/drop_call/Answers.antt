@@ -11,10 +11,10 @@ drop_out-requires-clause-is g c =
 pub drop_out-requires-clause-taken : goal.drop_out-requires-clause-taken
 drop_out-requires-clause-taken g c =
     let v = c.requires in
-    (v.state, (c.in-Some.ensures.some v.state v.stands).0, c.held_are_known.ensures.known v.state v.reached)
+    (v.state, (c.in-Some.ensures.some v.state v.stands).0, c.calls_may_leave.ensures.leaves v.state v.reached)
 
 pub returns-in-Some : goal.returns-in-Some
 returns-in-Some g c = λ s h reached.
     let t = c.in-Some.ensures.some s h in
-    let d = c.drop_out.ensures s t.0 (c.held_are_known.ensures.known s reached) in
+    let d = c.drop_out.ensures s t.0 (c.calls_may_leave.ensures.leaves s reached) in
     (d.0, happens_drop g.K.PartialEq.eq s c.args.call (call_of c.in-Some.flow) c.drop_out.result d.0 t.0.live d.1, d.2)

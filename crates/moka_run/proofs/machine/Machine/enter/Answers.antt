@@ -1,5 +1,5 @@
 -- The call runs under its number.
-use Rattle.std.proofs.Common.{◌≡◌, ◌<◌, ◌≤◌, ℕ, ◌+◌, arith, Bool, Some, None, refl, sym, ap, subst}
+use Rattle.std.proofs.Common.{◌≡◌, ◌<◌, ◌≤◌, ℕ, ◌+◌, arith, Bool, Some, None, refl, sym, ap, subst, ◌∙◌}
 use Rattle.moka_hist.specs.Finite.{put_at}
 use Rattle.moka_hist.specs.State.{State}
 use Rattle.moka_hist.specs.Run.{fresh_call, started}
@@ -23,6 +23,7 @@ returns-in-Some g c = λ s h reached.
     let flow = c.new-flow.result in
     let next = given_out _ n (w.last + 1) (c.in-Some.ensures.finds w h.world.desk) in
     let called = h.world.stay in
+    let ruled : c.rules.result ≡ w.rules = c.rules.ensures (record w { last = n }) (c.in-Some.ensures.makes w h.world.desk) in
     let later : w.last < n = omega (arith, next.1) in
     let before : w.last ≤ n = omega (arith, later) in
     let on : HasBegun None flow =
@@ -36,14 +37,14 @@ returns-in-Some g c = λ s h reached.
       begun = starts eq c.args.self.now.layers.table s.world.table s.world.stay w.last n h.world.table called later;
       given = omega arith;
     } in
-    let numbered : ℕ → State g.row.K.Denot g.row.V.Denot = λ m. record { world = record s.world { desk = record w { last = m } }; calls = put_at s.calls m (Some (fresh_call c.args.start)) } in (
+    let numbered : ℕ → State g.row.K.Denot g.row.V.Denot = λ m. record { world = record s.world { desk = record w { last = m } }; calls = put_at s.calls m (Some (fresh_call w.rules c.args.start)) } in (
       started s c.args.start,
       match_false _ _ _ next.0 (record { reply = ap reply.Call next.1; after = refl }),
       subst (λ (m : ℕ). StandsFor eq (record { layers = record c.args.self.now.layers { desk = c.enter.new.self }; calls = c.add.new.self }) (numbered m)) next.1
           (record {
             world = record { table = h.world.table; desk = c.in-Some.ensures.makes w h.world.desk; stay = omega (arith, called, before) };
-            calls = set_calls (running_at c.args.self.now.calls) (running_at c.add.new.self) s.calls n (Some runs) (Some (fresh_call c.args.start))
-                (ap Some c.new-flow.ensures.call) c.add.ensures (λ k ne. h.calls k);
+            calls = set_calls (running_at c.args.self.now.calls) (running_at c.add.new.self) s.calls n (Some runs) (Some (fresh_call w.rules c.args.start))
+                (ap Some (c.new-flow.ensures.call ∙ ap (λ r. fresh_call r c.args.start) ruled)) c.add.ensures (λ k ne. h.calls k);
             each = set_each (IsOf eq c.args.self.now.layers.table s.world.table s.world.stay n) (running_at c.args.self.now.calls) (running_at c.add.new.self) n (Some runs)
                 (λ x e. let f : runs ≡ x = cc in subst (λ (r : Running g.row.K.Denot g.row.V.Denot). IsOf eq c.args.self.now.layers.table s.world.table s.world.stay n n r) f is) c.add.ensures
                 (λ k x e. given_before eq c.args.self.now.layers.table s.world.table s.world.stay w.last n k x before (h.each k x e));

@@ -18,7 +18,7 @@ returns-in-Some-clause-serves g c = IfOk-weaker c.poll_out.result _ _ (λ r poll
     let t = c.in-Some.ensures.some s stands in
     let m = polls s.calls s.world t.0.rest (c.calls_are_safe.ensures.safe s n d reached t.0.live) in
     let after = state_after s n m.1 m.0 in
-    (after, subst (λ (x : Reply g.row.V.Denot). Happens g.K.PartialEq.eq Any s (event.Poll n) x after) (sym m.3) (c.polled_is_poll.ensures.poll s n d m.0 m.1 t.0.live m.2), m.4))
+    (after, subst (λ (x : Reply g.row.K.Denot g.row.V.Denot). Happens g.K.PartialEq.eq Any s (event.Poll n) x after) (sym m.3) (c.polled_is_poll.ensures.poll s n d m.0 m.1 t.0.live m.2), m.4))
     c.poll_out.ensures.polls
 
 pub returns-in-Some-clause-stops : goal.returns-in-Some-clause-stops

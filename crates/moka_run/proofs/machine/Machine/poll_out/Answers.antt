@@ -37,6 +37,6 @@ returns-in-Err-clause-unfinished g c =
             c.put_in.ensures others m.0
                 (still_without eq c.args.self.now c.poll.new.ground c.args.call c.args.flow c.poll.new.flow others w m.0 c.requires.out.on c.in-Err.ensures.on c.in-Err.ensures.number c.in-Err.ensures.keeps m.2 h)
                 (record { on = c.in-Err.ensures.on; live = c.in-Err.ensures.live }),
-            subst (λ (n : ℕ). NeedsMemory (access_of n (call_of c.poll.new.flow))) (c.in-Err.ensures.number ∙ number) (either_needs c.in-Err.ensures.needs),
+            subst (λ (n : ℕ). NeedsMemory m.0 (access_of n (call_of c.poll.new.flow))) (c.in-Err.ensures.number ∙ number) (either_needs m.0 c.poll.new.flow m.3),
           ),
     )

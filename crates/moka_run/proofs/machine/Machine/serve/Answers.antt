@@ -1,11 +1,11 @@
 -- Each event by its own function.
-use Rattle.std.proofs.Common.{IfErr, IfOk, OnErr, sym, subst}
-use Rattle.std.proofs.lemmas.Result.{on_err_weaker}
+use Rattle.std.proofs.Common.{IfErr, IfOk, OnErr, refl, sym, subst}
+use Rattle.std.proofs.lemmas.Result.{on_err_weaker, IfErr-weaker}
 use Rattle.moka_hist.specs.State.{State}
 use Rattle.moka_hist.specs.declared.events.Event.{Event}
 use Rattle.moka_run.specs.Machine.{Serves, Stops, StandsFor}
 use Rattle.moka_run.specs.Running.{MayStopIn}
-use Rattle.moka_run.proofs.Happening.{unpolled_ok, unpolled_on_err}
+use Rattle.moka_run.proofs.Happening.{unpolled_ok, unpolled_err, unpolled_on_err}
 use Rattle.moka_run.proofs.machine.Machine.serve.Goals as goal
 
 pub returns-in-Step-clause-serves : goal.returns-in-Step-clause-serves
@@ -39,3 +39,18 @@ returns-in-Tell-clause-needs g c =
 pub returns-in-Poll-clause-needs : goal.returns-in-Poll-clause-needs
 returns-in-Poll-clause-needs g c =
     subst (λ (e : Event g.row.K.Denot g.row.V.Denot). OnErr c.poll.result ((s : State g.row.K.Denot g.row.V.Denot) → StandsFor g.K.PartialEq.eq c.poll.new.self s → MayStopIn s e)) (sym c.in-Poll.is) c.poll.ensures.needs
+
+pub returns-in-Start-clause-serves : goal.returns-in-Start-clause-serves
+returns-in-Start-clause-serves g c =
+    subst (λ (e : Event g.row.K.Denot g.row.V.Denot). IfOk c.unpolled.result (λ r. Serves g.K.PartialEq.eq c.args.self.now e r c.start.new.self)) (sym c.in-Start.is)
+    (unpolled_ok c.start.result c.unpolled.result _ c.unpolled.ensures c.start.ensures.serves)
+
+pub returns-in-Start-clause-stops : goal.returns-in-Start-clause-stops
+returns-in-Start-clause-stops g c =
+    subst (λ (e : Event g.row.K.Denot g.row.V.Denot). IfErr c.unpolled.result (λ u. Stops g.K.PartialEq.eq c.args.self.now e u.steps c.start.new.self)) (sym c.in-Start.is)
+    (IfErr-weaker c.unpolled.result _ _ (λ u stopped s stands reached. (s, (stopped.0, refl), stopped.1 s stands)) (unpolled_err c.start.result c.unpolled.result _ c.unpolled.ensures c.start.ensures.err))
+
+pub returns-in-Step-clause-stops : goal.returns-in-Step-clause-stops
+returns-in-Step-clause-stops g c =
+    subst (λ (e : Event g.row.K.Denot g.row.V.Denot). IfErr c.unpolled-in-Step.result (λ u. Stops g.K.PartialEq.eq c.args.self.now e u.steps c.step.new.self)) (sym c.in-Step.is)
+    (IfErr-weaker c.unpolled-in-Step.result _ _ (λ u stopped s stands reached. (s, (stopped.0, refl), stopped.1 s stands)) (unpolled_err c.step.result c.unpolled-in-Step.result _ c.unpolled-in-Step.ensures c.step.ensures.err))

@@ -56,7 +56,10 @@ returns-in-Some-clause-err_needs g c =
     let d = call_of c.in-Some.flow in
     let t = c.in-Some.ensures.some v.state v.stands in
     let number : c.in-Some.flow.call ≡ n = sym t.1.on.call ∙ t.0.rest.number in
+    let safe = c.calls_are_safe.ensures.safe v.state n d v.reached t.0.live in
+    let may : May v.state.world (access_at c.in-Some.flow) =
+    subst (λ (m : ℕ). May v.state.world (access_of m d)) (sym number) (safe 0 d v.state.world (moves_none g.K.PartialEq.eq n d v.state.world)) in
     on_err_weaker c.step_out.result (λ both s stands.
     call_needs g.K.PartialEq.eq c.step_out.new.self n d v.state.calls v.state.world s
-    (both.0 v.state.calls v.state.world t.0.rest) stands (subst (λ (m : ℕ). NeedsMemory (access_of m d)) number both.1))
+    (both.0 v.state.calls v.state.world t.0.rest) stands (subst (λ (m : ℕ). NeedsMemory v.state.world (access_of m d)) number (both.1 v.state.world t.0.rest.reaches may)))
     (on_err_both c.step_out.result _ _ c.step_out.ensures.err c.step_out.ensures.err_needs)

@@ -35,4 +35,4 @@ returns-in-Err-clause-err g c = λ others w h.
     (c.in-Err.ensures.err_stands w h.reaches) h) out)
 
 pub returns-in-Err-clause-err_needs : goal.returns-in-Err-clause-err_needs
-returns-in-Err-clause-err_needs g c = either_needs c.in-Err.ensures.err_needs
+returns-in-Err-clause-err_needs g c = λ w h may. either_needs w c.args.flow (c.in-Err.ensures.err_needs w h may)

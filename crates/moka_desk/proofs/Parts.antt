@@ -1,0 +1,42 @@
+-- The desk stands for a state where one part of it changes.
+use Rattle.std.proofs.Common.{ℕ, Bool, Option, Some, None}
+use Rattle.std.specs.declared.cmp.PartialEq as PartialEq
+use Rattle.std.specs.declared.hash.Hash as Hash
+use Rattle.moka_hist.specs.State.{DeskPart}
+use Rattle.moka_hist.specs.Visits.{claimed}
+use Rattle.moka_hist.specs.declared.loads.Load.{Load}
+use Rattle.moka_desk.specs.Loads.{load_part, LoadsAre}
+use Rattle.moka_desk.specs.StandsFor.{StandsFor}
+use Rattle.moka_desk.specs.declared.loads.Loads.{Loads}
+use Rattle.moka_desk.specs.declared.state.Desk.{Desk}
+
+-- the loads change as a claim does
+pub claim_stands : {K V : Type 0} {same : PartialEq.Ghosts K} {hash : Hash.Ghosts K} (eq : K → K → Bool) (desk : Desk K V same hash) (w : DeskPart K V) → StandsFor eq desk w →
+    (call : ℕ) (load : Load K) (owner : Option ℕ) (loads : Loads K V same hash) → LoadsAre eq loads (load_part (claimed eq w call load owner)) →
+    StandsFor eq (record desk { loads = loads }) (claimed eq w call load owner)
+claim_stands eq desk w h call load None loads are = record {
+  rules = h.rules;
+  clock = h.clock;
+  accessed = h.accessed;
+  turn = h.turn;
+  published = h.published;
+  last = h.last;
+  writes = h.writes;
+  loads = are;
+  locks = h.locks;
+  notices = h.notices;
+  asks = h.asks;
+}
+claim_stands eq desk w h call load (Some owner) loads are = record {
+  rules = h.rules;
+  clock = h.clock;
+  accessed = h.accessed;
+  turn = h.turn;
+  published = h.published;
+  last = h.last;
+  writes = h.writes;
+  loads = are;
+  locks = h.locks;
+  notices = h.notices;
+  asks = h.asks;
+}

@@ -1,0 +1,28 @@
+use Rattle.std.proofs.Common.{◌≡◌, ℕ, ◌==◌, cond, Some, sym, ap, ◌∙◌, nat_eq}
+use Rattle.std.specs.HashMap.{get}
+use Rattle.moka_sync.specs.Waiting.{waits}
+use Rattle.moka_desk.specs.Lines.{line_at}
+use Rattle.moka_desk.proofs.Listed.{listed, listed_is, listed_placed}
+use Rattle.moka_desk.proofs.lines.Lines.wait.Goals as goal
+
+lines_then : (c : goal.After-put) → (n : ℕ) → line_at c.move_off.new.lists n ≡ listed (line_at c.args.self.now.lists) (get nat_eq c.args.self.now.places) c.args.self.now.placed c.args.number c.args.call n
+lines_then c =
+    let s = c.args.self.now in
+    let was : c.copied-before.result ≡ get nat_eq s.places c.args.call = c.copied-before.ensures ∙ c.get.ensures.value ∙ c.reserve.ensures.entries.2 c.args.call in
+    listed_is (line_at s.lists) (get nat_eq s.places) s.placed c.args.number c.args.call (line_at c.add_to.new.lists) (line_at c.move_off.new.lists) c.copied-before.result was
+    c.in_ok-add_to.ensures.ok c.move_off.ensures
+
+pub invariant_of-self-2 : goal.invariant_of-self-2
+invariant_of-self-2 c = record {
+  placed = λ n call is.
+      let s = c.args.self.now in
+      c.put.ensures.updates.0 call ∙ ap (λ o. cond (c.args.call == call) (Some c.args.number) o) (c.reserve.ensures.entries.2 call)
+      ∙ listed_placed (line_at s.lists) (get nat_eq s.places) s.placed c.args.number c.args.call n call (sym (ap (waits call) (lines_then c n)) ∙ is);
+}
+
+pub returns-clause-ok : goal.returns-clause-ok
+returns-clause-ok c =
+    let s = c.args.self.now in
+    let was : c.copied-before.result ≡ get nat_eq s.places c.args.call = c.copied-before.ensures ∙ c.get.ensures.value ∙ c.reserve.ensures.entries.2 c.args.call in
+    listed_is (line_at s.lists) (get nat_eq s.places) s.placed c.args.number c.args.call (line_at c.add_to.new.lists) (line_at c.move_off.new.lists) c.copied-before.result was
+    c.in_ok-add_to.ensures.ok c.move_off.ensures

@@ -1,0 +1,38 @@
+use Rattle.std.proofs.Common.{◌≡◌, true, false, refl, sym, ◌∙◌, nat_eq}
+use Rattle.std.specs.HashMap.{get}
+use Rattle.moka_hist.specs.declared.notices.Notice.{Notice}
+use Rattle.moka_hist.specs.declared.notices.NoticeState.TheVariants as notice
+use Rattle.moka_desk.proofs.Noticed.{opened_running, opened_past, listed_running, listed_past, none_heard}
+use Rattle.moka_desk.proofs.notices.Notices.open.Goals as goal
+
+pub returns-then-self-clause-ok : goal.returns-then-self-clause-ok
+returns-then-self-clause-ok g c = λ p h free.
+    let r = c.make_room.ensures.same p h in
+    let mid = c.make_room.new.self in
+    let off : p.off ≡ true = sym r.off ∙ c.if-self.true in
+    let x : Notice g.row.K.Denot g.row.V.Denot = record { number = c.args.number; key = c.args.heard.key; value = c.args.heard.value; cause = c.args.heard.cause; state = notice.Skipped } in
+    let none = none_heard (get nat_eq mid.running) (get nat_eq mid.past) p.notices r.running r.past c.args.number free in
+    record {
+      running = λ n.
+          rw (off, c.keep.ensures.running)
+          (listed_running (get nat_eq mid.running) (get nat_eq mid.past) p.notices r.running r.past c.args.number x refl refl (get nat_eq mid.running) none (λ m e. refl) n);
+      past = λ n.
+          rw (off, c.keep.ensures.past n)
+          (listed_past (get nat_eq mid.running) (get nat_eq mid.past) p.notices r.running r.past c.args.number x refl refl n);
+      opened = rw (c.keep.ensures.opened, c.push_reserved.ensures.items, r.opened) refl;
+      off = c.keep.ensures.off ∙ r.off;
+    }
+
+pub returns-clause-ok : goal.returns-clause-ok
+returns-clause-ok g c = λ p h free.
+    let r = c.make_room.ensures.same p h in
+    let mid = c.make_room.new.self in
+    let off : p.off ≡ false = sym r.off ∙ c.if-self.false in
+    record {
+      running = λ n.
+          rw (off, c.put.ensures.updates.0 n)
+          (opened_running (get nat_eq mid.running) (get nat_eq mid.past) p.notices r.running r.past c.args.number c.args.heard n);
+      past = λ n. rw off (opened_past (get nat_eq mid.running) (get nat_eq mid.past) p.notices r.running r.past c.args.number c.args.heard free n);
+      opened = rw (c.push_reserved.ensures.items, r.opened) refl;
+      off = r.off;
+    }

@@ -1,0 +1,72 @@
+use Rattle.std.proofs.Common.{◌≡◌, ◌==◌, true, false, Some, is_some, sym, ap, subst, ◌∙◌}
+use Rattle.moka_hist.specs.Visits.{is_unlocked_for, locked_by}
+use Rattle.moka_hist.specs.declared.visits.Found.TheVariants as found
+use Rattle.moka_desk.specs.StandsFor.{StandsFor}
+use Rattle.moka_desk.specs.ListedMiss.{ListedMiss}
+use Rattle.moka_desk.proofs.Allowed.{held_by_another}
+use Rattle.moka_desk.proofs.Misses.{by_cases, there, apart, some_still, left_listed, wait_listed}
+use Rattle.moka_desk.proofs.state.Desk.lock_key.Goals as goal
+
+pub returns-in-Some-clause-finds : goal.returns-in-Some-clause-finds
+returns-in-Some-clause-finds g c = λ w h may.
+    let some : is_some (w.locks c.args.key.now) ≡ true = ap is_some (sym (h.locks.holders c.args.key.now) ∙ sym c.holder.ensures ∙ c.in-Some.is) in
+    ap found.LockKey (sym (held_by_another g.K.PartialEq.eq w.locks w.locked h.locks.holds c.args.key.now c.args.call may some))
+
+pub returns-in-Some-clause-makes : goal.returns-in-Some-clause-makes
+returns-in-Some-clause-makes g c = λ w h may.
+    let some : is_some (w.locks c.args.key.now) ≡ true = ap is_some (sym (h.locks.holders c.args.key.now) ∙ sym c.holder.ensures ∙ c.in-Some.is) in
+    let other : is_unlocked_for w c.args.call c.args.key.now ≡ false = held_by_another g.K.PartialEq.eq w.locks w.locked h.locks.holds c.args.key.now c.args.call may some in
+    subst (λ b. StandsFor g.K.PartialEq.eq (record c.args.self.now { waits = record c.args.self.now.waits { locks = c.wait.new.self } }) (locked_by g.K.PartialEq.eq w c.args.call c.args.key.now b)) (sym other) (record {
+      rules = h.rules;
+      clock = h.clock;
+      accessed = h.accessed;
+      turn = h.turn;
+      published = h.published;
+      last = h.last;
+      writes = h.writes;
+      loads = h.loads;
+      locks = h.locks;
+      notices = h.notices;
+      asks = h.asks;
+    })
+
+pub returns-in-Some-clause-misses : goal.returns-in-Some-clause-misses
+returns-in-Some-clause-misses g c = λ w h may m.
+    let eq = g.K.PartialEq.eq in
+    let self = c.args.self.now in
+    let call = c.args.call in
+    let key = c.args.key.now in
+    let holder = c.in-Some.holder in
+    let held : w.locks key ≡ Some holder = sym (h.locks.holders key) ∙ sym c.holder.ensures ∙ c.in-Some.is in
+    let locked = there _ (w.locked holder) (h.locks.holds key holder held) in
+    let other : is_unlocked_for w call key ≡ false = held_by_another eq w.locks w.locked h.locks.holds key call may (ap is_some held) in
+    subst (λ b. ListedMiss (record self { waits = record self.waits { locks = c.wait.new.self } }) (locked_by eq w call key b)) (sym other) (record {
+      turns = m.turns;
+      settlements = m.settlements;
+      answers = m.answers;
+      locks = wait_listed _ _ _ _ holder call c.in_ok-wait.ensures.ok (locked, apart w.locked holder call locked may) (λ n k is. is) m.locks;
+      notices = m.notices;
+    })
+
+pub returns-clause-misses : goal.returns-clause-misses
+returns-clause-misses g c = λ w h may m.
+    let eq = g.K.PartialEq.eq in
+    let self = c.args.self.now in
+    let call = c.args.call in
+    let key = c.args.key.now in
+    by_cases (λ b. ListedMiss (record self { locks = c.lock.new.self; waits = record self.waits { locks = c.leave.new.self } }) (locked_by eq w call key b))
+    (record {
+      turns = m.turns;
+      settlements = m.settlements;
+      answers = m.answers;
+      locks = left_listed _ _ _ _ call c.leave.ensures (λ n k other is. (some_still (call == n) key (w.locked n) is.0, is.1)) m.locks;
+      notices = m.notices;
+    })
+    (record {
+      turns = m.turns;
+      settlements = m.settlements;
+      answers = m.answers;
+      locks = left_listed _ _ _ _ call c.leave.ensures (λ n k other is. is) m.locks;
+      notices = m.notices;
+    })
+    (is_unlocked_for w call key)

@@ -1,0 +1,18 @@
+use Rattle.moka_desk.specs.Locks.{lock_part}
+use Rattle.moka_desk.specs.Writes.{write_part}
+use Rattle.moka_desk.proofs.state.Desk.unlock_key.Goals as goal
+
+pub returns-clause-makes : goal.returns-clause-makes
+returns-clause-makes g c = λ w h may. record {
+  rules = h.rules;
+  clock = h.clock;
+  accessed = h.accessed;
+  turn = h.turn;
+  published = h.published;
+  last = h.last;
+  writes = c.decide.ensures (write_part w) h.writes;
+  loads = h.loads;
+  locks = c.free.ensures (lock_part w) h.locks;
+  notices = h.notices;
+  asks = h.asks;
+}

@@ -1,0 +1,49 @@
+-- What the kept notices stand for.
+use Rattle.std.specs.Prelude.{◌≡◌, ℕ, Bool, false, cond, List, Option, Some, None, nat_eq}
+use Rattle.std.specs.Option.{option_map, option_map_or}
+use Rattle.std.specs.HashMap.{get}
+use Rattle.moka_hist.specs.State.{DeskPart}
+use Rattle.moka_hist.specs.Visits.{runs}
+use Rattle.moka_hist.specs.declared.notices.Notice.{Notice}
+use Rattle.moka_hist.specs.declared.notices.NoticeState.TheVariants as state
+use Rattle.moka_desk.specs.declared.notices.Heard.{Heard}
+use Rattle.moka_desk.specs.declared.notices.Notices.{Notices}
+
+-- What the desk's part says of notices.
+pub record NoticePart (K V : Type 0) : Type 0 where
+  pub notices : ℕ → Option (Notice K V)
+  pub opened : List ℕ
+  pub off : Bool
+
+-- that part of it
+abbrev pub notice_part : {K V : Type 0} → DeskPart K V → NoticePart K V
+notice_part w = record { notices = w.notices; opened = w.opened; off = w.off }
+
+module _ {K V : Type 0} where
+  -- the running notice of this number by which the listener hears this
+  abbrev pub running : ℕ → Heard K V → Notice K V
+  running number heard =
+      record { number = number; key = heard.key; value = heard.value; cause = heard.cause; state = state.Running }
+
+  -- the notice, where it runs, and where it doesn't
+  abbrev pub if_running : Option (Notice K V) → Option (Notice K V)
+  if_running o = cond (option_map_or (λ x. runs x.state) o false) o None
+
+  abbrev pub if_past : Option (Notice K V) → Option (Notice K V)
+  if_past o = cond (option_map_or (λ x. runs x.state) o false) None o
+
+-- the first of two, where there is one, and else the second
+abbrev pub either : {A : Type 0} → Option A → Option A → Option A
+either (Some x) other = Some x
+either None other = other
+
+-- The notices that run stand in one map, the others in the other.
+pub record NoticesAre {K V : Type 0} (notices : Notices K V) (p : NoticePart K V) : Type 0 where
+  pub running : (n : ℕ) → option_map (running n) (get nat_eq notices.running n) ≡ if_running (p.notices n)
+  pub past : (n : ℕ) → get nat_eq notices.past n ≡ if_past (p.notices n)
+  pub opened : notices.opened.items ≡ p.opened
+  pub off : notices.off ≡ p.off
+
+-- the notices change as the part does, whatever they stand for
+abbrev pub NoticesBecome : {K V : Type 0} → Notices K V → (NoticePart K V → NoticePart K V) → Notices K V → Type 0
+NoticesBecome {K} {V} old change new = (p : NoticePart K V) → NoticesAre old p → NoticesAre new (change p)

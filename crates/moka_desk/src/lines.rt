@@ -1,0 +1,113 @@
+//! The calls that wait for the things of others, thing by thing.
+
+ghost use Rattle.std.specs.Prelude.{◌≡◌, ℕ, ◌==◌, true, cond, Some, [], nat_eq, OnOk, OnErr};
+ghost use Rattle.std.specs.HashMap.{get};
+ghost use Rattle.moka_sync.specs.Waiting.{waits, without};
+ghost use Rattle.moka_desk.specs.Lines.{is_at, line_at, with_call};
+
+use crate::maps::put;
+use moka_sync::WaitList;
+use std::alloc::{AllocError, Global};
+use std::collections::HashMap;
+
+/// The calls that wait for things of one kind, each of which has the number of a call: the turn or
+/// the lock that it holds, how it settles, the end of its notice. Each call has a place from its
+/// listing on until its next visit, also once it was handed out.
+#[derive(Drop)]
+pub(crate) struct Lines {
+    alloc: Global,
+    pub(crate) lists: HashMap<u64, WaitList>,
+    pub(crate) places: HashMap<u64, u64>,
+    ghost placed: { (number call : ℕ) → waits call (line_at lists number) ≡ true
+        → get nat_eq places call ≡ Some number },
+}
+
+impl Lines {
+    /// Nobody waits.
+    pub(crate) fn new(alloc: Global) -> Self
+        ensures none { (number : ℕ) → line_at result.lists number ≡ [] }
+    {
+        Lines {
+            alloc,
+            lists: HashMap::new(alloc),
+            places: HashMap::new(alloc),
+        }
+    }
+
+    /// Lists the call, once, for the thing of this number, and for no other. For want of memory
+    /// nothing has changed.
+    pub(crate) fn wait(&mut self, number: u64, call: u64) -> Result<(), AllocError>
+        ensures ok { OnOk result ((n : ℕ) → line_at self.new.lists n
+            ≡ cond (number == n) (with_call call (line_at self.old.lists n)) (without call (line_at self.old.lists n))) }
+        ensures err { OnErr result ((n : ℕ) → line_at self.new.lists n ≡ line_at self.old.lists n) }
+    {
+        self.places.reserve(1)?;
+        add_to(self.alloc, &mut self.lists, number, call)?;
+        let before = self.places.get(&call).copied();
+        move_off(&mut self.lists, before, number, call);
+        put(&mut self.places, call, number);
+        Ok(())
+    }
+
+    /// The call waits for none of the things any more, and is not to be woken.
+    pub(crate) fn leave(&mut self, call: u64)
+        ensures { (n : ℕ) → line_at self.new.lists n ≡ without call (line_at self.old.lists n) }
+    {
+        if let Some(number) = self.places.get(&call).copied() {
+            remove_from(&mut self.lists, number, call);
+            let _ = self.places.remove(&call);
+        }
+    }
+
+    /// Takes the list of those that wait for the thing of this number, which has come.
+    pub(crate) fn take(&mut self, number: u64) -> WaitList
+        ensures all { result.calls ≡ line_at self.old.lists number }
+        ensures none { (n : ℕ) → line_at self.new.lists n ≡ cond (number == n) [] (line_at self.old.lists n) }
+    {
+        match self.lists.remove(&number) {
+            Some(list) => list,
+            None => WaitList::new(self.alloc),
+        }
+    }
+}
+
+// Lists the call on the list of this number.
+fn add_to(
+    alloc: Global,
+    lists: &mut HashMap<u64, WaitList>,
+    number: u64,
+    call: u64,
+) -> Result<(), AllocError>
+    ensures ok { OnOk result ((n : ℕ) → line_at lists.new n
+        ≡ cond (number == n) (with_call call (line_at lists.old n)) (line_at lists.old n)) }
+    ensures err { OnErr result ((n : ℕ) → line_at lists.new n ≡ line_at lists.old n) }
+{
+    if let Some(list) = lists.get_mut(&number) {
+        return list.add(call);
+    }
+    let mut list = WaitList::new(alloc);
+    list.add(call)?;
+    lists.insert(number, list)?;
+    Ok(())
+}
+
+// Takes the call off the list of the number before, if that is another than this one.
+fn move_off(lists: &mut HashMap<u64, WaitList>, before: Option<u64>, number: u64, call: u64)
+    ensures { (n : ℕ) → line_at lists.new n ≡ cond (number == n) (line_at lists.old n)
+        (cond (is_at before n) (without call (line_at lists.old n)) (line_at lists.old n)) }
+{
+    match before {
+        Some(before) if before != number => remove_from(lists, before, call),
+        _ => {}
+    }
+}
+
+// Takes the call off the list of this number.
+fn remove_from(lists: &mut HashMap<u64, WaitList>, number: u64, call: u64)
+    ensures { (n : ℕ) → line_at lists.new n
+        ≡ cond (number == n) (without call (line_at lists.old n)) (line_at lists.old n) }
+{
+    if let Some(list) = lists.get_mut(&number) {
+        list.remove(call);
+    }
+}

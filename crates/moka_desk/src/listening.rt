@@ -1,0 +1,165 @@
+//! The visits that see to keys' locks and to the listener.
+
+ghost use Rattle.std.specs.Prelude.{◌≡◌, true, Some, IfOk, OnOk, OnErr};
+ghost use Rattle.std.specs.Bool.{OnTrue, OnFalse};
+ghost use Rattle.std.specs.HashMap.{get};
+
+use crate::Desk;
+use crate::notices::Heard;
+use moka_engine::{remove_cause, upsert_cause};
+use moka_hist::{Cause, Times};
+use moka_sync::CallList;
+use std::alloc::AllocError;
+use std::hash::Hash;
+
+impl<K: Eq + Hash + Clone + Drop, V: Drop> Desk<K, V> {
+    ghost use Rattle.moka_hist.specs.Finite.{IsExact};
+    ghost use Rattle.moka_hist.specs.State.{DeskPart};
+    ghost use Rattle.moka_hist.specs.Telling.{heard, MayEnd};
+    ghost use Rattle.moka_hist.specs.Visits.{cause_of, is_running, times_at};
+    ghost use Rattle.moka_hist.specs.declared.visits.Visit.TheVariants as visit;
+    ghost use Rattle.moka_hist.specs.declared.visits.Found.TheVariants as found;
+    ghost use Rattle.moka_desk.specs.Waits.{comes, leaves, lock_line, notice_line, stays, waits_at, LocksMove, NoticesMove, NobodyMoves};
+    ghost use Rattle.moka_desk.specs.StandsFor.{StandsFor, Can, Finds, Makes, Stays};
+    ghost use Rattle.moka_desk.specs.ListedMiss.{MissAfter, MissWith};
+
+    /// Takes the key's lock for the call, which holds none. Answers false where another call holds it; the
+    /// call waits for it then.
+    pub fn lock_key(&mut self, call: u64, key: &K) -> Result<bool, AllocError>
+        requires keys { IsExact K.is_clone }
+        requires free { Can K.eq self.old (visit.LockKey call key.now) }
+        ensures finds { IfOk result (λ locked. Finds K.eq self.old (visit.LockKey call key.now)
+            (found.LockKey locked)) }
+        ensures makes { OnOk result (Makes K.eq self.old (visit.LockKey call key.now) self.new) }
+        ensures err { OnErr result (Stays K.eq self.old self.new) }
+        // who waits
+        ensures locked { IfOk result (λ locked. OnTrue locked (LocksMove self.old (leaves call) self.new)) }
+        ensures waits { IfOk result (λ locked. OnFalse locked (LocksMove self.old
+            (waits_at (get K.eq self.old.locks.holders key.now) call) self.new)) }
+        ensures unlisted { OnErr result (LocksMove self.old stays self.new) }
+        // who is listed misses that thing
+        ensures misses { OnOk result
+            (MissAfter K.eq self.old (visit.LockKey call key.now) self.new) }
+        ensures misses_still { OnErr result (MissWith K.eq self.old (λ w. w) self.new) }
+    {
+        if let Some(holder) = self.locks.holder(key) {
+            self.waits.locks.wait(holder, call)?;
+            return Ok(false);
+        }
+        self.locks.lock(call, key)?;
+        self.waits.locks.leave(call);
+        Ok(true)
+    }
+
+    /// Frees the lock that the call holds, and hands out all that wait for it. A pending moment of the
+    /// call ends.
+    pub fn unlock_key(&mut self, call: u64) -> CallList
+        requires { Can K.eq self.old (visit.UnlockKey call) }
+        ensures makes { Makes K.eq self.old (visit.UnlockKey call) self.new }
+        ensures woken { result ≡ lock_line self.old call }
+        ensures waits { LocksMove self.old (comes call) self.new }
+        ensures misses { MissAfter K.eq self.old (visit.UnlockKey call) self.new }
+    {
+        self.writes.decide(call);
+        self.locks.free(call);
+        self.waits.locks.take(call).take_all()
+    }
+
+    /// Opens the notice of the call's number, which has none yet, for a record that its write took out:
+    /// the record of this stamp, last written at the moment `modified`, in nanoseconds. Answers why it
+    /// left: for the cause handed in, or else as `upsert` says whether a write took its place. Where the
+    /// listener is off the notice is skipped, and the answer None. A pending moment of the call ends.
+    pub fn open_notice(
+        &mut self,
+        call: u64,
+        key: K,
+        value: V,
+        stamp: u64,
+        modified: u64,
+        cause: Option<Cause>,
+        upsert: bool,
+    ) -> Result<Option<Cause>, AllocError>
+        requires { Can K.eq self.old (visit.OpenNotice call key value stamp modified cause upsert) }
+        ensures finds { IfOk result (λ told. Finds K.eq self.old
+            (visit.OpenNotice call key value stamp modified cause upsert) (found.OpenNotice told)) }
+        ensures makes { OnOk result (Makes K.eq self.old
+            (visit.OpenNotice call key value stamp modified cause upsert) self.new) }
+        ensures err { OnErr result (Stays K.eq self.old self.new) }
+        ensures quiet { NobodyMoves self.old self.new }
+        ensures misses { OnOk result (MissAfter K.eq self.old
+            (visit.OpenNotice call key value stamp modified cause upsert) self.new) }
+        ensures misses_still { OnErr result (MissWith K.eq self.old (λ w. w) self.new) }
+    {
+        let cause = self.cause_of(stamp, modified, cause, upsert);
+        let asked = self.notices.open(call, Heard { key, value, cause })?;
+        self.writes.decide(call);
+        Ok(asked.then_some(cause))
+    }
+
+    /// Whether the notice of this number runs no longer. Where it runs the call waits for its end, and
+    /// only there memory may be wanting.
+    pub fn notice_ended(&mut self, call: u64, notice: u64) -> Result<bool, AllocError>
+        ensures finds { IfOk result (λ ended. Finds K.eq self.old (visit.NoticeEnded call notice)
+            (found.NoticeEnded ended)) }
+        ensures makes { OnOk result (Makes K.eq self.old (visit.NoticeEnded call notice) self.new) }
+        ensures err { OnErr result (Stays K.eq self.old self.new) }
+        // who waits
+        ensures ended { IfOk result (λ ended. OnTrue ended (NoticesMove self.old (leaves call) self.new)) }
+        ensures waits { IfOk result
+            (λ ended. OnFalse ended (NoticesMove self.old (waits_at (Some notice) call) self.new)) }
+        // want of memory
+        ensures unlisted { OnErr result (NoticesMove self.old stays self.new) }
+        ensures needs { OnErr result ((w : DeskPart K V) → StandsFor K.eq self.old w
+            → is_running w notice ≡ true) }
+        // who is listed misses that thing
+        ensures misses { OnOk result
+            (MissAfter K.eq self.old (visit.NoticeEnded call notice) self.new) }
+        ensures misses_still { OnErr result (MissWith K.eq self.old (λ w. w) self.new) }
+    {
+        if self.notices.is_running(notice) {
+            self.waits.notices.wait(notice, call)?;
+            return Ok(false);
+        }
+        self.waits.notices.leave(call);
+        Ok(true)
+    }
+
+    /// Ends the notice of this number, of which the listener was asked, turns the listener off, if
+    /// `off`, and hands out all that wait for the end. One that has ended stays so.
+    pub fn end_notice(&mut self, notice: u64, off: bool) -> CallList
+        requires { (w : DeskPart K V) × StandsFor K.eq self.old w × MayEnd (w.notices notice) }
+        ensures makes { (w : DeskPart K V) → StandsFor K.eq self.old w → MayEnd (w.notices notice)
+            → StandsFor K.eq self.new (heard w notice off) }
+        ensures woken { result ≡ notice_line self.old notice }
+        ensures waits { NoticesMove self.old (comes notice) self.new }
+        ensures misses { MissWith K.eq self.old (λ w. heard w notice off) self.new }
+    {
+        self.notices.end(notice, off);
+        self.waits.notices.take(notice).take_all()
+    }
+
+    /// Why the record of this stamp, last written at the moment `modified`, leaves now: for the cause
+    /// handed in, or else as `upsert` says whether a write takes its place.
+    pub fn cause_of(&self, stamp: u64, modified: u64, cause: Option<Cause>, upsert: bool) -> Cause
+        ensures { (w : DeskPart K V) → StandsFor K.eq self.now w
+            → result ≡ cause_of w stamp modified cause upsert }
+    {
+        match cause {
+            Some(cause) => cause,
+            None if upsert => upsert_cause(&self.rules, &self.times(stamp, modified)),
+            None => remove_cause(&self.rules, &self.times(stamp, modified)),
+        }
+    }
+
+    // The times of the record of this stamp, last written at the moment.
+    fn times(&self, stamp: u64, modified: u64) -> Times
+        ensures { (w : DeskPart K V) → StandsFor K.eq self.now w → result ≡ times_at w stamp modified }
+    {
+        Times {
+            clock: self.clock,
+            valid_after: None,
+            modified,
+            accessed: self.accessed.get(&stamp).copied().unwrap_or(modified),
+        }
+    }
+}

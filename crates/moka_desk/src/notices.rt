@@ -1,0 +1,213 @@
+//! The notices to the listener.
+
+ghost use Rattle.std.specs.Prelude.{◌≡◌, ℕ, ◌+◌, ◌≤◌, ◌<◌, ◌==◌, ◌||◌, true, false, not, cond, Option, Some, None, [], ◌∷◌, ◌++◌, is_some, IsNone, nat_eq, vec_len, vec_capacity, OnOk, OnErr, IfOk, if◌then◌else◌};
+ghost use Rattle.std.specs.HashMap.{get, hash_map_len, spare};
+ghost use Rattle.moka_hist.specs.Finite.{IsExact};
+
+use crate::maps::put;
+use moka_hist::{Cause, Notice, NoticeState};
+use std::alloc::{AllocError, Global};
+use std::collections::HashMap;
+
+/// What the listener hears by a running notice: the key and the value of a record that has left, and
+/// why.
+#[derive(Drop)]
+pub(crate) struct Heard<K, V> {
+    pub(crate) key: K,
+    pub(crate) value: V,
+    pub(crate) cause: Cause,
+}
+
+/// The running notices by their numbers; for reports those that have ended or were skipped, among
+/// which no visit looks, and the order in which all were opened. Each running notice has its place
+/// among those of the past. Beside them, whether the listener is off.
+#[derive(Drop)]
+pub(crate) struct Notices<K, V> {
+    pub(crate) running: HashMap<u64, Heard<K, V>>,
+    pub(crate) past: HashMap<u64, Notice<K, V>>,
+    pub(crate) opened: Vec<u64>,
+    pub(crate) off: bool,
+    ghost past_has_room: { hash_map_len running ≤ spare past },
+}
+
+impl<K: Drop, V: Drop> Notices<K, V> {
+    ghost use Rattle.moka_hist.specs.Finite.{put_at};
+    ghost use Rattle.moka_hist.specs.Telling.{with_end, MayEnd};
+    ghost use Rattle.moka_hist.specs.declared.notices.NoticeState.TheVariants as notice;
+    ghost use Rattle.std.specs.Option.{option_map};
+    ghost use Rattle.moka_desk.specs.Notices.{either, running, NoticePart, NoticesAre, NoticesBecome};
+
+    /// No notice was opened, and the listener is not off.
+    pub(crate) fn new(alloc: Global) -> Self
+        ensures { NoticesAre result (record { notices = λ _. None; opened = []; off = false }) }
+    {
+        Notices {
+            running: HashMap::new(alloc),
+            past: HashMap::new(alloc),
+            opened: Vec::new(alloc),
+            off: false,
+        }
+    }
+
+    /// Whether the notice of this number runs.
+    pub(crate) fn is_running(&self, number: u64) -> bool
+        ensures { result ≡ is_some (get nat_eq self.now.running number) }
+    {
+        self.running.contains_key(&number)
+    }
+
+    /// The notice of this number, if one was opened.
+    pub(crate) fn notice(&self, number: u64) -> Result<Option<Notice<K, V>>, AllocError>
+    where
+        K: Clone,
+        V: Clone,
+        requires keys { IsExact K.is_clone }
+        requires values { IsExact V.is_clone }
+        ensures { IfOk result (λ notice. notice ≡ either
+            (option_map (running number) (get nat_eq self.now.running number))
+            (get nat_eq self.now.past number)) }
+    {
+        if let Some(heard) = self.running.get(&number) {
+            return Ok(Some(heard.notice(number)?));
+        }
+        match self.past.get(&number) {
+            Some(notice) => Ok(Some(copy_of(notice)?)),
+            None => Ok(None),
+        }
+    }
+
+    /// Opens a notice of a number that has none, and answers whether the listener is to be asked. Where
+    /// it is off the notice is skipped.
+    pub(crate) fn open(&mut self, number: u64, heard: Heard<K, V>) -> Result<bool, AllocError>
+        ensures asked { IfOk result (λ asked. asked ≡ not self.old.off) }
+        ensures ok { OnOk result ((p : NoticePart K V) → NoticesAre self.old p → p.notices number ≡ None
+            → NoticesAre self.new (record p {
+              notices = put_at p.notices number (Some (record {
+                number = number;
+                key = heard.key;
+                value = heard.value;
+                cause = heard.cause;
+                state = cond p.off notice.Skipped notice.Running;
+              }));
+              opened = p.opened ++ number ∷ [];
+            })) }
+        ensures err { OnErr result (NoticesBecome self.old (λ p. p) self.new) }
+    {
+        self.make_room()?;
+        self.opened.push_reserved(number);
+        if self.off {
+            self.keep(number, heard, NoticeState::Skipped);
+            return Ok(false);
+        }
+        put(&mut self.running, number, heard);
+        Ok(true)
+    }
+
+    // Makes room for one more notice.
+    fn make_room(&mut self) -> Result<(), AllocError>
+        ensures same { NoticesBecome self.old (λ p. p) self.new }
+        ensures off { self.new.off ≡ self.old.off }
+        ensures room { OnOk result ((0 < spare self.new.running)
+            × (vec_len self.new.opened < vec_capacity self.new.opened)
+            × (hash_map_len self.new.running < spare self.new.past)) }
+    {
+        self.past.reserve(self.running.len() + 1)?;
+        self.running.reserve(1)?;
+        self.opened.reserve(1)
+    }
+
+    // Keeps a notice that has ended or was skipped. There is room for it.
+    fn keep(&mut self, number: u64, heard: Heard<K, V>, state: NoticeState)
+        requires { hash_map_len self.old.running < spare self.old.past }
+        ensures past { (n : ℕ) → get nat_eq self.new.past n ≡ cond (number == n) (Some (record {
+          number = number;
+          key = heard.key;
+          value = heard.value;
+          cause = heard.cause;
+          state = state;
+        })) (get nat_eq self.old.past n) }
+        ensures running { self.new.running ≡ self.old.running }
+        ensures opened { self.new.opened ≡ self.old.opened }
+        ensures off { self.new.off ≡ self.old.off }
+    {
+        let notice = Notice {
+            number,
+            key: heard.key,
+            value: heard.value,
+            cause: heard.cause,
+            state,
+        };
+        put(&mut self.past, number, notice);
+    }
+
+    /// Ends the notice of this number, if it runs, and turns the listener off, if `off`.
+    pub(crate) fn end(&mut self, number: u64, off: bool)
+        ensures { (p : NoticePart K V) → NoticesAre self.old p → MayEnd (p.notices number)
+            → NoticesAre self.new (record p {
+              notices = put_at p.notices number (option_map with_end (p.notices number));
+              off = p.off || off;
+            }) }
+    {
+        self.silence(off);
+        if let Some(heard) = self.running.remove(&number) {
+            self.keep(number, heard, NoticeState::Ended);
+        }
+    }
+
+    // Turns the listener off, if `off`.
+    fn silence(&mut self, off: bool)
+        ensures { self.new ≡ record self.old { off = self.old.off || off } }
+    {
+        if off {
+            self.off = true;
+        }
+    }
+}
+
+impl<K: Clone + Drop, V: Clone + Drop> Heard<K, V> {
+    ghost use Rattle.moka_desk.specs.Notices.{running};
+
+    // The running notice of this number by which the listener hears this.
+    fn notice(&self, number: u64) -> Result<Notice<K, V>, AllocError>
+        requires keys { IsExact K.is_clone }
+        requires values { IsExact V.is_clone }
+        ensures { IfOk result (λ notice. notice ≡ running number self.now) }
+    {
+        let key = exact_copy(&self.key)?;
+        let value = exact_copy(&self.value)?;
+        Ok(Notice {
+            number,
+            key,
+            value,
+            cause: self.cause,
+            state: NoticeState::Running,
+        })
+    }
+}
+
+// An equal notice.
+fn copy_of<K: Clone + Drop, V: Clone + Drop>(
+    notice: &Notice<K, V>,
+) -> Result<Notice<K, V>, AllocError>
+    requires keys { IsExact K.is_clone }
+    requires values { IsExact V.is_clone }
+    ensures { IfOk result (λ copy. copy ≡ notice.now) }
+{
+    let key = exact_copy(&notice.key)?;
+    let value = exact_copy(&notice.value)?;
+    Ok(Notice {
+        number: notice.number,
+        key,
+        value,
+        cause: notice.cause,
+        state: notice.state,
+    })
+}
+
+// An equal key or value.
+fn exact_copy<T: Clone>(original: &T) -> Result<T, AllocError>
+    requires { IsExact T.is_clone }
+    ensures { IfOk result (λ copy. copy ≡ original.now) }
+{
+    original.clone()
+}

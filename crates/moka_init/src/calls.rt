@@ -1,0 +1,146 @@
+//! What a call tells of itself: how far it is, what it holds, and the notice that is due.
+ghost use Rattle.std.specs.Prelude.{◌≡◌, false, None, IfOk};
+ghost use Rattle.moka_hist.specs.Finite.{IsExact};
+ghost use Rattle.moka_hist.specs.Step.{access_for, On_desk};
+ghost use Rattle.moka_hist.specs.Plan as plan;
+ghost use Rattle.moka_init.specs.FlowPlan.{owed_in, posting_plan, listening_plan};
+
+use crate::flow::Flow;
+use crate::points::{Listening, Point, Posting};
+use moka_hist::{Mode, Owed, Rules, Start, Stored, Visit, Write};
+use std::alloc::AllocError;
+
+impl<K, V> Flow<K, V> {
+    ghost use Rattle.moka_hist.specs.Dropping.{owed_by};
+    ghost use Rattle.moka_hist.specs.Run.{fresh_call};
+    ghost use Rattle.moka_init.specs.FlowPlan.{call_of, is_over, IsLive};
+
+    /// The fresh flow of a start, under this number, in a cache of these rules. It takes no memory.
+    pub fn new(start: Start<K, V>, call: u64, rules: Rules) -> Self
+        ensures call { call_of result ≡ fresh_call rules start }
+        ensures number { result.call ≡ call }
+        ensures begun { result.begun ≡ false }
+        ensures live { IsLive result }
+    {
+        Flow {
+            rules,
+            call,
+            mode: Mode::Fresh,
+            aborts: 0,
+            begun: false,
+            point: Point::first(rules, start),
+        }
+    }
+
+    /// How far the call is.
+    pub fn mode(&self) -> Mode
+        ensures { result ≡ (call_of self.now).mode }
+    {
+        self.mode
+    }
+
+    /// Whether the call has answered: nothing is left for it to do.
+    pub fn has_answered(&self) -> bool
+        ensures { result ≡ is_over (call_of self.now).plan }
+    {
+        match &self.point {
+            Point::Spent => true,
+            _ => false,
+        }
+    }
+
+    /// The write that the call holds, with the notice that it hears.
+    pub fn held(&self) -> Option<Owed>
+        ensures { result ≡ owed_by self.now.call (call_of self.now) }
+    {
+        match &self.point {
+            Point::Posting(posting) => held_in_posting(self.call, posting),
+            Point::Listening(listening) => held_in_listening(self.call, listening),
+            _ => None,
+        }
+    }
+}
+
+impl<K: Clone + Drop, V: Clone + Drop> Flow<K, V> {
+    ghost use Rattle.moka_init.specs.FlowPlan.{due_of};
+
+    /// The visit that opens the call's notice, where that is due. It makes the clones that it needs.
+    pub fn due(&self) -> Result<Option<Visit<K, V>>, AllocError>
+        requires keys { IsExact K.is_clone }
+        requires values { IsExact V.is_clone }
+        ensures { IfOk result (λ due. due ≡ due_of self.now) }
+    {
+        match &self.point {
+            Point::Listening(Listening::Notice { key, old, .. }) => {
+                let visit = open_notice(self.call, key, old)?;
+                Ok(Some(visit))
+            }
+            _ => Ok(None),
+        }
+    }
+}
+
+// The visit that opens the notice of a record that the call replaced.
+pub(crate) fn open_notice<K: Clone + Drop, V: Clone + Drop>(
+    call: u64,
+    key: &K,
+    old: &Stored<V>,
+) -> Result<Visit<K, V>, AllocError>
+    requires keys { IsExact K.is_clone }
+    requires values { IsExact V.is_clone }
+    ensures { IfOk result (λ visit. On_desk visit ≡ access_for call (plan.Notice key.now old.now)) }
+{
+    let key = key.clone()?;
+    let value = old.value.clone()?;
+    Ok(Visit::OpenNotice {
+        call,
+        key,
+        value,
+        stamp: old.stamp,
+        modified: old.modified,
+        cause: None,
+        upsert: true,
+    })
+}
+
+// The write that a call holds that is posting.
+fn held_in_posting<K, V>(call: u64, posting: &Posting<K, V>) -> Option<Owed>
+    ensures { result ≡ owed_in call (posting_plan posting.now) }
+{
+    match posting {
+        Posting::Drain(_) => None,
+        Posting::Post { write, .. } => Some(unheard(*write)),
+        Posting::Turn { write, .. } => Some(unheard(*write)),
+        Posting::Apply { write, .. } => Some(unheard(*write)),
+        Posting::End { write, .. } => Some(unheard(*write)),
+    }
+}
+
+// The write that a call holds which tells the listener of a record, with the notice that it hears.
+fn held_in_listening<K, V>(call: u64, listening: &Listening<K, V>) -> Option<Owed>
+    ensures { result ≡ owed_in call (listening_plan listening.now) }
+{
+    match listening {
+        Listening::Ended { notice, write, .. } => Some(Owed {
+            write: *write,
+            notice: Some(*notice),
+        }),
+        Listening::Lock(_) => None,
+        Listening::Notice { write, .. } => Some(unheard(*write)),
+        Listening::Heard { write, .. } => Some(Owed {
+            write: *write,
+            notice: Some(call),
+        }),
+        Listening::Unlock { write, .. } => Some(unheard(*write)),
+    }
+}
+
+// A write of whose notice nothing is to be heard.
+fn unheard(write: Write) -> Owed
+    ensures { result ≡ record { write = write; notice = None } }
+{
+    Owed {
+        write,
+        notice: None,
+    }
+}

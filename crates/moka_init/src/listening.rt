@@ -1,0 +1,144 @@
+//! Holding a key's lock, and telling the listener of a record that was replaced.
+ghost use Rattle.std.specs.Prelude.{◌≡◌, ◌∷◌, Option};
+ghost use Rattle.moka_hist.specs.Plan as plan;
+ghost use Rattle.moka_hist.specs.Listening.{after_lock, after_unlock, after_notice, after_hearing};
+ghost use Rattle.moka_hist.specs.Step.{next_of, access_of};
+ghost use Rattle.moka_init.specs.FlowPlan.{listening_plan, drained_rest, posted_rest, stores};
+ghost use Rattle.moka_init.specs.FlowPlan.{standing, GoesOn};
+ghost use Rattle.moka_init.specs.Forms.{HasForm, IsFoundBy};
+
+use crate::flow::Flow;
+use crate::points::{Drained, Listening, Point, Posted, Posting, Put, Writing};
+use moka_hist::{Ask, Cause, Found, Got, Stored, Turn, Visit, Write};
+
+impl<K: Drop, V: Drop> Flow<K, V> {
+    pub(crate) fn after_listening(
+        &mut self,
+        listening: Listening<K, V>,
+        found: Found<V>,
+    ) -> Turn<K, V>
+        requires form { HasForm
+            (access_of self.old.call (standing self.old (listening_plan listening)))
+            (Got.Desk found) }
+        ensures { GoesOn self.old
+            (next_of self.old.call (standing self.old (listening_plan listening))
+            (Got.Desk found)) result self.new }
+    {
+        match listening {
+            Listening::Ended {
+                notice,
+                write,
+                then,
+            } => self.after_ended(notice, write, then, found),
+            Listening::Lock(put) => self.after_lock(put, found),
+            Listening::Notice {
+                key,
+                old,
+                write,
+                then,
+            } => self.after_notice(key, old, write, then, found),
+            Listening::Heard { write, then } => self.after_heard(write, then, found),
+            Listening::Unlock { write, then } => self.after_unlock(write, then, found),
+        }
+    }
+
+    // An owed write is posted once its notice has ended.
+    fn after_ended(
+        &mut self,
+        notice: u64,
+        write: Write,
+        then: Drained<K, V>,
+        found: Found<V>,
+    ) -> Turn<K, V>
+        requires form { IsFoundBy {K = K} (Visit.NoticeEnded self.old.call notice) found }
+        ensures { GoesOn self.old
+            (after_hearing
+            (standing self.old (listening_plan (Listening.Ended notice write then)))
+            (plan.Post write ∷ plan.Drain ∷ drained_rest then) found) result self.new }
+    {
+        match found {
+            Found::NoticeEnded(true) => self.goes(Point::Posting(Posting::Post {
+                write,
+                then: Posted::Drain(then),
+            })),
+            Found::NoticeEnded(false) => self.waits(Point::Listening(Listening::Ended {
+                notice,
+                write,
+                then,
+            })),
+            _ => unreachable!(),
+        }
+    }
+
+    fn after_lock(&mut self, put: Put<K, V>, found: Found<V>) -> Turn<K, V>
+        requires form { IsFoundBy (Visit.LockKey self.old.call put.key) found }
+        ensures { GoesOn self.old
+            (after_lock (standing self.old (plan.Lock put.key ∷ stores put)) (stores put) found)
+            result self.new }
+    {
+        match found {
+            Found::LockKey(true) => self.goes(Point::Writing(Writing::Moment(put))),
+            Found::LockKey(false) => self.waits(Point::Listening(Listening::Lock(put))),
+            _ => unreachable!(),
+        }
+    }
+
+    fn after_notice(
+        &mut self,
+        key: K,
+        old: Stored<V>,
+        write: Write,
+        then: Posted<K, V>,
+        found: Found<V>,
+    ) -> Turn<K, V>
+        requires form { (cause : Option Cause) × (found ≡ Found.OpenNotice cause) }
+        ensures { GoesOn self.old
+            (after_notice
+            (standing self.old (listening_plan (Listening.Notice key old write then)))
+            key old (listening_plan (Listening.Unlock write then)) found) result self.new }
+    {
+        match found {
+            Found::OpenNotice(None) => {
+                self.goes(Point::Listening(Listening::Unlock { write, then }))
+            }
+            Found::OpenNotice(Some(cause)) => self.asks(
+                Ask::Listener {
+                    key,
+                    value: old.value,
+                    cause,
+                },
+                Point::Listening(Listening::Heard { write, then }),
+            ),
+            _ => unreachable!(),
+        }
+    }
+
+    fn after_heard(&mut self, write: Write, then: Posted<K, V>, found: Found<V>) -> Turn<K, V>
+        requires form { IsFoundBy {K = K} (Visit.NoticeEnded self.old.call self.old.call) found }
+        ensures { GoesOn self.old
+            (after_hearing (standing self.old (listening_plan (Listening.Heard write then)))
+            (listening_plan (Listening.Unlock write then)) found) result self.new }
+    {
+        match found {
+            Found::NoticeEnded(true) => {
+                self.goes(Point::Listening(Listening::Unlock { write, then }))
+            }
+            Found::NoticeEnded(false) => {
+                self.waits(Point::Listening(Listening::Heard { write, then }))
+            }
+            _ => unreachable!(),
+        }
+    }
+
+    fn after_unlock(&mut self, write: Write, then: Posted<K, V>, found: Found<V>) -> Turn<K, V>
+        requires form { IsFoundBy {K = K} (Visit.UnlockKey self.old.call) found }
+        ensures { GoesOn self.old
+            (after_unlock (standing self.old (listening_plan (Listening.Unlock write then)))
+            (plan.Post write ∷ posted_rest then) found) result self.new }
+    {
+        match found {
+            Found::UnlockKey => self.goes(Point::Posting(Posting::Post { write, then })),
+            _ => unreachable!(),
+        }
+    }
+}

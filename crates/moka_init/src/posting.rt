@@ -1,0 +1,141 @@
+//! Taking up owed writes, posting, and applying the log.
+ghost use Rattle.std.specs.Prelude.{◌≡◌, ◌∷◌};
+ghost use Rattle.moka_hist.specs.Plan as plan;
+ghost use Rattle.moka_hist.specs.Next.{goes};
+ghost use Rattle.moka_hist.specs.Posting.{once_ended, after_drain, after_post, after_turn, after_apply, after_end};
+ghost use Rattle.moka_hist.specs.Step.{next_of, access_of};
+ghost use Rattle.moka_init.specs.FlowPlan.{plan_at, posting_plan, drained_rest, posted_rest};
+ghost use Rattle.moka_init.specs.FlowPlan.{standing, mid, GoesOn};
+ghost use Rattle.moka_init.specs.Forms.{HasForm, IsFoundBy};
+
+use crate::flow::Flow;
+use crate::points::{Drained, Listening, Loading, Looking, Point, Posted, Posting, Writing};
+use moka_hist::{Answer, Found, Got, Owed, Turn, Visit, Write};
+
+impl<K: Drop, V: Drop> Flow<K, V> {
+    pub(crate) fn after_posting(&mut self, posting: Posting<K, V>, found: Found<V>) -> Turn<K, V>
+        requires form { HasForm
+            (access_of self.old.call (standing self.old (posting_plan posting)))
+            (Got.Desk found) }
+        ensures { GoesOn self.old
+            (next_of self.old.call (standing self.old (posting_plan posting)) (Got.Desk found))
+            result self.new }
+    {
+        match posting {
+            Posting::Drain(then) => self.after_drain(then, found),
+            Posting::Post { write, then } => self.after_post(write, then, found),
+            Posting::Turn { write, then } => self.after_turn(write, then, found),
+            Posting::Apply { write, then } => self.after_apply(write, then, found),
+            Posting::End { write, then } => self.after_end(write, then, found),
+        }
+    }
+
+    fn after_drain(&mut self, then: Drained<K, V>, found: Found<V>) -> Turn<K, V>
+        requires form { IsFoundBy {K = K} (Visit.TakeOwed self.old.call) found }
+        ensures { GoesOn self.old
+            (after_drain (standing self.old (plan.Drain ∷ drained_rest then))
+            (drained_rest then) found) result self.new }
+    {
+        match found {
+            Found::TakeOwed(None) => self.drained(then),
+            Found::TakeOwed(Some(owed)) => self.takes_up(owed, then),
+            _ => unreachable!(),
+        }
+    }
+
+    // An owed write is posted, once its notice has ended.
+    fn takes_up(&mut self, owed: Owed, then: Drained<K, V>) -> Turn<K, V>
+        ensures { GoesOn self.old (mid self.old (once_ended owed.notice
+            (plan.Post owed.write ∷ plan.Drain ∷ drained_rest then))) result self.new }
+    {
+        let write = owed.write;
+        match owed.notice {
+            Some(notice) => self.goes(Point::Listening(Listening::Ended {
+                notice,
+                write,
+                then,
+            })),
+            None => self.goes(Point::Posting(Posting::Post {
+                write,
+                then: Posted::Drain(then),
+            })),
+        }
+    }
+
+    // Nothing is owed any more.
+    fn drained(&mut self, then: Drained<K, V>) -> Turn<K, V>
+        ensures { GoesOn self.old (mid self.old (drained_rest then)) result self.new }
+    {
+        match then {
+            Drained::Look(look) => self.goes(Point::Looking(Looking::Get(look))),
+            Drained::Put(put) => self.goes(Point::Writing(Writing::Moment(put))),
+            Drained::PutLocked(put) => self.goes(Point::Listening(Listening::Lock(put))),
+        }
+    }
+
+    fn after_post(&mut self, write: Write, then: Posted<K, V>, found: Found<V>) -> Turn<K, V>
+        requires form { IsFoundBy {K = K} (Visit.PostWrite self.old.call write) found }
+        ensures { GoesOn self.old
+            (after_post (standing self.old (plan.Post write ∷ posted_rest then))
+            write (posted_rest then) found) result self.new }
+    {
+        match found {
+            Found::PostWrite(true) => self.posted(then),
+            Found::PostWrite(false) => self.goes(Point::Posting(Posting::Turn { write, then })),
+            _ => unreachable!(),
+        }
+    }
+
+    fn posted(&mut self, then: Posted<K, V>) -> Turn<K, V>
+        ensures { GoesOn self.old
+            (goes (standing self.old (plan_at self.old.point)) (posted_rest then))
+            result self.new }
+    {
+        match then {
+            Posted::Drain(then) => self.goes(Point::Posting(Posting::Drain(then))),
+            Posted::Done => self.answers(Answer::Done),
+            Posted::Settle(value) => self.goes(Point::Loading(Loading::Settle {
+                value,
+                fresh: true,
+            })),
+        }
+    }
+
+    fn after_turn(&mut self, write: Write, then: Posted<K, V>, found: Found<V>) -> Turn<K, V>
+        requires form { IsFoundBy {K = K} (Visit.TakeTurn self.old.call) found }
+        ensures { GoesOn self.old
+            (after_turn (standing self.old (posting_plan (Posting.Turn write then)))
+            (posting_plan (Posting.Apply write then)) found) result self.new }
+    {
+        match found {
+            Found::TakeTurn(true) => self.goes(Point::Posting(Posting::Apply { write, then })),
+            Found::TakeTurn(false) => self.waits(Point::Posting(Posting::Turn { write, then })),
+            _ => unreachable!(),
+        }
+    }
+
+    fn after_apply(&mut self, write: Write, then: Posted<K, V>, found: Found<V>) -> Turn<K, V>
+        requires form { IsFoundBy {K = K} (Visit.ApplyOne self.old.call) found }
+        ensures { GoesOn self.old
+            (after_apply (standing self.old (posting_plan (Posting.Apply write then)))
+            (posting_plan (Posting.End write then)) found) result self.new }
+    {
+        match found {
+            Found::ApplyOne(true) => self.goes(Point::Posting(Posting::Apply { write, then })),
+            Found::ApplyOne(false) => self.goes(Point::Posting(Posting::End { write, then })),
+            _ => unreachable!(),
+        }
+    }
+
+    fn after_end(&mut self, write: Write, then: Posted<K, V>, found: Found<V>) -> Turn<K, V>
+        requires form { IsFoundBy {K = K} (Visit.EndTurn self.old.call) found }
+        ensures { GoesOn self.old
+            (after_end (standing self.old (posting_plan (Posting.End write then)))
+            (posting_plan (Posting.Post write then)) found) result self.new }
+    {
+        match found {
+            Found::EndTurn => self.goes(Point::Posting(Posting::Post { write, then })),
+            _ => unreachable!(),
+        }
+    }
+}

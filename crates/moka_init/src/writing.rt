@@ -1,0 +1,142 @@
+//! Writing a value.
+ghost use Rattle.std.specs.Prelude.{◌≡◌, true, ◌∷◌};
+ghost use Rattle.moka_hist.specs.Plan as plan;
+ghost use Rattle.moka_hist.specs.Step.{next_of, access_of};
+ghost use Rattle.moka_hist.specs.Writing.{after_moment, after_write, once_told, old_stamp};
+ghost use Rattle.moka_init.specs.FlowPlan.{writing_plan, put_rest, posted_rest, stores};
+ghost use Rattle.moka_init.specs.FlowPlan.{standing, mid, GoesOn};
+ghost use Rattle.moka_init.specs.Forms.{HasForm, IsFoundBy};
+
+use crate::flow::Flow;
+use crate::points::{Listening, Point, Posted, Posting, Put, Writing};
+use moka_hist::{Found, Got, Stored, TableAnswer, TableTurn, Turn, Visit, Write};
+
+impl<K: Drop, V: Drop> Flow<K, V> {
+    pub(crate) fn after_writing(&mut self, writing: Writing<K, V>, found: Found<V>) -> Turn<K, V>
+        requires form { HasForm
+            (access_of self.old.call (standing self.old (writing_plan writing)))
+            (Got.Desk found) }
+        ensures { GoesOn self.old
+            (next_of self.old.call (standing self.old (writing_plan writing)) (Got.Desk found))
+            result self.new }
+    {
+        match writing {
+            Writing::Moment(put) => self.after_moment(put, found),
+            Writing::Write { .. } => unreachable!(),
+        }
+    }
+
+    fn after_moment(&mut self, put: Put<K, V>, found: Found<V>) -> Turn<K, V>
+        requires form { IsFoundBy {K = K} (Visit.StampMoment self.old.call) found }
+        ensures { GoesOn self.old
+            (after_moment (standing self.old (stores put)) put.key put.value (put_rest put) found)
+            result self.new }
+    {
+        match found {
+            Found::StampMoment(moment) => self.goes(Point::Writing(Writing::Write { put, moment })),
+            _ => unreachable!(),
+        }
+    }
+
+    pub(crate) fn after_write(
+        &mut self,
+        put: Put<K, V>,
+        moment: u64,
+        turn: TableTurn<K, V>,
+    ) -> Turn<K, V>
+        ensures { GoesOn self.old
+            (after_write self.old.call
+            (standing self.old (plan.Write put.key put.value moment ∷ put_rest put))
+            put.key (put_rest put) turn) result self.new }
+    {
+        match turn {
+            TableTurn::Going => self.goes(Point::Writing(Writing::Write { put, moment })),
+            TableTurn::Decided(answer) => self.commits(put, answer),
+        }
+    }
+
+    // The write is committed, and to be posted, once the listener has heard of the record that was
+    // replaced.
+    fn commits(&mut self, put: Put<K, V>, answer: TableAnswer<K, V>) -> Turn<K, V>
+        ensures { GoesOn self.old
+            (mid self.old (once_told self.old.rules.listener put.key answer
+            (plan.Post (Write.Upsert self.old.call (old_stamp answer)) ∷ put_rest put)))
+            result self.new }
+    {
+        let write = Write::Upsert {
+            number: self.call,
+            old: stamp_of(&answer),
+        };
+        if self.rules.listener {
+            self.tells(put, answer, write)
+        } else {
+            self.goes(Point::Posting(Posting::Post {
+                write,
+                then: put.posted(),
+            }))
+        }
+    }
+
+    // The listener hears of the record that was replaced, if any, before the key's lock is freed.
+    fn tells(&mut self, put: Put<K, V>, answer: TableAnswer<K, V>, write: Write) -> Turn<K, V>
+        ensures { GoesOn self.old
+            (mid self.old (once_told true put.key answer (plan.Post write ∷ put_rest put)))
+            result self.new }
+    {
+        match answer {
+            TableAnswer::None => self.goes(Point::Listening(Listening::Unlock {
+                write,
+                then: put.posted(),
+            })),
+            TableAnswer::Some { stored, .. } => self.opens(put, stored, write),
+        }
+    }
+
+    // The notice of the replaced record is due.
+    fn opens(&mut self, put: Put<K, V>, old: Stored<V>, write: Write) -> Turn<K, V>
+        ensures { GoesOn self.old
+            (mid self.old
+            (plan.Notice put.key old ∷ plan.Unlock ∷ plan.Post write ∷ put_rest put))
+            result self.new }
+    {
+        let Put { key, value, loads } = put;
+        let then = posted_by(value, loads);
+        self.goes(Point::Listening(Listening::Notice {
+            key,
+            old,
+            write,
+            then,
+        }))
+    }
+}
+
+impl<K: Drop, V: Drop> Put<K, V> {
+    // What follows once the write is posted.
+    fn posted(self) -> Posted<K, V>
+        ensures { posted_rest result ≡ put_rest self }
+    {
+        posted_by(self.value, self.loads)
+    }
+}
+
+// What follows once the write of the value is posted.
+fn posted_by<K: Drop, V: Drop>(value: V, loads: bool) -> Posted<K, V>
+    ensures { (key : K) → posted_rest result
+        ≡ put_rest (record { key = key; value = value; loads = loads }) }
+{
+    if loads {
+        Posted::Settle(value)
+    } else {
+        Posted::Done
+    }
+}
+
+// The stamp of the record that was replaced.
+fn stamp_of<K, V>(answer: &TableAnswer<K, V>) -> Option<u64>
+    ensures { result ≡ old_stamp answer.now }
+{
+    match answer {
+        TableAnswer::None => None,
+        TableAnswer::Some { stored, .. } => Some(stored.stamp),
+    }
+}

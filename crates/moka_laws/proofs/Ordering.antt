@@ -1,0 +1,561 @@
+-- The notices of a key stand in the order of its writes.
+use Rattle.std.proofs.Common.{◌≡◌, ◌≢◌, ◌⊎◌, inl, inr, ℕ, ◌+◌, ◌<◌, ◌==◌, Bool, true, false, cond, List, [], ◌∷◌, ◌++◌, Option, Some, None, is_some, refl, sym, ap, ◌∙◌, subst, arith}
+use Rattle.std.proofs.lemmas.Bool.{eqb-true, false≢true}
+use Rattle.std.specs.Cmp.{IsEquivalence}
+use Rattle.std.specs.Option.{option_map, option_map_or}
+use Rattle.moka_hist.specs.Finite.{put_at, times}
+use Rattle.moka_hist.specs.State.{State, World, Call, DeskPart}
+use Rattle.moka_hist.specs.Plan.{Item, Aim, plan_of}
+use Rattle.moka_hist.specs.Plan as plan
+use Rattle.moka_hist.specs.Next.{Next}
+use Rattle.moka_hist.specs.Notices.{OpensNotice}
+use Rattle.moka_hist.specs.SoundDesk.{SoundDesk}
+use Rattle.moka_hist.specs.Dropping.{dropped}
+use Rattle.moka_hist.specs.Telling.{ended, with_end}
+use Rattle.moka_hist.specs.Step.{Step, state_after}
+use Rattle.moka_hist.specs.Run.{started, fresh_call}
+use Rattle.moka_hist.specs.Visits.{runs, times_at}
+use Rattle.moka_hist.specs.Causes.{upsert_cause}
+use Rattle.moka_hist.specs.declared.events.Start.{Start}
+use Rattle.moka_hist.specs.declared.notices.Notice.{Notice}
+use Rattle.moka_hist.specs.declared.notices.NoticeState.TheVariants as notice
+use Rattle.moka_hist.specs.declared.records.Mode.TheVariants as mode
+use Rattle.moka_hist.specs.declared.records.Stored.{Stored}
+use Rattle.moka_hist.specs.declared.accesses.Turn.{Turn}
+use Rattle.moka_laws.specs.Listening.{LocksAreOne, ReachedNoticesAreInOrder}
+use Rattle.moka_laws.proofs.Before.{Before, before_is, is_before, before_more, before_last, before_split, before_has}
+use Rattle.moka_laws.proofs.Counting.{none_some, some_same, put_cases, put_here, put_there, differ, differ_not}
+use Rattle.moka_laws.proofs.Owning.{plan_left}
+use Rattle.moka_laws.proofs.Locking.{Locks}
+use Rattle.moka_laws.proofs.Plans.{IsTail, Answering, Settling, IsDrained, Looking, Putting, IsPosted, Draining, Ended, Locking, IsPlan, Posted, Drained, Posting, Hearing, Noticing, Listening, Unlocking, Turning, Applying, Ending, Judging, Owning, Reading, Asking, Telling, Writing}
+use Rattle.moka_laws.proofs.Replacing.{opens_notice, listening, not_opened, opened_committed, told_once}
+use Rattle.moka_laws.proofs.Noticing.{IsNoticing, noticing_kept, naming, running, drained_none, posted_none, misses_none, hits_none, read_none, told_none, fresh_none}
+use Rattle.moka_laws.proofs.SoundReached.{IsSound, sound_kept, reached_sound}
+use Rattle.moka_laws.proofs.Kept.{IsKept, in_reached}
+use Rattle.moka_laws.proofs.StepCases.{OnStep, step_cases}
+use Rattle.moka_laws.proofs.Outcomes.{outcomes}
+
+module _ {K V : Type 0} where
+  -- the plan hears its notice next
+  abbrev IsHearing : List (Item K V) → Type 0
+  IsHearing (plan.Heard ∷ rest) = Unit {0}
+  IsHearing _ = ⊥
+
+  unopened : (n : ℕ) (p : List (Item K V)) → naming n p ≡ None → OpensNotice p → ⊥
+  unopened n (plan.Notice key old ∷ rest) e o = none_some (sym e)
+  unopened n [] e o = o
+  unopened n (_ ∷ rest) e o = o
+
+  -- ---- a step
+
+  -- A step that opens no notice: what is committed then stands as before, and a notice that is due then is that of the
+  -- last write.
+  record Keeps (w : World K V) (n : ℕ) (notices : ℕ → Option (Notice K V)) (opened committed : List ℕ) (locked : ℕ → Option K)
+      (left : Option (Call K V)) : Type 0 where
+    same_notices : notices ≡ w.desk.notices
+    same_opened : opened ≡ w.desk.opened
+    more : (a b : ℕ) → Before w.table.committed a b → Before committed a b
+    due : OpensNotice (plan_left left) → (a : ℕ) → 0 < times a w.table.committed → Before committed a n
+    hears : running w.desk.notices n ≡ true → IsHearing (plan_left left) × (locked n ≡ w.desk.locked n)
+    others : (m : ℕ) → (n == m) ≡ false → locked m ≡ w.desk.locked m
+
+  -- one that opens a notice
+  record Opens (w : World K V) (n : ℕ) (p : List (Item K V)) (notices : ℕ → Option (Notice K V)) (opened committed : List ℕ) (locked : ℕ → Option K)
+      (left : Option (Call K V)) : Type 0 where
+    key : K
+    old : Stored V
+    rest : List (Item K V)
+    is : p ≡ plan.Notice key old ∷ rest
+    told : Notice K V
+    named : told.key ≡ key
+    new_notices : notices ≡ put_at w.desk.notices n (Some told)
+    new_opened : opened ≡ w.desk.opened ++ n ∷ []
+    same_committed : committed ≡ w.table.committed
+    same_locked : locked ≡ w.desk.locked
+    calm : OpensNotice (plan_left left) → ⊥
+    hears : runs told.state ≡ true → IsHearing (plan_left left)
+
+  abbrev Leaves : World K V → ℕ → List (Item K V) → (ℕ → Option (Notice K V)) → List ℕ → List ℕ → (ℕ → Option K) → Option (Call K V) → Type 0
+  Leaves w n p notices opened committed locked left =
+      Keeps w n notices opened committed locked left ⊎ Opens w n p notices opened committed locked left
+
+  module _ (eq : K → K → Bool) (w : World K V) (n : ℕ) (c : Call K V) (old_hears : running w.desk.notices n ≡ true → IsHearing c.plan) where
+    abbrev Made : List (Item K V) → World K V → Next K V → Type 0
+    Made p new next = Leaves w n p new.desk.notices new.desk.opened new.table.committed new.desk.locked next.left
+
+    -- the plan heard nothing, and opens none now
+    quiet : (p : List (Item K V)) (left : Option (Call K V)) → c.plan ≡ p → (IsHearing p → ⊥) → naming n (plan_left left) ≡ None →
+        Leaves w n p w.desk.notices w.desk.opened w.table.committed w.desk.locked left
+    quiet p left e not none = inl (record {
+      same_notices = refl;
+      same_opened = refl;
+      more = λ a b h. h;
+      due = λ o. absurd (unopened n (plan_left left) none o);
+      hears = λ r. absurd (not (subst IsHearing e (old_hears r)));
+      others = λ m d. refl;
+    })
+
+    -- the call locks or frees
+    locks : (p : List (Item K V)) (left : Option (Call K V)) (l : Option K) → c.plan ≡ p → (IsHearing p → ⊥) → naming n (plan_left left) ≡ None →
+        Leaves w n p w.desk.notices w.desk.opened w.table.committed (put_at w.desk.locked n l) left
+    locks p left l e not none = inl (record {
+      same_notices = refl;
+      same_opened = refl;
+      more = λ a b h. h;
+      due = λ o. absurd (unopened n (plan_left left) none o);
+      hears = λ r. absurd (not (subst IsHearing e (old_hears r)));
+      others = λ m d. put_there w.desk.locked n l m d;
+    })
+
+    -- the call commits its write
+    commits : (p : List (Item K V)) (left : Option (Call K V)) → c.plan ≡ p → (IsHearing p → ⊥) →
+        Leaves w n p w.desk.notices w.desk.opened (w.table.committed ++ n ∷ []) w.desk.locked left
+    commits p left e not = inl (record {
+      same_notices = refl;
+      same_opened = refl;
+      more = λ a b h. before_more w.table.committed (n ∷ []) a b h;
+      due = λ o a h. before_last w.table.committed a n h;
+      hears = λ r. absurd (not (subst IsHearing e (old_hears r)));
+      others = λ m d. refl;
+    })
+
+    on_tail : (p : List (Item K V)) → c.plan ≡ p → IsTail p → OnStep eq (Made p) w n c p
+    on_tail p e (Answering a) = outcomes eq (Made p) w n c (plan.Reply a) [] (quiet p None e (λ h. h) refl)
+    on_tail p e (Settling with a) = outcomes eq (Made p) w n c (plan.Settle with) (plan.Reply a ∷ []) (quiet p None e (λ h. h) refl)
+
+    on_drained : (p : List (Item K V)) → c.plan ≡ p → IsDrained p → OnStep eq (Made p) w n c p
+    on_drained p e (Looking aim key) = outcomes eq (Made p) w n c (plan.Get aim key) [] (
+      (λ more. quiet p _ e (λ h. h) (ap (naming n) e)),
+      quiet p _ e (λ h. h) (misses_none n c aim),
+      λ k stored. quiet p _ e (λ h. h) refl,
+    )
+    on_drained p e (Putting key value rest t) = outcomes eq (Made p) w n c (plan.Moment key value) rest (quiet p _ e (λ h. h) refl)
+    on_drained p e (Locking key value rest t) = outcomes eq (Made p) w n c (plan.Lock key) (plan.Moment key value ∷ rest)
+        ((λ free. locks p _ (Some key) e (λ h. h) refl), λ held. quiet p _ e (λ h. h) (ap (naming n) e))
+
+    on_posted : (p : List (Item K V)) → c.plan ≡ p → IsPosted p → OnStep eq (Made p) w n c p
+    on_posted p e (Draining rest d) = outcomes eq (Made p) w n c plan.Drain rest (
+      (λ none. quiet p _ e (λ h. h) (drained_none n c rest d)),
+      (λ v vs some. quiet p _ e (λ h. h) refl),
+      λ v number vs some. inl (record {
+        same_notices = refl;
+        same_opened = refl;
+        more = λ a b h. h;
+        due = λ o. absurd o;
+        hears = λ r. absurd (subst IsHearing e (old_hears r));
+        others = λ m d. refl;
+      }),
+    )
+    on_posted p e (Ended rest t) = on_tail rest e t
+
+    on_plan : (p : List (Item K V)) → c.plan ≡ p → IsPlan p → OnStep eq (Made p) w n c p
+    on_plan p e (Posted rest d) = on_posted rest e d
+    on_plan p e (Drained rest d) = on_drained rest e d
+    on_plan p e (Posting v rest d) = outcomes eq (Made p) w n c (plan.Post v) rest
+        ((λ room. quiet p _ e (λ h. h) (posted_none n c rest d)), λ full. quiet p _ e (λ h. h) refl)
+    on_plan p e (Hearing number v rest d) = outcomes eq (Made p) w n c (plan.Ended number) (plan.Post v ∷ rest) (
+      (λ done. quiet p _ e (λ h. h) refl),
+      λ run. inl (record {
+        same_notices = refl;
+        same_opened = refl;
+        more = λ a b h. h;
+        due = λ o. absurd (subst OpensNotice e o);
+        hears = λ r. absurd (subst IsHearing e (old_hears r));
+        others = λ m d. refl;
+      }),
+    )
+    on_plan p e (Listening v rest t) = outcomes eq (Made p) w n c plan.Heard (plan.Unlock ∷ plan.Post v ∷ rest) (
+      (λ done. inl (record {
+        same_notices = refl;
+        same_opened = refl;
+        more = λ a b h. h;
+        due = λ o. absurd o;
+        hears = λ r. absurd (false≢true (sym done ∙ r));
+        others = λ m d. refl;
+      })),
+      λ run. inl (record {
+        same_notices = refl;
+        same_opened = refl;
+        more = λ a b h. h;
+        due = λ o. absurd (subst OpensNotice e o);
+        hears = λ r. (subst IsHearing (sym e) tt, refl);
+        others = λ m d. refl;
+      }),
+    )
+    on_plan p e (Unlocking v rest t) = outcomes eq (Made p) w n c plan.Unlock (plan.Post v ∷ rest) (locks p _ None e (λ h. h) refl)
+    on_plan p e (Noticing key old v rest t) = outcomes eq (Made p) w n c (plan.Notice key old) (plan.Unlock ∷ plan.Post v ∷ rest) (
+      (λ off. inr (record {
+        key = key;
+        old = old;
+        rest = plan.Unlock ∷ plan.Post v ∷ rest;
+        is = refl;
+        told = record {
+          number = n;
+          key = key;
+          value = old.value;
+          cause = upsert_cause w.desk.rules (times_at w.desk old.stamp old.modified);
+          state = notice.Skipped;
+        };
+        named = refl;
+        new_notices = refl;
+        new_opened = refl;
+        same_committed = refl;
+        same_locked = refl;
+        calm = λ o. o;
+        hears = λ r. absurd (false≢true r);
+      })),
+      λ on. inr (record {
+        key = key;
+        old = old;
+        rest = plan.Unlock ∷ plan.Post v ∷ rest;
+        is = refl;
+        told = record {
+          number = n;
+          key = key;
+          value = old.value;
+          cause = upsert_cause w.desk.rules (times_at w.desk old.stamp old.modified);
+          state = notice.Running;
+        };
+        named = refl;
+        new_notices = refl;
+        new_opened = refl;
+        same_committed = refl;
+        same_locked = refl;
+        calm = λ o. o;
+        hears = λ r. tt;
+      }),
+    )
+    on_plan p e (Turning v rest d) = outcomes eq (Made p) w n c plan.Turn (plan.Apply ∷ plan.End ∷ plan.Post v ∷ rest)
+        ((λ free. quiet p _ e (λ h. h) refl), λ taken. quiet p _ e (λ h. h) (ap (naming n) e))
+    on_plan p e (Applying v rest d) = outcomes eq (Made p) w n c plan.Apply (plan.End ∷ plan.Post v ∷ rest)
+        ((λ none. quiet p _ e (λ h. h) refl), λ y ys some. quiet p _ e (λ h. h) refl)
+    on_plan p e (Ending v rest d) = outcomes eq (Made p) w n c plan.End (plan.Post v ∷ rest) (quiet p _ e (λ h. h) refl)
+    on_plan p e (Judging aim key stored) = outcomes eq (Made p) w n c (plan.Judge aim key stored) [] (quiet p _ e (λ h. h) (hits_none n c aim stored.value))
+    on_plan p e (Owning load) = outcomes eq (Made p) w n c (plan.Own load) []
+        ((λ none. quiet p _ e (λ h. h) refl), λ owner some. quiet p _ e (λ h. h) refl)
+    on_plan p e (Reading load) = outcomes eq (Made p) w n c (plan.Read load) []
+        ((λ none. quiet p _ e (λ h. h) (ap (naming n) e)), λ with some. quiet p _ e (λ h. h) (read_none n c load with (ap (naming n) e)))
+    on_plan p e (Asking load) = outcomes eq (Made p) w n c (plan.Ask load) [] (quiet p _ e (λ h. h) refl)
+    on_plan p e (Telling load) = outcomes eq (Made p) w n c (plan.Told load) []
+        ((λ none. quiet p _ e (λ h. h) (ap (naming n) e)), λ given some. quiet p _ e (λ h. h) (told_none n c load given (ap (naming n) e)))
+    on_plan p e (Writing key value moment rest t) = outcomes eq (Made p) w n c (plan.Write key value moment) rest (
+      (λ more. quiet p _ e (λ h. h) (ap (naming n) e)),
+      (λ off old. commits p _ e (λ h. h)),
+      (λ on. commits p _ e (λ h. h)),
+      λ k old on some. commits p _ e (λ h. h),
+    )
+
+    at_plan : IsPlan c.plan → OnStep eq (Made c.plan) w n c c.plan
+    at_plan k = on_plan c.plan refl k
+
+  -- ---- of a state
+
+  -- a notice that is there was opened, and its number given out
+  is_opened : (s : State K V) → IsNoticing s → (n : ℕ) (x : Notice K V) → s.world.desk.notices n ≡ Some x → 0 < times n s.world.table.committed
+  is_opened s i n x e = omega (arith, opened_committed s i.replacing n, ap told_once e)
+
+  -- what stands among the opened is there
+  opened_there : (s : State K V) → IsNoticing s → (n : ℕ) → s.world.desk.notices n ≡ None → 0 < times n s.world.desk.opened → ⊥
+  opened_there s i n none h = omega (arith, i.noted.opened_once n, ap (λ o. cond {A = ℕ} (is_some o) 1 0) none)
+
+  -- a call whose notice is due holds the lock of its key
+  due_locked : (s : State K V) → IsNoticing s → (n : ℕ) (c : Call K V) (key : K) (old : Stored V) (rest : List (Item K V)) → s.calls n ≡ Some c →
+      c.plan ≡ plan.Notice key old ∷ rest → s.world.desk.locked n ≡ Some key
+  due_locked s i n c key old rest live e = by (s.world.desk.locked n) refl
+    where
+      on : s.world.desk.rules.listener ≡ true
+      on = listening s i.replacing n c live (opens_notice c.plan (subst OpensNotice (sym e) tt))
+
+      q : Locks s.world.desk.rules.listener (s.world.desk.locked n) (plan.Notice key old ∷ rest)
+      q = subst (Locks s.world.desk.rules.listener (s.world.desk.locked n)) e
+          (subst (λ v. Locks s.world.desk.rules.listener (s.world.desk.locked n) (plan_left v)) live (i.replacing.locking.locks n))
+
+      by : (l : Option K) → s.world.desk.locked n ≡ l → l ≡ Some key
+      by None f = absurd (q.outside on f)
+      by (Some k) f = ap Some (q.inside on k f).0
+
+module _ {K V : Type 0} (eq : K → K → Bool) where
+  -- Notices of one key were opened in the order of their writes, and a notice runs beside an earlier one only once the
+  -- call of that one is gone.
+  record IsOrdered (s : State K V) : Type 0 where
+    noticing : IsNoticing s
+    sound : IsSound eq s
+    order : (a b : ℕ) (x y : Notice K V) → Before s.world.desk.opened a b → s.world.desk.notices a ≡ Some x → s.world.desk.notices b ≡ Some y →
+        eq x.key y.key ≡ true → Before s.world.table.committed a b
+    due : (a b : ℕ) (c : Call K V) (x : Notice K V) (key : K) (old : Stored V) (rest : List (Item K V)) → s.calls b ≡ Some c →
+        c.plan ≡ plan.Notice key old ∷ rest → s.world.desk.notices a ≡ Some x → eq x.key key ≡ true → Before s.world.table.committed a b
+    hears : (a : ℕ) (c : Call K V) (x : Notice K V) → s.calls a ≡ Some c → s.world.desk.notices a ≡ Some x → runs x.state ≡ true →
+        IsHearing c.plan × (s.world.desk.locked a ≡ Some x.key)
+    beside : (a b : ℕ) (x y : Notice K V) → Before s.world.desk.opened a b → s.world.desk.notices a ≡ Some x → s.world.desk.notices b ≡ Some y →
+        eq x.key y.key ≡ true → runs x.state ≡ true → runs y.state ≡ true → s.calls a ≡ None
+
+  -- two calls don't hold locks of equal keys
+  one_lock : (w : DeskPart K V) → SoundDesk eq w → (a b : ℕ) (k q : K) → w.locked a ≡ Some k → w.locked b ≡ Some q → eq k q ≡ true → a ≡ b
+  one_lock w h a b k q e f same = some_same (sym (h.locked k a e) ∙ h.one_locker k q same ∙ h.locked q b f)
+
+  module _ (s : State K V) (i : IsOrdered s) (n : ℕ) (c : Call K V) (live : s.calls n ≡ Some c) where
+    old_hears : running s.world.desk.notices n ≡ true → IsHearing c.plan
+    old_hears r = by (s.world.desk.notices n) refl r
+      where
+        by : (o : Option (Notice K V)) → s.world.desk.notices n ≡ o → option_map_or (λ v. runs v.state) o false ≡ true → IsHearing c.plan
+        by None e r = absurd (false≢true r)
+        by (Some x) e r = (i.hears n c x live e r).0
+
+    -- this call is not gone
+    gone_other : (a : ℕ) (left : Option (Call K V)) → s.calls a ≡ None → put_at s.calls n left a ≡ None
+    gone_other a left gone = put_there s.calls n left a (differ n a (λ e. none_some (sym gone ∙ ap s.calls (sym e) ∙ live))) ∙ gone
+
+    keeps_on : (w : World K V) (left : Option (Call K V)) →
+        Keeps s.world n w.desk.notices w.desk.opened w.table.committed w.desk.locked left →
+        let t : State K V = record { world = w; calls = put_at s.calls n left } in
+        IsNoticing t → IsSound eq t → IsOrdered t
+    keeps_on w left b noticing sound = record {
+      noticing = noticing;
+      sound = sound;
+      order = λ p q x y h e f same. b.more p q (i.order p q x y (was_opened p q h) (was p x e) (was q y f) same);
+      due = λ p q d x key old rest lives is e same.
+          put_cases s.calls n left q (Some d) (Before w.table.committed p q) lives
+          (λ here there. subst (λ v. Before w.table.committed p v) here
+          (b.due (subst (λ v. OpensNotice (plan_left v)) (sym there) (subst OpensNotice (sym is) tt)) p (is_opened s i.noticing p x (was p x e))))
+          (λ other there. b.more p q (i.due p q d x key old rest there is (was p x e) same));
+      hears = λ p d x lives e r.
+          put_cases s.calls n left p (Some d) (IsHearing d.plan × (w.desk.locked p ≡ Some x.key)) lives
+          (λ here there. subst (λ v. IsHearing d.plan × (w.desk.locked v ≡ Some x.key)) here (own d x there (ap w.desk.notices here ∙ e) r))
+          (λ other there. let h = i.hears p d x there (was p x e) r in (h.0, b.others p other ∙ h.1));
+      beside = λ p q x y h e f same r u. gone_other p left (i.beside p q x y (was_opened p q h) (was p x e) (was q y f) same r u);
+    }
+      where
+        was : (m : ℕ) (x : Notice K V) → w.desk.notices m ≡ Some x → s.world.desk.notices m ≡ Some x
+        was m x e = ap (λ g. g m) (sym b.same_notices) ∙ e
+
+        was_opened : (p q : ℕ) → Before w.desk.opened p q → Before s.world.desk.opened p q
+        was_opened p q h = subst (λ v. Before v p q) b.same_opened h
+
+        own : (d : Call K V) (x : Notice K V) → left ≡ Some d → w.desk.notices n ≡ Some x → runs x.state ≡ true →
+            IsHearing d.plan × (w.desk.locked n ≡ Some x.key)
+        own d x there e r =
+            let run : running s.world.desk.notices n ≡ true = ap (λ o. option_map_or (λ v. runs v.state) o false) (was n x e) ∙ r in
+            let h = b.hears run in
+            (subst (λ v. IsHearing (plan_left v)) there h.0, h.1 ∙ (i.hears n c x live (was n x e) r).1)
+
+    opens_on : (w : World K V) (left : Option (Call K V)) →
+        Opens s.world n c.plan w.desk.notices w.desk.opened w.table.committed w.desk.locked left →
+        let t : State K V = record { world = w; calls = put_at s.calls n left } in
+        IsNoticing t → IsSound eq t → IsOrdered t
+    opens_on w left b noticing sound = record {
+      noticing = noticing;
+      sound = sound;
+      order = λ p q x y h e f same. subst (λ v. Before v p q) (sym b.same_committed) (by_order p q x y e f same (parts p q h));
+      due = λ p q d x key old rest lives is e same. subst (λ v. Before v p q) (sym b.same_committed)
+          (put_cases s.calls n left q (Some d) (Before s.world.table.committed p q) lives
+          (λ here there. absurd (b.calm (subst (λ v. OpensNotice (plan_left v)) (sym there) (subst OpensNotice (sym is) tt))))
+          (λ other there. by_due p q d x key old rest there is (at p x e) other same));
+      hears = λ p d x lives e r.
+          put_cases s.calls n left p (Some d) (IsHearing d.plan × (w.desk.locked p ≡ Some x.key)) lives
+          (λ here there. subst (λ v. IsHearing d.plan × (w.desk.locked v ≡ Some x.key)) here (own d x there (ap w.desk.notices here ∙ e) r))
+          (λ other there. let h = i.hears p d x there (at_other p x other e) r in (h.0, ap (λ g. g p) b.same_locked ∙ h.1));
+      beside = λ p q x y h e f same r u. by_beside p q x y e f same r u (parts p q h);
+    }
+      where
+        held : s.world.desk.locked n ≡ Some b.key
+        held = due_locked s i.noticing n c b.key b.old b.rest live b.is
+
+        none : s.world.desk.notices n ≡ None
+        none = not_opened s i.noticing.replacing n c live (subst OpensNotice (sym b.is) tt)
+
+        parts : (p q : ℕ) → Before w.desk.opened p q → Before s.world.desk.opened p q ⊎ ((q ≡ n) × (0 < times p s.world.desk.opened))
+        parts p q h = before_split s.world.desk.opened p q n (subst (λ v. Before v p q) b.new_opened h)
+
+        -- an earlier notice is another's
+        earlier : (p : ℕ) → 0 < times p s.world.desk.opened → (n == p) ≡ false
+        earlier p h = differ n p (λ e. opened_there s i.noticing p (ap s.world.desk.notices (sym e) ∙ none) h)
+
+        at_other : (p : ℕ) (x : Notice K V) → (n == p) ≡ false → w.desk.notices p ≡ Some x → s.world.desk.notices p ≡ Some x
+        at_other p x other e = sym (put_there s.world.desk.notices n (Some b.told) p other) ∙ ap (λ g. g p) (sym b.new_notices) ∙ e
+
+        -- a notice is the new one, or was there
+        at : (p : ℕ) (x : Notice K V) → w.desk.notices p ≡ Some x → ((n ≡ p) × (b.told ≡ x)) ⊎ (s.world.desk.notices p ≡ Some x)
+        at p x e = put_cases s.world.desk.notices n (Some b.told) p (Some x) (((n ≡ p) × (b.told ≡ x)) ⊎ (s.world.desk.notices p ≡ Some x))
+            (ap (λ g. g p) (sym b.new_notices) ∙ e) (λ here is. inl (here, some_same is)) (λ other is. inr is)
+
+        told_at : (y : Notice K V) (q : ℕ) → q ≡ n → w.desk.notices q ≡ Some y → y.key ≡ b.key
+        told_at y q here f =
+            let e : put_at s.world.desk.notices n (Some b.told) n ≡ Some y =
+            ap (λ g. g n) (sym b.new_notices) ∙ ap w.desk.notices (sym here) ∙ f in
+            ap (λ (v : Notice K V). v.key) (sym (some_same (sym (put_here s.world.desk.notices n (Some b.told)) ∙ e))) ∙ b.named
+
+        by_order : (p q : ℕ) (x y : Notice K V) → w.desk.notices p ≡ Some x → w.desk.notices q ≡ Some y → eq x.key y.key ≡ true →
+            Before s.world.desk.opened p q ⊎ ((q ≡ n) × (0 < times p s.world.desk.opened)) → Before s.world.table.committed p q
+        by_order p q x y e f same (inl h) =
+            let has = before_has s.world.desk.opened p q h in
+            i.order p q x y h (at_other p x (earlier p has.0) e) (at_other q y (earlier q has.1) f) same
+        by_order p q x y e f same (inr h) =
+            subst (λ v. Before s.world.table.committed p v) (sym h.0)
+            (i.due p n c x b.key b.old b.rest live b.is (at_other p x (earlier p h.1) e) (subst (λ v. eq x.key v ≡ true) (told_at y q h.0 f) same))
+
+        by_due : (p q : ℕ) (d : Call K V) (x : Notice K V) (key : K) (old : Stored V) (rest : List (Item K V)) → s.calls q ≡ Some d →
+            d.plan ≡ plan.Notice key old ∷ rest → ((n ≡ p) × (b.told ≡ x)) ⊎ (s.world.desk.notices p ≡ Some x) → (n == q) ≡ false →
+            eq x.key key ≡ true → Before s.world.table.committed p q
+        by_due p q d x key old rest there is (inr e) other same = i.due p q d x key old rest there is e same
+        by_due p q d x key old rest there is (inl e) other same =
+            absurd (differ_not n q other (one_lock s.world.desk i.sound.sound n q b.key key held (due_locked s i.noticing q d key old rest there is)
+            (subst (λ v. eq v key ≡ true) (ap (λ (v : Notice K V). v.key) (sym e.1) ∙ b.named) same)))
+
+        own : (d : Call K V) (x : Notice K V) → left ≡ Some d → w.desk.notices n ≡ Some x → runs x.state ≡ true →
+            IsHearing d.plan × (w.desk.locked n ≡ Some x.key)
+        own d x there e r =
+            let is : b.told ≡ x = some_same (sym (put_here s.world.desk.notices n (Some b.told)) ∙ ap (λ g. g n) (sym b.new_notices) ∙ e) in (
+              subst (λ v. IsHearing (plan_left v)) there (b.hears (ap (λ (v : Notice K V). runs v.state) is ∙ r)),
+              ap (λ g. g n) b.same_locked ∙ held ∙ ap Some (sym (ap (λ (v : Notice K V). v.key) (sym is) ∙ b.named)),
+            )
+
+        by_beside : (p q : ℕ) (x y : Notice K V) → w.desk.notices p ≡ Some x → w.desk.notices q ≡ Some y → eq x.key y.key ≡ true →
+            runs x.state ≡ true → runs y.state ≡ true →
+            Before s.world.desk.opened p q ⊎ ((q ≡ n) × (0 < times p s.world.desk.opened)) → put_at s.calls n left p ≡ None
+        by_beside p q x y e f same r u (inl h) =
+            let has = before_has s.world.desk.opened p q h in
+            gone_other p left (i.beside p q x y h (at_other p x (earlier p has.0) e) (at_other q y (earlier q has.1) f) same r u)
+        by_beside p q x y e f same r u (inr h) = gone_other p left (is_gone (s.calls p) refl)
+          where
+            is_gone : (o : Option (Call K V)) → s.calls p ≡ o → o ≡ None
+            is_gone None there = refl
+            is_gone (Some d) there =
+                let lock = (i.hears p d x there (at_other p x (earlier p h.1) e) r).1 in
+                absurd (differ_not n p (earlier p h.1) (sym (one_lock s.world.desk i.sound.sound p n x.key b.key lock held
+                (subst (λ v. eq x.key v ≡ true) (told_at y q h.0 f) same))))
+
+    ordered_on : (w : World K V) (next : Next K V) →
+        Leaves s.world n c.plan w.desk.notices w.desk.opened w.table.committed w.desk.locked next.left →
+        IsNoticing (state_after s n w next) → IsSound eq (state_after s n w next) → IsOrdered (state_after s n w next)
+    ordered_on w next (inl b) = keeps_on w next.left b
+    ordered_on w next (inr b) = opens_on w next.left b
+
+module _ {K V : Type 0} (eq : K → K → Bool) (laws : IsEquivalence eq) where
+  ordered_step : (s t : State K V) (n : ℕ) (turn : Turn K V) → IsOrdered eq s → Step eq s n turn t → IsOrdered eq t
+  ordered_step s t n turn i step =
+      let c : Call K V = step.call in
+      let kept : IsNoticing t → IsSound eq t → IsOrdered eq t =
+      step_cases eq (λ new next. Leaves s.world n c.plan new.desk.notices new.desk.opened new.table.committed new.desk.locked next.left)
+      (λ v _. IsNoticing v → IsSound eq v → IsOrdered eq v) s t n turn step
+      (at_plan eq s.world n c (old_hears eq s i n c step.live) (i.noticing.replacing.known n c step.live).plan)
+      (λ w next b. ordered_on eq s i n c step.live w next b) in
+      kept ((noticing_kept eq).step s t n turn i.noticing step) ((sound_kept eq laws).step s t n turn i.sound step)
+
+  ordered_start : (s : State K V) (start : Start K V) → IsOrdered eq s → IsOrdered eq (started s start)
+  ordered_start s start i =
+      let new : ℕ = s.world.desk.last + 1 in
+      let d : Call K V = fresh_call s.world.desk.rules start in
+      record {
+        noticing = (noticing_kept eq).start s start i.noticing;
+        sound = (sound_kept eq laws).start s start i.sound;
+        order = i.order;
+        due = λ p q b x key old rest lives is e same. put_cases s.calls new (Some d) q (Some b) (Before s.world.table.committed p q) lives
+            (λ here there. absurd (unopened q (plan_of s.world.desk.rules start) (fresh_none q s.world.desk.rules start)
+            (subst (λ v. OpensNotice (plan_left v)) (sym there) (subst OpensNotice (sym is) tt))))
+            (λ other there. i.due p q b x key old rest there is e same);
+        hears = λ p b x lives e r. put_cases s.calls new (Some d) p (Some b) (IsHearing b.plan × (s.world.desk.locked p ≡ Some x.key)) lives
+            (λ here there. absurd (fresh p x here e)) (λ other there. i.hears p b x there e r);
+        beside = λ p q x y h e f same r u.
+            put_there s.calls new (Some d) p (differ new p (λ here. fresh p x here e)) ∙ i.beside p q x y h e f same r u;
+      }
+    where
+      -- the new number has no notice
+      fresh : (p : ℕ) (x : Notice K V) → s.world.desk.last + 1 ≡ p → s.world.desk.notices p ≡ Some x → ⊥
+      fresh p x here e =
+          omega (arith, is_opened s i.noticing p x e, i.noticing.replacing.balanced.unborn p (omega (arith, here)))
+
+  ordered_drop : (s : State K V) (n : ℕ) (c : Call K V) → s.calls n ≡ Some c → c.mode ≢ mode.Mid → IsOrdered eq s → IsOrdered eq (dropped s n c)
+  ordered_drop s n c live between i = record {
+    noticing = (noticing_kept eq).drop s n c live between i.noticing;
+    sound = (sound_kept eq laws).drop s n c live between i.sound;
+    order = i.order;
+    due = λ p q d x key old rest lives is e same. put_cases s.calls n None q (Some d) (Before s.world.table.committed p q) lives
+        (λ here there. absurd (none_some there)) (λ other there. i.due p q d x key old rest there is e same);
+    hears = λ p d x lives e r. put_cases s.calls n None p (Some d) (IsHearing d.plan × (put_at s.world.desk.locked n None p ≡ Some x.key)) lives
+        (λ here there. absurd (none_some there))
+        (λ other there. let h = i.hears p d x there e r in (h.0, put_there s.world.desk.locked n None p other ∙ h.1));
+    beside = λ p q x y h e f same r u. gone_other eq s i n c live p None (i.beside p q x y h e f same r u);
+  }
+
+  -- a notice that has ended is one that was there, with its key, and doesn't run
+  ended_was : (d : DeskPart K V) (n m : ℕ) (x : Notice K V) → (ended d n).notices m ≡ Some x →
+      (v : Notice K V) × (d.notices m ≡ Some v) × (v.key ≡ x.key) × (runs x.state ≡ true → v ≡ x)
+  ended_was d n m x e = by (n == m) refl e
+    where
+      from : (o : Option (Notice K V)) → d.notices n ≡ o → option_map with_end o ≡ Some x → n ≡ m →
+          (v : Notice K V) × (d.notices m ≡ Some v) × (v.key ≡ x.key) × (runs x.state ≡ true → v ≡ x)
+      from None f is here = absurd (none_some is)
+      from (Some v) f is here = (
+        v,
+        ap d.notices (sym here) ∙ f,
+        ap (λ (u : Notice K V). u.key) (some_same is),
+        λ r. absurd (false≢true (ap (λ (u : Notice K V). runs u.state) (some_same is) ∙ r)),
+      )
+
+      by : (t : Bool) → (n == m) ≡ t → cond t (option_map with_end (d.notices n)) (d.notices m) ≡ Some x →
+          (v : Notice K V) × (d.notices m ≡ Some v) × (v.key ≡ x.key) × (runs x.state ≡ true → v ≡ x)
+      by false f is = (x, is, refl, λ r. refl)
+      by true f is = from (d.notices n) refl is (eqb-true n m f)
+
+  ordered_kept : IsKept {K = K} {V = V} eq (IsOrdered eq)
+  ordered_kept = record {
+    fresh = λ rules size has_log. record {
+      noticing = (noticing_kept eq).fresh rules size has_log;
+      sound = (sound_kept eq laws).fresh rules size has_log;
+      order = λ a b x y h e f same. absurd h;
+      due = λ a b c x key old rest live is e same. absurd (none_some live);
+      hears = λ a c x live e r. absurd (none_some live);
+      beside = λ a b x y h e f same r u. absurd h;
+    };
+    at = λ s moment i. record {
+      noticing = (noticing_kept eq).at s moment i.noticing;
+      sound = (sound_kept eq laws).at s moment i.sound;
+      order = i.order;
+      due = i.due;
+      hears = i.hears;
+      beside = i.beside;
+    };
+    start = ordered_start;
+    step = ordered_step;
+    tell = λ s n given asked i. record {
+      noticing = (noticing_kept eq).tell s n given asked i.noticing;
+      sound = (sound_kept eq laws).tell s n given asked i.sound;
+      order = i.order;
+      due = i.due;
+      hears = i.hears;
+      beside = i.beside;
+    };
+    hear = λ s n off running i. record {
+      noticing = (noticing_kept eq).hear s n off running i.noticing;
+      sound = (sound_kept eq laws).hear s n off running i.sound;
+      order = λ p q x y h e f same.
+          let v = ended_was s.world.desk n p x e in
+          let u = ended_was s.world.desk n q y f in
+          i.order p q v.0 u.0 h v.1 u.1 (rw (v.2, u.2) same);
+      due = λ p q c x key old rest live is e same.
+          let v = ended_was s.world.desk n p x e in i.due p q c v.0 key old rest live is v.1 (rw v.2 same);
+      hears = λ p c x live e r.
+          let v = ended_was s.world.desk n p x e in i.hears p c x live (v.1 ∙ ap Some (v.3 r)) r;
+      beside = λ p q x y h e f same r k.
+          let v = ended_was s.world.desk n p x e in
+          let u = ended_was s.world.desk n q y f in
+          i.beside p q x y h (v.1 ∙ ap Some (v.3 r)) (u.1 ∙ ap Some (u.3 k)) same r k;
+    };
+    drop = λ s n c live between i. ordered_drop s n c live between i;
+  }
+
+  -- a notice that runs is there
+  run_state : (o : Option (Notice K V)) (x : Notice K V) → o ≡ Some x → option_map_or (λ v. runs v.state) o false ≡ true → runs x.state ≡ true
+  run_state o x e r = ap (λ v. option_map_or (λ (u : Notice K V). runs u.state) v false) (sym e) ∙ r
+
+  pub locks_one : LocksAreOne K V eq
+  locks_one s n m a b h e f same = one_lock eq s.world.desk (reached_sound eq laws s h) n m a b e f same
+
+  pub in_order : ReachedNoticesAreInOrder K V eq
+  in_order s h =
+      let i : IsOrdered eq s = in_reached eq (IsOrdered eq) ordered_kept s h in
+      record {
+        order = λ a b x y p e f same. before_is s.world.table.committed a b (i.order a b x y (is_before s.world.desk.opened a b p) e f same);
+        beside = λ a b x y p e f same r u.
+            ap is_some (i.beside a b x y (is_before s.world.desk.opened a b p) e f same (run_state (s.world.desk.notices a) x e r) (run_state (s.world.desk.notices b) y f u));
+      }

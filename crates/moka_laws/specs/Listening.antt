@@ -1,0 +1,49 @@
+-- Key locks, notices and open asks in every reached state.
+use Rattle.std.specs.Prelude.{◌≡◌, ◌≢◌, ℕ, Bool, true, List, ◌∷◌, Option, Some, None, IsSome}
+use Rattle.moka_hist.specs.State.{Call, State}
+use Rattle.moka_hist.specs.Plan.{Item}
+use Rattle.moka_hist.specs.Plan as plan
+use Rattle.moka_hist.specs.Notices.{LocksAreHeld, NoticesAreInOrder, NoticesAreSettled}
+use Rattle.moka_hist.specs.Run.{IsReached}
+use Rattle.moka_hist.specs.Visits.{is_running}
+
+-- in every reached state each replaced record has its notice, and no write is logged while its notice
+-- runs
+abbrev pub ReachedNoticesAreSettled : (K V : Type 0) → (K → K → Bool) → Type 0
+ReachedNoticesAreSettled K V eq = (s : State K V) → IsReached eq s → NoticesAreSettled s
+
+-- in every reached state those calls hold locks that are between their locking and their freeing
+abbrev pub ReachedLocksAreHeld : (K V : Type 0) → (K → K → Bool) → Type 0
+ReachedLocksAreHeld K V eq = (s : State K V) → IsReached eq s → LocksAreHeld s
+
+module _ {K V : Type 0} where
+  -- the key that the plan is to write, or to tell the listener of
+  abbrev pub key_of : List (Item K V) → Option K
+  key_of (plan.Moment key value ∷ rest) = Some key
+  key_of (plan.Write key value moment ∷ rest) = Some key
+  key_of (plan.Notice key old ∷ rest) = Some key
+  key_of _ = None
+
+-- in every reached state under a listener a call holds the lock of the key that it is to write or to
+-- tell of
+abbrev pub KeysAreLocked : (K V : Type 0) → (K → K → Bool) → Type 0
+KeysAreLocked K V eq =
+    (s : State K V) (n : ℕ) (c : Call K V) (key : K) → IsReached eq s →
+    s.world.desk.rules.listener ≡ true → s.calls n ≡ Some c → key_of c.plan ≡ Some key →
+    s.world.desk.locked n ≡ Some key
+
+-- in every reached state no two calls hold locks of equal keys
+abbrev pub LocksAreOne : (K V : Type 0) → (K → K → Bool) → Type 0
+LocksAreOne K V eq =
+    (s : State K V) (n m : ℕ) (a b : K) → IsReached eq s → s.world.desk.locked n ≡ Some a →
+    s.world.desk.locked m ≡ Some b → eq a b ≡ true → n ≡ m
+
+-- in every reached state the notices of a key stand in the order of its writes
+abbrev pub ReachedNoticesAreInOrder : (K V : Type 0) → (K → K → Bool) → Type 0
+ReachedNoticesAreInOrder K V eq = (s : State K V) → IsReached eq s → NoticesAreInOrder eq s
+
+-- in every reached state no number has two open asks: a call's own, and the listener's
+abbrev pub AsksAreOne : (K V : Type 0) → (K → K → Bool) → Type 0
+AsksAreOne K V eq =
+    (s : State K V) (n : ℕ) → IsReached eq s →
+    IsSome (s.world.desk.asks n) → is_running s.world.desk n ≢ true

@@ -1,0 +1,17 @@
+use Rattle.std.proofs.Common.{◌≡◌, arith, rules}
+use Rattle.std.specs.Prelude.{codes}
+use Rattle.std.proofs.lemmas.Slice.Eq.{text_from_reads}
+use Rattle.moka_text.specs.ScheduleReading.{start_by}
+use Rattle.moka_text.proofs.lines.start_by.Goals as goal
+
+pub returns-in-insert : goal.returns-in-insert
+unfolding start_by
+returns-in-insert c =
+    let word : c.args.word.now ≡ codes "insert" = text_from_reads _ (codes "insert") (omega arith) (omega arith, (omega arith, (omega arith, (omega arith, (omega arith, (omega arith, tt)))))) in
+    rw word (search rules)
+
+pub returns-in-103 : goal.returns-in-103
+unfolding start_by
+returns-in-103 c =
+    let word : c.args.word.now ≡ codes "get_with" = text_from_reads _ (codes "get_with") (omega arith) (omega arith, (omega arith, (omega arith, (omega arith, (omega arith, (omega arith, (omega arith, (omega arith, tt)))))))) in
+    rw word (search rules)

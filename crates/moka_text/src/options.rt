@@ -1,0 +1,93 @@
+//! The first line of a schedule: the options of its cache.
+
+ghost use Rattle.std.specs.Prelude.{◌≡◌};
+ghost use Rattle.std.specs.Option.{option_copied};
+ghost use Rattle.moka_text.specs.ScheduleText.{listening};
+ghost use Rattle.moka_text.specs.ScheduleReading.{cut_option, log_of, switch_of, made_of, cache_of};
+
+use crate::words::{after, call_in, cut};
+use moka_hist::Rules;
+
+/// How many writes the write log has room for where the first line doesn't say.
+const DEFAULT_LOG: usize = 384;
+
+/// The most writes that the first line may give the write log room for.
+const GREATEST_LOG: u64 = 65536;
+
+/// What is said of the option of this name, where it stands at the front, and what follows it. The
+/// name begins with a space, and what is said ends before the next.
+fn cut_option<'a>(bytes: &'a [u8], name: &[u8]) -> (Option<&'a [u8]>, &'a [u8])
+    ensures said { option_copied result.0 ≡ (cut_option name.now bytes.now).0 }
+    ensures rest { result.1.now ≡ (cut_option name.now bytes.now).1 }
+{
+    match after(bytes, name) {
+        None => (None, bytes),
+        Some(rest) => {
+            let (said, _) = cut(rest, b' ');
+            (Some(said), &rest[said.len()..])
+        }
+    }
+}
+
+/// How many writes the write log has room for.
+#[tactic(auto, unfolding(crate::specs::ScheduleReading::log_of))]
+fn log_of(said: Option<&[u8]>) -> Option<usize>
+    ensures { result ≡ log_of (option_copied said.entry) }
+{
+    let Some(said) = said else {
+        return Some(DEFAULT_LOG);
+    };
+    let log = call_in(said)?;
+    if log < 1 || log > GREATEST_LOG {
+        return None;
+    }
+    Some(log as usize)
+}
+
+/// Whether an option is set of which nothing more may be said.
+#[tactic(auto, unfolding(crate::specs::ScheduleReading::switch_of))]
+fn switch_of(said: Option<&[u8]>) -> Option<bool>
+    ensures { result ≡ switch_of (option_copied said.entry) }
+{
+    match said {
+        None => Some(false),
+        Some([]) => Some(true),
+        Some(_) => None,
+    }
+}
+
+/// The rules of a cache with a listener or without one, and no other rule.
+fn listening(set: bool) -> Rules
+    ensures { result ≡ listening set }
+{
+    Rules {
+        max_capacity: None,
+        time_to_live: None,
+        time_to_idle: None,
+        listener: set,
+        closures: false,
+    }
+}
+
+/// How many writes the write log has room for, and the rules, from what is said of each option.
+#[tactic(auto, unfolding(crate::specs::ScheduleReading::made_of))]
+fn made_of(log: Option<&[u8]>, listener: Option<&[u8]>) -> Option<(usize, Rules)>
+    ensures { result ≡ made_of (option_copied log.entry) (option_copied listener.entry) }
+{
+    let log = log_of(log)?;
+    let listener = switch_of(listener)?;
+    Some((log, listening(listener)))
+}
+
+/// How many writes the write log has room for, and the rules, as a schedule's first line says.
+pub(crate) fn cache_of(line: &[u8]) -> Option<(usize, Rules)>
+    ensures { result ≡ cache_of line.now }
+{
+    let bytes = after(line, b"cache")?;
+    let (log, bytes) = cut_option(bytes, b" log=");
+    let (listener, bytes) = cut_option(bytes, b" listener");
+    match bytes {
+        [] => made_of(log, listener),
+        [_, ..] => None,
+    }
+}
