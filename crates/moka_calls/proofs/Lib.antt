@@ -1,0 +1,4 @@
+pub mod Laying
+pub mod Awaiting
+pub mod Lengths
+pub mod Taking
