@@ -3,14 +3,14 @@ use Rattle.std.proofs.Common.{◌≡◌, ◌≢◌, ℕ, suc, ◌+◌, ◌<◌, 
 use Rattle.std.proofs.lemmas.List.{length-append}
 use Rattle.std.proofs.lemmas.Bool.Decides.{nat_tests}
 use Rattle.moka_hist.specs.State.{Call, DeskPart, World}
-use Rattle.moka_hist.specs.Plan.{Item, Aim, look, loaded, under_lock}
+use Rattle.moka_hist.specs.Plan.{Item, Aim, Change, Removal, look, loaded, load_rest, told_on, put, under_lock, is_disabled}
 use Rattle.moka_hist.specs.Plan as plan
 use Rattle.moka_hist.specs.Next.{Next, goes, stays, waits, asks, answers}
-use Rattle.moka_hist.specs.Visits.{claimed, is_running, is_unlocked_for, locked_by, settlement_for, is_free_for, finds, claim_of, has_room}
+use Rattle.moka_hist.specs.Visits.{claimed, unlocked, is_running, is_unlocked_for, locked_by, settlement_for, is_free_for, finds, claim_of, has_room}
 use Rattle.moka_hist.specs.Posting.{once_ended, after_drain, after_post, after_turn, after_apply}
-use Rattle.moka_hist.specs.Looking.{hits, misses, after_get}
-use Rattle.moka_hist.specs.Loading.{retries, after_own, after_read, after_told}
-use Rattle.moka_hist.specs.Writing.{old_stamp, once_told}
+use Rattle.moka_hist.specs.Looking.{hits, misses, keeps, kept_rest, chosen_or_not, finds_pair, after_get, after_holds}
+use Rattle.moka_hist.specs.Loading.{retries, owner_rest, after_own, after_read, after_told}
+use Rattle.moka_hist.specs.Writing.{old_stamp, once_told, changes, nothing_rest, removed_rest, after_out}
 use Rattle.moka_hist.specs.Listening.{after_lock, after_hearing, after_notice}
 use Rattle.moka_hist.specs.Step.{Gets, access_of, access_for, next_of, after_table, after_visit, going_as}
 use Rattle.moka_hist.specs.declared.records.Mode.{Mode}
@@ -38,7 +38,7 @@ use Rattle.moka_hist.specs.declared.tables.TableTurn.TheVariants as table
 use Rattle.moka_hist.specs.declared.accesses.Got.{Got}
 use Rattle.moka_hist.specs.declared.accesses.Got.TheVariants as got
 use Rattle.moka_hist.specs.declared.accesses.Turn.TheVariants as turn
-use Rattle.moka_bound.specs.Ahead.{Work, growth, post_steps, judge_steps, steps_of, ahead}
+use Rattle.moka_bound.specs.Ahead.{Work, growth, post_steps, judge_steps, steps_of, holds_steps, ahead}
 use Rattle.moka_bound.specs.Falling.{Counts, Shortens, GoingFalls}
 use Rattle.moka_bound.proofs.More.{more, judge_more, post_worst}
 
@@ -166,27 +166,65 @@ module _ {K V : Type 0} where
 
     -- the listener is asked, or it is off
     tells : (key : K) (stored : Stored V) (rest : List (Item K V)) (cause : Cause) (off : Bool) → Same old new →
-        Falls new (bound_of (plan.Notice key stored ∷ rest)) (after_notice c key stored rest (found.OpenNotice (cond off None (Some cause))))
+        Falls new (old.logged + (1 + steps_of old.owed old.most c.aborts false old.most rest))
+        (after_notice c key stored rest (found.OpenNotice (cond off None (Some cause))))
     tells key stored rest cause true s = passes rest s
     tells key stored rest cause false s = never new _ (asks c (ask.Listener key stored.value cause) (plan.Heard ∷ rest)) (λ e. cc)
 
-    stamps : (key : K) (value : V) (moment : ℕ) (rest : List (Item K V)) → Same old new →
-        Falls new (bound_of (plan.Moment key value ∷ rest)) (goes c (plan.Write key value moment ∷ rest))
-    stamps key value moment rest s = same_falls old new _ c (plan.Write key value moment ∷ rest) s (omega arith)
+    stamps : (change : Change K V) (moment : ℕ) (rest : List (Item K V)) → Same old new →
+        Falls new (bound_of (plan.Moment change ∷ rest)) (goes c (changes change moment rest))
+    stamps (plan.To_store key value) moment rest s =
+        same_falls old new _ c (plan.Write key value moment ∷ rest) s (omega arith)
+    stamps (plan.To_take_out removal key) moment rest s =
+        same_falls old new _ c (plan.Out removal key ∷ rest) s (omega arith)
+
+    -- a chosen record stays
+    kept_falls : (bound : ℕ) → Same old new → old.logged + 2 < bound → Falls new bound (keeps c)
+    kept_falls bound s h = by c.rules.listener
+      where
+        by : (listener : Bool) → Falls new bound (goes c (kept_rest listener))
+        by true = same_falls old new bound c (plan.Unlock false ∷ plan.Reply answer.Kept ∷ []) s (omega (arith, h))
+        by false = never new bound (answers answer.Kept) (λ e. cc)
+
+    holds_falls : (key : K) (stamp : ℕ) (cause : Cause) (b : Bool) → Same old new →
+        Falls new (old.logged + holds_steps old.most) (after_holds c key stamp cause (found.Holds b))
+    holds_falls key stamp cause true s = same_falls old new _ c
+        (plan.Moment (plan.To_take_out (plan.To_evict_chosen stamp cause) key) ∷ []) s (omega arith)
+    holds_falls key stamp cause false s = kept_falls _ s (omega arith)
+
+    -- nothing was found: the lock is freed, or the clock is read
+    nothing_falls : (bound : ℕ) (removal : Removal) (listener : Bool) → Same old new → old.logged + 2 < bound →
+        Falls new bound (goes c (nothing_rest listener removal))
+    nothing_falls bound removal true s h = same_falls old new bound c (nothing_rest true removal) s (omega (arith, h))
+    nothing_falls bound removal false s h = same_falls old new bound c (nothing_rest false removal) s (omega (arith, h))
+
+    removed_falls : (n bound : ℕ) (removal : Removal) (key : K) (stored : Stored V) (listener : Bool) → Same old new →
+        old.logged + 9 < bound → Falls new bound (goes c (removed_rest listener n removal key stored))
+    removed_falls n bound removal key stored true s h =
+        same_falls old new bound c (removed_rest true n removal key stored) s (omega (arith, h))
+    removed_falls n bound removal key stored false s h =
+        let r = post_worst (room_in old) in
+        same_falls old new bound c (removed_rest false n removal key stored) s (omega (arith, h, r))
 
     misses_falls : (bound : ℕ) (aim : Aim K) → Same old new → old.logged + judge_steps old.most c.aborts aim ≤ bound → Falls new bound (misses c aim)
+    misses_falls bound (plan.To_evict key stamp cause) s h = kept_falls bound s (omega (arith, h))
     misses_falls bound plan.To_answer s h = never new bound (misses c plan.To_answer) (λ e. cc)
     misses_falls bound (plan.To_load load) s h = same_falls old new bound c (plan.Own load ∷ []) s (omega (arith, h))
     misses_falls bound (plan.To_own load) s h = same_falls old new bound c (plan.Ask load ∷ []) s (omega (arith, h))
 
     hits_falls : (bound : ℕ) (aim : Aim K) (value : V) → Same old new → old.logged + judge_steps old.most c.aborts aim ≤ bound → Falls new bound (hits c aim value)
+    hits_falls bound (plan.To_evict key stamp cause) value s h = never new bound (waits c) (λ e. cc)
     hits_falls bound plan.To_answer value s h = never new bound (hits c plan.To_answer value) (λ e. cc)
     hits_falls bound (plan.To_load load) value s h = never new bound (hits c (plan.To_load load) value) (λ e. cc)
     hits_falls bound (plan.To_own load) value s h =
         same_falls old new bound c (plan.Settle (settled.Ready value) ∷ plan.Reply (answer.Loaded value false) ∷ []) s (omega (arith, h))
 
     owns : (load : Load K) (k : Claim) → Same old new → Falls new (bound_of (plan.Own load ∷ [])) (after_own c load (found.WaitOrOwn k))
-    owns load claim.Owner s = same_falls old new _ c (look (plan.To_own load) load.key) s (omega (arith, young))
+    owns load claim.Owner s = by (is_disabled c.rules)
+      where
+        by : (disabled : Bool) → Falls new (bound_of (plan.Own load ∷ [])) (goes c (owner_rest disabled load))
+        by false = same_falls old new _ c (look (plan.To_own load) load.key) s (omega (arith, young))
+        by true = same_falls old new _ c (plan.Ask load ∷ []) s (omega arith)
     owns load (claim.Waits owner) s = same_falls old new _ c (plan.Read load ∷ []) s (omega arith)
 
     starts_anew : (load : Load K) (spent : Bool) → Same old new → Falls new (bound_of (plan.Read load ∷ []))
@@ -203,13 +241,17 @@ module _ {K V : Type 0} where
     is_told load None s = never new _ (waits c) (λ e. cc)
     is_told load (Some told.Done) s = never new _ (waits c) (λ e. cc)
     is_told load (Some told.Off) s = never new _ (waits c) (λ e. cc)
-    is_told load (Some (told.Value value)) s = same_falls old new _ c (loaded c.rules load value) s (by c.rules.listener)
+    is_told load (Some (told.Value value)) s =
+        same_falls old new _ c (loaded c.rules load value) s (by (is_disabled c.rules) c.rules.listener)
       where
-        by : (listener : Bool) → old.logged + steps_of old.owed old.most c.aborts (room_in old) old.most
-            (plan.Drain ∷ under_lock listener load.key (plan.Moment load.key value ∷ plan.Settle (settled.Ready value) ∷ plan.Reply (answer.Loaded value true) ∷ [])) <
-            bound_of (plan.Told load ∷ [])
-        by true = omega arith
-        by false = omega arith
+        ahead_of : Bool → Bool → ℕ
+        ahead_of disabled listener = steps_of old.owed old.most c.aborts (room_in old) old.most
+            (load_rest disabled (record c.rules { listener = listener }) load.key value)
+
+        by : (disabled listener : Bool) → old.logged + ahead_of disabled listener < bound_of (plan.Told load ∷ [])
+        by true listener = omega arith
+        by false true = omega arith
+        by false false = omega arith
 
     -- an operation that stays undecided
     stays_on : Eases old new → new.logged ≡ old.logged → new.left < old.left → (aim : Aim K) (key : K) (rest : List (Item K V)) → c.plan ≡ plan.Get aim key ∷ rest → Falls new (bound_of (plan.Get aim key ∷ rest)) (stays c)
@@ -237,6 +279,10 @@ module _ {K V : Type 0} where
   locked_lists : (eq : K → K → Bool) (w : DeskPart K V) (n : ℕ) (key : K) (free : Bool) → Lists w (locked_by eq w n key free)
   locked_lists eq w n key true = record { owed = refl; log = refl; size = refl }
   locked_lists eq w n key false = record { owed = refl; log = refl; size = refl }
+
+  unlocked_lists : (w : DeskPart K V) (n : ℕ) (wrote : Bool) → Lists w (unlocked w n wrote)
+  unlocked_lists w n true = record { owed = refl; log = refl; size = refl }
+  unlocked_lists w n false = record { owed = refl; log = refl; size = refl }
 
   -- the work is what it was, where the lists are and operations stay undecided for no longer
   same_work : (w new : World K V) (old young : Work) → Counts w old → Counts new young → Lists w.desk new.desk →
@@ -302,7 +348,19 @@ module _ {K V : Type 0} where
     get_falls : (aim : Aim K) (rest : List (Item K V)) (answer : TableAnswer K V) → (key : K) → Same old new →
         Falls new (bound_of old new c young (plan.Get aim key ∷ rest)) (after_get c aim (table.Decided answer))
     get_falls aim rest table_answer.None key s = misses_falls old new c young _ aim s (omega arith)
-    get_falls aim rest (table_answer.Some k stored) key s = same_falls old new _ c (plan.Judge aim k stored ∷ []) s (omega arith)
+    get_falls aim rest (table_answer.Some there stored) key s = finds_falls aim
+      where
+        chosen : (b : Bool) (key : K) (stamp : ℕ) (cause : Cause) →
+            Falls new (bound_of old new c young (plan.Get (plan.To_evict key stamp cause) key ∷ rest))
+            (chosen_or_not c b key stamp cause there stored)
+        chosen true key stamp cause = same_falls old new _ c (plan.Holds key stamp cause there stored ∷ []) s (omega arith)
+        chosen false key stamp cause = kept_falls old new c young _ s (omega arith)
+
+        finds_falls : (aim : Aim K) → Falls new (bound_of old new c young (plan.Get aim key ∷ rest)) (finds_pair c aim there stored)
+        finds_falls plan.To_answer = same_falls old new _ c (plan.Judge plan.To_answer there stored ∷ []) s (omega arith)
+        finds_falls (plan.To_load load) = same_falls old new _ c (plan.Judge (plan.To_load load) there stored ∷ []) s (omega arith)
+        finds_falls (plan.To_own load) = same_falls old new _ c (plan.Judge (plan.To_own load) there stored ∷ []) s (omega arith)
+        finds_falls (plan.To_evict k stamp cause) = chosen (stored.stamp == stamp) k stamp cause
 
     -- a look or a write that stays undecided
     get_stays : (aim : Aim K) (key : K) (rest : List (Item K V)) → c.plan ≡ plan.Get aim key ∷ rest → Same old new → new.left < old.left →
@@ -330,9 +388,19 @@ module _ {K V : Type 0} where
             post_steps (room_in new) ≤ post_steps false →
             Falls new (bound_of old new c young (plan.Write key value moment ∷ rest)) (goes c (once_told listener key answer (plan.Post x ∷ rest)))
         by false answer h r = falls_goes new _ c (plan.Post x ∷ rest) (omega (arith, h, l, r))
-        by true table_answer.None h r = falls_goes new _ c (plan.Unlock ∷ plan.Post x ∷ rest) (omega (arith, h, l, r))
+        by true table_answer.None h r = falls_goes new _ c (plan.Unlock true ∷ plan.Post x ∷ rest) (omega (arith, h, l, r))
         by true (table_answer.Some there stored) h r =
-            falls_goes new _ c (plan.Notice key stored ∷ plan.Unlock ∷ plan.Post x ∷ rest) (omega (arith, h, l, r))
+            falls_goes new _ c (plan.Notice key stored None true ∷ plan.Unlock true ∷ plan.Post x ∷ rest) (omega (arith, h, l, r))
+
+    out_stays : (removal : Removal) (key : K) (rest : List (Item K V)) → c.plan ≡ plan.Out removal key ∷ rest → Same old new →
+        new.left < old.left → Falls new (bound_of old new c young (plan.Out removal key ∷ rest)) (stays c)
+    out_stays removal key rest e s less = falls_on new _ (record c { mode = mode.Mid }) (rw e (omega (arith, s.logged, less)))
+
+    out_falls : (removal : Removal) (key : K) (rest : List (Item K V)) (answer : TableAnswer K V) → Same old new →
+        Falls new (bound_of old new c young (plan.Out removal key ∷ rest)) (after_out n c removal key (table.Decided answer))
+    out_falls removal key rest table_answer.None s = nothing_falls old new c young _ removal c.rules.listener s (omega arith)
+    out_falls removal key rest (table_answer.Some there stored) s =
+        removed_falls old new c young n _ removal key stored c.rules.listener s (omega arith)
 
     waits_falls : (bound : ℕ) → Falls new bound (waits c)
     waits_falls bound = never new bound (waits c) (λ e. cc)
@@ -371,12 +439,16 @@ module _ {K V : Type 0} where
     on_item (plan.Lock key) rest (got.Desk f) e g h = rw g.0
         (locks old new c young key rest (is_unlocked_for w.desk n key)
         (leaves _ (ap (λ v. v.desk) g.1) (locked_lists eq w.desk n key (is_unlocked_for w.desk n key)) h.within h.raises))
-    on_item plan.Unlock rest (got.Desk f) e g h = rw g.0
+    on_item (plan.Unlock b) rest (got.Desk f) e g h = rw g.0
+        (passes old new c young rest (leaves _ (ap (λ v. v.desk) g.1) (unlocked_lists w.desk n b) h.within h.raises))
+    on_item plan.Idle rest (got.Desk f) e g h = rw g.0
         (passes old new c young rest (leaves _ (ap (λ v. v.desk) g.1) (record { owed = refl; log = refl; size = refl }) h.within h.raises))
-    on_item (plan.Notice key stored) rest (got.Desk f) e g h = rw g.0
+    on_item (plan.Holds key stamp cause there stored) rest (got.Desk f) e g h = rw g.0
+        (holds_falls old new c young key stamp cause _ (leaves w.desk (ap (λ v. v.desk) g.1) (same_lists w.desk) h.within h.raises))
+    on_item (plan.Notice key stored cause upsert) rest (got.Desk f) e g h = rw g.0
         (tells old new c young key stored rest _ w.desk.off (leaves _ (ap (λ v. v.desk) g.1) (record { owed = refl; log = refl; size = refl }) h.within h.raises))
-    on_item (plan.Moment key value) rest (got.Desk f) e g h = rw g.0
-        (stamps old new c young key value w.desk.clock rest (leaves _ (ap (λ v. v.desk) g.1) (record { owed = refl; log = refl; size = refl }) h.within h.raises))
+    on_item (plan.Moment change) rest (got.Desk f) e g h = rw g.0
+        (stamps old new c young change w.desk.clock rest (leaves _ (ap (λ v. v.desk) g.1) (record { owed = refl; log = refl; size = refl }) h.within h.raises))
     on_item (plan.Reply a) rest (got.Desk f) e g h = never new _ (answers a) (λ d. cc)
     on_item (plan.Get aim key) rest (got.Table table.Going) e g h = get_stays aim key rest e (leaves w.desk (ap (λ v. v.desk) g.1) (same_lists w.desk) h.within h.raises) (h.going refl)
     on_item (plan.Get aim key) rest (got.Table (table.Decided answer)) e g h =
@@ -386,6 +458,10 @@ module _ {K V : Type 0} where
         let d : next.desk ≡ w.desk = ap (λ v. v.desk) g.2 in
         wrote key value moment rest (Upsert n (old_stamp answer)) answer (is.owed ∙ ap (λ v. length v.owed) d ∙ sym was.owed)
         (is.logged ∙ ap (λ v. length v.log) d ∙ sym was.logged) h.raises
+    on_item (plan.Out removal key) rest (got.Table table.Going) e g h =
+        out_stays removal key rest e (leaves w.desk (ap (λ v. v.desk) g.1) (same_lists w.desk) h.within h.raises) (h.going refl)
+    on_item (plan.Out removal key) rest (got.Table (table.Decided answer)) e g h =
+        out_falls removal key rest answer (leaves w.desk (ap (λ v. v.desk) g.2) (same_lists w.desk) h.within h.raises)
     -- no other answer is one of the item's access
     on_item _ rest _ e g h = absurd g
 

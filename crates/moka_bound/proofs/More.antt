@@ -13,6 +13,7 @@ pub judge_more : {K : Type 0} (m m' aborts : ℕ) (aim : Aim K) → m ≤ m' →
 judge_more m m' aborts plan.To_answer h = omega arith
 judge_more m m' aborts (plan.To_load load) h = omega arith
 judge_more m m' aborts (plan.To_own load) h = omega arith
+judge_more m m' aborts (plan.To_evict key stamp cause) h = omega (arith, h)
 
 same_room : (room : Bool) → post_steps room ≤ post_steps room
 same_room room = omega arith
@@ -44,16 +45,21 @@ module _ {K V : Type 0} where
   more (plan.Told load ∷ rest) o o' m m' aborts l l' r r' ho hm hl hr = omega (arith, ho, hm)
   more (plan.Lock key ∷ rest) o o' m m' aborts l l' r r' ho hm hl hr =
       let h = more rest o o' m m' aborts m m' false false ho hm hm (same_room false) in omega (arith, h)
-  more (plan.Unlock ∷ rest) o o' m m' aborts l l' r r' ho hm hl hr =
+  more (plan.Unlock wrote ∷ rest) o o' m m' aborts l l' r r' ho hm hl hr =
       let h = more rest o o' m m' aborts m m' false false ho hm hm (same_room false) in omega (arith, h)
-  more (plan.Notice key old ∷ rest) o o' m m' aborts l l' r r' ho hm hl hr =
+  more (plan.Notice key old cause upsert ∷ rest) o o' m m' aborts l l' r r' ho hm hl hr =
       let h = more rest o o' m m' aborts m m' false false ho hm hm (same_room false) in omega (arith, h)
   more (plan.Heard ∷ rest) o o' m m' aborts l l' r r' ho hm hl hr =
       let h = more rest o o' m m' aborts m m' false false ho hm hm (same_room false) in omega (arith, h)
-  more (plan.Moment key value ∷ rest) o o' m m' aborts l l' r r' ho hm hl hr =
+  more (plan.Moment (plan.To_store key value) ∷ rest) o o' m m' aborts l l' r r' ho hm hl hr =
       let h = more rest o o' (m + growth) (m' + growth) aborts (m + growth) (m' + growth) false false ho (omega (arith, hm)) (omega (arith, hm)) (same_room false)
       in omega (arith, h, hm)
   more (plan.Write key value moment ∷ rest) o o' m m' aborts l l' r r' ho hm hl hr =
       let h = more rest o o' (m + growth) (m' + growth) aborts (m + growth) (m' + growth) false false ho (omega (arith, hm)) (omega (arith, hm)) (same_room false)
       in omega (arith, h, hl)
+  more (plan.Moment (plan.To_take_out removal key) ∷ rest) o o' m m' aborts l l' r r' ho hm hl hr = omega (arith, hm)
+  more (plan.Holds key stamp cause there found ∷ rest) o o' m m' aborts l l' r r' ho hm hl hr = omega (arith, hm)
+  more (plan.Out removal key ∷ rest) o o' m m' aborts l l' r r' ho hm hl hr = omega (arith, hl)
+  more (plan.Idle ∷ rest) o o' m m' aborts l l' r r' ho hm hl hr =
+      let h = more rest o o' m m' aborts m m' false false ho hm hm (same_room false) in omega (arith, h)
   more (plan.Reply answer ∷ rest) o o' m m' aborts l l' r r' ho hm hl hr = omega arith

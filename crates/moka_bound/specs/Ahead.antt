@@ -40,12 +40,22 @@ read_steps most aborts = most + 4 + 2 * (retries - aborts)
 abbrev pub told_steps : ℕ → ℕ → ℕ
 told_steps owed most = 1 + drain_steps owed + (most + 11) + 2
 
+-- to take a record out by an operation that may stay undecided for so many steps, to tell the listener of it, to free
+-- the key's lock, to post the removal and to answer
+abbrev pub out_steps : ℕ → ℕ
+out_steps left = left + 10
+
+-- to judge whether a chosen record has still to leave, and to take it out
+abbrev pub holds_steps : ℕ → ℕ
+holds_steps most = 2 + out_steps most
+
 module _ {K : Type 0} where
   -- to judge the record that was found
   abbrev pub judge_steps : ℕ → ℕ → Aim K → ℕ
   judge_steps most aborts plan.To_answer = 1
   judge_steps most aborts (plan.To_load load) = 1 + own_steps most aborts
   judge_steps most aborts (plan.To_own load) = 3
+  judge_steps most aborts (plan.To_evict key stamp cause) = holds_steps most
 
 module _ {K V : Type 0} where
   -- At most so many steps the plan takes, where so many writes are owed, so many owners were dropped, a later operation
@@ -66,11 +76,15 @@ module _ {K V : Type 0} where
   steps_of owed most aborts room left (plan.Ask load ∷ rest) = 1
   steps_of owed most aborts room left (plan.Told load ∷ rest) = told_steps owed most
   steps_of owed most aborts room left (plan.Lock key ∷ rest) = 1 + steps_of owed most aborts false most rest
-  steps_of owed most aborts room left (plan.Unlock ∷ rest) = 1 + steps_of owed most aborts false most rest
-  steps_of owed most aborts room left (plan.Notice key old ∷ rest) = 1 + steps_of owed most aborts false most rest
+  steps_of owed most aborts room left (plan.Unlock wrote ∷ rest) = 1 + steps_of owed most aborts false most rest
+  steps_of owed most aborts room left (plan.Notice key old cause upsert ∷ rest) = 1 + steps_of owed most aborts false most rest
   steps_of owed most aborts room left (plan.Heard ∷ rest) = 1 + steps_of owed most aborts false most rest
-  steps_of owed most aborts room left (plan.Moment key value ∷ rest) = most + 10 + steps_of owed (most + growth) aborts false (most + growth) rest
+  steps_of owed most aborts room left (plan.Holds key stamp cause there found ∷ rest) = holds_steps most
+  steps_of owed most aborts room left (plan.Moment (plan.To_store key value) ∷ rest) = most + 10 + steps_of owed (most + growth) aborts false (most + growth) rest
+  steps_of owed most aborts room left (plan.Moment (plan.To_take_out removal key) ∷ rest) = 1 + out_steps most
   steps_of owed most aborts room left (plan.Write key value moment ∷ rest) = left + 9 + steps_of owed (most + growth) aborts false (most + growth) rest
+  steps_of owed most aborts room left (plan.Out removal key ∷ rest) = out_steps left
+  steps_of owed most aborts room left (plan.Idle ∷ rest) = 1 + steps_of owed most aborts false most rest
   steps_of owed most aborts room left (plan.Reply answer ∷ rest) = 1
 
   -- at most so many steps the call makes by itself

@@ -21,6 +21,7 @@ module _ {K V : Type 0} where
   -- by how much an access that gave this may raise what a later operation may need
   abbrev pub raised : Access K V → Got K V → ℕ
   raised (step.On_table (op.InsertOrModify key stored)) (got.Table (table.Decided answer)) = growth
+  raised (step.On_table (op.InsertIfAbsent key stored)) (got.Table (table.Decided answer)) = growth
   raised _ _ = 0
 
   -- what an access that gave this may make of how long operations stay undecided

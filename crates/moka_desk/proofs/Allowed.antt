@@ -1,5 +1,5 @@
 -- What the conditions of visits say of what is kept.
-use Rattle.std.proofs.Common.{◌≡◌, ℕ, ◌==◌, Bool, true, false, cond, List, ◌++◌, map, Option, Some, None, IsSome, IsNone, is_some, IfSome, refl, sym, ap, ◌∙◌, subst, arith}
+use Rattle.std.proofs.Common.{◌≡◌, ◌≢◌, ℕ, ◌==◌, Bool, true, false, cond, List, ◌++◌, map, Option, Some, None, IsSome, IsNone, is_some, IfSome, refl, sym, ap, ◌∙◌, subst, arith}
 use Rattle.std.specs.Option.{IsSomeAnd, option_map, option_map_or}
 use Rattle.std.proofs.lemmas.Bool.{eqb-true}
 use Rattle.std.proofs.lemmas.List.{map-append}
@@ -11,6 +11,7 @@ use Rattle.moka_hist.specs.declared.notices.Notice.{Notice}
 use Rattle.moka_hist.specs.declared.notices.NoticeState.{NoticeState}
 use Rattle.moka_hist.specs.declared.notices.NoticeState.TheVariants as state
 use Rattle.moka_hist.specs.declared.writes.Holding.{Holding}
+use Rattle.moka_hist.specs.declared.writes.Holding.TheVariants as holding
 use Rattle.moka_hist.specs.declared.writes.Owed.{Owed}
 use Rattle.moka_hist.specs.declared.writes.Write.{Write}
 use Rattle.moka_sync.proofs.Stands.{times-append}
@@ -18,13 +19,20 @@ use Rattle.moka_desk.specs.Held.{HoldingsAre, is_holder, owed_numbers}
 use Rattle.moka_desk.specs.Notices.{if_running}
 use Rattle.moka_desk.specs.declared.held.HeldPlace.{HeldPlace}
 use Rattle.moka_desk.proofs.Holdings.{has_place}
-use Rattle.moka_desk.proofs.Owners.{Owns}
+use Rattle.moka_hist.proofs.Owners.{Owns}
 
 -- a call that leaves a write has its place
 pub leaves_its_own : (place_of : ℕ → Option HeldPlace) (holding : ℕ → Option Holding) → HoldingsAre place_of holding → (call : ℕ) (held : Option Owed) →
     MayLeaveWith (holding call) call (option_map (λ o. o.write) held) → IfSome held (λ o. is_holder (place_of (number_of o.write)) call ≡ true)
 leaves_its_own place_of holding are call None may = tt
 leaves_its_own place_of holding are call (Some o) may = has_place place_of holding are call o.write may
+
+-- a call that took no write up leaves none
+pub leaves_none : (held : Option Holding) (call : ℕ) →
+    ((write : Write) → held ≢ Some (holding.TookUp write)) → MayLeaveWith held call None
+leaves_none None call none = tt
+leaves_none (Some (holding.Own pending)) call none = tt
+leaves_none (Some (holding.TookUp write)) call none = none write refl
 
 -- a number that stands in no part of a list stands not in its front
 front_has_none : (call : ℕ) (xs ys : List Write) → times call (map number_of (xs ++ ys)) ≡ 0 → times call (map number_of xs) ≡ 0

@@ -9,7 +9,7 @@ use Rattle.moka_hist.specs.declared.writes.Holding.{Holding}
 use Rattle.moka_hist.specs.declared.writes.Holding.TheVariants as holding
 use Rattle.moka_hist.specs.declared.writes.Write.{Write}
 use Rattle.moka_desk.specs.Held.{HoldingsAre, is_holder, decided_place}
-use Rattle.moka_desk.proofs.Owners.{is_none_of}
+use Rattle.moka_hist.proofs.Owners.{is_none_of}
 use Rattle.moka_desk.specs.declared.held.HeldPlace.{HeldPlace}
 
 -- the place that a call has

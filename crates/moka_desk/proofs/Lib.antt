@@ -1,6 +1,5 @@
 pub mod Standing
 pub mod SameLoads
-pub mod Owners
 pub mod Waiting
 pub mod Outcomes
 pub mod Holdings
@@ -11,3 +10,4 @@ pub mod Allowed
 pub mod Parts
 pub mod Listed
 pub mod Misses
+pub mod Woken

@@ -7,7 +7,7 @@ use Rattle.moka_desk.specs.Lines.{is_at, with_call}
 no : false ≡ true → ⊥
 no e = cc
 
-same_test : (a b : ℕ) (x y : Bool) → (a == b) ≡ x → (b == a) ≡ y → x ≡ y
+pub same_test : (a b : ℕ) (x y : Bool) → (a == b) ≡ x → (b == a) ≡ y → x ≡ y
 same_test a b true true e f = refl
 same_test a b false false e f = refl
 same_test a b true false e f = absurd (eqb-false b a f (sym (eqb-true a b e)))

@@ -20,7 +20,7 @@ ask_part w = record { asks = w.asks; told = w.told }
 -- The maps are those that are kept.
 pub record AsksAre {V : Type 0} (asks : Asks V) (p : AskPart V) : Type 0 where
   pub open_asks : (n : ℕ) → option_map (λ a. a.takes) (get nat_eq asks.open_asks n) ≡ p.asks n
-  pub told : (n : ℕ) → get nat_eq asks.told n ≡ p.told n
+  pub told : (n : ℕ) → option_map (λ a. a.told) (get nat_eq asks.told n) ≡ p.told n
 
 -- the asks change as the part does, whatever they stand for
 abbrev pub AsksBecome : {V : Type 0} → Asks V → (AskPart V → AskPart V) → Asks V → Type 0

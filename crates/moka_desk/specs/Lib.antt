@@ -1,6 +1,7 @@
 pub mod Held
 pub mod Fallen
 pub mod Writes
+pub mod Readers
 pub mod Loads
 pub mod Locks
 pub mod Notices
@@ -11,3 +12,5 @@ pub mod Sizes
 pub mod SoundDesk
 pub mod Waits
 pub mod ListedMiss
+pub mod Woken
+pub mod WakeList

@@ -44,7 +44,7 @@ impl Applied {
         }
     }
 
-    /// How many of the records that the applied writes made were replaced by none of them.
+    /// How many of the records that the applied writes made were replaced or removed by none of them.
     pub(crate) fn standing(&self) -> u64
         ensures { result ≡ standing_of self.now.writes.items }
     {
@@ -82,6 +82,7 @@ impl Applied {
     {
         match write {
             Write::Upsert { number, old } => self.push_upsert(number, old),
+            Write::Remove { number, old } => self.push_removal(number, old),
         }
     }
 
@@ -99,7 +100,19 @@ impl Applied {
         self.room -= 1;
     }
 
-    // How many records stand now, and no longer once the record of this stamp is replaced.
+    fn push_removal(&mut self, number: u64, old: u64)
+        requires { 0 < self.old.room }
+        ensures items { self.new.writes.items ≡ self.old.writes.items ++ write_of.Remove number old ∷ [] }
+        ensures room { self.new.room + 1 ≡ self.old.room }
+    {
+        let fallen = self.fallen_by(Some(old));
+        mark(&mut self.replaced, Some(old));
+        self.standing -= fallen;
+        self.writes.push_reserved(Write::Remove { number, old });
+        self.room -= 1;
+    }
+
+    // How many records stand now, and no longer once the record of this stamp has left.
     fn fallen_by(&self, old: Option<u64>) -> u64
         ensures { result ≡ fallen self.now.writes.items old }
     {
@@ -110,7 +123,7 @@ impl Applied {
     }
 }
 
-// Marks the stamp as replaced, in a place that was reserved.
+// Marks the stamp's record as one that has left, in a place that was reserved.
 fn mark(replaced: &mut HashSet<u64>, old: Option<u64>)
     requires { 0 < hash_set.spare replaced.old }
     ensures marked { (n : ℕ) → hash_set.contains nat_eq replaced.new n ≡

@@ -1,7 +1,7 @@
 //! The asks that calls have open, and the answers that they were told.
 
-ghost use Rattle.std.specs.Prelude.{◌≡◌, ℕ, ◌≤◌, ◌==◌, false, cond, [], ◌∷◌, Option, Some, None, is_some, IsSome, IfSome, MatchOption, nat_eq, OnOk, OnErr, if◌then◌else◌};
-ghost use Rattle.std.specs.Option.{option_map_or};
+ghost use Rattle.std.specs.Prelude.{◌≡◌, ℕ, ◌≤◌, ◌==◌, true, false, cond, [], ◌∷◌, Option, Some, None, is_some, IsSome, IfSome, MatchOption, nat_eq, OnOk, OnErr, if◌then◌else◌};
+ghost use Rattle.std.specs.Option.{option_map, option_map_or};
 ghost use Rattle.moka_hist.specs.Telling.{does_take as takes_answer};
 ghost use Rattle.std.specs.HashMap.{get, spare, hash_map_len};
 
@@ -18,23 +18,34 @@ pub(crate) struct OpenAsk {
     pub(crate) place: WaitPlace,
 }
 
+/// An answer that its call has not taken yet, and whether that was handed out with it.
+#[derive(Drop)]
+pub(crate) struct Answer<V> {
+    pub(crate) told: Told<V>,
+    pub(crate) woken: bool,
+}
+
 /// The open asks, and what was told to those that are closed and not taken yet. Each open ask has the
 /// place of its answer, and that of its call on the list of those that wait for it.
 #[derive(Drop)]
 pub(crate) struct Asks<V> {
     alloc: Global,
     pub(crate) open_asks: HashMap<u64, OpenAsk>,
-    pub(crate) told: HashMap<u64, Told<V>>,
+    pub(crate) told: HashMap<u64, Answer<V>>,
     ghost answers_have_places: { hash_map_len open_asks ≤ spare told },
+    ghost open_are_untold: { (n : ℕ) → is_some (get nat_eq open_asks n) ≡ true
+        → get nat_eq told n ≡ None },
 }
 
 impl<V: Drop> Asks<V> {
     ghost use Rattle.moka_hist.specs.Finite.{put_at};
     ghost use Rattle.moka_desk.specs.Asks.{asker_at, asks_if, is_open, AsksAre, AsksBecome};
+    ghost use Rattle.moka_desk.specs.Woken.{all_but, and_calls, is_told};
 
     /// No ask is open.
     pub(crate) fn new(alloc: Global) -> Self
-        ensures { AsksAre result (record { asks = λ _. None; told = λ _. None }) }
+        ensures none { AsksAre result (record { asks = λ _. None; told = λ _. None }) }
+        ensures unwoken { (n : ℕ) → is_told result n ≡ false }
     {
         Asks {
             alloc,
@@ -51,6 +62,8 @@ impl<V: Drop> Asks<V> {
               told = put_at p.told call None;
             }) self.new) }
         ensures err { OnErr result (AsksBecome self.old (λ p. p) self.new) }
+        ensures back { OnOk result ((n : ℕ) → is_told self.new n ≡ all_but call (is_told self.old) n) }
+        ensures still { OnErr result ((n : ℕ) → is_told self.new n ≡ is_told self.old n) }
     {
         let place = WaitPlace::new(self.alloc)?;
         self.told.reserve(self.open_asks.len() + 1)?;
@@ -72,6 +85,8 @@ impl<V: Drop> Asks<V> {
         } else p) self.new }
         ensures waits { MatchOption result (self.new ≡ self.old) (λ woken. (n : ℕ)
             → asker_at self.new.open_asks n ≡ cond (call == n) [] (asker_at self.old.open_asks n)) }
+        ensures wakes { IfSome result (λ woken. (n : ℕ)
+            → is_told self.new n ≡ and_calls woken (is_told self.old) n) }
     {
         let ask = self.open_asks.get(&call)?;
         if !does_take(ask.takes, &answer) {
@@ -82,26 +97,39 @@ impl<V: Drop> Asks<V> {
 
     /// Takes what the call was told, if anything was. Where its ask is open, the call waits.
     pub(crate) fn take(&mut self, call: u64) -> Option<Told<V>>
-        ensures finds { result ≡ get nat_eq self.old.told call }
+        ensures finds { result ≡ option_map (λ a. a.told) (get nat_eq self.old.told call) }
         ensures makes { AsksBecome self.old (λ p. record p { told = put_at p.told call None }) self.new }
         ensures waits { (n : ℕ) → asker_at self.new.open_asks n
             ≡ asks_if (is_open self.old.open_asks call) call n (asker_at self.old.open_asks n) }
+        ensures back { (n : ℕ) → is_told self.new n ≡ all_but call (is_told self.old) n }
     {
         if let Some(ask) = self.open_asks.get_mut(&call) {
             ask.place.wait();
         }
-        self.told.remove(&call)
+        let answer = self.told.remove(&call)?;
+        Some(answer.told)
     }
 
     /// The call asks nothing any more, and what it was told goes.
     pub(crate) fn leave(&mut self, call: u64)
-        ensures { AsksBecome self.old (λ p. record {
+        ensures makes { AsksBecome self.old (λ p. record {
           asks = put_at p.asks call None;
           told = put_at p.told call None;
         }) self.new }
+        ensures back { (n : ℕ) → is_told self.new n ≡ all_but call (is_told self.old) n }
     {
         let _ = self.open_asks.remove(&call);
         let _ = self.told.remove(&call);
+    }
+
+    /// Whether the call was handed out with an answer that it has not taken.
+    pub(crate) fn is_woken(&self, call: u64) -> bool
+        ensures { result ≡ is_told self.now call }
+    {
+        match self.told.get(&call) {
+            Some(answer) => answer.woken,
+            None => false,
+        }
     }
 
     // Closes an open ask by the answer, and hands its call out, if it waits.
@@ -115,8 +143,15 @@ impl<V: Drop> Asks<V> {
         }) self.new }
         ensures waits { (n : ℕ)
             → asker_at self.new.open_asks n ≡ cond (call == n) [] (asker_at self.old.open_asks n) }
+        ensures wakes { IfSome result (λ woken. (n : ℕ)
+            → is_told self.new n ≡ and_calls woken (is_told self.old) n) }
     {
         let ask = self.open_asks.remove(&call)?;
+        let woken = ask.place.is_waiting();
+        let answer = Answer {
+            told: answer,
+            woken,
+        };
         put(&mut self.told, call, answer);
         Some(ask.place.take(call))
     }

@@ -20,3 +20,5 @@ pub use state::Desk;
 
 #[cfg(test)]
 mod tests;
+#[cfg(test)]
+mod wake_tests;

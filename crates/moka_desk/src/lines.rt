@@ -1,6 +1,6 @@
 //! The calls that wait for the things of others, thing by thing.
 
-ghost use Rattle.std.specs.Prelude.{◌≡◌, ℕ, ◌==◌, true, cond, Some, [], nat_eq, OnOk, OnErr};
+ghost use Rattle.std.specs.Prelude.{◌≡◌, ℕ, ◌==◌, true, false, cond, Some, [], nat_eq, OnOk, OnErr};
 ghost use Rattle.std.specs.HashMap.{get};
 ghost use Rattle.moka_sync.specs.Waiting.{waits, without};
 ghost use Rattle.moka_desk.specs.Lines.{is_at, line_at, with_call};
@@ -12,7 +12,7 @@ use std::collections::HashMap;
 
 /// The calls that wait for things of one kind, each of which has the number of a call: the turn or
 /// the lock that it holds, how it settles, the end of its notice. Each call has a place from its
-/// listing on until its next visit, also once it was handed out.
+/// listing on until its next visit, also once it was handed out: it is woken then.
 #[derive(Drop)]
 pub(crate) struct Lines {
     alloc: Global,
@@ -23,9 +23,12 @@ pub(crate) struct Lines {
 }
 
 impl Lines {
+    ghost use Rattle.moka_desk.specs.Woken.{all_but, and_calls, is_out};
+
     /// Nobody waits.
     pub(crate) fn new(alloc: Global) -> Self
         ensures none { (number : ℕ) → line_at result.lists number ≡ [] }
+        ensures unwoken { (call : ℕ) → is_out result call ≡ false }
     {
         Lines {
             alloc,
@@ -40,6 +43,9 @@ impl Lines {
         ensures ok { OnOk result ((n : ℕ) → line_at self.new.lists n
             ≡ cond (number == n) (with_call call (line_at self.old.lists n)) (without call (line_at self.old.lists n))) }
         ensures err { OnErr result ((n : ℕ) → line_at self.new.lists n ≡ line_at self.old.lists n) }
+        // who is woken
+        ensures back { OnOk result ((c : ℕ) → is_out self.new c ≡ all_but call (is_out self.old) c) }
+        ensures still { OnErr result ((c : ℕ) → is_out self.new c ≡ is_out self.old c) }
     {
         self.places.reserve(1)?;
         add_to(self.alloc, &mut self.lists, number, call)?;
@@ -51,7 +57,8 @@ impl Lines {
 
     /// The call waits for none of the things any more, and is not to be woken.
     pub(crate) fn leave(&mut self, call: u64)
-        ensures { (n : ℕ) → line_at self.new.lists n ≡ without call (line_at self.old.lists n) }
+        ensures off { (n : ℕ) → line_at self.new.lists n ≡ without call (line_at self.old.lists n) }
+        ensures back { (c : ℕ) → is_out self.new c ≡ all_but call (is_out self.old) c }
     {
         if let Some(number) = self.places.get(&call).copied() {
             remove_from(&mut self.lists, number, call);
@@ -63,10 +70,25 @@ impl Lines {
     pub(crate) fn take(&mut self, number: u64) -> WaitList
         ensures all { result.calls ≡ line_at self.old.lists number }
         ensures none { (n : ℕ) → line_at self.new.lists n ≡ cond (number == n) [] (line_at self.old.lists n) }
+        ensures woken { (c : ℕ) → is_out self.new c
+            ≡ and_calls (line_at self.old.lists number) (is_out self.old) c }
     {
         match self.lists.remove(&number) {
             Some(list) => list,
             None => WaitList::new(self.alloc),
+        }
+    }
+
+    /// Whether the call was handed out and has not come back since.
+    pub(crate) fn is_woken(&self, call: u64) -> bool
+        ensures { result ≡ is_out self.now call }
+    {
+        let Some(number) = self.places.get(&call).copied() else {
+            return false;
+        };
+        match self.lists.get(&number) {
+            Some(list) => !list.contains(call),
+            None => true,
         }
     }
 }

@@ -1,12 +1,12 @@
 //! The visits that see to keys' locks and to the listener.
 
-ghost use Rattle.std.specs.Prelude.{◌≡◌, true, Some, IfOk, OnOk, OnErr};
+ghost use Rattle.std.specs.Prelude.{◌≡◌, true, false, Some, IfOk, OnOk, OnErr};
 ghost use Rattle.std.specs.Bool.{OnTrue, OnFalse};
 ghost use Rattle.std.specs.HashMap.{get};
 
 use crate::Desk;
 use crate::notices::Heard;
-use moka_engine::{remove_cause, upsert_cause};
+use moka_engine::{chosen_holds, remove_cause, upsert_cause};
 use moka_hist::{Cause, Times};
 use moka_sync::CallList;
 use std::alloc::AllocError;
@@ -16,10 +16,13 @@ impl<K: Eq + Hash + Clone + Drop, V: Drop> Desk<K, V> {
     ghost use Rattle.moka_hist.specs.Finite.{IsExact};
     ghost use Rattle.moka_hist.specs.State.{DeskPart};
     ghost use Rattle.moka_hist.specs.Telling.{heard, MayEnd};
+    ghost use Rattle.moka_hist.specs.Causes.{chosen_holds};
     ghost use Rattle.moka_hist.specs.Visits.{cause_of, is_running, times_at};
     ghost use Rattle.moka_hist.specs.declared.visits.Visit.TheVariants as visit;
     ghost use Rattle.moka_hist.specs.declared.visits.Found.TheVariants as found;
     ghost use Rattle.moka_desk.specs.Waits.{comes, leaves, lock_line, notice_line, stays, waits_at, LocksMove, NoticesMove, NobodyMoves};
+    ghost use Rattle.moka_desk.specs.WakeList.{LocksWake, NobodyWakes, NoticesWake};
+    ghost use Rattle.moka_desk.specs.Woken.{all_but, and_calls};
     ghost use Rattle.moka_desk.specs.StandsFor.{StandsFor, Can, Finds, Makes, Stays};
     ghost use Rattle.moka_desk.specs.ListedMiss.{MissAfter, MissWith};
 
@@ -37,6 +40,8 @@ impl<K: Eq + Hash + Clone + Drop, V: Drop> Desk<K, V> {
         ensures waits { IfOk result (λ locked. OnFalse locked (LocksMove self.old
             (waits_at (get K.eq self.old.locks.holders key.now) call) self.new)) }
         ensures unlisted { OnErr result (LocksMove self.old stays self.new) }
+        ensures back { OnOk result (LocksWake self.old (all_but call) self.new) }
+        ensures still { OnErr result (NobodyWakes self.old self.new) }
         // who is listed misses that thing
         ensures misses { OnOk result
             (MissAfter K.eq self.old (visit.LockKey call key.now) self.new) }
@@ -52,15 +57,17 @@ impl<K: Eq + Hash + Clone + Drop, V: Drop> Desk<K, V> {
     }
 
     /// Frees the lock that the call holds, and hands out all that wait for it. A pending moment of the
-    /// call ends.
-    pub fn unlock_key(&mut self, call: u64) -> CallList
-        requires { Can K.eq self.old (visit.UnlockKey call) }
-        ensures makes { Makes K.eq self.old (visit.UnlockKey call) self.new }
+    /// call ends. Where nothing was written under the lock (`wrote` is false) the places that the call
+    /// has for a write are given back; it took none up then.
+    pub fn unlock_key(&mut self, call: u64, wrote: bool) -> CallList
+        requires { Can K.eq self.old (visit.UnlockKey call wrote) }
+        ensures makes { Makes K.eq self.old (visit.UnlockKey call wrote) self.new }
         ensures woken { result ≡ lock_line self.old call }
         ensures waits { LocksMove self.old (comes call) self.new }
-        ensures misses { MissAfter K.eq self.old (visit.UnlockKey call) self.new }
+        ensures wakes { LocksWake self.old (and_calls result) self.new }
+        ensures misses { MissAfter K.eq self.old (visit.UnlockKey call wrote) self.new }
     {
-        self.writes.decide(call);
+        self.writes.conclude(call, wrote);
         self.locks.free(call);
         self.waits.locks.take(call).take_all()
     }
@@ -86,6 +93,7 @@ impl<K: Eq + Hash + Clone + Drop, V: Drop> Desk<K, V> {
             (visit.OpenNotice call key value stamp modified cause upsert) self.new) }
         ensures err { OnErr result (Stays K.eq self.old self.new) }
         ensures quiet { NobodyMoves self.old self.new }
+        ensures wakes { NobodyWakes self.old self.new }
         ensures misses { OnOk result (MissAfter K.eq self.old
             (visit.OpenNotice call key value stamp modified cause upsert) self.new) }
         ensures misses_still { OnErr result (MissWith K.eq self.old (λ w. w) self.new) }
@@ -107,8 +115,10 @@ impl<K: Eq + Hash + Clone + Drop, V: Drop> Desk<K, V> {
         ensures ended { IfOk result (λ ended. OnTrue ended (NoticesMove self.old (leaves call) self.new)) }
         ensures waits { IfOk result
             (λ ended. OnFalse ended (NoticesMove self.old (waits_at (Some notice) call) self.new)) }
+        ensures back { OnOk result (NoticesWake self.old (all_but call) self.new) }
         // want of memory
         ensures unlisted { OnErr result (NoticesMove self.old stays self.new) }
+        ensures still { OnErr result (NobodyWakes self.old self.new) }
         ensures needs { OnErr result ((w : DeskPart K V) → StandsFor K.eq self.old w
             → is_running w notice ≡ true) }
         // who is listed misses that thing
@@ -132,6 +142,7 @@ impl<K: Eq + Hash + Clone + Drop, V: Drop> Desk<K, V> {
             → StandsFor K.eq self.new (heard w notice off) }
         ensures woken { result ≡ notice_line self.old notice }
         ensures waits { NoticesMove self.old (comes notice) self.new }
+        ensures wakes { NoticesWake self.old (and_calls result) self.new }
         ensures misses { MissWith K.eq self.old (λ w. heard w notice off) self.new }
     {
         self.notices.end(notice, off);
@@ -149,6 +160,17 @@ impl<K: Eq + Hash + Clone + Drop, V: Drop> Desk<K, V> {
             None if upsert => upsert_cause(&self.rules, &self.times(stamp, modified)),
             None => remove_cause(&self.rules, &self.times(stamp, modified)),
         }
+    }
+
+    /// Judges whether the record of this stamp, last written at the moment `modified`, in nanoseconds,
+    /// that was chosen to leave for `cause` has still to, by the clock: `Size` holds where a capacity is
+    /// set, `Expired` past its time to live or to idle, `Replaced` never, and `Explicit` not yet, since
+    /// no record is hidden or hit by an invalidation.
+    pub fn holds(&self, stamp: u64, modified: u64, cause: Cause) -> bool
+        ensures { (w : DeskPart K V) → StandsFor K.eq self.now w
+            → result ≡ chosen_holds w.rules (times_at w stamp modified) false cause }
+    {
+        chosen_holds(&self.rules, &self.times(stamp, modified), false, cause)
     }
 
     // The times of the record of this stamp, last written at the moment.

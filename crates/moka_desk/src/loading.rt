@@ -20,6 +20,8 @@ impl<K: Eq + Hash + Clone + Drop, V: Drop> Desk<K, V> {
     ghost use Rattle.moka_hist.specs.declared.visits.Visit.TheVariants as visit;
     ghost use Rattle.moka_hist.specs.declared.visits.Found.TheVariants as found;
     ghost use Rattle.moka_desk.specs.Waits.{awaited, comes, leaves, lock_line, notice_line, settlement_line, stays, told_line, waits_at, AnswersMove, NobodyMoves, NoticesMove, SettlementsMove, ToldMove};
+    ghost use Rattle.moka_desk.specs.WakeList.{after_leaving, AnswersWake, NobodyWakes, NoticesWake, SettlementsWake, ToldWake, Wake};
+    ghost use Rattle.moka_desk.specs.Woken.{all_but, and_calls};
     ghost use Rattle.moka_desk.specs.Asks.{asks_if, is_open};
     ghost use Rattle.moka_desk.specs.StandsFor.{StandsFor, Can, CanLeave, Finds, Becomes, Makes, Stays};
     ghost use Rattle.moka_desk.specs.ListedMiss.{MissAfter, MissWith};
@@ -34,6 +36,7 @@ impl<K: Eq + Hash + Clone + Drop, V: Drop> Desk<K, V> {
         ensures makes { OnOk result (Makes K.eq self.old (visit.WaitOrOwn call load.key load.kind) self.new) }
         ensures err { OnErr result (Stays K.eq self.old self.new) }
         ensures quiet { NobodyMoves self.old self.new }
+        ensures wakes { NobodyWakes self.old self.new }
         ensures misses { OnOk result
             (MissAfter K.eq self.old (visit.WaitOrOwn call load.key load.kind) self.new) }
         ensures misses_still { OnErr result (MissWith K.eq self.old (λ w. w) self.new) }
@@ -58,6 +61,8 @@ impl<K: Eq + Hash + Clone + Drop, V: Drop> Desk<K, V> {
         ensures waits { OnOk result ((owner : ℕ) → awaited self.old call ≡ Some owner
             → SettlementsMove self.old (waits_at (Some owner) call) self.new) }
         ensures unlisted { OnErr result (SettlementsMove self.old stays self.new) }
+        ensures back { OnOk result (SettlementsWake self.old (all_but call) self.new) }
+        ensures still { OnErr result (NobodyWakes self.old self.new) }
         // who is listed misses that thing
         ensures misses { OnOk result (MissAfter K.eq self.old (visit.ReadSettled call) self.new) }
         ensures misses_still { OnErr result (MissWith K.eq self.old (λ w. w) self.new) }
@@ -78,6 +83,7 @@ impl<K: Eq + Hash + Clone + Drop, V: Drop> Desk<K, V> {
         ensures makes { Makes K.eq self.old (visit.Settle call with) self.new }
         ensures woken { result ≡ settlement_line self.old call }
         ensures waits { SettlementsMove self.old (comes call) self.new }
+        ensures wakes { SettlementsWake self.old (and_calls result) self.new }
         ensures misses { MissAfter K.eq self.old (visit.Settle call with) self.new }
     {
         self.loads.settle(call, with);
@@ -89,6 +95,7 @@ impl<K: Eq + Hash + Clone + Drop, V: Drop> Desk<K, V> {
         requires { Can K.eq self.old (visit.OpenAsk call takes) }
         ensures makes { OnOk result (Makes K.eq self.old (visit.OpenAsk call takes) self.new) }
         ensures err { OnErr result (Stays K.eq self.old self.new) }
+        ensures wakes { NobodyWakes self.old self.new }
         ensures misses { OnOk result (MissAfter K.eq self.old (visit.OpenAsk call takes) self.new) }
         ensures misses_still { OnErr result (MissWith K.eq self.old (λ w. w) self.new) }
     {
@@ -105,6 +112,8 @@ impl<K: Eq + Hash + Clone + Drop, V: Drop> Desk<K, V> {
         ensures woken { IfSome result (λ woken. woken ≡ told_line self.old number answer) }
         ensures waits { MatchOption result (NobodyMoves self.old self.new)
             (λ woken. ToldMove self.old number answer self.new) }
+        ensures wakes { MatchOption result (NobodyWakes self.old self.new)
+            (λ woken. ToldWake self.old answer woken self.new) }
         ensures misses { MissWith K.eq self.old
             (λ w. if is_some result then with_told w number answer else w) self.new }
     {
@@ -122,6 +131,8 @@ impl<K: Eq + Hash + Clone + Drop, V: Drop> Desk<K, V> {
         ensures woken { IfSome result (λ woken. woken ≡ notice_line self.old number) }
         ensures waits { OnSome result (NoticesMove self.old (comes number) self.new) }
         ensures quiet { IfNone result (NobodyMoves self.old self.new) }
+        ensures wakes { MatchOption result (NobodyWakes self.old self.new)
+            (λ woken. NoticesWake self.old (and_calls woken) self.new) }
         ensures misses { MissWith K.eq self.old
             (λ w. if is_some result then heard w number off else w) self.new }
     {
@@ -139,6 +150,7 @@ impl<K: Eq + Hash + Clone + Drop, V: Drop> Desk<K, V> {
         ensures makes { Makes K.eq self.old (visit.TakeTold call) self.new }
         ensures waits { AnswersMove self.old
             (asks_if (is_open self.old.asks.open_asks call) call) self.new }
+        ensures back { AnswersWake self.old (all_but call) self.new }
         ensures misses { MissAfter K.eq self.old (visit.TakeTold call) self.new }
     {
         self.asks.take(call)
@@ -154,6 +166,8 @@ impl<K: Eq + Hash + Clone + Drop, V: Drop> Desk<K, V> {
             → MayLeave w call (option_map (λ o. o.write) held) → StandsFor K.eq self.new (left w call held) }
         ensures woken { result
             ≡ without call (settlement_line self.old call) ++ without call (lock_line self.old call) }
+        ensures wakes { Wake self.old
+            (after_leaving call (settlement_line self.old call) (lock_line self.old call)) self.new }
         ensures misses { MissWith K.eq self.old (λ w. left w call held) self.new }
     {
         let held = self.still_heard(held);

@@ -1,10 +1,11 @@
 //! The loads that calls own and wait for.
 
-ghost use Rattle.std.specs.Prelude.{◌≡◌, ℕ, ◌+◌, ◌-◌, ◌≤◌, ◌<◌, ◌==◌, ◌&&◌, cond, Option, Some, None, is_some, unwrap_or, nat_eq, OnOk, OnErr, IfOk, if◌then◌else◌};
+ghost use Rattle.std.specs.Prelude.{◌≡◌, ℕ, ◌+◌, ◌-◌, ◌≤◌, ◌<◌, ◌==◌, ◌&&◌, ◌^◌, cond, Option, Some, None, is_some, unwrap_or, nat_eq, OnOk, OnErr, IfOk, if◌then◌else◌};
 ghost use Rattle.moka_hist.specs.Finite.{IsExact};
 ghost use Rattle.std.specs.Bool.{OnTrue};
 ghost use Rattle.std.specs.Option.{option_and_then};
 ghost use Rattle.std.specs.HashMap.{get, spare, hash_map_len};
+ghost use Rattle.moka_desk.specs.Readers.{waiting_for};
 
 use crate::maps::{put, replace};
 use moka_hist::{Claim, Load, Settled};
@@ -14,7 +15,7 @@ use std::hash::Hash;
 
 /// The owners of loads with what each owns, those that wait for an owner, how many wait for each,
 /// and how owners ended that somebody has still to read. Each owner has the place of its
-/// settlement.
+/// settlement. As many wait for an owner as have joined it.
 #[derive(Drop)]
 pub(crate) struct Loads<K: Eq + Hash, V> {
     pub(crate) owners: HashMap<Load<K>, u64>,
@@ -23,6 +24,8 @@ pub(crate) struct Loads<K: Eq + Hash, V> {
     pub(crate) readers: HashMap<u64, u64>,
     pub(crate) settled: HashMap<u64, Settled<V>>,
     ghost settlements_have_places: { hash_map_len owning ≤ spare settled },
+    ghost all_are_counted: { (n : ℕ) → unwrap_or (get nat_eq readers n) 0
+        ≡ waiting_for joined.entries n },
 }
 
 impl<K: Eq + Hash + Clone + Drop, V: Drop> Loads<K, V> {
@@ -54,11 +57,12 @@ impl<K: Eq + Hash + Clone + Drop, V: Drop> Loads<K, V> {
         }
     }
 
-    /// Makes the call, which owns nothing, the owner of a load that nobody owns, or lets it wait for
-    /// the owner.
+    /// Makes the call, which owns nothing and waits for nobody, the owner of a load that nobody owns, or
+    /// lets it wait for the owner.
     pub(crate) fn claim(&mut self, call: u64, load: Load<K>) -> Result<Claim, AllocError>
         requires exact { IsExact K.is_clone }
         requires idle { get nat_eq self.old.owning call ≡ None }
+        requires apart { get nat_eq self.old.joined call ≡ None }
         ensures finds { IfOk result (λ claim. (w : DeskPart K V) → LoadsAre K.eq self.old (load_part w)
             → claim ≡ claim_of (w.owners load)) }
         ensures ok { OnOk result (LoadsMake K.eq self.old
@@ -77,8 +81,9 @@ impl<K: Eq + Hash + Clone + Drop, V: Drop> Loads<K, V> {
         }
     }
 
-    // Lets the call wait for the owner.
+    // Lets the call, which waits for nobody, wait for the owner.
     fn join(&mut self, call: u64, owner: u64) -> Result<(), AllocError>
+        requires { get nat_eq self.old.joined call ≡ None }
         ensures ok { OnOk result (LoadsBecome K.eq self.old
             (λ p. record p {
               joined = put_at p.joined call (Some owner);
@@ -86,13 +91,12 @@ impl<K: Eq + Hash + Clone + Drop, V: Drop> Loads<K, V> {
             }) self.new) }
         ensures err { OnErr result (LoadsStay K.eq self.old self.new) }
     {
-        let waiting = self.readers_of(owner).checked_add(1).ok_or(AllocError)?;
         self.joined.reserve(1)?;
-        self.readers.insert(owner, waiting)?;
-        match self.joined.insert(call, owner) {
-            Ok(_) => Ok(()),
-            Err(_) => unreachable!(),
-        }
+        self.readers.reserve(1)?;
+        let waiting = self.readers_of(owner) + 1;
+        put(&mut self.readers, owner, waiting);
+        put(&mut self.joined, call, owner);
+        Ok(())
     }
 
     // Makes the call, which owns nothing, the owner of the load, which has no owner.
@@ -210,26 +214,7 @@ impl<K: Eq + Hash + Clone + Drop, V: Drop> Loads<K, V> {
             }) self.new }
     {
         if let Some(owner) = self.joined.remove(&call) {
-            self.release(owner);
-        }
-    }
-
-    // One that waited for the owner is gone; the last takes away how it ended.
-    fn release(&mut self, owner: u64)
-        ensures { LoadsBecome K.eq self.old
-            (λ p. record p {
-              readers = put_at p.readers owner (p.readers owner - 1);
-              settled = cond (p.readers owner == 1)
-                  (put_at p.settled owner None) p.settled;
-            }) self.new }
-    {
-        match self.readers_of(owner) {
-            0 => {}
-            1 => {
-                let _ = self.readers.remove(&owner);
-                let _ = self.settled.remove(&owner);
-            }
-            waiting => replace(&mut self.readers, owner, waiting - 1),
+            release(&mut self.readers, &mut self.settled, owner);
         }
     }
 
@@ -269,12 +254,44 @@ impl<K: Eq + Hash + Clone + Drop, V: Drop> Loads<K, V> {
         }
     }
 
-    // How many wait for the owner.
+    // How many wait for the owner: no more than the entries of a map.
     fn readers_of(&self, owner: u64) -> u64
-        ensures { result ≡ unwrap_or (get nat_eq self.now.readers owner) 0 }
+        ensures value { result ≡ unwrap_or (get nat_eq self.now.readers owner) 0 }
+        ensures small { result < 2 ^ 63 }
     {
-        self.readers.get(&owner).copied().unwrap_or(0)
+        let _all = self.joined.len();
+        count_in(&self.readers, owner)
     }
+}
+
+// One that waited for the owner is gone; the last takes away how it ended.
+fn release<V: Drop>(
+    readers: &mut HashMap<u64, u64>,
+    settled: &mut HashMap<u64, Settled<V>>,
+    owner: u64,
+)
+    ensures readers { (n : ℕ) → unwrap_or (get nat_eq readers.new n) 0 ≡ cond (owner == n)
+        (unwrap_or (get nat_eq readers.old owner) 0 - 1) (unwrap_or (get nat_eq readers.old n) 0) }
+    ensures settled { (n : ℕ) → get nat_eq settled.new n
+        ≡ cond (unwrap_or (get nat_eq readers.old owner) 0 == 1 && owner == n)
+        None (get nat_eq settled.old n) }
+    ensures spare { spare settled.old ≤ spare settled.new }
+{
+    match count_in(readers, owner) {
+        0 => {}
+        1 => {
+            let _ = readers.remove(&owner);
+            let _ = settled.remove(&owner);
+        }
+        waiting => replace(readers, owner, waiting - 1),
+    }
+}
+
+// How many wait for the owner, by these counts.
+fn count_in(readers: &HashMap<u64, u64>, owner: u64) -> u64
+    ensures { result ≡ unwrap_or (get nat_eq readers.now owner) 0 }
+{
+    readers.get(&owner).copied().unwrap_or(0)
 }
 
 // An equal settlement.

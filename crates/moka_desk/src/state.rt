@@ -1,6 +1,6 @@
 //! The desk, its clock and its numbers.
 
-ghost use Rattle.std.specs.Prelude.{◌≡◌, ◌+◌, ◌==◌, nat_lt, not, Option, Some, None, MatchOption, IfOk, if◌then◌else◌};
+ghost use Rattle.std.specs.Prelude.{◌≡◌, ℕ, false, ◌+◌, ◌==◌, nat_lt, not, Option, Some, None, MatchOption, IfOk, if◌then◌else◌};
 
 use crate::asks::Asks;
 use crate::loads::Loads;
@@ -39,6 +39,7 @@ impl<K: Eq + Hash + Clone + Drop, V: Drop> Desk<K, V> {
     ghost use Rattle.moka_hist.specs.Run.{last_call};
     ghost use Rattle.moka_desk.specs.StandsFor.{StandsFor, Becomes};
     ghost use Rattle.moka_desk.specs.ListedMiss.{ListedMiss, MissWith};
+    ghost use Rattle.moka_desk.specs.WakeList.{is_on, wake_list, ListedAreUnwoken, NobodyWakes};
 
     /// A desk by these rules, where nothing has happened, with a log of this many writes.
     pub fn new(alloc: Global, rules: Rules, log: usize) -> Result<Self, AllocError>
@@ -57,6 +58,7 @@ impl<K: Eq + Hash + Clone + Drop, V: Drop> Desk<K, V> {
         ensures stands { IfOk result
             (λ desk. StandsFor K.eq desk (record (fresh_desk K V rules log) { last = last })) }
         ensures misses { IfOk result (λ desk. (w : DeskPart K V) → ListedMiss desk w) }
+        ensures unwoken { IfOk result (λ desk. (call : ℕ) → is_on (wake_list desk) call ≡ false) }
     {
         Ok(Desk {
             rules,
@@ -103,6 +105,7 @@ impl<K: Eq + Hash + Clone + Drop, V: Drop> Desk<K, V> {
             (λ w. if nat_lt moment w.clock then w else record w { clock = moment }) self.new }
         ensures misses { MissWith K.eq self.old
             (λ w. if nat_lt moment w.clock then w else record w { clock = moment }) self.new }
+        ensures wakes { NobodyWakes self.old self.new }
     {
         if moment < self.clock {
             return false;
@@ -122,6 +125,7 @@ impl<K: Eq + Hash + Clone + Drop, V: Drop> Desk<K, V> {
         ensures misses { (w : DeskPart K V) → ListedMiss self.old w
             → MatchOption result (ListedMiss self.new w)
             (λ n. ListedMiss self.new (record w { last = n })) }
+        ensures wakes { NobodyWakes self.old self.new }
     {
         let next = self.last.checked_add(1)?;
         self.last = next;
@@ -180,5 +184,14 @@ impl<K: Eq + Hash + Clone + Drop, V: Drop> Desk<K, V> {
         ensures { (w : DeskPart K V) → StandsFor K.eq self.now w → result ≡ w.off }
     {
         self.notices.off
+    }
+
+    /// Whether the call was handed out, and has since neither come back to the visit that it waited at
+    /// nor left.
+    pub fn is_woken(&self, call: u64) -> bool
+        ensures woken { result ≡ is_on (wake_list self.now) call }
+        ensures once { ListedAreUnwoken self.now }
+    {
+        self.waits.is_woken(call) || self.asks.is_woken(call)
     }
 }

@@ -1,12 +1,20 @@
 //! What no clause says: that calls succeed with ample memory, and where the call numbers end.
 
 use crate::Desk;
-use moka_hist::{Cause, Claim, Kind, Load, Rules, Takes, Told};
+use crate::applied::Applied;
+use crate::writes::Writes;
+use moka_hist::{Cause, Claim, Kind, Load, Rules, Takes, Told, Write};
 use std::test::Fail;
+use std::time::Duration;
 
 fn rules() -> Rules {
+    rules_with(None)
+}
+
+/// Rules with a listener and this capacity.
+fn rules_with(max_capacity: Option<u64>) -> Rules {
     Rules {
-        max_capacity: None,
+        max_capacity,
         time_to_live: None,
         time_to_idle: None,
         listener: true,
@@ -81,5 +89,105 @@ fn those_that_wait_for_a_notice_are_handed_out(rt: HostRuntime) -> Result<(), Fa
     assert_eq!(rt; woken.get(0), Some(4));
     assert!(rt; desk.tell(1, Told::Done).is_none());
     assert!(rt; desk.notice_ended(4, 1)?);
+    Ok(())
+}
+
+#[test]
+fn a_removed_record_is_counted_in_either_order(rt: HostRuntime) -> Result<(), Fail> {
+    let made = Write::Upsert {
+        number: 1,
+        old: None,
+    };
+    let gone = Write::Remove { number: 2, old: 1 };
+    let other = Write::Upsert {
+        number: 3,
+        old: None,
+    };
+    let cases = [
+        ([made, gone, other], [1, 0, 1]),
+        ([gone, made, other], [0, 0, 1]),
+        ([other, made, gone], [1, 2, 1]),
+        ([gone, other, made], [0, 1, 1]),
+    ];
+    for (writes, want) in cases {
+        let mut applied = Applied::new(rt.alloc());
+        for (write, standing) in writes.into_iter().zip(want) {
+            applied.reserve()?;
+            applied.push(write);
+            assert_eq!(rt; applied.standing(), standing);
+        }
+    }
+    Ok(())
+}
+
+#[test]
+fn the_clock_gives_places_back(rt: HostRuntime) -> Result<(), Fail> {
+    let mut desk: Desk<u32, u32> = Desk::new(rt.alloc(), rules(), 4)?;
+    assert_eq!(rt; desk.stamp_moment(1)?, 0);
+    assert_eq!(rt; desk.writes.applied.room, 1);
+    assert_eq!(rt; desk.read_clock(1), 0);
+    assert_eq!(rt; desk.writes.applied.room, 0);
+    assert!(rt; desk.writes.held.places.is_empty());
+    Ok(())
+}
+
+#[test]
+fn places_stay_only_where_something_was_written(rt: HostRuntime) -> Result<(), Fail> {
+    for (wrote, places) in [(false, 0), (true, 1)] {
+        let mut writes = Writes::new(rt.alloc(), 4)?;
+        writes.stamp(1, 7)?;
+        writes.conclude(1, wrote);
+        assert_eq!(rt; writes.applied.room, places, "wrote: {wrote}");
+        assert_eq!(rt; writes.held.places.len(), places, "wrote: {wrote}");
+    }
+    Ok(())
+}
+
+#[test]
+fn a_notice_tells_the_cause_of_a_removal(rt: HostRuntime) -> Result<(), Fail> {
+    let cases = [
+        (None, Cause::Explicit),
+        (Some(Cause::Size), Cause::Size),
+        (Some(Cause::Expired), Cause::Expired),
+    ];
+    for (handed, want) in cases {
+        let mut desk: Desk<u32, u32> = Desk::new(rt.alloc(), rules(), 4)?;
+        assert_eq!(rt;
+            desk.open_notice(1, 5, 50, 0, 0, handed, false)?,
+            Some(want)
+        );
+    }
+    Ok(())
+}
+
+#[test]
+fn a_chosen_record_leaves_for_its_size_where_a_capacity_is_set(
+    rt: HostRuntime,
+) -> Result<(), Fail> {
+    let cases = [
+        (None, Cause::Size, false),
+        (Some(3), Cause::Size, true),
+        (Some(3), Cause::Explicit, false),
+        (Some(3), Cause::Expired, false),
+        (Some(3), Cause::Replaced, false),
+    ];
+    for (capacity, cause, want) in cases {
+        let desk: Desk<u32, u32> = Desk::new(rt.alloc(), rules_with(capacity), 4)?;
+        assert_eq!(rt; desk.holds(1, 0, cause), want, "with {capacity:?}");
+    }
+    Ok(())
+}
+
+#[test]
+fn a_chosen_record_leaves_once_its_time_is_past(rt: HostRuntime) -> Result<(), Fail> {
+    let rules = Rules {
+        time_to_live: Some(Duration::from_nanos(10)),
+        ..rules()
+    };
+    let mut desk: Desk<u32, u32> = Desk::new(rt.alloc(), rules, 4)?;
+    for (moment, want) in [(12, false), (13, true)] {
+        assert!(rt; desk.at(moment));
+        assert_eq!(rt; desk.holds(1, 3, Cause::Expired), want, "at {moment}");
+    }
     Ok(())
 }

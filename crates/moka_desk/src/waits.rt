@@ -1,8 +1,9 @@
 //! The calls that wait for what another call has or brings.
 
-ghost use Rattle.std.specs.Prelude.{◌≡◌, ◌++◌, cond, ◌==◌, [], ℕ};
+ghost use Rattle.std.specs.Prelude.{◌≡◌, ◌++◌, ◌||◌, false, cond, ◌==◌, [], ℕ};
 ghost use Rattle.moka_sync.specs.Waiting.{without};
 ghost use Rattle.moka_desk.specs.Lines.{line_at};
+ghost use Rattle.moka_desk.specs.Woken.{all_but, and_calls, is_out};
 
 use crate::lines::Lines;
 use moka_sync::CallList;
@@ -25,6 +26,8 @@ impl Waits {
         ensures settlements { (n : ℕ) → line_at result.settlements.lists n ≡ [] }
         ensures locks { (n : ℕ) → line_at result.locks.lists n ≡ [] }
         ensures notices { (n : ℕ) → line_at result.notices.lists n ≡ [] }
+        ensures unwoken { (call : ℕ) → is_out result.turns call || is_out result.settlements call
+            || is_out result.locks call || is_out result.notices call ≡ false }
     {
         Waits {
             turns: Lines::new(alloc),
@@ -48,6 +51,15 @@ impl Waits {
             ≡ cond (call == n) [] (without call (line_at self.old.locks.lists n)) }
         ensures notices { (n : ℕ) → line_at self.new.notices.lists n
             ≡ without call (line_at self.old.notices.lists n) }
+        // who is woken
+        ensures turns_woken { (c : ℕ) → is_out self.new.turns c
+            ≡ all_but call (is_out self.old.turns) c }
+        ensures settlements_woken { (c : ℕ) → is_out self.new.settlements c ≡ all_but call
+            (and_calls (line_at self.old.settlements.lists call) (is_out self.old.settlements)) c }
+        ensures locks_woken { (c : ℕ) → is_out self.new.locks c ≡ all_but call
+            (and_calls (line_at self.old.locks.lists call) (is_out self.old.locks)) c }
+        ensures notices_woken { (c : ℕ) → is_out self.new.notices c
+            ≡ all_but call (is_out self.old.notices) c }
     {
         self.turns.leave(call);
         self.settlements.leave(call);
@@ -56,5 +68,16 @@ impl Waits {
         let load = self.settlements.take(call);
         let lock = self.locks.take(call);
         load.take_both(lock)
+    }
+
+    /// Whether the call was handed out and has not come back since.
+    pub(crate) fn is_woken(&self, call: u64) -> bool
+        ensures { result ≡ is_out self.now.turns call || is_out self.now.settlements call
+            || is_out self.now.locks call || is_out self.now.notices call }
+    {
+        self.turns.is_woken(call)
+            || self.settlements.is_woken(call)
+            || self.locks.is_woken(call)
+            || self.notices.is_woken(call)
     }
 }

@@ -1,6 +1,6 @@
 //! The writes that were committed, in the places where the desk keeps them.
 
-ghost use Rattle.std.specs.Prelude.{◌≡◌, ℕ, ◌+◌, ◌≤◌, ◌<◌, ◌≢◌, true, None, Some, nat_lt, cond, [], ◌∷◌, ◌++◌, length, take, drop, IsNone, IfSome, option_to_list, nat_eq, OnOk, OnErr, IfOk};
+ghost use Rattle.std.specs.Prelude.{◌≡◌, ℕ, ◌+◌, ◌≤◌, ◌<◌, ◌≢◌, true, None, Some, nat_lt, cond, [], ◌∷◌, ◌++◌, length, take, drop, false, IsNone, IfSome, option_to_list, nat_eq, OnOk, OnErr, IfOk};
 ghost use Rattle.std.specs.HashMap.{get, hash_map_len};
 ghost use Rattle.std.specs.Option.{option_map};
 ghost use Rattle.std.specs.VecDeque.{deque_capacity};
@@ -33,7 +33,7 @@ pub(crate) struct Writes {
 impl Writes {
     ghost use Rattle.moka_hist.specs.Finite.{put_at};
     ghost use Rattle.moka_hist.specs.Conditions.{held_number, IsPlaceOf, MayLeaveWith};
-    ghost use Rattle.moka_hist.specs.Visits.{first_of, holding_with, number_of, without_moment};
+    ghost use Rattle.moka_hist.specs.Visits.{first_of, holding_with, number_of, once_freed, without_moment};
     ghost use Rattle.moka_hist.specs.declared.writes.Holding.{Holding};
     ghost use Rattle.moka_hist.specs.declared.writes.Holding.TheVariants as holding;
     ghost use Rattle.moka_desk.specs.Held.{is_holder};
@@ -78,6 +78,20 @@ impl Writes {
         }) self.new }
     {
         self.held.decide(call);
+    }
+
+    /// Ends the pending moment of the call. Where it wrote nothing its places of a write are given
+    /// back.
+    pub(crate) fn conclude(&mut self, call: u64, wrote: bool)
+        ensures { WritesBecomeIf self.old (λ p. wrote ≡ false → MayLeaveWith (p.holding call) call None)
+            (λ p. record p {
+              holding = put_at p.holding call (once_freed (p.holding call) wrote);
+            }) self.new }
+    {
+        match wrote {
+            true => self.decide(call),
+            false => self.give_up(call),
+        }
     }
 
     /// Lets the call, which holds none, take the oldest owed write up.
@@ -159,8 +173,8 @@ impl Writes {
         self.owed.push_back_reserved(owed);
     }
 
-    // The place that the call has for its own write, if any, is given up.
-    fn give_up(&mut self, call: u64)
+    /// Gives up the places that the call has for its own write, if any: where it wrote nothing.
+    pub(crate) fn give_up(&mut self, call: u64)
         ensures { WritesBecomeIf self.old (λ p. MayLeaveWith (p.holding call) call None)
             (λ p. record p { holding = put_at p.holding call None }) self.new }
     {
@@ -177,5 +191,6 @@ fn number_of(write: &Write) -> u64
 {
     match write {
         Write::Upsert { number, old: _ } => *number,
+        Write::Remove { number, old: _ } => *number,
     }
 }

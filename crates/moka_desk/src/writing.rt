@@ -18,6 +18,22 @@ impl<K: Eq + Hash + Clone + Drop, V: Drop> Desk<K, V> {
     ghost use Rattle.moka_desk.specs.StandsFor.{StandsFor, Can, Finds, Becomes, Makes, Stays};
     ghost use Rattle.moka_desk.specs.ListedMiss.{MissAfter, MissWith};
     ghost use Rattle.moka_desk.specs.Waits.{comes, leaves, stays, turn_line, waits_at, NobodyMoves, TurnsMove};
+    ghost use Rattle.moka_desk.specs.WakeList.{NobodyWakes, TurnsWake};
+    ghost use Rattle.moka_desk.specs.Woken.{all_but, and_calls};
+
+    /// Gives the clock's moment, in nanoseconds. Places that the call has for a write, and doesn't need,
+    /// are given back: it took no write up.
+    pub fn read_clock(&mut self, call: u64) -> u64
+        requires { Can K.eq self.old (visit.Clock call) }
+        ensures finds { Finds K.eq self.old (visit.Clock call) (found.Clock result) }
+        ensures makes { Makes K.eq self.old (visit.Clock call) self.new }
+        ensures quiet { NobodyMoves self.old self.new }
+        ensures wakes { NobodyWakes self.old self.new }
+        ensures misses { MissAfter K.eq self.old (visit.Clock call) self.new }
+    {
+        self.writes.give_up(call);
+        self.clock
+    }
 
     /// Takes the oldest owed write up, if there is one, for a call that holds none. Its notice is that of
     /// which the listener was still hearing when its call left.
@@ -26,6 +42,7 @@ impl<K: Eq + Hash + Clone + Drop, V: Drop> Desk<K, V> {
         ensures finds { Finds K.eq self.old (visit.TakeOwed call) (found.TakeOwed result) }
         ensures makes { Makes K.eq self.old (visit.TakeOwed call) self.new }
         ensures quiet { NobodyMoves self.old self.new }
+        ensures wakes { NobodyWakes self.old self.new }
         ensures misses { MissAfter K.eq self.old (visit.TakeOwed call) self.new }
     {
         self.writes.take_owed(call)
@@ -40,6 +57,7 @@ impl<K: Eq + Hash + Clone + Drop, V: Drop> Desk<K, V> {
         ensures makes { OnOk result (Makes K.eq self.old (visit.StampMoment call) self.new) }
         ensures err { OnErr result (Stays K.eq self.old self.new) }
         ensures quiet { NobodyMoves self.old self.new }
+        ensures wakes { NobodyWakes self.old self.new }
         ensures misses { OnOk result (MissAfter K.eq self.old (visit.StampMoment call) self.new) }
         ensures misses_still { OnErr result (MissWith K.eq self.old (λ w. w) self.new) }
     {
@@ -51,6 +69,7 @@ impl<K: Eq + Hash + Clone + Drop, V: Drop> Desk<K, V> {
     pub fn decided(&mut self, call: u64)
         ensures makes { Becomes K.eq self.old (λ w. with_decided w call) self.new }
         ensures quiet { NobodyMoves self.old self.new }
+        ensures wakes { NobodyWakes self.old self.new }
         ensures misses { MissWith K.eq self.old (λ w. with_decided w call) self.new }
     {
         self.writes.decide(call);
@@ -63,6 +82,7 @@ impl<K: Eq + Hash + Clone + Drop, V: Drop> Desk<K, V> {
         ensures makes { OnOk result (Becomes K.eq self.old (λ w. judged w stamp modified) self.new) }
         ensures err { OnErr result (Stays K.eq self.old self.new) }
         ensures quiet { NobodyMoves self.old self.new }
+        ensures wakes { NobodyWakes self.old self.new }
         ensures misses { OnOk result
             (MissWith K.eq self.old (λ w. judged w stamp modified) self.new) }
         ensures misses_still { OnErr result (MissWith K.eq self.old (λ w. w) self.new) }
@@ -79,6 +99,7 @@ impl<K: Eq + Hash + Clone + Drop, V: Drop> Desk<K, V> {
         ensures finds { Finds K.eq self.old (visit.PostWrite call write) (found.PostWrite result) }
         ensures makes { Makes K.eq self.old (visit.PostWrite call write) self.new }
         ensures quiet { NobodyMoves self.old self.new }
+        ensures wakes { NobodyWakes self.old self.new }
         ensures misses { MissAfter K.eq self.old (visit.PostWrite call write) self.new }
     {
         self.writes.post(call, write)
@@ -95,8 +116,10 @@ impl<K: Eq + Hash + Clone + Drop, V: Drop> Desk<K, V> {
         ensures taken { IfOk result (λ taken. OnTrue taken (TurnsMove self.old (leaves call) self.new)) }
         ensures waits { IfOk result
             (λ taken. OnFalse taken (TurnsMove self.old (waits_at self.old.turn call) self.new)) }
+        ensures back { OnOk result (TurnsWake self.old (all_but call) self.new) }
         // want of memory
         ensures unlisted { OnErr result (TurnsMove self.old stays self.new) }
+        ensures still { OnErr result (NobodyWakes self.old self.new) }
         ensures needs { OnErr result ((w : DeskPart K V) → StandsFor K.eq self.old w
             → is_free_for w call ≡ false) }
         // who is listed misses that thing
@@ -126,6 +149,7 @@ impl<K: Eq + Hash + Clone + Drop, V: Drop> Desk<K, V> {
         ensures finds { Finds K.eq self.old (visit.ApplyOne call) (found.ApplyOne result) }
         ensures makes { Makes K.eq self.old (visit.ApplyOne call) self.new }
         ensures quiet { NobodyMoves self.old self.new }
+        ensures wakes { NobodyWakes self.old self.new }
         ensures misses { MissAfter K.eq self.old (visit.ApplyOne call) self.new }
     {
         self.writes.apply_one()
@@ -138,6 +162,7 @@ impl<K: Eq + Hash + Clone + Drop, V: Drop> Desk<K, V> {
         ensures makes { Makes K.eq self.old (visit.EndTurn call) self.new }
         ensures woken { result ≡ turn_line self.old call }
         ensures waits { TurnsMove self.old (comes call) self.new }
+        ensures wakes { TurnsWake self.old (and_calls result) self.new }
         ensures misses { MissAfter K.eq self.old (visit.EndTurn call) self.new }
     {
         self.published = self.writes.applied.standing();

@@ -2,7 +2,7 @@
 ghost use Rattle.std.specs.Prelude.{nat_eq};
 ghost use Rattle.moka_run.specs.Machine.{IsValid};
 
-use moka_hist::{Event, Place, Reply, Rules, Stored};
+use moka_hist::{Event, Notice, Place, Reply, Rules, Stored};
 use moka_run::{Machine, run};
 use moka_text::read_schedule;
 use moka_vectors::text_of;
@@ -10,12 +10,14 @@ use std::alloc::{AllocError, Global};
 use std::slice;
 use std::test::Fail;
 
-/// What a schedule came to: the replies, what is stored by key, and where the writes stand.
+/// What a schedule came to: the replies, what is stored by key, where the writes stand, and how far
+/// the notices are.
 #[derive(PartialEq, Debug, Drop)]
 struct Outcome {
     replies: Vec<Reply<u32, u32>>,
     entries: Vec<(u32, Stored<u32>)>,
     places: Vec<(u64, Place)>,
+    notices: Vec<Notice<u32, u32>>,
 }
 
 /// Ten schedules without single steps. ` / ` parts lines.
@@ -30,6 +32,34 @@ const SCHEDULES: [&str; 10] = [
     "cache log=8 / start get_with 1 / start get_with 1 / poll 1 / poll 2 / drop 1 / poll 2 / tell 2 value 9 / poll 2",
     "cache log=1 / start get_with 1 / start get_with 2 / poll 1 / poll 2 / tell 2 value 4 / tell 1 value 3 / poll 1 / poll 2",
     "cache log=8 / start get_with 1 / poll 1 / start insert 1 5 / poll 2 / tell 1 done / tell 1 value 6 / drop 2 / poll 1",
+];
+
+/// Schedules under a listener.
+const HEARD: [&str; 10] = [
+    "cache log=8 listener / start insert 1 5 / poll 1 / start insert 1 6 / poll 2 / tell 2 done / poll 2 / start get 1 / poll 3",
+    "cache log=8 listener / start insert 1 5 / poll 1 / start insert 1 6 / poll 2 / drop 2 / start get 1 / poll 3 / tell 2 done / poll 3",
+    "cache log=8 listener / start insert 1 5 / poll 1 / start insert 1 6 / poll 2 / drop 2 / start get 1 / poll 3 / tell 2 done / drop 3 / start get 1 / poll 4",
+    "cache log=8 listener / start insert 1 5 / poll 1 / start insert 1 6 / poll 2 / drop 2 / start get 1 / poll 3 / drop 3 / tell 2 done / start get 1 / poll 4",
+    "cache log=8 listener / start insert 1 5 / poll 1 / start insert 1 6 / poll 2 / tell 2 off / poll 2 / start insert 1 7 / poll 3",
+    "cache log=8 listener / start insert 1 5 / poll 1 / start insert 1 6 / poll 2 / start insert 1 7 / poll 3 / at 9 / tell 2 done / poll 3 / poll 2 / poll 3",
+    "cache log=8 listener / start insert 1 5 / poll 1 / start insert 1 6 / poll 2 / start insert 1 7 / poll 3 / drop 2 / poll 3",
+    "cache log=8 listener / start get_with 1 / start get_with 1 / poll 1 / poll 2 / start insert 1 5 / poll 3 / tell 1 value 7 / poll 1 / drop 1 / poll 2",
+    "cache log=8 listener / start insert 1 5 / poll 1 / start insert 1 6 / poll 2 / tell 2 value 9 / tell 2 done / tell 2 done / start get_with 2 / poll 3 / tell 3 done / tell 3 off",
+    "cache log=1 listener / start insert 1 5 / poll 1 / start insert 1 6 / poll 2 / tell 2 done / poll 2 / start insert 1 7 / poll 3 / tell 3 done / poll 3",
+];
+
+/// Schedules in which records are taken out, or which store nothing.
+const REMOVALS: [&str; 10] = [
+    "cache log=8 / start insert 1 5 / poll 1 / start remove 1 / poll 2 / start remove 1 / poll 3 / start get 1 / poll 4",
+    "cache log=8 / start insert 1 5 / poll 1 / start invalidate 1 / poll 2 / start invalidate 1 / poll 3",
+    "cache log=1 / start insert 1 5 / poll 1 / start remove 1 / poll 2 / start insert 2 6 / poll 3",
+    "cache cap=1 log=8 / start insert 1 5 / poll 1 / start evict 1 9 Size / poll 2 / start evict 1 1 Expired / poll 3 / start evict 1 1 Size / poll 4 / start remove 1 / poll 5 / start invalidate 1 / poll 6",
+    "cache cap=0 log=8 / start insert 1 5 / poll 1 / start get 1 / poll 2 / start get_with 1 / poll 3 / tell 3 value 3 / poll 3",
+    "cache cap=0 log=8 / start get_with 1 / start get_with 1 / poll 1 / poll 2 / drop 1 / poll 2 / tell 2 value 8 / poll 2",
+    "cache log=8 listener / start insert 1 5 / poll 1 / start remove 1 / poll 2 / start insert 1 6 / poll 3 / start invalidate 1 / poll 4 / tell 2 done / poll 2 / poll 3 / poll 4",
+    "cache cap=1 log=8 listener / start insert 1 5 / poll 1 / start evict 1 1 Size / poll 2 / drop 2 / tell 2 done / start evict 1 1 Size / poll 3 / start get 1 / poll 4",
+    "cache log=8 listener / start insert 1 5 / poll 1 / start insert 1 6 / poll 2 / tell 2 off / poll 2 / start invalidate 1 / poll 3",
+    "cache cap=0 log=8 listener / start remove 1 / poll 1 / start invalidate 1 / poll 2 / start evict 1 1 Size / poll 3",
 ];
 
 /// The reply to one event. None where memory is wanting.
@@ -77,7 +107,7 @@ fn comes_to(alloc: Global, row: &str, by_steps: bool) -> Result<Outcome, AllocEr
         return Err(AllocError);
     }
     let rules = Rules {
-        max_capacity: None,
+        max_capacity: schedule.rules.max_capacity,
         time_to_live: None,
         time_to_idle: None,
         listener: schedule.rules.listener,
@@ -91,10 +121,12 @@ fn comes_to(alloc: Global, row: &str, by_steps: bool) -> Result<Outcome, AllocEr
     let mut entries = machine.entries(alloc)?.into_vec();
     entries.sort_unstable_by_key(|entry| entry.0);
     let places = machine.places(alloc)?.as_slice().to_vec(alloc)?;
+    let notices = machine.notices(alloc)?.as_slice().to_vec(alloc)?;
     Ok(Outcome {
         replies,
         entries,
         places,
+        notices,
     })
 }
 
@@ -114,12 +146,35 @@ fn served(
     reply.ok_or(AllocError)
 }
 
+/// The first schedule that comes to something else by single steps than by polls.
+fn first_other(
+    alloc: Global,
+    schedules: &[&'static str],
+) -> Result<Option<&'static str>, AllocError> {
+    for row in schedules {
+        if comes_to(alloc, row, true)? != comes_to(alloc, row, false)? {
+            return Ok(Some(*row));
+        }
+    }
+    Ok(None)
+}
+
 #[test]
 fn single_steps_come_to_what_polls_do_in_ten_schedules(rt: HostRuntime) -> Result<(), Fail> {
-    for row in SCHEDULES {
-        let polled = comes_to(rt.alloc(), row, false)?;
-        let stepped = comes_to(rt.alloc(), row, true)?;
-        assert_eq!(rt; stepped, polled, "{row}");
-    }
+    assert_eq!(rt; first_other(rt.alloc(), &SCHEDULES)?, None);
+    Ok(())
+}
+
+#[test]
+fn single_steps_come_to_what_polls_do_under_a_listener(rt: HostRuntime) -> Result<(), Fail> {
+    assert_eq!(rt; first_other(rt.alloc(), &HEARD)?, None);
+    Ok(())
+}
+
+#[test]
+fn single_steps_come_to_what_polls_do_where_records_are_taken_out(
+    rt: HostRuntime,
+) -> Result<(), Fail> {
+    assert_eq!(rt; first_other(rt.alloc(), &REMOVALS)?, None);
     Ok(())
 }

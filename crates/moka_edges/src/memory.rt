@@ -37,7 +37,7 @@ fn made(alloc: Global, schedule: &str, report: &str) -> Result<Row, AllocError>
         return Err(AllocError);
     }
     let rules = Rules {
-        max_capacity: None,
+        max_capacity: schedule.rules.max_capacity,
         time_to_live: None,
         time_to_idle: None,
         listener: schedule.rules.listener,
@@ -142,7 +142,7 @@ fn text_of_report(
 }
 
 /// Schedules with their reports, and a name for each.
-const ROWS: [(&str, &str, &str); 8] = [
+const ROWS: [(&str, &str, &str); 15] = [
     (
         "a_get",
         "cache log=8 / start get 1 / poll 1",
@@ -182,6 +182,41 @@ const ROWS: [(&str, &str, &str); 8] = [
         "an_owed_write",
         "cache log=1 / start insert 1 5 / poll 1 / start insert 2 6 / start insert 3 7 / step 2 / step 2 / step 2 / step 2 / step 3 / step 3 / step 3 / step 3 / step 3 / step 2 / drop 2 / poll 3 / start get 2 / poll 4",
         "call 1 / answer done / call 2 / call 3 / going / going / going / going / going / going / going / going / going / wait / dropped / answer done / call 4 / answer some 6 / entry 1 5 stamp 1 at 0 / entry 2 6 stamp 2 at 0 / entry 3 7 stamp 3 at 0 / write 1 applied / write 2 logged / write 3 applied",
+    ),
+    (
+        "a_notice",
+        "cache log=8 listener / start insert 1 5 / poll 1 / start insert 1 6 / poll 2 / tell 2 done / poll 2",
+        "call 1 / answer done / call 2 / ask listener 1 5 Replaced / told / answer done / entry 1 6 stamp 2 at 0 / write 1 logged / write 2 logged / notice 2 1 5 Replaced ended",
+    ),
+    (
+        "dropped_while_heard",
+        "cache log=8 listener / start insert 1 5 / poll 1 / start insert 1 6 / poll 2 / drop 2 / start get 1 / poll 3 / tell 2 done / poll 3",
+        "call 1 / answer done / call 2 / ask listener 1 5 Replaced / dropped / call 3 / wait / told / answer some 6 / entry 1 6 stamp 2 at 0 / write 1 logged / write 2 logged / notice 2 1 5 Replaced ended",
+    ),
+    (
+        "two_writers_of_a_key",
+        "cache log=8 listener / start insert 1 5 / poll 1 / start insert 1 6 / poll 2 / start insert 1 7 / poll 3 / at 9 / tell 2 done / poll 3 / poll 2 / poll 3",
+        "call 1 / answer done / call 2 / ask listener 1 5 Replaced / call 3 / wait / at / told / wait / answer done / ask listener 1 6 Replaced / entry 1 7 stamp 3 at 9 / write 1 logged / write 2 logged / write 3 held / notice 2 1 5 Replaced ended / notice 3 1 6 Replaced running",
+    ),
+    (
+        "a_listener_that_is_off",
+        "cache log=8 listener / start insert 1 5 / poll 1 / start insert 1 6 / poll 2 / tell 2 off / poll 2 / start insert 1 7 / poll 3",
+        "call 1 / answer done / call 2 / ask listener 1 5 Replaced / told / answer done / call 3 / answer done / entry 1 7 stamp 3 at 0 / write 1 logged / write 2 logged / write 3 logged / notice 2 1 5 Replaced ended / notice 3 1 6 Replaced skipped",
+    ),
+    (
+        "removals",
+        "cache log=8 listener / start insert 1 5 / poll 1 / start remove 1 / poll 2 / start insert 1 6 / poll 3 / start invalidate 1 / poll 4 / tell 2 done / poll 2 / poll 3 / poll 4",
+        "call 1 / answer done / call 2 / ask listener 1 5 Explicit / call 3 / wait / call 4 / wait / told / answer some 5 / answer done / ask listener 1 6 Explicit / write 1 logged / write 2 logged / write 3 logged / write 4 held / notice 2 1 5 Explicit ended / notice 4 1 6 Explicit running",
+    ),
+    (
+        "evictions",
+        "cache cap=1 log=8 / start insert 1 5 / poll 1 / start evict 1 9 Size / poll 2 / start evict 1 1 Size / step 3 / step 3 / step 3 / start insert 1 6 / poll 4 / step 3 / step 3 / start evict 1 4 Size / poll 5",
+        "call 1 / answer done / call 2 / answer kept / call 3 / going / going / going / call 4 / answer done / going / answer kept / call 5 / answer evicted / write 1 logged / write 4 logged / write 5 logged",
+    ),
+    (
+        "a_disabled_load",
+        "cache cap=0 log=8 / start insert 1 5 / poll 1 / start get_with 1 / poll 2 / tell 2 value 3 / poll 2 / start get 1 / poll 3",
+        "call 1 / answer done / call 2 / ask init / told / answer value 3 fresh / call 3 / answer none",
     ),
 ];
 

@@ -43,6 +43,10 @@ module _ {K V : Type 0} where
   abbrev pub HoldsWrite : DeskPart K V → ℕ → Write → Type 0
   HoldsWrite w call write = IsPlaceOf (w.holding call) call write
 
+  -- the call has at most a place for a write of its own, and none that it took up
+  abbrev pub HoldsNoWrite : DeskPart K V → ℕ → Type 0
+  HoldsNoWrite w call = (write : Write) → w.holding call ≢ Some (holding.TookUp write)
+
   -- the numbers of the writes that stand with the desk: owed, logged or applied
   abbrev pub numbers_of : DeskPart K V → List ℕ
   numbers_of w = map number_of (map (λ o. o.write) w.owed ++ w.log ++ w.applied)
@@ -54,16 +58,19 @@ module _ {K V : Type 0} where
 
   -- The desk allows the visit. A call holds one write at a time, and owns or awaits one load at a
   -- time; it settles what it owns, posts what it holds, frees the lock that it holds,
-  -- opens one notice, and applies the log while it has the turn.
+  -- opens one notice, and applies the log while it has the turn. Places that it gives back are those of no
+  -- write that it took up.
   abbrev pub MayVisit : DeskPart K V → Visit K V → Type 0
-  MayVisit w (visit.Clock call) = Unit {0}
+  MayVisit w (visit.Clock call) = HoldsNoWrite w call
   MayVisit w (visit.TakeOwed call) = IsNone (w.holding call)
   MayVisit w (visit.NoticeEnded call number) = Unit {0}
   MayVisit w (visit.LockKey call key) = IsNone (w.locked call)
-  MayVisit w (visit.UnlockKey call) = IsSome (w.locked call)
+  MayVisit w (visit.UnlockKey call wrote) =
+      IsSome (w.locked call) × (wrote ≡ false → HoldsNoWrite w call)
   MayVisit w (visit.OpenNotice call key value stamp modified cause upsert) = IsNone (w.notices call)
   MayVisit w (visit.StampMoment call) = IsNone (w.holding call) × IsUnused w call
   MayVisit w (visit.Judge key stored) = Unit {0}
+  MayVisit w (visit.Holds key stored cause) = Unit {0}
   MayVisit w (visit.WaitOrOwn call key kind) = IsNone (w.owning call) × IsNone (w.joined call)
   MayVisit w (visit.ReadSettled call) = IsSome (w.joined call)
   MayVisit w (visit.Settle call with) =

@@ -1,7 +1,7 @@
 -- One load for many callers: owning, waiting, asking, settling.
-use Rattle.std.specs.Prelude.{ℕ, ◌+◌, ◌==◌, cond, List, [], ◌∷◌, false, Some}
+use Rattle.std.specs.Prelude.{ℕ, ◌+◌, ◌==◌, Bool, true, false, cond, List, [], ◌∷◌, Some}
 use Rattle.moka_hist.specs.State.{Call}
-use Rattle.moka_hist.specs.Plan.{Item, look, loaded}
+use Rattle.moka_hist.specs.Plan.{Item, look, loaded, is_disabled}
 use Rattle.moka_hist.specs.Plan as plan
 use Rattle.moka_hist.specs.Next.{Next, goes, waits, asks, answers}
 use Rattle.moka_hist.specs.declared.loads.Load.{Load}
@@ -18,9 +18,14 @@ abbrev pub retries : ℕ
 retries = 200
 
 module _ {K V : Type 0} where
-  -- the owner looks again before it asks; the others wait for how it ends
+  -- the owner looks again before it asks, unless the cache is disabled
+  abbrev pub owner_rest : Bool → Load K → List (Item K V)
+  owner_rest false load = look (plan.To_own load) load.key
+  owner_rest true load = plan.Ask load ∷ []
+
+  -- the owner asks in the end; the others wait for how it ends
   abbrev pub after_own : Call K V → Load K → Found V → Next K V
-  after_own c load (found.WaitOrOwn claim.Owner) = goes c (look (plan.To_own load) load.key)
+  after_own c load (found.WaitOrOwn claim.Owner) = goes c (owner_rest (is_disabled c.rules) load)
   after_own c load (found.WaitOrOwn (claim.Waits owner)) = goes c (plan.Read load ∷ [])
   after_own c load _ = waits c
 

@@ -26,7 +26,7 @@ module _ {K V : Type 0} where
 
   -- the plan is about to open its notice
   abbrev pub OpensNotice : List (Item K V) → Type 0
-  OpensNotice (plan.Notice key old ∷ rest) = Unit {0}
+  OpensNotice (plan.Notice key old cause upsert ∷ rest) = Unit {0}
   OpensNotice _ = ⊥
 
   -- The notice of this number is due: its live call has committed, and opens it with its next step. The
@@ -65,11 +65,14 @@ module _ {K V : Type 0} where
 
   -- the plan is past its locking and before its freeing, where a listener is set
   abbrev pub IsUnderLock : List (Item K V) → Type 0
-  IsUnderLock (plan.Moment key value ∷ rest) = Unit {0}
+  IsUnderLock (plan.Moment change ∷ rest) = Unit {0}
   IsUnderLock (plan.Write key value moment ∷ rest) = Unit {0}
-  IsUnderLock (plan.Notice key old ∷ rest) = Unit {0}
+  IsUnderLock (plan.Notice key old cause upsert ∷ rest) = Unit {0}
   IsUnderLock (plan.Heard ∷ rest) = Unit {0}
-  IsUnderLock (plan.Unlock ∷ rest) = Unit {0}
+  IsUnderLock (plan.Unlock wrote ∷ rest) = Unit {0}
+  IsUnderLock (plan.Get (plan.To_evict key stamp cause) at ∷ rest) = Unit {0}
+  IsUnderLock (plan.Holds key stamp cause there found ∷ rest) = Unit {0}
+  IsUnderLock (plan.Out removal key ∷ rest) = Unit {0}
   IsUnderLock _ = ⊥
 
   -- the live call of this number is between its locking and its freeing

@@ -1,5 +1,5 @@
 -- One step of a call: one access, and what follows from its answer.
-use Rattle.std.specs.Prelude.{◌<◌, ◌≢◌, suc, zero, ◌≡◌, ℕ, Bool, true, false, List, [], ◌∷◌, Some, None}
+use Rattle.std.specs.Prelude.{◌<◌, ◌≢◌, suc, zero, ◌≡◌, ℕ, Bool, true, false, List, [], ◌∷◌, Some}
 use Rattle.moka_hist.specs.Finite.{put_at}
 use Rattle.moka_hist.specs.State.{Call, TablePart, World, State}
 use Rattle.moka_hist.specs.Plan.{Item}
@@ -10,10 +10,10 @@ use Rattle.moka_hist.specs.Tables.{Operates}
 use Rattle.moka_hist.specs.Bound.{times_of, stayed, decided_by, most_undecided}
 use Rattle.moka_hist.specs.Next.{Next, goes, waits}
 use Rattle.moka_hist.specs.Posting.{after_drain, after_post, after_turn, after_apply, after_end}
-use Rattle.moka_hist.specs.Looking.{after_get, after_judge}
+use Rattle.moka_hist.specs.Looking.{after_get, after_judge, after_holds}
 use Rattle.moka_hist.specs.Loading.{after_own, after_read, after_ask, after_told, after_settle}
 use Rattle.moka_hist.specs.Listening.{after_lock, after_unlock, after_notice, after_hearing}
-use Rattle.moka_hist.specs.Writing.{after_moment, after_write}
+use Rattle.moka_hist.specs.Writing.{after_moment, after_write, after_out, after_idle, stamp_asked}
 use Rattle.moka_hist.specs.declared.loads.Kind.{Kind}
 use Rattle.moka_hist.specs.declared.loads.Kind.TheVariants as kind
 use Rattle.moka_hist.specs.declared.visits.Takes.{Takes}
@@ -58,13 +58,16 @@ module _ {K V : Type 0} where
   access_for n (plan.Ask load) = On_desk (visit.OpenAsk n (takes_of load.kind))
   access_for n (plan.Told load) = On_desk (visit.TakeTold n)
   access_for n (plan.Lock key) = On_desk (visit.LockKey n key)
-  access_for n plan.Unlock = On_desk (visit.UnlockKey n)
-  access_for n (plan.Notice key old) =
-      On_desk (visit.OpenNotice n key old.value old.stamp old.modified None true)
+  access_for n (plan.Unlock wrote) = On_desk (visit.UnlockKey n wrote)
+  access_for n (plan.Notice key old cause upsert) =
+      On_desk (visit.OpenNotice n key old.value old.stamp old.modified cause upsert)
   access_for n plan.Heard = On_desk (visit.NoticeEnded n n)
-  access_for n (plan.Moment key value) = On_desk (visit.StampMoment n)
+  access_for n (plan.Holds key stamp cause there found) = On_desk (visit.Holds there found cause)
+  access_for n (plan.Moment change) = On_desk (visit.StampMoment n)
   access_for n (plan.Write key value moment) =
       On_table (op.InsertOrModify key (record { value = value; stamp = n; modified = moment }))
+  access_for n (plan.Out removal key) = On_table (op.RemoveIf key (stamp_asked removal))
+  access_for n plan.Idle = On_desk (visit.Clock n)
   access_for n (plan.Reply answer) = On_desk (visit.Clock n)
 
   -- the access of a call's next step: that of its first item. Where nothing is left but an answer, it reads the clock
@@ -85,6 +88,7 @@ module _ {K V : Type 0} where
   abbrev pub after_table : ℕ → Call K V → Item K V → List (Item K V) → TableTurn K V → Next K V
   after_table n c (plan.Get aim key) rest turn = after_get c aim turn
   after_table n c (plan.Write key value moment) rest turn = after_write n c key rest turn
+  after_table n c (plan.Out removal key) rest turn = after_out n c removal key turn
   after_table n c _ rest turn = waits c
 
   -- how a call goes on after its visit
@@ -102,10 +106,13 @@ module _ {K V : Type 0} where
   after_visit c (plan.Ask load) rest f = after_ask c load f
   after_visit c (plan.Told load) rest f = after_told c load f
   after_visit c (plan.Lock key) rest f = after_lock c rest f
-  after_visit c plan.Unlock rest f = after_unlock c rest f
-  after_visit c (plan.Notice key old) rest f = after_notice c key old rest f
+  after_visit c (plan.Unlock wrote) rest f = after_unlock c rest f
+  after_visit c (plan.Notice key old cause upsert) rest f = after_notice c key old rest f
   after_visit c plan.Heard rest f = after_hearing c rest f
-  after_visit c (plan.Moment key value) rest f = after_moment c key value rest f
+  after_visit c (plan.Holds key stamp cause there found) rest f = after_holds c key stamp cause f
+  after_visit c (plan.Moment change) rest f = after_moment c change rest f
+  after_visit c (plan.Out removal key) rest f = waits c
+  after_visit c plan.Idle rest f = after_idle c rest f
   after_visit c (plan.Reply answer) rest f = goes c (plan.Reply answer ∷ [])
   after_visit c (plan.Get aim key) rest f = waits c
   after_visit c (plan.Write key value moment) rest f = waits c

@@ -4,7 +4,7 @@ use Rattle.std.specs.Option.{option_map, option_map_or, option_and_then}
 use Rattle.std.specs.List.{list_any, count_by}
 use Rattle.moka_hist.specs.Finite.{put_at, put_key, load_eq}
 use Rattle.moka_hist.specs.State.{DeskPart}
-use Rattle.moka_hist.specs.Causes.{upsert_cause, remove_cause}
+use Rattle.moka_hist.specs.Causes.{upsert_cause, remove_cause, chosen_holds}
 use Rattle.moka_hist.specs.declared.loads.Load.{Load}
 use Rattle.moka_hist.specs.declared.notices.Notice.{Notice}
 use Rattle.moka_hist.specs.declared.notices.NoticeState.{NoticeState}
@@ -15,7 +15,7 @@ use Rattle.moka_hist.specs.declared.writes.Owed.{Owed}
 use Rattle.moka_hist.specs.declared.writes.Holding.{Holding}
 use Rattle.moka_hist.specs.declared.writes.Holding.TheVariants as holding
 use Rattle.moka_hist.specs.declared.writes.Write.{Write}
-use Rattle.moka_hist.specs.declared.writes.Write.TheVariants.{Upsert}
+use Rattle.moka_hist.specs.declared.writes.Write.TheVariants.{Upsert, Remove}
 use Rattle.moka_hist.specs.declared.visits.Claim.{Claim}
 use Rattle.moka_hist.specs.declared.visits.Claim.TheVariants as claim
 use Rattle.moka_hist.specs.declared.visits.Settled.{Settled}
@@ -29,17 +29,24 @@ use Rattle.moka_hist.specs.declared.visits.Found.TheVariants as found
 -- the number of the call that made the write, and the stamp of the record that it replaced
 abbrev pub number_of : Write → ℕ
 number_of (Upsert number old) = number
+number_of (Remove number old) = number
 
 abbrev pub old_of : Write → Option ℕ
 old_of (Upsert number old) = old
+old_of (Remove number old) = Some old
 
--- some of the writes replaced the record of this stamp
+-- the write made a record
+abbrev pub is_upsert : Write → Bool
+is_upsert (Upsert number old) = true
+is_upsert (Remove number old) = false
+
+-- some of the writes replaced or removed the record of this stamp
 abbrev pub is_replaced : List Write → ℕ → Bool
 is_replaced writes stamp = list_any (λ w. option_map_or (λ old. old == stamp) (old_of w) false) writes
 
--- how many of the writes made records that none of them replaced
+-- how many of the writes made records that none of them replaced or removed
 abbrev pub standing : List Write → ℕ
-standing writes = count_by (λ w. not (is_replaced writes (number_of w))) writes
+standing writes = count_by (λ w. is_upsert w && not (is_replaced writes (number_of w))) writes
 
 -- the oldest of the owed writes
 abbrev pub first_of : List Owed → Option Owed
@@ -55,6 +62,12 @@ moment_of (holding.TookUp write) = None
 abbrev pub without_moment : Holding → Holding
 without_moment (holding.Own pending) = holding.Own None
 without_moment (holding.TookUp write) = holding.TookUp write
+
+-- what the call holds once its lock is freed: no moment is pending, and nothing where nothing was
+-- written
+abbrev pub once_freed : Option Holding → Bool → Option Holding
+once_freed held true = option_map without_moment held
+once_freed held false = None
 
 -- what is held once the call has taken this write up, if any
 abbrev pub holding_with : (ℕ → Option Holding) → ℕ → Option Write → ℕ → Option Holding
@@ -173,9 +186,18 @@ module _ {K V : Type 0} where
     locked = put_at w.locked call (Some key);
   }
 
-  -- the visit is the first after the write where no notice was opened, so the pending moment ends
-  abbrev pub unlocked : DeskPart K V → ℕ → DeskPart K V
-  unlocked w call = record (decided w call) { locks = locks_without w call; locked = put_at w.locked call None }
+  -- the places of a write that the call doesn't need are given back
+  abbrev pub gave_back : DeskPart K V → ℕ → DeskPart K V
+  gave_back w call = record w { holding = put_at w.holding call None }
+
+  -- The visit is the first after the change where no notice was opened: the pending moment ends, and where
+  -- nothing was written the places of a write are given back.
+  abbrev pub once_decided : DeskPart K V → ℕ → Bool → DeskPart K V
+  once_decided w call wrote =
+      record w { holding = put_at w.holding call (once_freed (w.holding call) wrote) }
+
+  abbrev pub unlocked : DeskPart K V → ℕ → Bool → DeskPart K V
+  unlocked w call wrote = record (once_decided w call wrote) { locks = locks_without w call; locked = put_at w.locked call None }
 
   -- a notice of this number was opened, in this state
   abbrev pub with_notice : DeskPart K V → ℕ → Notice K V → DeskPart K V
@@ -244,11 +266,13 @@ module _ {K V : Type 0} where
   finds w (visit.TakeOwed call) = found.TakeOwed (first_of w.owed)
   finds w (visit.NoticeEnded call number) = found.NoticeEnded (not (is_running w number))
   finds w (visit.LockKey call key) = found.LockKey (is_unlocked_for w call key)
-  finds w (visit.UnlockKey call) = found.UnlockKey
+  finds w (visit.UnlockKey call wrote) = found.UnlockKey
   finds w (visit.OpenNotice call key value stamp modified cause upsert) =
       found.OpenNotice (cond w.off None (Some (cause_of w stamp modified cause upsert)))
   finds w (visit.StampMoment call) = found.StampMoment w.clock
   finds w (visit.Judge key stored) = found.Judge true
+  finds w (visit.Holds key stored cause) =
+      found.Holds (chosen_holds w.rules (times_at w stored.stamp stored.modified) false cause)
   finds w (visit.WaitOrOwn call key kind) = found.WaitOrOwn (claim_of (w.owners (record { key = key; kind = kind })))
   finds w (visit.ReadSettled call) = found.ReadSettled (unwrap_or (settlement_for w call) settled.NotYet)
   finds w (visit.Settle call with) = found.Settle
@@ -261,15 +285,16 @@ module _ {K V : Type 0} where
 
   -- what it changes
   abbrev pub makes : (K → K → Bool) → DeskPart K V → Visit K V → DeskPart K V
-  makes eq w (visit.Clock call) = w
+  makes eq w (visit.Clock call) = gave_back w call
   makes eq w (visit.TakeOwed call) = took_owed w call
   makes eq w (visit.NoticeEnded call number) = w
   makes eq w (visit.LockKey call key) = locked_by eq w call key (is_unlocked_for w call key)
-  makes eq w (visit.UnlockKey call) = unlocked w call
+  makes eq w (visit.UnlockKey call wrote) = unlocked w call wrote
   makes eq w (visit.OpenNotice call key value stamp modified cause upsert) =
       opened_notice w call key value (cause_of w stamp modified cause upsert)
   makes eq w (visit.StampMoment call) = stamped w call
   makes eq w (visit.Judge key stored) = judged w stored.stamp stored.modified
+  makes eq w (visit.Holds key stored cause) = w
   makes eq w (visit.WaitOrOwn call key kind) =
       let load : Load K = record { key = key; kind = kind } in claimed eq w call load (w.owners load)
   makes eq w (visit.ReadSettled call) = read w call

@@ -1,11 +1,17 @@
 //! The events of a schedule.
 
+use crate::Cause;
+
 /// What a call is started for.
 #[derive(Clone, PartialEq, Debug, Drop)]
 pub enum Start<K, V> {
     Get { key: K },
     Insert { key: K, value: V },
     GetWith { key: K },
+    Invalidate { key: K },
+    Remove { key: K },
+    /// The record of this stamp is taken out, where it still stands under the key and the cause holds.
+    Evict { key: K, stamp: u64, cause: Cause },
 }
 
 /// What an open ask is told: a value, by an initializer; `Done` by a listener, or `Off`, after which it

@@ -20,6 +20,11 @@ pub enum Answer<V> {
     Loaded { value: V, fresh: bool },
     /// The owner that the call waited for was dropped, for the 200th time.
     RetriesExhausted,
+    /// The record was taken out, by this call.
+    Evicted,
+    /// The record stays, or left by another call: the key is absent, its record is another, or the
+    /// cause doesn't hold.
+    Kept,
 }
 
 /// Why an event was refused. A refused event changes nothing.

@@ -9,9 +9,13 @@ use crate::Stored;
 pub enum TableOp<K, V> {
     Get { key: K },
     InsertOrModify { key: K, stored: Stored<V> },
+    /// Stores the record, where the key is absent.
+    InsertIfAbsent { key: K, stored: Stored<V> },
+    /// Takes the pair out, where its record has this stamp; whatever its stamp, where that is None.
+    RemoveIf { key: K, stamp: Option<u64> },
 }
 
-/// What the map has at the key, or had before the change.
+/// What the map has at the key, or had before the change; of a removal what it took out.
 #[derive(Drop)]
 pub enum TableAnswer<K, V> {
     None,

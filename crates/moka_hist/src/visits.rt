@@ -27,7 +27,7 @@ pub enum Takes {
 /// A visit of the desk, with the number of the call that makes it.
 #[derive(Drop)]
 pub enum Visit<K, V> {
-    /// Reads the clock, and does nothing else.
+    /// Reads the clock. Places of a write that the call has taken and doesn't need are given back.
     Clock {
         call: u64,
     },
@@ -45,9 +45,11 @@ pub enum Visit<K, V> {
         call: u64,
         key: K,
     },
-    /// Frees the lock that the call holds.
+    /// Frees the lock that the call holds. Where nothing was written under it (`wrote` is false) the
+    /// places of its write are given back.
     UnlockKey {
         call: u64,
+        wrote: bool,
     },
     /// Takes the moment of a write that follows.
     StampMoment {
@@ -57,6 +59,12 @@ pub enum Visit<K, V> {
     Judge {
         key: K,
         stored: Stored<V>,
+    },
+    /// Judges whether a record that was chosen to leave for this cause has still to.
+    Holds {
+        key: K,
+        stored: Stored<V>,
+        cause: Cause,
     },
     /// Becomes the owner of a load, or joins its waiters.
     WaitOrOwn {
@@ -123,6 +131,7 @@ pub enum Found<V> {
     UnlockKey,
     StampMoment(u64),
     Judge(bool),
+    Holds(bool),
     WaitOrOwn(Claim),
     ReadSettled(Settled<V>),
     Settle,

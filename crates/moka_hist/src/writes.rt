@@ -1,9 +1,11 @@
 //! Committed writes, and the places where they stand until they are applied.
 
-/// A committed write: the call that made it, and the stamp of the record that it replaced.
+/// A committed write: the call that made it, and the stamp of the record that it replaced or took
+/// out.
 #[derive(Clone, Copy, PartialEq, Eq, Debug)]
 pub enum Write {
     Upsert { number: u64, old: Option<u64> },
+    Remove { number: u64, old: u64 },
 }
 
 /// What a call holds of writes: the place of a write of its own number, with the moment that it

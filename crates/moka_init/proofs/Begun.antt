@@ -50,6 +50,7 @@ module _ {K V : Type 0} where
       → let c : Call K V = record { rules = r; mode = m; plan = items; aborts = aborts } in Stays n c ⊎ Parks n c
   stays_or_parks n r m (plan.Get aim key ∷ rest) aborts = inl (record { operation = op.Get key; access = refl; next = refl })
   stays_or_parks n r m (plan.Write key value moment ∷ rest) aborts = inl (record { operation = _; access = refl; next = refl })
+  stays_or_parks n r m (plan.Out removal key ∷ rest) aborts = inl (record { operation = _; access = refl; next = refl })
   stays_or_parks n r m [] aborts = inr (record { made = _; access = refl; next = refl })
   stays_or_parks n r m (_ ∷ rest) aborts = inr (record { made = _; access = refl; next = refl })
 

@@ -6,7 +6,7 @@ use Rattle.std.specs.declared.result.Result as result
 use Rattle.std.specs.declared.result.Result.TheVariants as results
 use Rattle.moka_hist.specs.Bound.{stayed, times_of, decided_by}
 use Rattle.moka_hist.specs.State.{Call, World}
-use Rattle.moka_hist.specs.Plan.{Item}
+use Rattle.moka_hist.specs.Plan.{Item, is_disabled, get_plan}
 use Rattle.moka_hist.specs.Plan as plan
 use Rattle.moka_hist.specs.Step.{Access, Gets, May, Moves, MovesOn, IsSafe, On_desk, On_table, access_of, next_of, going_as}
 use Rattle.moka_hist.specs.Visits.{finds, makes, holding_with, first_of}
@@ -211,7 +211,10 @@ module _ {K V : Type 0} (eq : K → K → Bool) where
   may_look n d mid bare (inr at) = subst (λ (p : List (Item K V)). May mid (access_of n (record d { plan = p }))) (sym at.1) tt
 
   -- an empty cache has what each step of a get needs
-  pub get_is_safe : (left n : ℕ) (key : K) (r : Rules) (c : Call K V) (w : World K V) → c ≡ fresh_call r (start.Get key) → IsBare left w → IsSafe eq n c w
-  get_is_safe left n key r c w is bare = λ k d mid on.
-      let on_to = looks_on k n c w d mid (record { owed = bare.owed; holding = bare.holding; stored = bare.stored }) (inl (key, ap (λ x. x.plan) is)) on in
+  pub get_is_safe : (left n : ℕ) (key : K) (r : Rules) (c : Call K V) (w : World K V) → c ≡ fresh_call r (start.Get key)
+      → is_disabled r ≡ false → IsBare left w → IsSafe eq n c w
+  get_is_safe left n key r c w is enabled bare = λ k d mid on.
+      let whole : c.plan ≡ plan.Drain ∷ plan.Get plan.To_answer key ∷ [] =
+      ap (λ x. x.plan) is ∙ ap (λ b. get_plan b key) enabled in
+      let on_to = looks_on k n c w d mid (record { owed = bare.owed; holding = bare.holding; stored = bare.stored }) (inl (key, whole)) on in
       may_look n d mid on_to.0 on_to.1

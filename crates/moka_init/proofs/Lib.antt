@@ -4,3 +4,4 @@ pub mod Told
 pub mod EmptyCache
 pub mod Near
 pub mod Fitting
+pub mod Still

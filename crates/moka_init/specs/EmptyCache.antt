@@ -1,5 +1,6 @@
 -- The worlds of an empty cache, on which tests poll.
-use Rattle.std.specs.Prelude.{◌≡◌, ℕ, ◌+◌, ◌≤◌, Bool, List, [], ◌∷◌, ◌++◌, map, length, Option, Some, None}
+use Rattle.std.specs.Prelude.{◌≡◌, ℕ, ◌+◌, ◌≤◌, Bool, List, [], ◌∷◌, ◌++◌, map, length, Option}
+use Rattle.std.specs.Prelude.{Some, None}
 use Rattle.moka_hist.specs.Bound.{most_undecided}
 use Rattle.moka_hist.specs.State.{World}
 use Rattle.moka_hist.specs.Step.{Access, Gets}
@@ -20,7 +21,8 @@ use Rattle.moka_init.specs.Grounds.{Account, MayWant, still_begun}
 use Rattle.moka_init.specs.Telling.{Made, TellsPoll}
 use Rattle.moka_bound.specs.Ahead.{Work}
 
--- nothing is stored, no write is owed or logged, and an operation may stay undecided for so many steps more
+-- nothing is stored, no write is owed or logged, and an operation may stay undecided for so many
+-- steps more
 pub record IsBare {K V : Type 0} (left : ℕ) (w : World K V) : Type 0 where
   -- no dropped call has left a write
   pub owed : w.desk.owed ≡ []
@@ -42,7 +44,8 @@ module _ {K V : Type 0} where
   -- on each empty cache, whichever call it is, the access may give this, and leaves an empty cache
   abbrev pub BareGives : (K → K → Bool) → ℕ → Access K V → Got K V → ℕ → Type 0
   BareGives eq left access given after =
-      (call : ℕ) (w : World K V) → IsBare left w → (new : World K V) × Gets eq call w access given new × IsBare after new
+      (call : ℕ) (w : World K V) → IsBare left w
+      → (new : World K V) × Gets eq call w access given new × IsBare after new
 
   -- an access that is noted with what it gave, as it is first wanted
   abbrev pub noted : Want K V × Got K V → Made K V
@@ -50,7 +53,8 @@ module _ {K V : Type 0} where
   noted (want.Desk made, given) = (step.On_desk made, given)
   noted (want.Table, given) = (step.On_desk (visit.Clock 0), given)
 
-  -- what is told on an empty cache, for this call: with what it has begun, what was noted, and for how long it may stay undecided
+  -- what is told on an empty cache, for this call: with what it has begun, what was noted, and for
+  -- how long it may stay undecided
   abbrev pub bare_account : ℕ → Option (TableOp K V) → List (Want K V × Got K V) → ℕ → Account K V
   bare_account call begun notes left =
       record { call = call; begun = begun; made = Some (map noted notes); work = bare_work left }
@@ -60,11 +64,14 @@ module _ {K V : Type 0} where
   BareAllows left begun wish = (w : World K V) × IsBare left w × MayWant w begun wish
 
   -- nothing was begun, noted or decided
-  abbrev pub AsBefore : Option (TableOp K V) → List (Want K V × Got K V) → ℕ → Option (TableOp K V) → List (Want K V × Got K V) → ℕ → Type 0
-  AsBefore begun notes left begun_now notes_now left_now = (begun_now ≡ begun) × (notes_now ≡ notes) × (left_now ≡ left)
+  abbrev pub AsBefore : Option (TableOp K V) → List (Want K V × Got K V) → ℕ → Option (TableOp K V)
+      → List (Want K V × Got K V) → ℕ → Type 0
+  AsBefore begun notes left begun_now notes_now left_now =
+      (begun_now ≡ begun) × (notes_now ≡ notes) × (left_now ≡ left)
 
   -- an empty cache served this access, which was noted as this want
-  pub record BareServes (eq : K → K → Bool) (before : List (Want K V × Got K V)) (left : ℕ) (access : Access K V) (wish : Want K V) (given : Got K V)
+  pub record BareServes (eq : K → K → Bool) (before : List (Want K V × Got K V)) (left : ℕ)
+      (access : Access K V) (wish : Want K V) (given : Got K V)
       (begun : Option (TableOp K V)) (now : List (Want K V × Got K V)) (left_now : ℕ) : Type 0 where
     pub gives : BareGives eq left access given left_now
     pub form : HasForm access given
@@ -88,9 +95,15 @@ module _ {K V : Type 0} where
   -- the accesses of a whole poll of a fresh get were noted, and nothing else
   abbrev pub NotesPoll : K → List (Want K V × Got K V) → List (Want K V × Got K V) → Type 0
   NotesPoll key old new =
-      (rules : Rules) × (next : Next K V) × TellsPoll 1 (fresh_call rules (start.Get key)) next (map noted old) (Some (map noted new))
+      (rules : Rules) × (next : Next K V)
+      × TellsPoll 1 (fresh_call rules (start.Get key)) next (map noted old)
+      (Some (map noted new))
 
   -- what is told of owed and logged writes
   pub bare_counts : (left : ℕ) (w : World K V) → IsBare left w → Counts w (bare_work left)
   bare_counts left w bare =
-      record { owed = sym (ap length bare.owed); logged = sym (ap length bare.log); size = sym bare.size }
+      record {
+        owed = sym (ap length bare.owed);
+        logged = sym (ap length bare.log);
+        size = sym bare.size;
+      }

@@ -23,11 +23,12 @@ module _ {K V : Type 0} where
   IsFoundBy (visit.TakeOwed n) f = (owed : Option Owed) × (f ≡ found.TakeOwed owed)
   IsFoundBy (visit.NoticeEnded n number) f = (ended : Bool) × (f ≡ found.NoticeEnded ended)
   IsFoundBy (visit.LockKey n key) f = (locked : Bool) × (f ≡ found.LockKey locked)
-  IsFoundBy (visit.UnlockKey n) f = f ≡ found.UnlockKey
+  IsFoundBy (visit.UnlockKey n wrote) f = f ≡ found.UnlockKey
   IsFoundBy (visit.OpenNotice n key value stamp modified handed upsert) f =
       (cause : Option Cause) × (f ≡ found.OpenNotice cause)
   IsFoundBy (visit.StampMoment n) f = (moment : ℕ) × (f ≡ found.StampMoment moment)
   IsFoundBy (visit.Judge key stored) f = (seen : Bool) × (f ≡ found.Judge seen)
+  IsFoundBy (visit.Holds key stored cause) f = (holds : Bool) × (f ≡ found.Holds holds)
   IsFoundBy (visit.WaitOrOwn n key kind) f = (claim : Claim) × (f ≡ found.WaitOrOwn claim)
   IsFoundBy (visit.ReadSettled n) f = (settled : Settled V) × (f ≡ found.ReadSettled settled)
   IsFoundBy (visit.Settle n with) f = f ≡ found.Settle

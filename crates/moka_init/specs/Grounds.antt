@@ -1,5 +1,6 @@
 -- What a flow stands on.
-use Rattle.std.specs.Prelude.{◌≡◌, ℕ, Bool, true, false, List, [], ◌∷◌, ◌++◌, Option, Some, None, MatchOption}
+use Rattle.std.specs.Prelude.{◌≡◌, ℕ, Bool, true, false, List, [], ◌∷◌, ◌++◌, Option, Some, None}
+use Rattle.std.specs.Prelude.{MatchOption}
 use Rattle.moka_hist.specs.State.{DeskPart, World}
 use Rattle.moka_hist.specs.Plan.{Item}
 use Rattle.moka_hist.specs.Visits.{is_free_for, is_running}
@@ -31,12 +32,13 @@ pub record Account (K V : Type 0) : Type 0 where
   pub begun : Option (TableOp K V)
   -- the accesses that were made there with what they gave, where it can tell them
   pub made : Option (List (Access K V × Got K V))
-  -- What the length of the call's way depends on there: how many writes are owed and logged, and for how many steps its
-  -- table operation may stay undecided.
+  -- What the length of the call's way depends on there: how many writes are owed and logged, and
+  -- for how many steps its table operation may stay undecided.
   pub work : Work
 
 module _ {K V : Type 0} where
-  -- The access that is wanted, where this operation was begun: nothing else is, until it has decided.
+  -- The access that is wanted, where this operation was begun: nothing else is, until it has
+  -- decided.
   abbrev pub wanted : Option (TableOp K V) → Want K V → Option (Access K V)
   wanted None (want.Begin operation) = Some (step.On_table operation)
   wanted None (want.Desk made) = Some (step.On_desk made)
@@ -51,10 +53,11 @@ module _ {K V : Type 0} where
   VisitTakesCopies (visit.TakeOwed n) = ⊥
   VisitTakesCopies (visit.NoticeEnded n number) = ⊥
   VisitTakesCopies (visit.LockKey n key) = Unit {0}
-  VisitTakesCopies (visit.UnlockKey n) = ⊥
+  VisitTakesCopies (visit.UnlockKey n wrote) = ⊥
   VisitTakesCopies (visit.OpenNotice n key value stamp modified cause upsert) = Unit {0}
   VisitTakesCopies (visit.StampMoment n) = ⊥
   VisitTakesCopies (visit.Judge key stored) = Unit {0}
+  VisitTakesCopies (visit.Holds key stored cause) = Unit {0}
   VisitTakesCopies (visit.WaitOrOwn n key kind) = Unit {0}
   VisitTakesCopies (visit.ReadSettled n) = ⊥
   VisitTakesCopies (visit.Settle n with) = Unit {0}
@@ -70,18 +73,19 @@ module _ {K V : Type 0} where
   TakesCopies (step.On_table operation) = Unit {0}
   TakesCopies (step.On_desk made) = VisitTakesCopies made
 
-  -- Memory may be wanting for such a visit of the desk: it copies a key or a value, or writes down what is
-  -- new; where the turn is another's, or the notice runs, it lists the call. Taking up what is owed or told,
-  -- freeing a lock, posting a write and applying the log need none.
+  -- Memory may be wanting for such a visit of the desk: it copies a key or a value, or writes down
+  -- what is new; where the turn is another's, or the notice runs, it lists the call. Taking up what
+  -- is owed or told, freeing a lock, posting a write and applying the log need none.
   abbrev pub VisitNeedsMemory : DeskPart K V → Visit K V → Type 0
   VisitNeedsMemory w (visit.Clock n) = ⊥
   VisitNeedsMemory w (visit.TakeOwed n) = ⊥
   VisitNeedsMemory w (visit.NoticeEnded n number) = is_running w number ≡ true
   VisitNeedsMemory w (visit.LockKey n key) = Unit {0}
-  VisitNeedsMemory w (visit.UnlockKey n) = ⊥
+  VisitNeedsMemory w (visit.UnlockKey n wrote) = ⊥
   VisitNeedsMemory w (visit.OpenNotice n key value stamp modified cause upsert) = Unit {0}
   VisitNeedsMemory w (visit.StampMoment n) = Unit {0}
   VisitNeedsMemory w (visit.Judge key stored) = Unit {0}
+  VisitNeedsMemory w (visit.Holds key stored cause) = Unit {0}
   VisitNeedsMemory w (visit.WaitOrOwn n key kind) = Unit {0}
   VisitNeedsMemory w (visit.ReadSettled n) = Unit {0}
   VisitNeedsMemory w (visit.Settle n with) = Unit {0}
@@ -92,7 +96,8 @@ module _ {K V : Type 0} where
   VisitNeedsMemory w (visit.ApplyOne n) = ⊥
   VisitNeedsMemory w (visit.EndTurn n) = ⊥
 
-  -- memory may be wanting for such an access in this world: it goes to the table, or is such a visit
+  -- memory may be wanting for such an access in this world: it goes to the table, or is such a
+  -- visit
   abbrev pub NeedsMemory : World K V → Access K V → Type 0
   NeedsMemory w (step.On_table operation) = Unit {0}
   NeedsMemory w (step.On_desk made) = VisitNeedsMemory w.desk made
@@ -136,18 +141,24 @@ module _ {K V : Type 0} where
     pub call : account.call ≡ flow.call
     pub begun : HasBegun account.begun flow
 
-  -- The access gave this, in each world that the ground stood for and that allows it, and the ground stands for the world then.
-  abbrev pub Gives : (K → K → Bool) → ℕ → (World K V → Type 0) → Access K V → Got K V → (World K V → Type 0) → Type 0
+  -- The access gave this, in each world that the ground stood for and that allows it, and the
+  -- ground stands for the world then.
+  abbrev pub Gives : (K → K → Bool) → ℕ → (World K V → Type 0) → Access K V → Got K V
+      → (World K V → Type 0) → Type 0
   Gives eq call stood access given stands =
-      (w : World K V) → stood w → May w access → (new : World K V) × Gets eq call w access given new × stands new
+      (w : World K V) → stood w → May w access
+      → (new : World K V) × Gets eq call w access given new × stands new
 
   -- the access is told with what it gave, after what was told before, and nothing else is
-  abbrev pub Tells : Option (List (Access K V × Got K V)) → Access K V → Got K V → Option (List (Access K V × Got K V)) → Type 0
+  abbrev pub Tells : Option (List (Access K V × Got K V)) → Access K V → Got K V
+      → Option (List (Access K V × Got K V)) → Type 0
   Tells old access given new =
-      (before : List (Access K V × Got K V)) → old ≡ Some before → new ≡ Some (before ++ (access, given) ∷ [])
+      (before : List (Access K V × Got K V)) → old ≡ Some before
+      → new ≡ Some (before ++ (access, given) ∷ [])
 
   -- What a ground tells after the access gave this.
-  pub record Accesses (old : Account K V) (access : Access K V) (given : Got K V) (new : Account K V) : Type 0 where
+  pub record Accesses (old : Account K V) (access : Access K V) (given : Got K V)
+      (new : Account K V) : Type 0 where
     -- the answer is of the form that belongs to the access
     pub form : HasForm access given
     -- it is the ground of the same call
@@ -159,7 +170,8 @@ module _ {K V : Type 0} where
     -- an undecided step is followed by fewer
     pub shortens : Shortens old.work new.work access given
 
-  -- memory was wanting for the access: in each world that the ground stood for and that allows it, it may be
+  -- memory was wanting for the access: in each world that the ground stood for and that allows it,
+  -- it may be
   abbrev pub Lacks : (World K V → Type 0) → (World K V → Access K V → Type 0) → Access K V → Type 0
   Lacks stood needs access = (w : World K V) → stood w → May w access → needs w access
 

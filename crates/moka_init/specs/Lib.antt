@@ -1,3 +1,4 @@
+pub mod PointPlan
 pub mod FlowPlan
 pub mod Forms
 pub mod Grounds

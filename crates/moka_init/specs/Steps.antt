@@ -21,7 +21,8 @@ module _ {K V : Type 0} where
       (w : World K V) → stood w → May w (access_at flow)
       → (new : World K V) × Moves eq flow.call (call_of flow) w next new × stands new
 
-  -- it moves up to the first turn that isn't Going, in each of these worlds that has what its steps need
+  -- it moves up to the first turn that isn't Going, in each of these worlds that has what its steps
+  -- need
   abbrev pub PolledThere : (K → K → Bool) → Worlds K V → Flow K V → Next K V → Worlds K V → Type 0
   PolledThere eq stood flow next stands =
       (w : World K V) → stood w → IsSafe eq flow.call (call_of flow) w
@@ -31,27 +32,34 @@ module _ {K V : Type 0} where
   abbrev pub GoesThere : (K → K → Bool) → ℕ → Worlds K V → Flow K V → Flow K V → Worlds K V → Type 0
   GoesThere eq steps stood flow on stands =
       (w : World K V) → stood w → IsSafe eq flow.call (call_of flow) w
-      → (new : World K V) × MovesOn eq steps flow.call (call_of flow) w (call_of on) new × stands new
+      → (new : World K V) × MovesOn eq steps flow.call (call_of flow) w (call_of on) new
+      × stands new
 
   -- memory may be wanting for the flow's next access in the world: for its copies, or on the ground
   abbrev pub MayLack : (World K V → Access K V → Type 0) → World K V → Flow K V → Type 0
   MayLack needs w flow = TakesCopies (access_at flow) ⊎ needs w (access_at flow)
 
-  -- it moves by so many steps, each of which leaves it going, up to one for which memory may be wanting
-  abbrev pub StopsThere : (K → K → Bool) → ℕ → Worlds K V → Flow K V → Flow K V → Worlds K V → (World K V → Access K V → Type 0) → Type 0
+  -- it moves by so many steps, each of which leaves it going, up to one for which memory may be
+  -- wanting
+  abbrev pub StopsThere : (K → K → Bool) → ℕ → Worlds K V → Flow K V → Flow K V → Worlds K V
+      → (World K V → Access K V → Type 0) → Type 0
   StopsThere eq steps stood flow on stands needs =
       (w : World K V) → stood w → IsSafe eq flow.call (call_of flow) w
-      → (new : World K V) × MovesOn eq steps flow.call (call_of flow) w (call_of on) new × stands new × MayLack needs new on
+      → (new : World K V) × MovesOn eq steps flow.call (call_of flow) w (call_of on) new
+      × stands new × MayLack needs new on
 
-  -- so many steps were made, as it is told, each of which left the call going, and just these are told; and
-  -- memory may be wanting for the next one
-  abbrev pub Unended : (K → K → Bool) → ℕ → Worlds K V → Account K V → Flow K V → Flow K V → Worlds K V → Account K V
+  -- so many steps were made, as it is told, each of which left the call going, and just these are
+  -- told; and memory may be wanting for the next one
+  abbrev pub Unended : (K → K → Bool) → ℕ → Worlds K V → Account K V → Flow K V → Flow K V
+      → Worlds K V → Account K V
       → (World K V → Access K V → Type 0) → Type 0
   Unended eq told stood old flow on stands new needs =
       (steps : ℕ) × (told ≡ as_told steps) × StopsThere eq steps stood flow on stands needs
-      × ((before : List (Made K V)) → old.made ≡ Some before → TellsSteps steps flow.call (call_of flow) (call_of on) before new.made)
+      × ((before : List (Made K V)) → old.made ≡ Some before
+      → TellsSteps steps flow.call (call_of flow) (call_of on) before new.made)
 
-  -- the call may still make fewer steps, in each of these worlds that has what the step needed and whose log has room for a write at all
+  -- the call may still make fewer steps, in each of these worlds that has what the step needed and
+  -- whose log has room for a write at all
   abbrev pub Nears : Worlds K V → Account K V → Flow K V → Account K V → Flow K V → Type 0
   Nears stood old flow new on =
       (w : World K V) → stood w → May w (access_at flow) → 0 < w.desk.size

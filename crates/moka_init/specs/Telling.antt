@@ -10,13 +10,17 @@ abbrev pub Made : (K V : Type 0) → Type 0
 Made K V = Access K V × Got K V
 
 module _ {K V : Type 0} where
-  -- beside what was told before, the one access of a step, from whose answer the turn and the call that is left follow
-  abbrev pub TellsStep : ℕ → Call K V → Next K V → List (Made K V) → Option (List (Made K V)) → Type 0
+  -- beside what was told before, the one access of a step, from whose answer the turn and the call
+  -- that is left follow
+  abbrev pub TellsStep : ℕ → Call K V → Next K V → List (Made K V) → Option (List (Made K V))
+      → Type 0
   TellsStep n c next before after =
-      (given : Got K V) × (next ≡ next_of n c given) × (after ≡ Some (before ++ (access_of n c, given) ∷ []))
+      (given : Got K V) × (next ≡ next_of n c given)
+      × (after ≡ Some (before ++ (access_of n c, given) ∷ []))
 
   -- beside what was told before, the accesses of k steps by which the call goes on from c to d
-  pub record TellsSteps (k n : ℕ) (c d : Call K V) (before : List (Made K V)) (after : Option (List (Made K V))) : Type 0 where
+  pub record TellsSteps (k n : ℕ) (c d : Call K V) (before : List (Made K V))
+      (after : Option (List (Made K V))) : Type 0 where
     -- the accesses of the steps, in order
     pub path : List (Made K V)
     -- one for each step
@@ -26,8 +30,10 @@ module _ {K V : Type 0} where
     -- they are told after what was told before, and nothing else is
     pub told : after ≡ Some (before ++ path)
 
-  -- beside what was told before, the accesses of the steps that left the call going, and that of the last step
-  pub record TellsPoll (n : ℕ) (c : Call K V) (next : Next K V) (before : List (Made K V)) (after : Option (List (Made K V))) : Type 0 where
+  -- beside what was told before, the accesses of the steps that left the call going, and that of
+  -- the last step
+  pub record TellsPoll (n : ℕ) (c : Call K V) (next : Next K V) (before : List (Made K V))
+      (after : Option (List (Made K V))) : Type 0 where
     -- the accesses of the steps that left the call going, in order
     pub path : List (Made K V)
     -- the call at its last step

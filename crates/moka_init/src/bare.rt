@@ -1,7 +1,7 @@
 //! Steps and polls on a ground that is simple enough to be true: nothing is stored, and no write is
-//! owed. It keeps the list of its accesses. They show that the conditions of a poll can be met, that a
-//! step makes exactly one access, and that a poll tells them all and ends at the first turn that isn't
-//! Going.
+//! owed. It keeps the list of its accesses. They show that the conditions of a poll can be met,
+//! that a step makes exactly one access, and that a poll tells them all and ends at the first turn
+//! that isn't Going.
 ghost use Rattle.std.specs.Prelude.{◌≡◌, ◌≤◌, Some, None, IfOk, OnOk, OnErr};
 ghost use Rattle.std.proofs.Common.{refl};
 ghost use Rattle.moka_hist.specs.Finite.{IsExact};

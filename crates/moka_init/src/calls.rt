@@ -1,19 +1,19 @@
 //! What a call tells of itself: how far it is, what it holds, and the notice that is due.
-ghost use Rattle.std.specs.Prelude.{◌≡◌, false, None, IfOk};
+ghost use Rattle.std.specs.Prelude.{◌≡◌, false, IfOk};
 ghost use Rattle.moka_hist.specs.Finite.{IsExact};
 ghost use Rattle.moka_hist.specs.Step.{access_for, On_desk};
 ghost use Rattle.moka_hist.specs.Plan as plan;
-ghost use Rattle.moka_init.specs.FlowPlan.{owed_in, posting_plan, listening_plan};
+ghost use Rattle.moka_init.specs.PointPlan.{posting_plan, listening_plan};
+ghost use Rattle.moka_init.specs.FlowPlan.{opening, owed_in};
 
 use crate::flow::Flow;
 use crate::points::{Listening, Point, Posting};
-use moka_hist::{Mode, Owed, Rules, Start, Stored, Visit, Write};
+use moka_hist::{Cause, Mode, Owed, Rules, Start, Stored, Visit, Write};
 use std::alloc::AllocError;
 
-impl<K, V> Flow<K, V> {
-    ghost use Rattle.moka_hist.specs.Dropping.{owed_by};
+impl<K: Drop, V: Drop> Flow<K, V> {
     ghost use Rattle.moka_hist.specs.Run.{fresh_call};
-    ghost use Rattle.moka_init.specs.FlowPlan.{call_of, is_over, IsLive};
+    ghost use Rattle.moka_init.specs.FlowPlan.{call_of, IsLive, IsReady};
 
     /// The fresh flow of a start, under this number, in a cache of these rules. It takes no memory.
     pub fn new(start: Start<K, V>, call: u64, rules: Rules) -> Self
@@ -21,6 +21,7 @@ impl<K, V> Flow<K, V> {
         ensures number { result.call ≡ call }
         ensures begun { result.begun ≡ false }
         ensures live { IsLive result }
+        ensures ready { IsReady result }
     {
         Flow {
             rules,
@@ -31,6 +32,11 @@ impl<K, V> Flow<K, V> {
             point: Point::first(rules, start),
         }
     }
+}
+
+impl<K, V> Flow<K, V> {
+    ghost use Rattle.moka_hist.specs.Dropping.{owed_by};
+    ghost use Rattle.moka_init.specs.FlowPlan.{call_of, is_over};
 
     /// How far the call is.
     pub fn mode(&self) -> Mode
@@ -64,31 +70,60 @@ impl<K, V> Flow<K, V> {
 impl<K: Clone + Drop, V: Clone + Drop> Flow<K, V> {
     ghost use Rattle.moka_init.specs.FlowPlan.{due_of};
 
-    /// The visit that opens the call's notice, where that is due. It makes the clones that it needs.
+    /// The visit that opens the call's notice, where that is due. It makes the clones that it
+    /// needs.
     pub fn due(&self) -> Result<Option<Visit<K, V>>, AllocError>
         requires keys { IsExact K.is_clone }
         requires values { IsExact V.is_clone }
         ensures { IfOk result (λ due. due ≡ due_of self.now) }
     {
         match &self.point {
-            Point::Listening(Listening::Notice { key, old, .. }) => {
-                let visit = open_notice(self.call, key, old)?;
-                Ok(Some(visit))
-            }
+            Point::Listening(listening) => due_in_listening(self.call, listening),
             _ => Ok(None),
         }
     }
 }
 
-// The visit that opens the notice of a record that the call replaced.
+// The visit that opens the notice of a call that is listening, where that is due.
+fn due_in_listening<K: Clone + Drop, V: Clone + Drop>(
+    call: u64,
+    listening: &Listening<K, V>,
+) -> Result<Option<Visit<K, V>>, AllocError>
+    requires keys { IsExact K.is_clone }
+    requires values { IsExact V.is_clone }
+    ensures { IfOk result (λ due. due ≡ opening call (listening_plan listening.now)) }
+{
+    match listening {
+        Listening::Notice {
+            key,
+            old,
+            cause,
+            upsert,
+            ..
+        } => {
+            let visit = open_notice(call, key, old, *cause, *upsert)?;
+            Ok(Some(visit))
+        }
+        Listening::Uncopied { key, old, .. } => {
+            let visit = open_notice(call, key, old, None, false)?;
+            Ok(Some(visit))
+        }
+        _ => Ok(None),
+    }
+}
+
+// The visit that opens the notice of a record that left by the call's write or removal.
 pub(crate) fn open_notice<K: Clone + Drop, V: Clone + Drop>(
     call: u64,
     key: &K,
     old: &Stored<V>,
+    cause: Option<Cause>,
+    upsert: bool,
 ) -> Result<Visit<K, V>, AllocError>
     requires keys { IsExact K.is_clone }
     requires values { IsExact V.is_clone }
-    ensures { IfOk result (λ visit. On_desk visit ≡ access_for call (plan.Notice key.now old.now)) }
+    ensures { IfOk result (λ visit.
+        On_desk visit ≡ access_for call (plan.Notice key.now old.now cause upsert)) }
 {
     let key = key.clone()?;
     let value = old.value.clone()?;
@@ -98,8 +133,8 @@ pub(crate) fn open_notice<K: Clone + Drop, V: Clone + Drop>(
         value,
         stamp: old.stamp,
         modified: old.modified,
-        cause: None,
-        upsert: true,
+        cause,
+        upsert,
     })
 }
 
@@ -127,11 +162,13 @@ fn held_in_listening<K, V>(call: u64, listening: &Listening<K, V>) -> Option<Owe
         }),
         Listening::Lock(_) => None,
         Listening::Notice { write, .. } => Some(unheard(*write)),
+        Listening::Uncopied { write, .. } => Some(unheard(*write)),
         Listening::Heard { write, .. } => Some(Owed {
             write: *write,
             notice: Some(call),
         }),
         Listening::Unlock { write, .. } => Some(unheard(*write)),
+        Listening::Release(_) => None,
     }
 }
 

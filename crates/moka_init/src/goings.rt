@@ -3,7 +3,7 @@ ghost use Rattle.std.specs.Prelude.{◌≡◌, ◌<◌, List, Some, IfOk, IfErr,
 ghost use Rattle.moka_hist.specs.Finite.{IsExact};
 ghost use Rattle.moka_hist.specs.State.{World};
 ghost use Rattle.moka_hist.specs.Step.{IsSafe, May};
-ghost use Rattle.moka_init.specs.FlowPlan.{call_of, next_in, IsLive, Leaves};
+ghost use Rattle.moka_init.specs.FlowPlan.{call_of, next_in, IsLive, Leaves, StandsStill};
 ghost use Rattle.moka_init.specs.Grounds.{IsOn, access_at, wish_of};
 ghost use Rattle.moka_init.specs.Steps.{MovesThere, PolledThere, MayLack, Unended, Nears};
 ghost use Rattle.moka_init.specs.Telling.{Made, TellsPoll, TellsStep};
@@ -13,9 +13,9 @@ use crate::ground::{Alone, Ground};
 use moka_hist::Turn;
 use std::alloc::AllocError;
 
-/// Makes one step: exactly the access that the flow wants. Condition: the flow has not answered, and
-/// the ground is that of its call, and serves what it wants. After want of memory flow and ground are
-/// as before.
+/// Makes one step: exactly the access that the flow wants. Condition: the flow has not answered,
+/// and the ground is that of its call, and serves what it wants. After want of memory flow and
+/// ground are as before.
 pub fn step<K: Eq + Clone + Drop, V: Clone + Drop, G: Ground<K, V>>(
     flow: &mut Flow<K, V>,
     ground: &mut G,
@@ -40,7 +40,7 @@ pub fn step<K: Eq + Clone + Drop, V: Clone + Drop, G: Ground<K, V>>(
     ensures number { flow.new.call ≡ flow.old.call }
     ensures keeps { G.keeps ground.old ground.new }
     // Without memory.
-    ensures err { OnErr result (flow.new ≡ flow.old) }
+    ensures err { OnErr result (StandsStill flow.old flow.new) }
     ensures err_needs { OnErr result ((w : World K V) → G.stands ground.old w
         → May w (access_at flow.old) → MayLack G.needs w flow.old) }
     ensures err_stands { OnErr result ((w : World K V) → G.stands ground.old w
@@ -59,10 +59,10 @@ pub struct Unfinished {
     pub steps: u64,
 }
 
-/// Makes steps up to the first turn that isn't Going. Condition: the flow has not answered; the ground
-/// is that of its call, and has what each of its steps needs, as long as it goes on; and its log has
-/// room for a write once it is empty, without which a write would never be posted. After want of memory
-/// the steps made so far stand.
+/// Makes steps up to the first turn that isn't Going. Condition: the flow has not answered; the
+/// ground is that of its call, and has what each of its steps needs, as long as it goes on; and its
+/// log has room for a write once it is empty, without which a write would never be posted. After
+/// want of memory the steps made so far stand.
 pub fn poll<K: Eq + Clone + Drop, V: Clone + Drop, G: Alone<K, V>>(
     flow: &mut Flow<K, V>,
     ground: &mut G,

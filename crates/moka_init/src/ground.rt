@@ -12,8 +12,8 @@ use std::alloc::AllocError;
 
 /// A table and a desk, as one call reaches them.
 pub trait Ground<K: Eq + Clone, V: Clone> {
-    /// The worlds that it stands for. A ground on which others may make accesses meanwhile may stand
-    /// for none, and still tell those of its call.
+    /// The worlds that it stands for. A ground on which others may make accesses meanwhile may
+    /// stand for none, and still tell those of its call.
     ghost stands: { Self → World K V → Type 0 };
 
     /// The wants that fit it: those that it serves. Where it stands for worlds, what one of them
@@ -29,8 +29,8 @@ pub trait Ground<K: Eq + Clone, V: Clone> {
     /// What stays of it, whatever its call accesses there.
     ghost keeps: { Self → Self → Type 0 };
 
-    /// Makes the wanted access, and no other. Condition: the want fits. After want of memory nothing
-    /// has changed.
+    /// Makes the wanted access, and no other. Condition: the want fits. After want of memory
+    /// nothing has changed.
     fn access(&mut self, want: Want<K, V>) -> Result<Got<K, V>, AllocError>
         requires keys { IsExact K.is_clone }
         requires values { IsExact V.is_clone }
@@ -61,5 +61,6 @@ pub trait Ground<K: Eq + Clone, V: Clone> {
     ghost counts: { (g : Self) (w : World K V) → stands g w → Counts w (account g).work };
 }
 
-/// A ground that nobody else changes while it is lent: what it stands for stays until its next access.
+/// A ground that nobody else changes while it is lent: what it stands for stays until its next
+/// access.
 pub trait Alone<K: Eq + Clone, V: Clone>: Ground<K, V> {}

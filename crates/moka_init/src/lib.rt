@@ -8,6 +8,7 @@
 #[cfg(test)]
 mod bare;
 mod calls;
+mod copies;
 mod flow;
 mod goings;
 mod ground;
@@ -16,6 +17,10 @@ mod loading;
 mod looking;
 mod points;
 mod posting;
+#[cfg(test)]
+mod removal_tests;
+mod removing;
+mod starts;
 mod takes;
 #[cfg(test)]
 mod tests;

@@ -1,14 +1,18 @@
-//! Holding a key's lock, and telling the listener of a record that was replaced.
-ghost use Rattle.std.specs.Prelude.{◌≡◌, ◌∷◌, Option};
+//! Holding a key's lock, and telling the listener of a record that left.
+ghost use Rattle.std.specs.Prelude.{◌≡◌, ◌∷◌, true, false, Bool, Option};
 ghost use Rattle.moka_hist.specs.Plan as plan;
 ghost use Rattle.moka_hist.specs.Listening.{after_lock, after_unlock, after_notice, after_hearing};
 ghost use Rattle.moka_hist.specs.Step.{next_of, access_of};
-ghost use Rattle.moka_init.specs.FlowPlan.{listening_plan, drained_rest, posted_rest, stores};
-ghost use Rattle.moka_init.specs.FlowPlan.{standing, GoesOn};
+ghost use Rattle.moka_init.specs.PointPlan.{answers_nothing, drained_rest, is_copied_in};
+ghost use Rattle.moka_init.specs.PointPlan.{key_locked};
+ghost use Rattle.moka_init.specs.PointPlan.{listening_plan, locked_rest, posted_rest, removal_of};
+ghost use Rattle.moka_init.specs.FlowPlan.{standing, mid, GoesOn};
 ghost use Rattle.moka_init.specs.Forms.{HasForm, IsFoundBy};
 
 use crate::flow::Flow;
-use crate::points::{Drained, Listening, Point, Posted, Posting, Put, Writing};
+use crate::points::{
+    Drained, Listening, Locked, Point, Posted, Posting, Removal, Removing, Writing,
+};
 use moka_hist::{Ask, Cause, Found, Got, Stored, Turn, Visit, Write};
 
 impl<K: Drop, V: Drop> Flow<K, V> {
@@ -17,6 +21,7 @@ impl<K: Drop, V: Drop> Flow<K, V> {
         listening: Listening<K, V>,
         found: Found<V>,
     ) -> Turn<K, V>
+        requires ready { is_copied_in listening ≡ true }
         requires form { HasForm
             (access_of self.old.call (standing self.old (listening_plan listening)))
             (Got.Desk found) }
@@ -30,15 +35,18 @@ impl<K: Drop, V: Drop> Flow<K, V> {
                 write,
                 then,
             } => self.after_ended(notice, write, then, found),
-            Listening::Lock(put) => self.after_lock(put, found),
+            Listening::Lock(locked) => self.after_lock(locked, found),
             Listening::Notice {
                 key,
                 old,
                 write,
                 then,
+                ..
             } => self.after_notice(key, old, write, then, found),
+            Listening::Uncopied { .. } => unreachable!(),
             Listening::Heard { write, then } => self.after_heard(write, then, found),
             Listening::Unlock { write, then } => self.after_unlock(write, then, found),
+            Listening::Release(removal) => self.after_release(removal, found),
         }
     }
 
@@ -70,16 +78,28 @@ impl<K: Drop, V: Drop> Flow<K, V> {
         }
     }
 
-    fn after_lock(&mut self, put: Put<K, V>, found: Found<V>) -> Turn<K, V>
-        requires form { IsFoundBy (Visit.LockKey self.old.call put.key) found }
+    fn after_lock(&mut self, locked: Locked<K, V>, found: Found<V>) -> Turn<K, V>
+        requires form { IsFoundBy (Visit.LockKey self.old.call (key_locked locked)) found }
         ensures { GoesOn self.old
-            (after_lock (standing self.old (plan.Lock put.key ∷ stores put)) (stores put) found)
-            result self.new }
+            (after_lock
+            (standing self.old (plan.Lock (key_locked locked) ∷ locked_rest locked))
+            (locked_rest locked) found) result self.new }
     {
         match found {
-            Found::LockKey(true) => self.goes(Point::Writing(Writing::Moment(put))),
-            Found::LockKey(false) => self.waits(Point::Listening(Listening::Lock(put))),
+            Found::LockKey(true) => self.goes_locked(locked),
+            Found::LockKey(false) => self.waits(Point::Listening(Listening::Lock(locked))),
             _ => unreachable!(),
+        }
+    }
+
+    // The key's lock is held.
+    fn goes_locked(&mut self, locked: Locked<K, V>) -> Turn<K, V>
+        ensures { GoesOn self.old (mid self.old (locked_rest locked)) result self.new }
+    {
+        match locked {
+            Locked::Put(put) => self.goes(Point::Writing(Writing::Moment(put))),
+            Locked::TakeOut(out) => self.goes(Point::Removing(Removing::Moment(out))),
+            Locked::Find(chosen) => self.goes(Point::Removing(Removing::Find(chosen))),
         }
     }
 
@@ -92,9 +112,9 @@ impl<K: Drop, V: Drop> Flow<K, V> {
         found: Found<V>,
     ) -> Turn<K, V>
         requires form { (cause : Option Cause) × (found ≡ Found.OpenNotice cause) }
-        ensures { GoesOn self.old
+        ensures { (hand : Option Cause) → (upsert : Bool) → GoesOn self.old
             (after_notice
-            (standing self.old (listening_plan (Listening.Notice key old write then)))
+            (standing self.old (listening_plan (Listening.Notice key old hand upsert write then)))
             key old (listening_plan (Listening.Unlock write then)) found) result self.new }
     {
         match found {
@@ -131,13 +151,25 @@ impl<K: Drop, V: Drop> Flow<K, V> {
     }
 
     fn after_unlock(&mut self, write: Write, then: Posted<K, V>, found: Found<V>) -> Turn<K, V>
-        requires form { IsFoundBy {K = K} (Visit.UnlockKey self.old.call) found }
+        requires form { IsFoundBy {K = K} (Visit.UnlockKey self.old.call true) found }
         ensures { GoesOn self.old
             (after_unlock (standing self.old (listening_plan (Listening.Unlock write then)))
             (plan.Post write ∷ posted_rest then) found) result self.new }
     {
         match found {
             Found::UnlockKey => self.goes(Point::Posting(Posting::Post { write, then })),
+            _ => unreachable!(),
+        }
+    }
+    // Nothing was written under the lock: nothing is left but to answer so.
+    fn after_release(&mut self, removal: Removal, found: Found<V>) -> Turn<K, V>
+        requires form { IsFoundBy {K = K} (Visit.UnlockKey self.old.call false) found }
+        ensures { GoesOn self.old
+            (after_unlock (standing self.old (plan.Unlock false ∷ answers_nothing removal))
+            (answers_nothing removal) found) result self.new }
+    {
+        match found {
+            Found::UnlockKey => self.answers(removal.nothing()),
             _ => unreachable!(),
         }
     }

@@ -1,15 +1,18 @@
 //! Loading a key.
 ghost use Rattle.std.specs.Prelude.{◌≡◌, [], ◌∷◌};
 ghost use Rattle.moka_hist.specs.Plan as plan;
-ghost use Rattle.moka_hist.specs.Plan.{loaded};
-ghost use Rattle.moka_hist.specs.Loading.{after_own, after_read, after_abort, after_ask, after_told, after_settle};
+ghost use Rattle.moka_hist.specs.Plan.{is_disabled, load_rest};
+ghost use Rattle.moka_hist.specs.Loading.{after_own, after_read, after_abort, after_ask};
+ghost use Rattle.moka_hist.specs.Loading.{after_told};
+ghost use Rattle.moka_hist.specs.Loading.{after_settle, owner_rest};
 ghost use Rattle.moka_hist.specs.Step.{next_of, access_of, takes_of};
-ghost use Rattle.moka_init.specs.FlowPlan.{plan_at, loading_plan, settles};
+ghost use Rattle.moka_init.specs.PointPlan.{plan_at, loading_plan, settles};
 ghost use Rattle.moka_init.specs.FlowPlan.{standing, mid, GoesOn};
 ghost use Rattle.moka_init.specs.Forms.{HasForm, IsFoundBy};
 
 use crate::flow::Flow;
 use crate::points::{Drained, Loading, Look, Looking, Point, Posting, Put};
+use crate::starts::is_disabled;
 use moka_hist::{Answer, Ask, Claim, Found, Got, Load, Settled, Told, Turn, Visit};
 
 // How many dropped owners one load reads before it gives up.
@@ -39,18 +42,22 @@ impl<K: Drop, V: Drop> Flow<K, V> {
             (after_own (standing self.old (plan.Own load ∷ [])) load found) result self.new }
     {
         match found {
-            Found::WaitOrOwn(Claim::Owner) => self.looks_again(load),
+            Found::WaitOrOwn(Claim::Owner) => self.owns(load),
             Found::WaitOrOwn(Claim::Waits { .. }) => self.goes(Point::Loading(Loading::Read(load))),
             _ => unreachable!(),
         }
     }
 
-    // The owner looks again before it asks.
-    fn looks_again(&mut self, load: Load<K>) -> Turn<K, V>
+    // The owner looks again before it asks, unless the cache is disabled.
+    fn owns(&mut self, load: Load<K>) -> Turn<K, V>
         ensures { GoesOn self.old
-            (mid self.old (plan.Get (plan.To_own load) load.key ∷ [])) result self.new }
+            (mid self.old (owner_rest (is_disabled self.old.rules) load)) result self.new }
     {
-        self.goes(Point::Looking(Looking::Get(Look::Own(load))))
+        if is_disabled(self.rules) {
+            self.goes(Point::Loading(Loading::Ask(load)))
+        } else {
+            self.goes(Point::Looking(Looking::Get(Look::Own(load))))
+        }
     }
 
     fn after_read(&mut self, load: Load<K>, found: Found<V>) -> Turn<K, V>
@@ -106,11 +113,15 @@ impl<K: Drop, V: Drop> Flow<K, V> {
         }
     }
 
-    // The told value is stored, and then told to those that wait.
+    // The told value is stored, unless the cache is disabled, and then told to those that wait.
     fn stores(&mut self, load: Load<K>, value: V) -> Turn<K, V>
-        ensures { GoesOn self.old
-            (mid self.old (loaded self.old.rules load value)) result self.new }
+        ensures { GoesOn self.old (mid self.old
+            (load_rest (is_disabled self.old.rules) self.old.rules load.key value))
+            result self.new }
     {
+        if is_disabled(self.rules) {
+            return self.goes(Point::Loading(Loading::Settle { value, fresh: true }));
+        }
         let put = Put {
             key: load.key,
             value,

@@ -3,7 +3,7 @@ ghost use Rattle.std.specs.Prelude.{◌≡◌, [], ◌∷◌};
 ghost use Rattle.moka_hist.specs.Plan as plan;
 ghost use Rattle.moka_hist.specs.Looking.{after_get, after_judge, hits, misses};
 ghost use Rattle.moka_hist.specs.Step.{next_of, access_of};
-ghost use Rattle.moka_init.specs.FlowPlan.{aim_of, key_of, plan_at, looking_plan};
+ghost use Rattle.moka_init.specs.PointPlan.{aim_of, key_sought, plan_at, looking_plan};
 ghost use Rattle.moka_init.specs.FlowPlan.{standing, GoesOn};
 ghost use Rattle.moka_init.specs.Forms.{HasForm, IsFoundBy};
 
@@ -28,7 +28,7 @@ impl<K: Drop, V: Drop> Flow<K, V> {
 
     pub(crate) fn after_get(&mut self, look: Look<K>, turn: TableTurn<K, V>) -> Turn<K, V>
         ensures { GoesOn self.old
-            (after_get (standing self.old (plan.Get (aim_of look) (key_of look) ∷ []))
+            (after_get (standing self.old (plan.Get (aim_of look) (key_sought look) ∷ []))
             (aim_of look) turn) result self.new }
     {
         match turn {

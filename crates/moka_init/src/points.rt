@@ -1,8 +1,7 @@
-//! Where a call stands: one variant for each item that can come first, with all that is still to do.
+//! Where a call stands: one variant for each item that can come first, with all that is still to
+//! do.
 
-ghost use Rattle.std.specs.Prelude.{◌≡◌, []};
-
-use moka_hist::{Kind, Load, Rules, Start, Stored, Write};
+use moka_hist::{Answer, Cause, Load, Stored, Write};
 
 /// A key that is looked up, and what for.
 #[derive(Drop)]
@@ -15,6 +14,14 @@ pub enum Look<K> {
     Own(Load<K>),
 }
 
+/// A record that was chosen to leave for the cause, by its key and its stamp.
+#[derive(Drop)]
+pub struct Chosen<K> {
+    pub key: K,
+    pub stamp: u64,
+    pub cause: Cause,
+}
+
 /// A value that is to be stored. A load tells it afterwards to those that wait.
 #[derive(Drop)]
 pub struct Put<K, V> {
@@ -23,14 +30,47 @@ pub struct Put<K, V> {
     pub loads: bool,
 }
 
+/// What a record is taken out for.
+#[derive(Clone, Copy)]
+pub enum Removal {
+    /// To be gone.
+    Invalidate,
+    /// To answer its value.
+    Remove,
+    /// For the cause that it was chosen for, where it is the record of this stamp.
+    Evict { stamp: u64, cause: Cause },
+}
+
+/// A key whose record is to be taken out, and what for.
+#[derive(Drop)]
+pub struct TakeOut<K> {
+    pub key: K,
+    pub removal: Removal,
+}
+
+/// What is done under a key's lock.
+#[derive(Drop)]
+pub enum Locked<K, V> {
+    /// A value is stored.
+    Put(Put<K, V>),
+    /// The record is taken out.
+    TakeOut(TakeOut<K>),
+    /// The record that was chosen to leave is looked up.
+    Find(Chosen<K>),
+}
+
 /// What follows once nothing is owed any more.
 #[derive(Drop)]
 pub enum Drained<K, V> {
     Look(Look<K>),
+    /// A load is owned or waited for: a disabled cache is not looked at.
+    Own(Load<K>),
     /// A value is stored.
     Put(Put<K, V>),
-    /// A value is stored under its key's lock.
-    PutLocked(Put<K, V>),
+    /// A record is taken out.
+    TakeOut(TakeOut<K>),
+    /// The key's lock is taken first.
+    Lock(Locked<K, V>),
 }
 
 /// What follows once a write is posted.
@@ -38,10 +78,14 @@ pub enum Drained<K, V> {
 pub enum Posted<K, V> {
     /// The write was owed: the next one is taken up.
     Drain(Drained<K, V>),
-    /// It was an insert's own.
+    /// It was that of an insert, or of an invalidation.
     Done,
     /// It was a load's own: the value is told to those that wait.
     Settle(V),
+    /// It took a record out whose value is answered.
+    Found(V),
+    /// It took out a record that was chosen to leave.
+    Evicted,
 }
 
 /// Taking up owed writes, posting a write, and applying the log where it is full.
@@ -82,7 +126,22 @@ pub enum Writing<K, V> {
     Write { put: Put<K, V>, moment: u64 },
 }
 
-/// Holding a key's lock, telling the listener of a record that was replaced, and hearing its answer.
+/// Finding a chosen record and judging whether it has still to leave, and taking a record out.
+#[derive(Drop)]
+pub enum Removing<K, V> {
+    Find(Chosen<K>),
+    Holds {
+        chosen: Chosen<K>,
+        key: K,
+        stored: Stored<V>,
+    },
+    Moment(TakeOut<K>),
+    Out(TakeOut<K>),
+    /// Reading the clock, where no record was found to be taken out.
+    Idle(Removal),
+}
+
+/// Holding a key's lock, telling the listener of a record that left, and hearing its answer.
 #[derive(Drop)]
 pub enum Listening<K, V> {
     /// Hearing how the notice of an owed write ended.
@@ -91,12 +150,21 @@ pub enum Listening<K, V> {
         write: Write,
         then: Drained<K, V>,
     },
-    Lock(Put<K, V>),
+    Lock(Locked<K, V>),
+    /// The notice is due of a record that left, by a write in its place (`upsert`) or a removal.
     Notice {
         key: K,
         old: Stored<V>,
+        cause: Option<Cause>,
+        upsert: bool,
         write: Write,
         then: Posted<K, V>,
+    },
+    /// The same for a record whose value is answered too, and not copied yet.
+    Uncopied {
+        key: K,
+        old: Stored<V>,
+        write: Write,
     },
     Heard {
         write: Write,
@@ -106,6 +174,8 @@ pub enum Listening<K, V> {
         write: Write,
         then: Posted<K, V>,
     },
+    /// Freeing the lock, under which nothing was written.
+    Release(Removal),
 }
 
 /// Where a call stands.
@@ -115,61 +185,10 @@ pub enum Point<K, V> {
     Looking(Looking<K, V>),
     Loading(Loading<K, V>),
     Writing(Writing<K, V>),
+    Removing(Removing<K, V>),
     Listening(Listening<K, V>),
+    /// Nothing is left but this answer: the cache is disabled.
+    Answering(Answer<V>),
     /// The call has answered.
     Spent,
-}
-
-impl<K, V> Point<K, V> {
-    ghost use Rattle.moka_hist.specs.Plan.{plan_of};
-    ghost use Rattle.moka_init.specs.FlowPlan.{plan_at};
-
-    /// Where a fresh call stands.
-    pub(crate) fn first(rules: Rules, start: Start<K, V>) -> Self
-        ensures { plan_at result ≡ plan_of rules start }
-    {
-        Point::Posting(Posting::Drain(Drained::first(rules, start)))
-    }
-}
-
-impl<K, V> Drained<K, V> {
-    ghost use Rattle.moka_hist.specs.Plan.{plan_of, put, Drain};
-    ghost use Rattle.moka_init.specs.FlowPlan.{drained_rest, put_rest};
-    ghost use Rattle.std.specs.Prelude.{◌∷◌};
-
-    // What a fresh call does once nothing is owed.
-    fn first(rules: Rules, start: Start<K, V>) -> Self
-        ensures { Drain ∷ drained_rest result ≡ plan_of rules start }
-    {
-        match start {
-            Start::Get { key } => Drained::Look(Look::Answer { key }),
-            Start::Insert { key, value } => {
-                Drained::storing(
-                    rules,
-                    Put {
-                        key,
-                        value,
-                        loads: false,
-                    },
-                )
-            }
-            Start::GetWith { key } => {
-                Drained::Look(Look::Load(Load {
-                    key,
-                    kind: Kind::GetWith,
-                }))
-            }
-        }
-    }
-
-    /// The value is stored, under its key's lock where a listener is set.
-    pub(crate) fn storing(rules: Rules, value: Put<K, V>) -> Self
-        ensures { Drain ∷ drained_rest result ≡ put rules value.key value.value (put_rest value) }
-    {
-        if rules.listener {
-            Drained::PutLocked(value)
-        } else {
-            Drained::Put(value)
-        }
-    }
 }

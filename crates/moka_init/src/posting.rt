@@ -2,14 +2,17 @@
 ghost use Rattle.std.specs.Prelude.{◌≡◌, ◌∷◌};
 ghost use Rattle.moka_hist.specs.Plan as plan;
 ghost use Rattle.moka_hist.specs.Next.{goes};
-ghost use Rattle.moka_hist.specs.Posting.{once_ended, after_drain, after_post, after_turn, after_apply, after_end};
+ghost use Rattle.moka_hist.specs.Posting.{once_ended, after_drain, after_post, after_turn};
+ghost use Rattle.moka_hist.specs.Posting.{after_apply, after_end};
 ghost use Rattle.moka_hist.specs.Step.{next_of, access_of};
-ghost use Rattle.moka_init.specs.FlowPlan.{plan_at, posting_plan, drained_rest, posted_rest};
+ghost use Rattle.moka_init.specs.PointPlan.{plan_at, posting_plan, drained_rest, posted_rest};
 ghost use Rattle.moka_init.specs.FlowPlan.{standing, mid, GoesOn};
 ghost use Rattle.moka_init.specs.Forms.{HasForm, IsFoundBy};
 
 use crate::flow::Flow;
-use crate::points::{Drained, Listening, Loading, Looking, Point, Posted, Posting, Writing};
+use crate::points::{
+    Drained, Listening, Loading, Looking, Point, Posted, Posting, Removing, Writing,
+};
 use moka_hist::{Answer, Found, Got, Owed, Turn, Visit, Write};
 
 impl<K: Drop, V: Drop> Flow<K, V> {
@@ -68,8 +71,10 @@ impl<K: Drop, V: Drop> Flow<K, V> {
     {
         match then {
             Drained::Look(look) => self.goes(Point::Looking(Looking::Get(look))),
+            Drained::Own(load) => self.goes(Point::Loading(Loading::Own(load))),
             Drained::Put(put) => self.goes(Point::Writing(Writing::Moment(put))),
-            Drained::PutLocked(put) => self.goes(Point::Listening(Listening::Lock(put))),
+            Drained::TakeOut(out) => self.goes(Point::Removing(Removing::Moment(out))),
+            Drained::Lock(locked) => self.goes(Point::Listening(Listening::Lock(locked))),
         }
     }
 
@@ -98,6 +103,8 @@ impl<K: Drop, V: Drop> Flow<K, V> {
                 value,
                 fresh: true,
             })),
+            Posted::Found(value) => self.answers(Answer::Found(Some(value))),
+            Posted::Evicted => self.answers(Answer::Evicted),
         }
     }
 

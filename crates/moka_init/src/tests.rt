@@ -13,9 +13,9 @@ use std::process::Abort;
 use std::test::Fail;
 
 // An access, what it gives, and the turn then.
-type Row = (&'static str, Got<u32, u32>, &'static str);
+pub(crate) type Row = (&'static str, Got<u32, u32>, &'static str);
 
-const KEY: u32 = 3;
+pub(crate) const KEY: u32 = 3;
 
 // An owed write of the call 2.
 const WRITE: Write = Write::Upsert {
@@ -33,7 +33,7 @@ pub(crate) const RULES: Rules = Rules {
 };
 
 // A record of the call 2 under the key.
-fn found() -> TableAnswer<u32, u32> {
+pub(crate) fn found() -> TableAnswer<u32, u32> {
     TableAnswer::Some {
         key: KEY,
         stored: Stored {
@@ -44,7 +44,7 @@ fn found() -> TableAnswer<u32, u32> {
     }
 }
 
-fn decided(answer: TableAnswer<u32, u32>) -> Got<u32, u32> {
+pub(crate) fn decided(answer: TableAnswer<u32, u32>) -> Got<u32, u32> {
     Got::Table(TableTurn::Decided(answer))
 }
 
@@ -56,7 +56,7 @@ fn aborted() -> Got<u32, u32> {
     Got::Desk(Found::ReadSettled(Settled::Aborted))
 }
 
-fn undecided() -> Got<u32, u32> {
+pub(crate) fn undecided() -> Got<u32, u32> {
     Got::Table(TableTurn::Going)
 }
 
@@ -64,6 +64,8 @@ fn want_name(want: &Want<u32, u32>) -> &'static str {
     match want {
         Want::Begin(TableOp::Get { .. }) => "get",
         Want::Begin(TableOp::InsertOrModify { .. }) => "insert",
+        Want::Begin(TableOp::InsertIfAbsent { .. }) => "insert if absent",
+        Want::Begin(TableOp::RemoveIf { .. }) => "remove",
         Want::Table => "table",
         Want::Desk(visit) => visit_name(visit),
     }
@@ -79,6 +81,7 @@ fn visit_name(visit: &Visit<u32, u32>) -> &'static str {
         Visit::OpenNotice { .. } => "open notice",
         Visit::StampMoment { .. } => "stamp moment",
         Visit::Judge { .. } => "judge",
+        Visit::Holds { .. } => "holds",
         Visit::WaitOrOwn { .. } => "wait or own",
         Visit::ReadSettled { .. } => "read settled",
         Visit::Settle { .. } => "settle",
@@ -115,6 +118,8 @@ fn answer_name(answer: &Answer<u32>) -> &'static str {
         Answer::Loaded { fresh: true, .. } => "fresh",
         Answer::Loaded { fresh: false, .. } => "loaded",
         Answer::RetriesExhausted => "exhausted",
+        Answer::Evicted => "evicted",
+        Answer::Kept => "kept",
     }
 }
 
@@ -144,6 +149,7 @@ fn is_found_by(visit: &Visit<u32, u32>, found: &Found<u32>) -> bool
         Visit::OpenNotice { .. } => matches!(found, Found::OpenNotice(_)),
         Visit::StampMoment { .. } => matches!(found, Found::StampMoment(_)),
         Visit::Judge { .. } => matches!(found, Found::Judge(_)),
+        Visit::Holds { .. } => matches!(found, Found::Holds(_)),
         Visit::WaitOrOwn { .. } => matches!(found, Found::WaitOrOwn(_)),
         Visit::ReadSettled { .. } => matches!(found, Found::ReadSettled(_)),
         Visit::Settle { .. } => matches!(found, Found::Settle),
@@ -156,9 +162,13 @@ fn is_found_by(visit: &Visit<u32, u32>, found: &Found<u32>) -> bool
     }
 }
 
-// One step of the flow: the access that it wants, what that gives, and the turn then.
-fn goes(rt: &impl Abort, flow: &mut Flow<u32, u32>, row: Row) -> Result<(), Fail> {
-    let (access, given, turn) = row;
+// One step of the flow: the access that it wants, and what that gives.
+pub(crate) fn stepped(
+    rt: &impl Abort,
+    flow: &mut Flow<u32, u32>,
+    access: &'static str,
+    given: Got<u32, u32>,
+) -> Result<Turn<u32, u32>, Fail> {
     let live = !flow.has_answered();
     assert!(rt; live, "before {access}");
     let want = flow.want()?;
@@ -166,6 +176,13 @@ fn goes(rt: &impl Abort, flow: &mut Flow<u32, u32>, row: Row) -> Result<(), Fail
     let fits = does_fit(&want, &given);
     assert!(rt; fits, "at {access}");
     let left = flow.take(given);
+    Ok(left)
+}
+
+// The same, and the turn then.
+pub(crate) fn goes(rt: &impl Abort, flow: &mut Flow<u32, u32>, row: Row) -> Result<(), Fail> {
+    let (access, given, turn) = row;
+    let left = stepped(rt, flow, access, given)?;
     assert_eq!(rt; turn_name(&left), turn, "after {access}");
     Ok(())
 }

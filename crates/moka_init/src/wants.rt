@@ -1,35 +1,115 @@
 //! The next access of a flow.
-ghost use Rattle.std.specs.Prelude.{◌≡◌, false, IfOk, OnErr};
+ghost use Rattle.std.specs.Prelude.{◌≡◌, IfOk, OnOk, OnErr};
 ghost use Rattle.moka_hist.specs.Finite.{IsExact};
-ghost use Rattle.moka_hist.specs.Plan as plan;
-ghost use Rattle.moka_hist.specs.Step.{access_for, want_for, takes_of};
-ghost use Rattle.moka_init.specs.FlowPlan.{aim_of, key_of, IsLive};
-ghost use Rattle.moka_init.specs.FlowPlan.{posting_plan, looking_plan, loading_plan, writing_plan, listening_plan};
+ghost use Rattle.moka_init.specs.FlowPlan.{call_of, standing, IsLive, IsReady, StandsStill};
 ghost use Rattle.moka_init.specs.Grounds.{access_at, access_from, wish_for, wish_of, TakesCopies};
+ghost use Rattle.moka_init.specs.PointPlan.{posting_plan, looking_plan, loading_plan};
+ghost use Rattle.moka_init.specs.PointPlan.{writing_plan, removing_plan, listening_plan};
+ghost use Rattle.moka_init.specs.PointPlan.{is_copied};
 
-use crate::calls::open_notice;
+use crate::copies::{
+    key_locked, key_sought, takes_of, want_get, want_holds, want_judge, want_lock, want_notice,
+    want_out, want_own, want_settle, want_write,
+};
 use crate::flow::Flow;
-use crate::points::{Listening, Loading, Look, Looking, Point, Posting, Put, Writing};
-use moka_hist::{Kind, Load, Settled, Stored, TableOp, Takes, Visit, Want};
+use crate::points::{Listening, Loading, Looking, Point, Posted, Posting, Removing, Writing};
+use moka_hist::{Stored, Visit, Want, Write};
 use std::alloc::AllocError;
+use std::mem;
 
 impl<K: Clone + Drop, V: Clone + Drop> Flow<K, V> {
-    /// The flow's next access. It makes the clones that the access needs, and leaves the flow.
-    /// Condition: the call has not answered.
+    /// The flow's next access. It makes the clones that the access needs, and leaves the flow; but
+    /// where a value is needed twice, for the listener and for the answer, the flow keeps a clone
+    /// of it. Condition: the call has not answered.
     pub fn want(&mut self) -> Result<Want<K, V>, AllocError>
         requires keys { IsExact K.is_clone }
         requires values { IsExact V.is_clone }
         requires live { IsLive self.old }
         ensures want { IfOk result (λ want. want ≡ wish_of self.old) }
-        ensures same { self.new ≡ self.old }
+        ensures ready { OnOk result (IsReady self.new) }
+        ensures still { StandsStill self.old self.new }
+        ensures same { IsReady self.old → self.new ≡ self.old }
         ensures err { OnErr result (TakesCopies (access_at self.old)) }
+    {
+        self.copy()?;
+        self.wanted()
+    }
+
+    // Makes the copy of a value that is needed twice, where the flow stands there without it.
+    fn copy(&mut self) -> Result<(), AllocError>
+        requires values { IsExact V.is_clone }
+        ensures ready { OnOk result (IsReady self.new) }
+        ensures still { StandsStill self.old self.new }
+        ensures same { IsReady self.old → self.new ≡ self.old }
+        ensures err { OnErr result (TakesCopies (access_at self.old)) }
+    {
+        if self.is_copied() {
+            return Ok(());
+        }
+        let point = mem::replace(&mut self.point, Point::Spent);
+        match point {
+            Point::Listening(Listening::Uncopied { key, old, write }) => {
+                self.copy_value(key, old, write)
+            }
+            _ => unreachable!(),
+        }
+    }
+
+    // Whether the flow has what its next step needs twice.
+    fn is_copied(&self) -> bool
+        ensures { result ≡ is_copied self.now.point }
+    {
+        match &self.point {
+            Point::Listening(Listening::Uncopied { .. }) => false,
+            _ => true,
+        }
+    }
+
+    // The flow stands at the notice of the removed record, with a copy of its value if there was
+    // memory for one.
+    fn copy_value(&mut self, key: K, old: Stored<V>, write: Write) -> Result<(), AllocError>
+        requires values { IsExact V.is_clone }
+        ensures ready { OnOk result (IsReady self.new) }
+        ensures call { call_of self.new
+            ≡ standing self.old (listening_plan (Listening.Uncopied key old write)) }
+        ensures number { self.new.call ≡ self.old.call }
+        ensures begun { self.new.begun ≡ self.old.begun }
+    {
+        match old.value.clone() {
+            Ok(value) => {
+                self.point = Point::Listening(Listening::Notice {
+                    key,
+                    old,
+                    cause: None,
+                    upsert: false,
+                    write,
+                    then: Posted::Found(value),
+                });
+                Ok(())
+            }
+            Err(error) => {
+                self.point = Point::Listening(Listening::Uncopied { key, old, write });
+                Err(error)
+            }
+        }
+    }
+
+    // The flow's next access, with the clones that it needs.
+    fn wanted(&self) -> Result<Want<K, V>, AllocError>
+        requires keys { IsExact K.is_clone }
+        requires values { IsExact V.is_clone }
+        requires live { IsLive self.now }
+        ensures want { IfOk result (λ want. want ≡ wish_of self.now) }
+        ensures err { OnErr result (TakesCopies (access_at self.now)) }
     {
         match &self.point {
             Point::Posting(posting) => Ok(self.want_posting(posting)),
             Point::Looking(looking) => self.want_looking(looking),
             Point::Loading(loading) => self.want_loading(loading),
             Point::Writing(writing) => self.want_writing(writing),
+            Point::Removing(removing) => self.want_removing(removing),
             Point::Listening(listening) => self.want_listening(listening),
+            Point::Answering(_) => Ok(Want::Desk(Visit::Clock { call: self.call })),
             Point::Spent => unreachable!(),
         }
     }
@@ -57,7 +137,7 @@ impl<K: Clone + Drop, V: Clone + Drop> Flow<K, V> {
         ensures err { OnErr result (TakesCopies (access_from self.now (looking_plan looking.now))) }
     {
         match looking {
-            Looking::Get(look) => want_get(self.begun, look),
+            Looking::Get(look) => want_get(self.begun, key_sought(look)),
             Looking::Judge { key, stored, .. } => want_judge(key, stored),
         }
     }
@@ -94,6 +174,28 @@ impl<K: Clone + Drop, V: Clone + Drop> Flow<K, V> {
         }
     }
 
+    fn want_removing(&self, removing: &Removing<K, V>) -> Result<Want<K, V>, AllocError>
+        requires keys { IsExact K.is_clone }
+        requires values { IsExact V.is_clone }
+        ensures want { IfOk result (λ want.
+            want ≡ wish_for self.now (removing_plan removing.now)) }
+        ensures err { OnErr result
+            (TakesCopies (access_from self.now (removing_plan removing.now))) }
+    {
+        let call = self.call;
+        match removing {
+            Removing::Find(chosen) => want_get(self.begun, &chosen.key),
+            Removing::Holds {
+                chosen,
+                key,
+                stored,
+            } => want_holds(key, stored, chosen.cause),
+            Removing::Moment(_) => Ok(Want::Desk(Visit::StampMoment { call })),
+            Removing::Out(out) => want_out(self.begun, out),
+            Removing::Idle(_) => Ok(Want::Desk(Visit::Clock { call })),
+        }
+    }
+
     fn want_listening(&self, listening: &Listening<K, V>) -> Result<Want<K, V>, AllocError>
         requires keys { IsExact K.is_clone }
         requires values { IsExact V.is_clone }
@@ -108,128 +210,18 @@ impl<K: Clone + Drop, V: Clone + Drop> Flow<K, V> {
                 call,
                 notice: *notice,
             })),
-            Listening::Lock(put) => want_lock(call, &put.key),
-            Listening::Notice { key, old, .. } => want_notice(call, key, old),
+            Listening::Lock(locked) => want_lock(call, key_locked(locked)),
+            Listening::Notice {
+                key,
+                old,
+                cause,
+                upsert,
+                ..
+            } => want_notice(call, key, old, *cause, *upsert),
+            Listening::Uncopied { key, old, .. } => want_notice(call, key, old, None, false),
             Listening::Heard { .. } => Ok(Want::Desk(Visit::NoticeEnded { call, notice: call })),
-            Listening::Unlock { .. } => Ok(Want::Desk(Visit::UnlockKey { call })),
+            Listening::Unlock { .. } => Ok(Want::Desk(Visit::UnlockKey { call, wrote: true })),
+            Listening::Release(_) => Ok(Want::Desk(Visit::UnlockKey { call, wrote: false })),
         }
     }
-}
-
-/// Which answers the ask of a load takes.
-fn takes_of(kind: Kind) -> Takes
-    ensures { result ≡ takes_of kind }
-{
-    match kind {
-        Kind::GetWith => Takes::Value,
-    }
-}
-
-fn want_get<K: Clone + Drop, V>(begun: bool, look: &Look<K>) -> Result<Want<K, V>, AllocError>
-    requires { IsExact K.is_clone }
-    ensures { IfOk result (λ want.
-        want ≡ want_for begun (access_for 0 (plan.Get (aim_of look.now) (key_of look.now)))) }
-{
-    if begun {
-        return Ok(Want::Table);
-    }
-    let key = key_of(look).clone()?;
-    Ok(Want::Begin(TableOp::Get { key }))
-}
-
-/// The key that is looked up.
-fn key_of<K>(look: &Look<K>) -> &K
-    ensures { result.now ≡ key_of look.now }
-{
-    match look {
-        Look::Answer { key } => key,
-        Look::Load(load) => &load.key,
-        Look::Own(load) => &load.key,
-    }
-}
-
-fn want_judge<K: Clone + Drop, V: Clone + Drop>(
-    key: &K,
-    stored: &Stored<V>,
-) -> Result<Want<K, V>, AllocError>
-    requires keys { IsExact K.is_clone }
-    requires values { IsExact V.is_clone }
-    ensures { IfOk result (λ want. want ≡ Want.Desk (Visit.Judge key.now stored.now)) }
-{
-    let key = key.clone()?;
-    let stored = stored.clone()?;
-    Ok(Want::Desk(Visit::Judge { key, stored }))
-}
-
-fn want_own<K: Clone + Drop, V>(call: u64, load: &Load<K>) -> Result<Want<K, V>, AllocError>
-    requires { IsExact K.is_clone }
-    ensures { IfOk result (λ want.
-        want ≡ Want.Desk (Visit.WaitOrOwn call load.now.key load.now.kind)) }
-{
-    let key = load.key.clone()?;
-    Ok(Want::Desk(Visit::WaitOrOwn {
-        call,
-        key,
-        kind: load.kind,
-    }))
-}
-
-fn want_settle<K, V: Clone + Drop>(call: u64, value: &V) -> Result<Want<K, V>, AllocError>
-    requires { IsExact V.is_clone }
-    ensures { IfOk result (λ want.
-        want ≡ Want.Desk (Visit.Settle call (Settled.Ready value.now))) }
-{
-    let told = value.clone()?;
-    Ok(Want::Desk(Visit::Settle {
-        call,
-        with: Settled::Ready(told),
-    }))
-}
-
-fn want_write<K: Clone + Drop, V: Clone + Drop>(
-    begun: bool,
-    call: u64,
-    put: &Put<K, V>,
-    moment: u64,
-) -> Result<Want<K, V>, AllocError>
-    requires keys { IsExact K.is_clone }
-    requires values { IsExact V.is_clone }
-    ensures { IfOk result (λ want. want
-        ≡ want_for begun (access_for call (plan.Write put.now.key put.now.value moment))) }
-{
-    if begun {
-        return Ok(Want::Table);
-    }
-    let key = put.key.clone()?;
-    let value = put.value.clone()?;
-    Ok(Want::Begin(TableOp::InsertOrModify {
-        key,
-        stored: Stored {
-            value,
-            stamp: call,
-            modified: moment,
-        },
-    }))
-}
-
-fn want_lock<K: Clone + Drop, V>(call: u64, key: &K) -> Result<Want<K, V>, AllocError>
-    requires { IsExact K.is_clone }
-    ensures { IfOk result (λ want. want ≡ Want.Desk (Visit.LockKey call key.now)) }
-{
-    let key = key.clone()?;
-    Ok(Want::Desk(Visit::LockKey { call, key }))
-}
-
-fn want_notice<K: Clone + Drop, V: Clone + Drop>(
-    call: u64,
-    key: &K,
-    old: &Stored<V>,
-) -> Result<Want<K, V>, AllocError>
-    requires keys { IsExact K.is_clone }
-    requires values { IsExact V.is_clone }
-    ensures { IfOk result (λ want.
-        want ≡ want_for false (access_for call (plan.Notice key.now old.now))) }
-{
-    let visit = open_notice(call, key, old)?;
-    Ok(Want::Desk(visit))
 }

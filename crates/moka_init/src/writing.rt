@@ -1,9 +1,9 @@
 //! Writing a value.
-ghost use Rattle.std.specs.Prelude.{◌≡◌, true, ◌∷◌};
+ghost use Rattle.std.specs.Prelude.{◌≡◌, true, ◌∷◌, None};
 ghost use Rattle.moka_hist.specs.Plan as plan;
 ghost use Rattle.moka_hist.specs.Step.{next_of, access_of};
 ghost use Rattle.moka_hist.specs.Writing.{after_moment, after_write, once_told, old_stamp};
-ghost use Rattle.moka_init.specs.FlowPlan.{writing_plan, put_rest, posted_rest, stores};
+ghost use Rattle.moka_init.specs.PointPlan.{writing_plan, put_rest, posted_rest, stores};
 ghost use Rattle.moka_init.specs.FlowPlan.{standing, mid, GoesOn};
 ghost use Rattle.moka_init.specs.Forms.{HasForm, IsFoundBy};
 
@@ -29,8 +29,8 @@ impl<K: Drop, V: Drop> Flow<K, V> {
     fn after_moment(&mut self, put: Put<K, V>, found: Found<V>) -> Turn<K, V>
         requires form { IsFoundBy {K = K} (Visit.StampMoment self.old.call) found }
         ensures { GoesOn self.old
-            (after_moment (standing self.old (stores put)) put.key put.value (put_rest put) found)
-            result self.new }
+            (after_moment (standing self.old (stores put)) (plan.To_store put.key put.value)
+            (put_rest put) found) result self.new }
     {
         match found {
             Found::StampMoment(moment) => self.goes(Point::Writing(Writing::Write { put, moment })),
@@ -96,7 +96,8 @@ impl<K: Drop, V: Drop> Flow<K, V> {
     fn opens(&mut self, put: Put<K, V>, old: Stored<V>, write: Write) -> Turn<K, V>
         ensures { GoesOn self.old
             (mid self.old
-            (plan.Notice put.key old ∷ plan.Unlock ∷ plan.Post write ∷ put_rest put))
+            (plan.Notice put.key old None true ∷ plan.Unlock true ∷ plan.Post write
+            ∷ put_rest put))
             result self.new }
     {
         let Put { key, value, loads } = put;
@@ -104,6 +105,8 @@ impl<K: Drop, V: Drop> Flow<K, V> {
         self.goes(Point::Listening(Listening::Notice {
             key,
             old,
+            cause: None,
+            upsert: true,
             write,
             then,
         }))

@@ -6,22 +6,22 @@ use Rattle.moka_hist.specs.Plan.{Item, Aim, held_by, plan_of}
 use Rattle.moka_hist.specs.Plan as plan
 use Rattle.moka_hist.specs.Visits.{settlement_for, settled_with, settled_without}
 use Rattle.moka_hist.specs.Next.{Next, goes}
-use Rattle.moka_hist.specs.Looking.{hits, misses}
+use Rattle.moka_hist.specs.Looking.{hits, misses, keeps, finds_pair}
 use Rattle.moka_hist.specs.Loading.{after_read, after_told, after_abort, retries}
 use Rattle.std.specs.Option.{option_and_then}
 use Rattle.moka_hist.specs.Step.{Step, state_after}
 use Rattle.moka_hist.specs.Run.{IsReached, fresh_call}
 use Rattle.moka_hist.specs.declared.rules.Rules.{Rules}
 use Rattle.moka_hist.specs.declared.events.Start.{Start}
-use Rattle.moka_hist.specs.declared.events.Start.TheVariants as start
 use Rattle.moka_hist.specs.declared.events.Told.{Told}
 use Rattle.moka_hist.specs.declared.events.Told.TheVariants as answer
 use Rattle.moka_hist.specs.declared.loads.Load.{Load}
+use Rattle.moka_hist.specs.declared.records.Stored.{Stored}
 use Rattle.moka_hist.specs.declared.visits.Settled.{Settled}
 use Rattle.moka_hist.specs.declared.visits.Settled.TheVariants as settled
 use Rattle.moka_hist.specs.declared.visits.Found.TheVariants as found
 use Rattle.moka_hist.specs.declared.accesses.Turn.{Turn}
-use Rattle.moka_laws.proofs.Rules.{put_plans}
+use Rattle.moka_laws.proofs.Rules.{loaded_plans, kept_next, chosen_next, IsFresh, Disabled, fresh_plan}
 use Rattle.moka_laws.proofs.Counting.{none_some, put_cases}
 use Rattle.moka_laws.proofs.Kept.{IsKept, in_reached}
 use Rattle.moka_laws.proofs.StepCases.{OnStep, step_cases}
@@ -56,6 +56,9 @@ module _ {K V : Type 0} where
   EndsWell (plan.Read load ∷ rest) = Unit {0}
   EndsWell (plan.Ask load ∷ rest) = Unit {0}
   EndsWell (plan.Told load ∷ rest) = Unit {0}
+  EndsWell (plan.Holds key stamp cause there stored ∷ rest) = Unit {0}
+  EndsWell (plan.Moment (plan.To_take_out removal key) ∷ rest) = Unit {0}
+  EndsWell (plan.Out removal key ∷ rest) = Unit {0}
   EndsWell (plan.Reply answer ∷ rest) = Unit {0}
   EndsWell (plan.Settle settled.NotYet ∷ rest) = ⊥
   EndsWell (_ ∷ rest) = EndsWell rest
@@ -79,21 +82,36 @@ module _ {K V : Type 0} where
   goes_well c [] h = h
   goes_well c (_ ∷ rest) h = h
 
+  fresh_ends : (rules : Rules) (p : List (Item K V)) → IsFresh rules p → EndsWell p
+  fresh_ends rules p (Disabled a d) = tt
+  fresh_ends rules p _ = tt
+
   fresh_well : (rules : Rules) (start : Start K V) → EndsWell (plan_of rules start)
-  fresh_well rules (start.Get key) = tt
-  fresh_well rules (start.Insert key value) =
-      put_plans (λ p. EndsWell p) rules key value _ (tt) (tt)
-  fresh_well rules (start.GetWith key) = tt
+  fresh_well rules start = fresh_ends rules (plan_of rules start) (fresh_plan rules start)
+
+  keeps_well : (c : Call K V) → LeftWell (keeps c).left
+  keeps_well c = kept_next (λ v. LeftWell v.left) c (λ off. tt) (λ on. tt)
 
   misses_well : (c : Call K V) (aim : Aim K) → LeftWell (misses c aim).left
   misses_well c plan.To_answer = tt
   misses_well c (plan.To_load load) = tt
   misses_well c (plan.To_own load) = tt
+  misses_well c (plan.To_evict key stamp cause) = keeps_well c
 
-  hits_well : (c : Call K V) (aim : Aim K) (value : V) → LeftWell (hits c aim value).left
-  hits_well c plan.To_answer value = tt
-  hits_well c (plan.To_load load) value = tt
-  hits_well c (plan.To_own load) value = tt
+  finds_well : (c : Call K V) (aim : Aim K) (k : K) (stored : Stored V) →
+      LeftWell (finds_pair c aim k stored).left
+  finds_well c plan.To_answer k stored = tt
+  finds_well c (plan.To_load load) k stored = tt
+  finds_well c (plan.To_own load) k stored = tt
+  finds_well c (plan.To_evict key stamp cause) k stored =
+      chosen_next (λ v. LeftWell v.left) c key stamp cause k stored (λ off. tt) (λ on. tt) tt
+
+  hits_well : (c : Call K V) (aim : Aim K) (value : V) → EndsWell c.plan →
+      LeftWell (hits c aim value).left
+  hits_well c plan.To_answer value h = tt
+  hits_well c (plan.To_load load) value h = tt
+  hits_well c (plan.To_own load) value h = tt
+  hits_well c (plan.To_evict key stamp cause) value h = h
 
   read_well : (c : Call K V) (load : Load K) (with : Settled V) → EndsWell c.plan →
       LeftWell (after_read c load (found.ReadSettled with)).left
@@ -107,7 +125,8 @@ module _ {K V : Type 0} where
 
   told_well : (c : Call K V) (load : Load K) (given : Told V) → EndsWell c.plan →
       LeftWell (after_told c load (found.TakeTold (Some given))).left
-  told_well c load (answer.Value value) h = put_plans (λ p. LeftWell (goes c p).left) c.rules load.key value _ tt tt
+  told_well c load (answer.Value value) h =
+      loaded_plans (λ p. LeftWell (goes c p).left) c.rules load value tt tt tt
   told_well c load answer.Done h = h
   told_well c load answer.Off h = h
 
@@ -144,16 +163,21 @@ module _ {K V : Type 0} where
     on_item plan.Drain rest h p = (λ e. ((goes_well c rest h), d), (λ x xs e. (h, d)), λ x number xs e. (h, d))
     on_item (plan.Ended number) rest h p = ((λ e. (goes_well c rest h, d)), λ e. (p, d))
     on_item (plan.Lock key) rest h p = ((λ e. (goes_well c rest h, d)), λ e. (p, d))
-    on_item plan.Unlock rest h p = (goes_well c rest h, d)
-    on_item (plan.Notice key old) rest h p = ((λ e. (goes_well c rest h, d)), λ e. (h, d))
+    on_item (plan.Unlock wrote) rest h p = (goes_well c rest h, d)
+    on_item (plan.Notice key old cause upsert) rest h p =
+        ((λ e. (goes_well c rest h, d)), λ e. (h, d))
     on_item plan.Heard rest h p = ((λ e. (goes_well c rest h, d)), λ e. (p, d))
     on_item (plan.Post write) rest h p = (λ e. ((goes_well c rest h), d), λ e. (h, d))
     on_item plan.Turn rest h p = (λ e. ((goes_well c rest h), d), λ e. (p, d))
     on_item plan.Apply rest h p = (λ e. ((goes_well c rest h), d), λ x xs e. (h, d))
     on_item plan.End rest h p = ((goes_well c rest h), d)
-    on_item (plan.Get aim key) rest h p = ((λ more. (p, d)), ((misses_well c aim), d), λ k stored. (tt, d))
-    on_item (plan.Judge aim key stored) rest h p = ((hits_well c aim stored.value), d)
-    on_item (plan.Own load) rest h p = (λ e. (tt, d), λ owner e. (tt, d))
+    on_item (plan.Get aim key) rest h p = (
+      (λ more. (p, d)),
+      (λ none. (misses_well c aim, d)),
+      λ k stored some. (finds_well c aim k stored, d),
+    )
+    on_item (plan.Judge aim key stored) rest h p = (hits_well c aim stored.value p, d)
+    on_item (plan.Own load) rest h p = ((λ able e. (tt, d)), (λ not e. (tt, d)), λ owner e. (tt, d))
     on_item (plan.Read load) rest h p = (
       λ e. (p, d),
       λ with e. (read_well c load with p, record { settled = λ x. settles_without w.desk n x (d.settled x); told = d.told }),
@@ -166,8 +190,19 @@ module _ {K V : Type 0} where
       λ e. (p, d),
       λ given e. (told_well c load given p, record { settled = d.settled; told = λ x. none_told x w.desk.told n (d.told x) }),
     )
-    on_item (plan.Moment key value) rest h p = (h, d)
+    on_item (plan.Holds key stamp cause there stored) rest h p =
+        ((λ e. (tt, d)), λ e. (keeps_well c, d))
+    on_item (plan.Moment (plan.To_store key value)) rest h p = (h, d)
+    on_item (plan.Moment (plan.To_take_out removal key)) rest h p = (tt, d)
     on_item (plan.Write key value moment) rest h p = ((λ more. (p, d)), (λ off old. (h, d)), (λ on. (h, d)), λ k old on some. (h, d))
+    on_item (plan.Out removal key) rest h p = (
+      (λ more. (p, d)),
+      (λ off none. (tt, d)),
+      (λ on none. (tt, d)),
+      (λ k old off some. (tt, d)),
+      λ k old on some. (tt, d),
+    )
+    on_item plan.Idle rest h p = (goes_well c rest h, d)
     on_item (plan.Reply answer) rest h p = (tt, d)
 
     on_plan : (plan : List (Item K V)) → c.plan ≡ plan → EndsWell c.plan → OnStep eq Leaves w n c plan

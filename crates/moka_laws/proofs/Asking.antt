@@ -6,7 +6,7 @@ use Rattle.moka_hist.specs.State.{State, World, Call, DeskPart}
 use Rattle.moka_hist.specs.Plan.{Item, Aim, plan_of}
 use Rattle.moka_hist.specs.Plan as plan
 use Rattle.moka_hist.specs.Next.{Next, goes}
-use Rattle.moka_hist.specs.Looking.{hits, misses}
+use Rattle.moka_hist.specs.Looking.{hits, misses, keeps, finds_pair}
 use Rattle.moka_hist.specs.Loading.{after_read, after_told, retries}
 use Rattle.moka_hist.specs.Telling.{is_asked, does_take}
 use Rattle.moka_hist.specs.Dropping.{dropped}
@@ -14,9 +14,9 @@ use Rattle.std.specs.Option.{option_map_or}
 use Rattle.moka_hist.specs.Step.{Step}
 use Rattle.moka_hist.specs.Run.{IsReached, started, fresh_call}
 use Rattle.moka_hist.specs.declared.loads.Load.{Load}
+use Rattle.moka_hist.specs.declared.records.Stored.{Stored}
 use Rattle.moka_hist.specs.declared.rules.Rules.{Rules}
 use Rattle.moka_hist.specs.declared.events.Start.{Start}
-use Rattle.moka_hist.specs.declared.events.Start.TheVariants as start
 use Rattle.moka_hist.specs.declared.events.Told.{Told}
 use Rattle.moka_hist.specs.declared.events.Told.TheVariants as answer
 use Rattle.moka_hist.specs.declared.visits.Takes.{Takes}
@@ -24,10 +24,10 @@ use Rattle.moka_hist.specs.declared.visits.Settled.{Settled}
 use Rattle.moka_hist.specs.declared.visits.Settled.TheVariants as settled
 use Rattle.moka_hist.specs.declared.visits.Found.TheVariants as found
 use Rattle.moka_hist.specs.declared.accesses.Turn.{Turn}
-use Rattle.moka_laws.proofs.Rules.{put_plans}
+use Rattle.moka_laws.proofs.Rules.{loaded_plans, kept_next, chosen_next, IsFresh, Disabled, fresh_plan}
 use Rattle.moka_laws.proofs.Counting.{put_here, put_there}
 use Rattle.moka_laws.proofs.Weights.{weigh, weigh_call, weigh_goes}
-use Rattle.moka_laws.proofs.Plans.{IsTail, Answering, Settling, IsDrained, Looking, Putting, IsPosted, Draining, Ended, Locking, IsPlan, Posted, Drained, Posting, Hearing, Noticing, Listening, Unlocking, Turning, Applying, Ending, Judging, Owning, Reading, Asking, Telling, Writing, IsKnown, known_kept}
+use Rattle.moka_laws.proofs.Plans.{IsLook, IsTail, Answering, Settling, IsDrained, Looking, Owning, Putting, Removing, Locking_out, IsPosted, Draining, Ended, Locking, IsPlan, Posted, Drained, Posting, Hearing, Noticing, Listening, Unlocking, Turning, Applying, Ending, Judging, Reading, Asking, Telling, Writing, Choosing, Finding, Chosen, Taking, Freeing, Idling, IsKnown, known_kept}
 use Rattle.moka_laws.proofs.Balance.{IsBalanced}
 use Rattle.moka_laws.proofs.Balanced.{balanced_kept, next_free}
 use Rattle.moka_laws.proofs.Kept.{IsKept, in_reached}
@@ -45,15 +45,30 @@ module _ {K V : Type 0} where
   takes_told (plan.Told load) = 1
   takes_told _ = 0
 
+  keeps_takes : (c : Call K V) → weigh_call takes_told (keeps c).left ≡ 0
+  keeps_takes c = kept_next (λ v. weigh_call takes_told v.left ≡ 0) c (λ off. refl) (λ on. refl)
+
   misses_takes : (c : Call K V) (aim : Aim K) → weigh_call takes_told (misses c aim).left ≡ 0
   misses_takes c plan.To_answer = refl
   misses_takes c (plan.To_load load) = refl
   misses_takes c (plan.To_own load) = refl
+  misses_takes c (plan.To_evict key stamp cause) = keeps_takes c
 
-  hits_takes : (c : Call K V) (aim : Aim K) (value : V) → weigh_call takes_told (hits c aim value).left ≡ 0
-  hits_takes c plan.To_answer value = refl
-  hits_takes c (plan.To_load load) value = refl
-  hits_takes c (plan.To_own load) value = refl
+  finds_take : (c : Call K V) (aim : Aim K) (k : K) (stored : Stored V) →
+      weigh_call takes_told (finds_pair c aim k stored).left ≡ 0
+  finds_take c plan.To_answer k stored = refl
+  finds_take c (plan.To_load load) k stored = refl
+  finds_take c (plan.To_own load) k stored = refl
+  finds_take c (plan.To_evict key stamp cause) k stored =
+      chosen_next (λ v. weigh_call takes_told v.left ≡ 0) c key stamp cause k stored (λ off. refl)
+      (λ on. refl) refl
+
+  hits_takes : (c : Call K V) (aim : Aim K) (value : V) → IsLook aim →
+      weigh_call takes_told (hits c aim value).left ≡ 0
+  hits_takes c plan.To_answer value l = refl
+  hits_takes c (plan.To_load load) value l = refl
+  hits_takes c (plan.To_own load) value l = refl
+  hits_takes c (plan.To_evict key stamp cause) value l = absurd l
 
   either_takes : (b : Bool) (x y : Next K V) → weigh_call takes_told x.left ≡ 0 → weigh_call takes_told y.left ≡ 0 →
       weigh_call takes_told (cond b x y).left ≡ 0
@@ -68,15 +83,18 @@ module _ {K V : Type 0} where
 
   told_takes : (c : Call K V) (load : Load K) (given : Told V) → IsValue (Some given) →
       weigh_call takes_told (after_told c load (found.TakeTold (Some given))).left ≡ 0
-  told_takes c load (answer.Value value) is = put_plans (λ p. weigh_call takes_told (goes c p).left ≡ 0) c.rules load.key value _ refl refl
+  told_takes c load (answer.Value value) is =
+      loaded_plans (λ p. weigh_call takes_told (goes c p).left ≡ 0)
+      c.rules load value refl refl refl
   told_takes c load answer.Done is = absurd is
   told_takes c load answer.Off is = absurd is
 
+  fresh_none : (rules : Rules) (p : List (Item K V)) → IsFresh rules p → weigh takes_told p ≡ 0
+  fresh_none rules p (Disabled a d) = refl
+  fresh_none rules p _ = refl
+
   fresh_takes : (rules : Rules) (start : Start K V) → weigh takes_told (plan_of rules start) ≡ 0
-  fresh_takes rules (start.Get key) = refl
-  fresh_takes rules (start.Insert key value) =
-      put_plans (λ p. weigh takes_told p ≡ 0) rules key value _ (refl) (refl)
-  fresh_takes rules (start.GetWith key) = refl
+  fresh_takes rules start = fresh_none rules (plan_of rules start) (fresh_plan rules start)
 
   -- no plan takes two answers
   tail_few : (p : List (Item K V)) → IsTail p → weigh takes_told p ≤ 1
@@ -84,7 +102,10 @@ module _ {K V : Type 0} where
   tail_few p (Settling with a) = omega arith
 
   drained_few : (p : List (Item K V)) → IsDrained p → weigh takes_told p ≤ 1
-  drained_few p (Looking aim key) = omega arith
+  drained_few p (Looking aim key l) = omega arith
+  drained_few p (Owning load) = omega arith
+  drained_few p (Removing removal key) = omega arith
+  drained_few p (Locking_out removal key) = omega arith
   drained_few p (Putting key value rest t) = omega (arith, tail_few rest t)
   drained_few p (Locking key value rest t) = omega (arith, tail_few rest t)
 
@@ -97,18 +118,23 @@ module _ {K V : Type 0} where
   plan_few p (Drained rest d) = drained_few rest d
   plan_few p (Posting x rest d) = omega (arith, posted_few rest d)
   plan_few p (Hearing number x rest d) = omega (arith, posted_few rest d)
-  plan_few p (Noticing key old x rest t) = omega (arith, tail_few rest t)
+  plan_few p (Noticing key old cause upsert x rest t) = omega (arith, tail_few rest t)
   plan_few p (Listening x rest t) = omega (arith, tail_few rest t)
   plan_few p (Unlocking x rest t) = omega (arith, tail_few rest t)
   plan_few p (Turning x rest d) = omega (arith, posted_few rest d)
   plan_few p (Applying x rest d) = omega (arith, posted_few rest d)
   plan_few p (Ending x rest d) = omega (arith, posted_few rest d)
   plan_few p (Writing key value moment rest t) = omega (arith, tail_few rest t)
-  plan_few p (Judging aim key stored) = omega arith
-  plan_few p (Owning load) = omega arith
+  plan_few p (Judging aim key stored l) = omega arith
   plan_few p (Reading load) = omega arith
   plan_few p (Asking load) = omega arith
   plan_few p (Telling load) = omega arith
+  plan_few p (Choosing key stamp cause) = omega arith
+  plan_few p (Finding key stamp cause) = omega arith
+  plan_few p (Chosen key stamp cause there stored) = omega arith
+  plan_few p (Taking removal key) = omega arith
+  plan_few p (Freeing a) = omega arith
+  plan_few p (Idling a) = omega arith
 
   -- ---- what a step has to show
 
@@ -134,10 +160,27 @@ module _ {K V : Type 0} where
     on_tail p e (Settling with a) = outcomes eq Leaves w n c (plan.Settle with) (plan.Reply a ∷ []) (still (omega (arith, ap (weigh takes_told) e)))
 
     on_drained : (p : List (Item K V)) → c.plan ≡ p → IsDrained p → OnStep eq Leaves w n c p
-    on_drained p e (Looking aim key) = outcomes eq Leaves w n c (plan.Get aim key) []
-        ((λ more. still refl), still (omega (arith, misses_takes c aim, ap (weigh takes_told) e)), λ k stored. still (omega (arith, ap (weigh takes_told) e)))
-    on_drained p e (Putting key value rest t) = outcomes eq Leaves w n c (plan.Moment key value) rest (still (omega (arith, ap (weigh takes_told) e)))
-    on_drained p e (Locking key value rest t) = outcomes eq Leaves w n c (plan.Lock key) (plan.Moment key value ∷ rest)
+    on_drained p e (Looking aim key l) = outcomes eq Leaves w n c (plan.Get aim key) [] (
+      (λ more. still refl),
+      (λ none. still (omega (arith, misses_takes c aim, ap (weigh takes_told) e))),
+      λ k stored some. still (omega (arith, finds_take c aim k stored, ap (weigh takes_told) e)),
+    )
+    on_drained p e (Owning load) = outcomes eq Leaves w n c (plan.Own load) [] (
+      (λ able none. still (omega (arith, ap (weigh takes_told) e))),
+      (λ not none. still (omega (arith, ap (weigh takes_told) e))),
+      λ owner some. still (omega (arith, ap (weigh takes_told) e)),
+    )
+    on_drained p e (Putting key value rest t) =
+        outcomes eq Leaves w n c (plan.Moment (plan.To_store key value)) rest
+        (still (omega (arith, ap (weigh takes_told) e)))
+    on_drained p e (Locking key value rest t) =
+        outcomes eq Leaves w n c (plan.Lock key) (plan.Moment (plan.To_store key value) ∷ rest)
+        ((λ free. still (omega (arith, ap (weigh takes_told) e))), λ held. still refl)
+    on_drained p e (Removing removal key) =
+        outcomes eq Leaves w n c (plan.Moment (plan.To_take_out removal key)) []
+        (still (omega (arith, ap (weigh takes_told) e)))
+    on_drained p e (Locking_out removal key) =
+        outcomes eq Leaves w n c (plan.Lock key) (plan.Moment (plan.To_take_out removal key) ∷ [])
         ((λ free. still (omega (arith, ap (weigh takes_told) e))), λ held. still refl)
 
     on_posted : (p : List (Item K V)) → c.plan ≡ p → IsPosted p → OnStep eq Leaves w n c p
@@ -155,20 +198,22 @@ module _ {K V : Type 0} where
         ((λ room. goes_on rest (omega (arith, ap (weigh takes_told) e))), λ full. still (omega (arith, ap (weigh takes_told) e)))
     on_plan p e (Hearing number x rest d) = outcomes eq Leaves w n c (plan.Ended number) (plan.Post x ∷ rest)
         ((λ ended. still (omega (arith, ap (weigh takes_told) e))), λ runs. still refl)
-    on_plan p e (Noticing key old x rest t) = outcomes eq Leaves w n c (plan.Notice key old) (plan.Unlock ∷ plan.Post x ∷ rest)
+    on_plan p e (Noticing key old cause upsert x rest t) =
+        outcomes eq Leaves w n c (plan.Notice key old cause upsert)
+        (plan.Unlock true ∷ plan.Post x ∷ rest)
         ((λ off. still (omega (arith, ap (weigh takes_told) e))), λ on. still (omega (arith, ap (weigh takes_told) e)))
-    on_plan p e (Listening x rest t) = outcomes eq Leaves w n c plan.Heard (plan.Unlock ∷ plan.Post x ∷ rest)
+    on_plan p e (Listening x rest t) =
+        outcomes eq Leaves w n c plan.Heard (plan.Unlock true ∷ plan.Post x ∷ rest)
         ((λ ended. still (omega (arith, ap (weigh takes_told) e))), λ runs. still refl)
-    on_plan p e (Unlocking x rest t) = outcomes eq Leaves w n c plan.Unlock (plan.Post x ∷ rest) (still (omega (arith, ap (weigh takes_told) e)))
+    on_plan p e (Unlocking x rest t) = outcomes eq Leaves w n c (plan.Unlock true)
+        (plan.Post x ∷ rest) (still (omega (arith, ap (weigh takes_told) e)))
     on_plan p e (Turning x rest d) = outcomes eq Leaves w n c plan.Turn (plan.Apply ∷ plan.End ∷ plan.Post x ∷ rest)
         ((λ free. still (omega (arith, ap (weigh takes_told) e))), λ taken. still refl)
     on_plan p e (Applying x rest d) = outcomes eq Leaves w n c plan.Apply (plan.End ∷ plan.Post x ∷ rest)
         ((λ none. still (omega (arith, ap (weigh takes_told) e))), λ y ys some. still (omega (arith, ap (weigh takes_told) e)))
     on_plan p e (Ending x rest d) = outcomes eq Leaves w n c plan.End (plan.Post x ∷ rest) (still (omega (arith, ap (weigh takes_told) e)))
-    on_plan p e (Judging aim key stored) = outcomes eq Leaves w n c (plan.Judge aim key stored) []
-        (still (omega (arith, hits_takes c aim stored.value, ap (weigh takes_told) e)))
-    on_plan p e (Owning load) = outcomes eq Leaves w n c (plan.Own load) []
-        ((λ none. still (omega (arith, ap (weigh takes_told) e))), λ owner some. still (omega (arith, ap (weigh takes_told) e)))
+    on_plan p e (Judging aim key stored l) = outcomes eq Leaves w n c (plan.Judge aim key stored) []
+        (still (omega (arith, hits_takes c aim stored.value l, ap (weigh takes_told) e)))
     on_plan p e (Reading load) = outcomes eq Leaves w n c (plan.Read load) [] (
       λ none. still refl,
       λ with some.
@@ -196,6 +241,37 @@ module _ {K V : Type 0} where
       (λ on. still (omega (arith, ap (weigh takes_told) e))),
       λ k old on some. still (omega (arith, ap (weigh takes_told) e)),
     )
+    on_plan p e (Choosing key stamp cause) =
+        outcomes eq Leaves w n c (plan.Lock key) (plan.Get (plan.To_evict key stamp cause) key ∷ [])
+        ((λ free. still (omega (arith, ap (weigh takes_told) e))), λ held. still refl)
+    on_plan p e (Finding key stamp cause) =
+        outcomes eq Leaves w n c (plan.Get (plan.To_evict key stamp cause) key) [] (
+          (λ more. still refl),
+          (λ none. still (omega (arith, keeps_takes c, ap (weigh takes_told) e))),
+          λ k stored some. still
+              (omega (
+                arith,
+                finds_take c (plan.To_evict key stamp cause) k stored,
+                ap (weigh takes_told)
+                    e,
+              )),
+        )
+    on_plan p e (Chosen key stamp cause there stored) =
+        outcomes eq Leaves w n c (plan.Holds key stamp cause there stored) [] (
+          (λ leaves. still (omega (arith, ap (weigh takes_told) e))),
+          λ stays. still (omega (arith, keeps_takes c, ap (weigh takes_told) e)),
+        )
+    on_plan p e (Taking removal key) = outcomes eq Leaves w n c (plan.Out removal key) [] (
+      (λ more. still refl),
+      (λ off none. still (omega (arith, ap (weigh takes_told) e))),
+      (λ on none. still (omega (arith, ap (weigh takes_told) e))),
+      (λ k old off some. still (omega (arith, ap (weigh takes_told) e))),
+      λ k old on some. still (omega (arith, ap (weigh takes_told) e)),
+    )
+    on_plan p e (Freeing a) = outcomes eq Leaves w n c (plan.Unlock false) (plan.Reply a ∷ [])
+        (still (omega (arith, ap (weigh takes_told) e)))
+    on_plan p e (Idling a) = outcomes eq Leaves w n c plan.Idle (plan.Reply a ∷ [])
+        (still (omega (arith, ap (weigh takes_told) e)))
 
   -- ---- of a state
 

@@ -9,17 +9,17 @@ use Rattle.moka_hist.specs.Visits.{number_of}
 use Rattle.moka_hist.specs.Next.{Next, goes}
 use Rattle.moka_hist.specs.declared.records.Mode.{Mode}
 use Rattle.moka_hist.specs.declared.records.Mode.TheVariants as mode
-use Rattle.moka_hist.specs.Tables.{written}
+use Rattle.moka_hist.specs.Tables.{removed, written}
 use Rattle.moka_hist.specs.Bound.{decided_by}
 use Rattle.moka_hist.specs.declared.writes.Owed.{Owed}
 use Rattle.moka_hist.specs.declared.writes.Write.{Write}
-use Rattle.moka_hist.specs.declared.writes.Write.TheVariants.{Upsert}
+use Rattle.moka_hist.specs.declared.writes.Write.TheVariants.{Remove, Upsert}
 use Rattle.moka_hist.specs.declared.accesses.Turn.{Turn}
 use Rattle.moka_hist.specs.declared.accesses.Turn.TheVariants as turn
 use Rattle.moka_laws.proofs.Counting.{times_append, same_number, other_number}
 use Rattle.moka_laws.proofs.Sums.{sum_to}
 use Rattle.moka_laws.proofs.Weights.{weigh, weigh_call, weigh_goes}
-use Rattle.moka_laws.proofs.Posts.{once, among, among_owed, post_of, may_write, late, late_call, late_goes, late_none, posts_none, IsClear, misses_clear, hits_clear, read_clear, told_clear}
+use Rattle.moka_laws.proofs.Posts.{once, among, among_owed, post_of, may_write, late, late_call, late_goes, late_none, posts_none, IsClear, keeps_clear, misses_clear, finds_clear, hits_clear, read_clear, told_clear}
 use Rattle.moka_laws.proofs.StepCases.{OnStep}
 use Rattle.moka_laws.proofs.Outcomes.{Outcomes, outcomes}
 
@@ -158,9 +158,11 @@ module _ {K V : Type 0} where
       λ free. goes_on w n c (plan.Lock key) rest refl refl (λ x. refl) (late_none rest t) (λ x. refl) (omega arith),
       λ held. stays_put w n (plan.Lock key ∷ rest) w.stay c e t sp mode.Parked turn.Wait,
     )
-    on_item plan.Unlock rest e t sp = goes_on w n c plan.Unlock rest refl refl (λ x. refl) t (λ x. refl) (omega arith)
-    on_item (plan.Notice key old) rest e t sp = (
-      λ off. goes_on w n c (plan.Notice key old) rest refl refl (λ x. refl) t (λ x. refl) (omega arith),
+    on_item (plan.Unlock wrote) rest e t sp =
+        goes_on w n c (plan.Unlock wrote) rest refl refl (λ x. refl) t (λ x. refl) (omega arith)
+    on_item (plan.Notice key old cause upsert) rest e t sp = (
+      λ off. goes_on w n c (plan.Notice key old cause upsert) rest refl refl (λ x. refl) t
+          (λ x. refl) (omega arith),
       λ on. record { last = refl; tidy = t; spent = omega arith; others = λ m h. refl; balance = λ x. omega arith },
     )
     on_item (plan.Post write) rest e t sp = (
@@ -196,17 +198,27 @@ module _ {K V : Type 0} where
     on_item plan.End rest e t sp = goes_on w n c plan.End rest refl refl (λ x. refl) t (λ x. refl) (omega arith)
     on_item (plan.Get aim key) rest e t sp = (
       λ more. stays_put w n (plan.Get aim key ∷ rest) _ c e t sp mode.Mid turn.Going,
-      clears w n (plan.Get aim key ∷ rest) refl refl (λ x. refl) (misses_clear c aim) (λ x. omega (arith, posts_none x rest t)) (omega arith),
-      λ k stored. clears w n (plan.Get aim key ∷ rest) refl refl (λ x. refl) (record { late = refl; posts = λ x. refl; may = omega arith })
+      λ none. clears w n (plan.Get aim key ∷ rest) refl refl (λ x. refl) (misses_clear c aim)
+          (λ x. omega (arith, posts_none x rest t)) (omega arith),
+      λ k stored some. clears w n (plan.Get aim key ∷ rest) refl refl (λ x. refl)
+          (finds_clear c aim k stored)
           (λ x. omega (arith, posts_none x rest t)) (omega arith),
     )
     on_item (plan.Judge aim key stored) rest e t sp =
-        clears w n (plan.Judge aim key stored ∷ rest) refl refl (λ x. refl) (hits_clear c aim stored.value)
+        clears w n (plan.Judge aim key stored ∷ rest) refl refl (λ x. refl)
+        (hits_clear c aim stored.value
+        (was_clear w n (plan.Judge aim key stored ∷ rest) c e t sp
+        (λ x. omega (arith, posts_none x rest t))))
         (λ x. omega (arith, posts_none x rest t)) (omega arith)
     on_item (plan.Own load) rest e t sp = (
-      λ none. clears w n (plan.Own load ∷ rest) refl refl (λ x. refl) (record { late = refl; posts = λ x. refl; may = omega arith })
+      λ able none. clears w n (plan.Own load ∷ rest) refl refl (λ x. refl)
+          (record { late = refl; posts = λ x. refl; may = omega arith })
           (λ x. omega (arith, posts_none x rest t)) (omega arith),
-      λ owner some. clears w n (plan.Own load ∷ rest) refl refl (λ x. refl) (record { late = refl; posts = λ x. refl; may = omega arith })
+      λ not none. clears w n (plan.Own load ∷ rest) refl refl (λ x. refl)
+          (record { late = refl; posts = λ x. refl; may = omega arith })
+          (λ x. omega (arith, posts_none x rest t)) (omega arith),
+      λ owner some. clears w n (plan.Own load ∷ rest) refl refl (λ x. refl)
+          (record { late = refl; posts = λ x. refl; may = omega arith })
           (λ x. omega (arith, posts_none x rest t)) (omega arith),
     )
     on_item (plan.Read load) rest e t sp = (
@@ -225,18 +237,39 @@ module _ {K V : Type 0} where
           (told_clear c load given (was_clear w n (plan.Told load ∷ rest) c e t sp (λ x. omega (arith, posts_none x rest t))))
           (λ x. omega (arith, posts_none x rest t)) (omega arith),
     )
-    on_item (plan.Moment key value) rest e t sp = record {
-      last = refl;
-      tidy = t;
-      spent = omega arith;
-      others = λ m h. refl;
-      balance = λ x. omega arith;
-    }
+    on_item (plan.Holds key stamp cause there stored) rest e t sp = (
+      λ leaves. clears w n (plan.Holds key stamp cause there stored ∷ rest) refl refl (λ x. refl)
+          (record { late = refl; posts = λ x. refl; may = omega arith })
+          (λ x. omega (arith, posts_none x rest t)) (omega arith),
+      λ stays. clears w n (plan.Holds key stamp cause there stored ∷ rest) refl refl (λ x. refl)
+          (keeps_clear c)
+          (λ x. omega (arith, posts_none x rest t)) (omega arith),
+    )
+    on_item (plan.Moment (plan.To_store key value)) rest e t sp =
+        record {
+          last = refl;
+          tidy = t;
+          spent = omega arith;
+          others = λ m h. refl;
+          balance = λ x. omega arith;
+        }
+    on_item (plan.Moment (plan.To_take_out removal key)) rest e t sp =
+        record {
+          last = refl;
+          tidy = t;
+          spent = omega arith;
+          others = λ m h. refl;
+          balance = λ x. omega arith;
+        }
     on_item (plan.Write key value moment) rest e t sp = (
       λ more. stays_put w n (plan.Write key value moment ∷ rest) _ c e t sp mode.Mid turn.Going,
       λ off old. commits (plan.Post (Upsert n old) ∷ rest) t (omega arith) (λ x. refl),
-      λ on. commits (plan.Unlock ∷ plan.Post (Upsert n None) ∷ rest) t (omega arith) (λ x. omega arith),
-      λ k old on some. commits (plan.Notice key old ∷ plan.Unlock ∷ plan.Post (Upsert n (Some old.stamp)) ∷ rest) t (omega arith) (λ x. omega arith),
+      λ on. commits (plan.Unlock true ∷ plan.Post (Upsert n None) ∷ rest) t (omega arith)
+          (λ x. omega arith),
+      λ k old on some. commits
+          (plan.Notice key old None true ∷ plan.Unlock true ∷ plan.Post (Upsert n (Some old.stamp))
+          ∷ rest) t
+          (omega arith) (λ x. omega arith),
     )
       where
         -- the write is committed, and the call goes on with a plan that posts it
@@ -252,6 +285,50 @@ module _ {K V : Type 0} where
           others = λ m h. omega (arith, times_last m n w.table.committed, ap (λ b. cond {A = ℕ} b 1 0) (other_number n m h));
           balance = λ x. omega (arith, posts x, times_last x n w.table.committed);
         }
+    on_item (plan.Out removal key) rest e t sp = (
+      (λ more. stays_put w n (plan.Out removal key ∷ rest) _ c e t sp mode.Mid turn.Going),
+      (λ off none. clears w n (plan.Out removal key ∷ rest) refl refl (λ x. refl)
+          (record { late = refl; posts = λ x. refl; may = omega arith })
+          (λ x. omega (arith, posts_none x rest t)) (omega arith)),
+      (λ on none. clears w n (plan.Out removal key ∷ rest) refl refl (λ x. refl)
+          (record { late = refl; posts = λ x. refl; may = omega arith })
+          (λ x. omega (arith, posts_none x rest t)) (omega arith)),
+      (λ k old off some. commits (plan.Post (Remove n old.stamp) ∷ plan.Reply _ ∷ []) refl refl
+          (λ x. omega arith)),
+      λ k old on some. commits
+          (plan.Notice key old _ false ∷ plan.Unlock true ∷ plan.Post (Remove n old.stamp)
+          ∷ plan.Reply _ ∷ [])
+          refl refl (λ x. omega arith),
+    )
+      where
+        -- the removal is committed, and the call goes on with a plan that posts it
+        commits : (p : List (Item K V)) → late p ≡ 0 → weigh may_write p ≡ 0 →
+            ((x : ℕ) → weigh (post_of x) p ≡ once x n) →
+            Balances w n (plan.Out removal key ∷ rest)
+            (record w { table = removed eq n w.table key; stay = decided_by n })
+            (record { left = Some (record c { mode = mode.Mid; plan = p }); turn = turn.Going })
+        commits p tidy may posts = record {
+          last = refl;
+          tidy = tidy;
+          spent = omega (
+            arith,
+            may,
+            times_last n n w.table.committed,
+            ap (λ b. cond {A = ℕ} b 1 0)
+                (same_number n),
+          );
+          others = λ m h. omega (
+            arith,
+            times_last m n w.table.committed,
+            ap (λ b. cond {A = ℕ} b 1 0)
+                (other_number n m h),
+          );
+          balance = λ x. omega
+              (arith, posts x, posts_none x rest t, times_last x n w.table.committed);
+        }
+    on_item plan.Idle rest e t sp =
+        goes_on w n c plan.Idle rest refl refl (λ x. refl) (late_none rest t) (λ x. refl)
+        (omega arith)
     on_item (plan.Reply answer) rest e t sp = record {
       last = refl;
       tidy = refl;
@@ -262,5 +339,11 @@ module _ {K V : Type 0} where
 
     pub on_plan : (plan : List (Item K V)) → c.plan ≡ plan → late plan ≡ 0 → times n w.table.committed + weigh may_write plan ≤ 1 →
         OnStep eq (Balances w n plan) w n c plan
-    on_plan [] e t sp = stays_put w n [] w.stay c e t sp mode.Parked turn.Wait
+    on_plan [] e t sp = record {
+      last = refl;
+      tidy = ap late e ∙ t;
+      spent = omega (arith, ap (weigh may_write) e, sp);
+      others = λ m h. refl;
+      balance = λ x. omega (arith, ap (weigh (post_of x)) e);
+    }
     on_plan (item ∷ rest) e t sp = outcomes eq (Balances w n (item ∷ rest)) w n c item rest (on_item item rest e t sp)

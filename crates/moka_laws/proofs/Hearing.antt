@@ -26,7 +26,7 @@ use Rattle.moka_laws.proofs.Counting.{none_some, some_same, put_cases, put_here,
 use Rattle.moka_laws.proofs.Kept.{IsStable, runs}
 use Rattle.moka_laws.proofs.Weights.{weigh}
 use Rattle.moka_laws.proofs.Owning.{plan_left}
-use Rattle.moka_laws.proofs.Plans.{IsTail, Answering, Settling, Looking, Putting, Draining, Ended, Locking, IsPlan, Posted, Drained, Posting, Hearing, Noticing, Listening, Unlocking, Turning, Applying, Ending, Judging, Owning, Reading, Asking, Telling, Writing}
+use Rattle.moka_laws.proofs.Plans.{IsTail, Answering, Settling, Looking, Owning, Putting, Removing, Locking_out, Draining, Ended, Locking, IsPlan, Posted, Drained, Posting, Hearing, Noticing, Listening, Unlocking, Turning, Applying, Ending, Judging, Reading, Asking, Telling, Writing, Choosing, Finding, Chosen, Taking, Freeing, Idling}
 use Rattle.moka_laws.proofs.Reading.{OwnerOf, joins, joins_self, reader_joins}
 use Rattle.moka_laws.proofs.Reached.{step_reached}
 use Rattle.moka_laws.proofs.Roles.{Fits, awaited, owners}
@@ -59,23 +59,31 @@ module _ {K V : Type 0} where
   settles_form : (with : Settled V) (rest p : List (Item K V)) → p ≡ plan.Settle with ∷ rest → IsPlan p → (a : Answer V) × (rest ≡ plan.Reply a ∷ [])
   settles_form with rest p e (Posted q (Ended r t)) = settles_tail with rest p e t
   settles_form with rest p e (Posted q (Draining r d)) = cc
-  settles_form with rest p e (Drained q (Looking aim key)) = cc
+  settles_form with rest p e (Drained q (Looking aim key look)) = cc
+  settles_form with rest p e (Drained q (Owning load)) = cc
+  settles_form with rest p e (Drained q (Removing removal key)) = cc
+  settles_form with rest p e (Drained q (Locking_out removal key)) = cc
   settles_form with rest p e (Drained q (Putting key value r t)) = cc
   settles_form with rest p e (Drained q (Locking key value r t)) = cc
   settles_form with rest p e (Posting x q d) = cc
   settles_form with rest p e (Hearing number x q d) = cc
-  settles_form with rest p e (Noticing key old x q t) = cc
+  settles_form with rest p e (Noticing key old cause upsert x q t) = cc
   settles_form with rest p e (Listening x q t) = cc
   settles_form with rest p e (Unlocking x q t) = cc
   settles_form with rest p e (Turning x q d) = cc
   settles_form with rest p e (Applying x q d) = cc
   settles_form with rest p e (Ending x q d) = cc
-  settles_form with rest p e (Judging aim key stored) = cc
-  settles_form with rest p e (Owning load) = cc
+  settles_form with rest p e (Judging aim key stored look) = cc
   settles_form with rest p e (Reading load) = cc
   settles_form with rest p e (Asking load) = cc
   settles_form with rest p e (Telling load) = cc
   settles_form with rest p e (Writing key value moment q t) = cc
+  settles_form with rest p e (Choosing key stamp cause) = cc
+  settles_form with rest p e (Finding key stamp cause) = cc
+  settles_form with rest p e (Chosen key stamp cause there stored) = cc
+  settles_form with rest p e (Taking removal key) = cc
+  settles_form with rest p e (Freeing a) = cc
+  settles_form with rest p e (Idling a) = cc
 
   -- a call that waits reads next
   reads_form : (p : List (Item K V)) → is_some (awaited p) ≡ true → IsPlan p → (load : Load K) × (p ≡ plan.Read load ∷ [])
@@ -84,17 +92,23 @@ module _ {K V : Type 0} where
   reads_form p some (Drained q d) = absurd (not_none (awaited q) some (drained_role q d))
   reads_form p some (Posting x q d) = absurd (not_none (awaited q) some (posted_role q d))
   reads_form p some (Hearing number x q d) = absurd (not_none (awaited q) some (posted_role q d))
-  reads_form p some (Noticing key old x q t) = absurd (not_none (awaited q) some (tail_role q t))
+  reads_form p some (Noticing key old cause upsert x q t) =
+      absurd (not_none (awaited q) some (tail_role q t))
   reads_form p some (Listening x q t) = absurd (not_none (awaited q) some (tail_role q t))
   reads_form p some (Unlocking x q t) = absurd (not_none (awaited q) some (tail_role q t))
   reads_form p some (Turning x q d) = absurd (not_none (awaited q) some (posted_role q d))
   reads_form p some (Applying x q d) = absurd (not_none (awaited q) some (posted_role q d))
   reads_form p some (Ending x q d) = absurd (not_none (awaited q) some (posted_role q d))
   reads_form p some (Writing key value moment q t) = absurd (not_none (awaited q) some (tail_role q t))
-  reads_form p some (Judging aim key stored) = absurd (false≢true some)
-  reads_form p some (Owning load) = absurd (false≢true some)
+  reads_form p some (Judging aim key stored look) = absurd (false≢true some)
   reads_form p some (Asking load) = absurd (false≢true some)
   reads_form p some (Telling load) = absurd (false≢true some)
+  reads_form p some (Choosing key stamp cause) = absurd (false≢true some)
+  reads_form p some (Finding key stamp cause) = absurd (false≢true some)
+  reads_form p some (Chosen key stamp cause there stored) = absurd (false≢true some)
+  reads_form p some (Taking removal key) = absurd (false≢true some)
+  reads_form p some (Freeing a) = absurd (false≢true some)
+  reads_form p some (Idling a) = absurd (false≢true some)
 
   -- ---- what is kept
 
@@ -144,16 +158,22 @@ module _ {K V : Type 0} where
       on_item (plan.Ended number) rest = (λ e. same refl refl refl, λ e. same refl refl refl)
       on_item plan.Heard rest = (λ e. same refl refl refl, λ e. same refl refl refl)
       on_item (plan.Lock key) rest = (λ e. same refl refl refl, λ e. same refl refl refl)
-      on_item plan.Unlock rest = same refl refl refl
-      on_item (plan.Notice key old) rest = (λ e. same refl refl refl, λ e. same refl refl refl)
+      on_item (plan.Unlock wrote) rest = same refl refl refl
+      on_item (plan.Notice key old cause upsert) rest =
+          (λ e. same refl refl refl, λ e. same refl refl refl)
       on_item (plan.Post write) rest = (λ e. same refl refl refl, λ e. same refl refl refl)
       on_item plan.Turn rest = (λ e. same refl refl refl, λ e. same refl refl refl)
       on_item plan.Apply rest = (λ e. same refl refl refl, λ x xs e. same refl refl refl)
       on_item plan.End rest = same refl refl refl
-      on_item (plan.Get aim key) rest = ((λ more. same refl refl refl), same refl refl refl, λ q stored. same refl refl refl)
+      on_item (plan.Get aim key) rest = (
+        (λ more. same refl refl refl),
+        (λ none. same refl refl refl),
+        λ q stored some. same refl refl refl,
+      )
       on_item (plan.Judge aim key stored) rest = same refl refl refl
       on_item (plan.Own load) rest = (
-        λ e. same refl refl refl,
+        λ able e. same refl refl refl,
+        λ not e. same refl refl refl,
         λ who e. record {
           last = refl;
           kept = λ keeps j. put_cases w.desk.joined m (Some who) n (Some o) (w.desk.settled o ≡ Some with) j
@@ -174,8 +194,19 @@ module _ {K V : Type 0} where
       on_item (plan.Settle given) rest = record { last = refl; kept = λ keeps j. stays_with w.desk m o given w.desk.settled k.apart ∙ keeps j }
       on_item (plan.Ask load) rest = same refl refl refl
       on_item (plan.Told load) rest = (λ e. same refl refl refl, λ given e. same refl refl refl)
-      on_item (plan.Moment key value) rest = same refl refl refl
+      on_item (plan.Holds key stamp cause there stored) rest =
+          ((λ e. same refl refl refl), λ e. same refl refl refl)
+      on_item (plan.Moment (plan.To_store key value)) rest = same refl refl refl
+      on_item (plan.Moment (plan.To_take_out removal key)) rest = same refl refl refl
       on_item (plan.Write key value moment) rest = ((λ more. same refl refl refl), (λ off old. same refl refl refl), (λ on. same refl refl refl), λ there old on some. same refl refl refl)
+      on_item (plan.Out removal key) rest = (
+        (λ more. same refl refl refl),
+        (λ off none. same refl refl refl),
+        (λ on none. same refl refl refl),
+        (λ k old off some. same refl refl refl),
+        λ k old on some. same refl refl refl,
+      )
+      on_item plan.Idle rest = same refl refl refl
       on_item (plan.Reply a) rest = same refl refl refl
 
       on_plan : (plan : List (Item K V)) → OnStep eq (Leaves w) w m c plan

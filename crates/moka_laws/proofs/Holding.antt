@@ -1,26 +1,26 @@
 -- What a call holds, by its plan.
-use Rattle.std.proofs.Common.{◌≡◌, ℕ, ◌+◌, ◌<◌, ◌≤◌, ◌==◌, Bool, true, false, cond, List, [], ◌∷◌, ◌++◌, map, Option, Some, None, ◌⊎◌, inl, inr, refl, sym, ap, ◌∙◌, subst, arith}
+use Rattle.std.proofs.Common.{◌≡◌, ◌≢◌, ℕ, ◌+◌, ◌<◌, ◌≤◌, ◌==◌, Bool, true, false, cond, List, [], ◌∷◌, ◌++◌, map, Option, Some, None, ◌⊎◌, inl, inr, refl, sym, ap, ◌∙◌, subst, arith}
 use Rattle.std.proofs.lemmas.Bool.{eqb-true}
 use Rattle.std.specs.Option.{option_map}
 use Rattle.moka_hist.specs.Finite.{put_at, times}
 use Rattle.moka_hist.specs.State.{State, World, Call, DeskPart}
-use Rattle.moka_hist.specs.Plan.{Item, Aim, held_by, plan_of}
+use Rattle.moka_hist.specs.Plan.{Change, Item, Aim, held_by, plan_of}
 use Rattle.moka_hist.specs.Plan as plan
 use Rattle.moka_hist.specs.Visits.{number_of, without_moment}
 use Rattle.moka_laws.specs.Held.{MayAllLeave}
 use Rattle.moka_hist.specs.Conditions.{held_number, numbers_of, IsPlaceOf, IsUnused, MayLeave, MayLeaveWith}
 use Rattle.moka_hist.specs.Next.{Next, goes}
-use Rattle.moka_hist.specs.Looking.{hits, misses}
+use Rattle.moka_hist.specs.Looking.{hits, misses, keeps as stays, finds_pair}
 use Rattle.moka_hist.specs.Loading.{after_read, after_told, retries}
 use Rattle.moka_hist.specs.Step.{Step}
 use Rattle.moka_hist.specs.Run.{IsReached, started, fresh_call}
 use Rattle.moka_hist.specs.Places.{HeldAreKnown}
 use Rattle.moka_hist.specs.declared.rules.Rules.{Rules}
 use Rattle.moka_hist.specs.declared.events.Start.{Start}
-use Rattle.moka_hist.specs.declared.events.Start.TheVariants as start
 use Rattle.moka_hist.specs.declared.events.Told.{Told}
 use Rattle.moka_hist.specs.declared.events.Told.TheVariants as answer
 use Rattle.moka_hist.specs.declared.loads.Load.{Load}
+use Rattle.moka_hist.specs.declared.records.Stored.{Stored}
 use Rattle.moka_hist.specs.declared.visits.Settled.{Settled}
 use Rattle.moka_hist.specs.declared.visits.Settled.TheVariants as settled
 use Rattle.moka_hist.specs.declared.visits.Found.TheVariants as found
@@ -28,8 +28,8 @@ use Rattle.moka_hist.specs.declared.accesses.Turn.{Turn}
 use Rattle.moka_hist.specs.declared.writes.Holding.{Holding}
 use Rattle.moka_hist.specs.declared.writes.Holding.TheVariants as holding
 use Rattle.moka_hist.specs.declared.writes.Write.{Write}
-use Rattle.moka_hist.specs.declared.writes.Write.TheVariants.{Upsert}
-use Rattle.moka_laws.proofs.Rules.{put_plans}
+use Rattle.moka_hist.specs.declared.writes.Write.TheVariants.{Remove, Upsert}
+use Rattle.moka_laws.proofs.Rules.{loaded_plans, kept_next, chosen_next, IsFresh, Disabled, fresh_plan}
 use Rattle.moka_laws.proofs.Counting.{none_some, some_same, put_here, put_there, same_number}
 use Rattle.moka_laws.proofs.Sums.{sum_holds}
 use Rattle.moka_laws.proofs.Weights.{weigh, weigh_call}
@@ -45,6 +45,42 @@ use Rattle.moka_laws.proofs.Outcomes.{Outcomes, outcomes}
 abbrev IsOwn : Option Holding → Type 0
 IsOwn h = (pending : Option ℕ) × (h ≡ Some (holding.Own pending))
 
+-- the call holds at most that
+abbrev MayOwn : Option Holding → Type 0
+MayOwn h = (h ≡ None) ⊎ IsOwn h
+
+-- no moment is pending with it any more
+still_own : (h : Option Holding) → IsOwn h → IsOwn (option_map without_moment h)
+still_own h own = (None, ap (option_map without_moment) own.1)
+
+may_still : (h : Option Holding) → MayOwn h → MayOwn (option_map without_moment h)
+may_still h (inl none) = inl (ap (option_map without_moment) none)
+may_still h (inr own) = inr (still_own h own)
+
+-- a call with no write but its own may leave, and has taken up none
+own_leaves : (h : Option Holding) (n : ℕ) → IsOwn h → MayLeaveWith h n None
+own_leaves h n own = subst (λ v. MayLeaveWith v n None) (sym own.1) tt
+
+may_leave : (h : Option Holding) (n : ℕ) → MayOwn h → MayLeaveWith h n None
+may_leave h n (inl none) = subst (λ v. MayLeaveWith v n None) (sym none) tt
+may_leave h n (inr own) = own_leaves h n own
+
+own_not : (h : Option Holding) (write : Write) → IsOwn h → h ≢ Some (holding.TookUp write)
+own_not h write own e =
+    let f : Some (holding.Own own.0) ≡ Some (holding.TookUp write) = sym own.1 ∙ e in cc
+
+may_not : (h : Option Holding) (write : Write) → MayOwn h → h ≢ Some (holding.TookUp write)
+may_not h write (inl none) e = none_some (sym none ∙ e)
+may_not h write (inr own) e = own_not h write own e
+
+-- the place of its own write has its number
+own_number : (n : ℕ) (x : Holding) → IsOwn (Some x) → held_number n x ≡ n
+own_number n x own = ap (held_number n) (some_same own.1)
+
+may_number : (n : ℕ) (x : Holding) → MayOwn (Some x) → held_number n x ≡ n
+may_number n x (inl none) = absurd (none_some (sym none))
+may_number n x (inr own) = own_number n x own
+
 -- what a call holds is still the place of the write, once no moment is pending
 still_place : (h : Option Holding) (n : ℕ) (write : Write) → IsPlaceOf h n write → IsPlaceOf (option_map without_moment h) n write
 still_place None n write place = place
@@ -52,8 +88,9 @@ still_place (Some (holding.Own pending)) n write place = place
 still_place (Some (holding.TookUp held)) n write place = place
 
 -- the place of a call's own write is that of any of its number
-own_place : (h : Option Holding) (n : ℕ) (old : Option ℕ) → IsOwn h → IsPlaceOf h n (Upsert n old)
-own_place h n old own = subst (λ v. IsPlaceOf v n (Upsert n old)) (sym own.1) refl
+own_place : (h : Option Holding) (n : ℕ) (write : Write) → number_of write ≡ n → IsOwn h →
+    IsPlaceOf h n write
+own_place h n write is own = subst (λ v. IsPlaceOf v n write) (sym own.1) is
 
 pub place_number : (x : Holding) (n : ℕ) (write : Write) → IsPlaceOf (Some x) n write → held_number n x ≡ number_of write
 place_number (holding.Own pending) n write place = sym place
@@ -64,9 +101,13 @@ module _ {K V : Type 0} where
   abbrev held : Item K V → ℕ
   held (plan.Post write) = 1
   held (plan.Write key value moment) = 1
+  held (plan.Out removal key) = 1
+  held plan.Idle = 1
   held _ = 0
 
-  -- what the call with this plan holds: the place of the write that it is to post or make first, and else nothing
+  -- What the call with this plan holds: the place of the write that it is to post or make first,
+  -- and else nothing. Where nothing was taken out it may still hold its own place, which it gives
+  -- back.
   abbrev pub HoldsAs : ℕ → Option Holding → List (Item K V) → Type 0
   HoldsAs n h [] = h ≡ None
   HoldsAs n h (plan.Post write ∷ rest) = IsPlaceOf h n write × (weigh held rest ≡ 0)
@@ -75,28 +116,40 @@ module _ {K V : Type 0} where
   HoldsAs n h (plan.Apply ∷ rest) = HoldsAs n h rest
   HoldsAs n h (plan.End ∷ rest) = HoldsAs n h rest
   HoldsAs n h (plan.Ended number ∷ rest) = HoldsAs n h rest
-  HoldsAs n h (plan.Notice key old ∷ rest) = HoldsAs n h rest
+  HoldsAs n h (plan.Notice key old cause upsert ∷ rest) = HoldsAs n h rest
   HoldsAs n h (plan.Heard ∷ rest) = HoldsAs n h rest
-  HoldsAs n h (plan.Unlock ∷ rest) = HoldsAs n h rest
+  HoldsAs n h (plan.Unlock true ∷ rest) = HoldsAs n h rest
+  HoldsAs n h (plan.Unlock false ∷ rest) = MayOwn h × (weigh held rest ≡ 0)
+  HoldsAs n h (plan.Out removal key ∷ rest) = IsOwn h × (weigh held rest ≡ 0)
+  HoldsAs n h (plan.Idle ∷ rest) = IsOwn h × (weigh held rest ≡ 0)
   HoldsAs n h (_ ∷ rest) = (h ≡ None) × (weigh held rest ≡ 0)
 
   -- ---- plans that need no place
 
+  fresh_free : (rules : Rules) (p : List (Item K V)) → IsFresh rules p → weigh held p ≡ 0
+  fresh_free rules p (Disabled a d) = refl
+  fresh_free rules p _ = refl
+
   fresh_weighs : (rules : Rules) (start : Start K V) → weigh held (plan_of rules start) ≡ 0
-  fresh_weighs rules (start.Get key) = refl
-  fresh_weighs rules (start.Insert key value) =
-      put_plans (λ p. weigh held p ≡ 0) rules key value _ (refl) (refl)
-  fresh_weighs rules (start.GetWith key) = refl
+  fresh_weighs rules start = fresh_free rules (plan_of rules start) (fresh_plan rules start)
+
+  stays_weighs : (c : Call K V) → weigh_call held (stays c).left ≡ 0
+  stays_weighs c = kept_next (λ v. weigh_call held v.left ≡ 0) c (λ off. refl) (λ on. refl)
 
   misses_weigh : (c : Call K V) (aim : Aim K) → weigh_call held (misses c aim).left ≡ 0
   misses_weigh c plan.To_answer = refl
   misses_weigh c (plan.To_load load) = refl
   misses_weigh c (plan.To_own load) = refl
+  misses_weigh c (plan.To_evict key stamp cause) = stays_weighs c
 
-  hits_weigh : (c : Call K V) (aim : Aim K) (value : V) → weigh_call held (hits c aim value).left ≡ 0
-  hits_weigh c plan.To_answer value = refl
-  hits_weigh c (plan.To_load load) value = refl
-  hits_weigh c (plan.To_own load) value = refl
+  finds_weigh : (c : Call K V) (aim : Aim K) (k : K) (stored : Stored V) →
+      weigh_call held (finds_pair c aim k stored).left ≡ 0
+  finds_weigh c plan.To_answer k stored = refl
+  finds_weigh c (plan.To_load load) k stored = refl
+  finds_weigh c (plan.To_own load) k stored = refl
+  finds_weigh c (plan.To_evict key stamp cause) k stored =
+      chosen_next (λ v. weigh_call held v.left ≡ 0) c key stamp cause k stored (λ off. refl)
+      (λ on. refl) refl
 
   either_weighs : (b : Bool) (x y : Next K V) → weigh_call held x.left ≡ 0 → weigh_call held y.left ≡ 0 → weigh_call held (cond b x y).left ≡ 0
   either_weighs true x y h k = h
@@ -111,9 +164,12 @@ module _ {K V : Type 0} where
     free_holds (plan.Apply ∷ rest) e none = free_holds rest (omega arith) none
     free_holds (plan.End ∷ rest) e none = free_holds rest (omega arith) none
     free_holds (plan.Ended number ∷ rest) e none = free_holds rest (omega arith) none
-    free_holds (plan.Notice key old ∷ rest) e none = free_holds rest (omega arith) none
+    free_holds (plan.Notice key old cause upsert ∷ rest) e none = free_holds rest (omega arith) none
     free_holds (plan.Heard ∷ rest) e none = free_holds rest (omega arith) none
-    free_holds (plan.Unlock ∷ rest) e none = free_holds rest (omega arith) none
+    free_holds (plan.Unlock true ∷ rest) e none = free_holds rest (omega arith) none
+    free_holds (plan.Unlock false ∷ rest) e none = (inl none, omega arith)
+    free_holds (plan.Out removal key ∷ rest) e none = absurd (omega arith)
+    free_holds (plan.Idle ∷ rest) e none = absurd (omega arith)
     free_holds (_ ∷ rest) e none = (none, omega arith)
 
     left_holds : (left : Option (Call K V)) → weigh_call held left ≡ 0 → h ≡ None → HoldsAs n h (plan_left left)
@@ -126,6 +182,13 @@ module _ {K V : Type 0} where
     goes_holds c [] q = q
     goes_holds c (_ ∷ rest) q = q
 
+    hits_holds : (c : Call K V) (aim : Aim K) (value : V) → HoldsAs n h c.plan → h ≡ None →
+        HoldsAs n h (plan_left (hits c aim value).left)
+    hits_holds c plan.To_answer value p none = none
+    hits_holds c (plan.To_load load) value p none = none
+    hits_holds c (plan.To_own load) value p none = (none, refl)
+    hits_holds c (plan.To_evict key stamp cause) value p none = p
+
     read_holds : (c : Call K V) (load : Load K) (with : Settled V) → HoldsAs n h c.plan → h ≡ None →
         HoldsAs n h (plan_left (after_read c load (found.ReadSettled with)).left)
     read_holds c load (settled.Ready value) p none = none
@@ -136,7 +199,9 @@ module _ {K V : Type 0} where
     told_holds : (c : Call K V) (load : Load K) (given : Told V) → HoldsAs n h c.plan → h ≡ None →
         HoldsAs n h (plan_left (after_told c load (found.TakeTold (Some given))).left)
     told_holds c load (answer.Value value) p none =
-        put_plans (λ p. HoldsAs n h (plan_left (goes c p).left)) c.rules load.key value _ (none, refl) (none, refl)
+        loaded_plans (λ p. HoldsAs n h (plan_left (goes c p).left)) c.rules load value (none, refl)
+        (none, refl)
+        (none, refl)
     told_holds c load answer.Done p none = p
     told_holds c load answer.Off p none = p
 
@@ -149,9 +214,12 @@ module _ {K V : Type 0} where
   still_holds n h (plan.Apply ∷ rest) q = still_holds n h rest q
   still_holds n h (plan.End ∷ rest) q = still_holds n h rest q
   still_holds n h (plan.Ended number ∷ rest) q = still_holds n h rest q
-  still_holds n h (plan.Notice key old ∷ rest) q = still_holds n h rest q
+  still_holds n h (plan.Notice key old cause upsert ∷ rest) q = still_holds n h rest q
   still_holds n h (plan.Heard ∷ rest) q = still_holds n h rest q
-  still_holds n h (plan.Unlock ∷ rest) q = still_holds n h rest q
+  still_holds n h (plan.Unlock true ∷ rest) q = still_holds n h rest q
+  still_holds n h (plan.Unlock false ∷ rest) q = (may_still h q.0, q.1)
+  still_holds n h (plan.Out removal key ∷ rest) q = (still_own h q.0, q.1)
+  still_holds n h (plan.Idle ∷ rest) q = (still_own h q.0, q.1)
   still_holds n h (_ ∷ rest) q = (ap (option_map without_moment) q.0, q.1)
 
   -- what a step has to show: what this call holds then, and that the others hold what they held
@@ -185,8 +253,11 @@ module _ {K V : Type 0} where
     on_item plan.Heard rest p q = (λ e. keeps w.desk n (goes_holds n _ c rest q), λ e. keeps w.desk n p)
     on_item (plan.Lock key) rest p q =
         ((λ e. keeps w.desk n (goes_holds n _ c rest (free_holds n _ rest q.1 q.0))), λ e. keeps w.desk n p)
-    on_item plan.Unlock rest p q = holds_now w.desk n _ (goes_holds n _ c rest (still_holds n (w.desk.holding n) rest q))
-    on_item (plan.Notice key old) rest p q = (
+    on_item (plan.Unlock true) rest p q =
+        holds_now w.desk n _ (goes_holds n _ c rest (still_holds n (w.desk.holding n) rest q))
+    on_item (plan.Unlock false) rest p q =
+        holds_now w.desk n None (goes_holds n None c rest (free_holds n None rest q.1 refl))
+    on_item (plan.Notice key old cause upsert) rest p q = (
       λ e. holds_now w.desk n _ (goes_holds n _ c rest (still_holds n (w.desk.holding n) rest q)),
       λ e. holds_now w.desk n _ (still_holds n (w.desk.holding n) rest q),
     )
@@ -197,26 +268,51 @@ module _ {K V : Type 0} where
     on_item plan.Turn rest p q = (λ e. keeps w.desk n (goes_holds n _ c rest q), λ e. keeps w.desk n p)
     on_item plan.Apply rest p q = (λ e. keeps w.desk n (goes_holds n _ c rest q), λ x xs e. keeps w.desk n q)
     on_item plan.End rest p q = keeps w.desk n (goes_holds n _ c rest q)
-    on_item (plan.Get aim key) rest p q =
-        ((λ more. keeps w.desk n p), keeps w.desk n (left_holds n _ _ (misses_weigh c aim) q.0), λ k stored. keeps w.desk n (q.0, refl))
-    on_item (plan.Judge aim key stored) rest p q = keeps w.desk n (left_holds n _ _ (hits_weigh c aim stored.value) q.0)
-    on_item (plan.Own load) rest p q = (λ e. keeps w.desk n (q.0, refl), λ owner e. keeps w.desk n (q.0, refl))
+    on_item (plan.Get aim key) rest p q = (
+      (λ more. keeps w.desk n p),
+      (λ none. keeps w.desk n (left_holds n _ _ (misses_weigh c aim) q.0)),
+      λ k stored some. keeps w.desk n (left_holds n _ _ (finds_weigh c aim k stored) q.0),
+    )
+    on_item (plan.Judge aim key stored) rest p q =
+        keeps w.desk n (hits_holds n _ c aim stored.value p q.0)
+    on_item (plan.Own load) rest p q = (
+      (λ able e. keeps w.desk n (q.0, refl)),
+      (λ not e. keeps w.desk n (q.0, refl)),
+      λ owner e. keeps w.desk n (q.0, refl),
+    )
     on_item (plan.Read load) rest p q = (λ e. keeps w.desk n p, λ with e. keeps w.desk n (read_holds n _ c load with p q.0))
     on_item (plan.Settle with) rest p q = keeps w.desk n (goes_holds n _ c rest (free_holds n _ rest q.1 q.0))
     on_item (plan.Ask load) rest p q = keeps w.desk n (q.0, refl)
     on_item (plan.Told load) rest p q = (λ e. keeps w.desk n p, λ given e. keeps w.desk n (told_holds n _ c load given p q.0))
-    on_item (plan.Moment key value) rest p q = holds_now w.desk n (Some (holding.Own (Some w.desk.clock))) ((Some w.desk.clock, refl), q.1)
+    on_item (plan.Holds key stamp cause there stored) rest p q = (
+      (λ e. keeps w.desk n (q.0, refl)),
+      λ e. keeps w.desk n (left_holds n _ _ (stays_weighs c) q.0),
+    )
+    on_item (plan.Moment (plan.To_store key value)) rest p q =
+        holds_now w.desk n (Some (holding.Own (Some w.desk.clock))) ((Some w.desk.clock, refl), q.1)
+    on_item (plan.Moment (plan.To_take_out removal key)) rest p q =
+        holds_now w.desk n (Some (holding.Own (Some w.desk.clock))) ((Some w.desk.clock, refl), q.1)
     on_item (plan.Write key value moment) rest p q =
-        let place = λ (old : Option ℕ). own_place (w.desk.holding n) n old q.0 in (
+        let place = λ (old : Option ℕ). own_place (w.desk.holding n) n (Upsert n old) refl q.0 in (
           (λ more. keeps w.desk n p),
           (λ off old. keeps w.desk n (place old, q.1)),
           (λ on. keeps w.desk n (place None, q.1)),
           λ k old on some. keeps w.desk n (place (Some old.stamp), q.1),
         )
-    on_item (plan.Reply answer) rest p q = keeps w.desk n q.0
+    on_item (plan.Out removal key) rest p q =
+        let place = λ (old : ℕ). own_place (w.desk.holding n) n (Remove n old) refl q.0 in (
+          (λ more. keeps w.desk n p),
+          (λ off none. keeps w.desk n (q.0, refl)),
+          (λ on none. keeps w.desk n (inr q.0, refl)),
+          (λ k old off some. keeps w.desk n (place old.stamp, refl)),
+          λ k old on some. keeps w.desk n (place old.stamp, refl),
+        )
+    on_item plan.Idle rest p q =
+        holds_now w.desk n None (goes_holds n None c rest (free_holds n None rest q.1 refl))
+    on_item (plan.Reply answer) rest p q = holds_now w.desk n None refl
 
     on_plan : (plan : List (Item K V)) → c.plan ≡ plan → HoldsAs n (w.desk.holding n) c.plan → OnStep eq After w n c plan
-    on_plan [] e p = keeps w.desk n p
+    on_plan [] e p = holds_now w.desk n None (subst (HoldsAs n None) (sym e) refl)
     on_plan (item ∷ rest) e p = outcomes eq After w n c item rest (on_item item rest p (subst (HoldsAs n (w.desk.holding n)) e p))
 
   -- ---- of a state
@@ -258,6 +354,19 @@ module _ {K V : Type 0} (eq : K → K → Bool) where
       (on_plan eq s.world n c c.plan refl p) (λ w next l. holds_on s n w next.left i l) in
       kept ((balanced_kept eq).step s t n turn i.balanced step)
 
+  -- a step leaves what other calls hold
+  pub others_hold : (s t : State K V) (n : ℕ) (turn : Turn K V) → IsHolding s → Step eq s n turn t →
+      (m : ℕ) → (n == m) ≡ false →
+      t.world.desk.holding m ≡ s.world.desk.holding m
+  others_hold s t n turn i step =
+      let c : Call K V = step.call in
+      let p : HoldsAs n (s.world.desk.holding n) c.plan =
+      subst (λ v. HoldsAs n (s.world.desk.holding n) (plan_left v)) step.live (i.holds n) in
+      step_cases eq (λ new next. Leaves s.world.desk n new.desk.holding next.left)
+      (λ v _. (m : ℕ) → (n == m) ≡ false → v.world.desk.holding m ≡
+      s.world.desk.holding m) s t n turn step
+      (on_plan eq s.world n c c.plan refl p) (λ w next l. l.others)
+
   holding_start : (s : State K V) (start : Start K V) → IsHolding s → IsHolding (started s start)
   holding_start s start i =
       let new : ℕ = s.world.desk.last + 1 in
@@ -297,23 +406,26 @@ module _ {K V : Type 0} (eq : K → K → Bool) where
   place_of n h write (plan.Apply ∷ rest) q e = place_of n h write rest q e
   place_of n h write (plan.End ∷ rest) q e = place_of n h write rest q e
   place_of n h write (plan.Ended number ∷ rest) q e = place_of n h write rest q e
-  place_of n h write (plan.Notice key old ∷ rest) q e = place_of n h write rest q e
+  place_of n h write (plan.Notice key old cause upsert ∷ rest) q e = place_of n h write rest q e
   place_of n h write (plan.Heard ∷ rest) q e = place_of n h write rest q e
-  place_of n h write (plan.Unlock ∷ rest) q e = place_of n h write rest q e
+  place_of n h write (plan.Unlock true ∷ rest) q e = place_of n h write rest q e
   place_of n h write (_ ∷ rest) q e = absurd (none_some (sym (free_by rest q.1) ∙ e))
 
   -- a call whose plan posts no write took none up
   leaves_none : (n : ℕ) (h : Option Holding) (plan : List (Item K V)) → HoldsAs n h plan → held_by plan ≡ None → MayLeaveWith h n None
   leaves_none n h [] q e = subst (λ v. MayLeaveWith v n None) (sym q) tt
   leaves_none n h (plan.Post held ∷ rest) q e = absurd (none_some (sym e))
-  leaves_none n h (plan.Write key value moment ∷ rest) q e = subst (λ v. MayLeaveWith v n None) (sym q.0.1) tt
+  leaves_none n h (plan.Write key value moment ∷ rest) q e = own_leaves h n q.0
   leaves_none n h (plan.Turn ∷ rest) q e = leaves_none n h rest q e
   leaves_none n h (plan.Apply ∷ rest) q e = leaves_none n h rest q e
   leaves_none n h (plan.End ∷ rest) q e = leaves_none n h rest q e
   leaves_none n h (plan.Ended number ∷ rest) q e = leaves_none n h rest q e
-  leaves_none n h (plan.Notice key old ∷ rest) q e = leaves_none n h rest q e
+  leaves_none n h (plan.Notice key old cause upsert ∷ rest) q e = leaves_none n h rest q e
   leaves_none n h (plan.Heard ∷ rest) q e = leaves_none n h rest q e
-  leaves_none n h (plan.Unlock ∷ rest) q e = leaves_none n h rest q e
+  leaves_none n h (plan.Unlock true ∷ rest) q e = leaves_none n h rest q e
+  leaves_none n h (plan.Unlock false ∷ rest) q e = may_leave h n q.0
+  leaves_none n h (plan.Out removal key ∷ rest) q e = own_leaves h n q.0
+  leaves_none n h (plan.Idle ∷ rest) q e = own_leaves h n q.0
   leaves_none n h (_ ∷ rest) q e = subst (λ v. MayLeaveWith v n None) (sym q.0) tt
 
   pub none_left : (s : State K V) → IsHolding s → (n : ℕ) (c : Call K V) → s.calls n ≡ Some c → held_by c.plan ≡ None →
@@ -339,43 +451,59 @@ module _ {K V : Type 0} (eq : K → K → Bool) where
   pub held_known : (s : State K V) → IsReached eq s → HeldAreKnown s
   held_known s h = known_held s (in_holding s h)
 
-  -- what the rest of a plan does, the plan does
+  -- what the rest of a plan posts, the plan does
   later : (n : ℕ) (x : Holding) (rest : List (Item K V)) (item : Item K V) →
-      weigh (post_of (held_number n x)) rest ≤ weigh (post_of (held_number n x)) (item ∷ rest) → weigh may_write rest ≤ weigh may_write (item ∷ rest) →
-      (0 < weigh (post_of (held_number n x)) rest) ⊎ ((held_number n x ≡ n) × (0 < weigh may_write rest)) →
-      (0 < weigh (post_of (held_number n x)) (item ∷ rest)) ⊎ ((held_number n x ≡ n) × (0 < weigh may_write (item ∷ rest)))
-  later n x rest item posts may (inl h) = inl (omega (arith, posts))
-  later n x rest item posts may (inr h) = inr (h.0, omega (arith, may, h.1))
+      weigh (post_of (held_number n x)) rest ≤ weigh (post_of (held_number n x)) (item ∷ rest) →
+      (0 < weigh (post_of (held_number n x)) rest) ⊎ (held_number n x ≡ n) →
+      (0 < weigh (post_of (held_number n x)) (item ∷ rest)) ⊎ (held_number n x ≡ n)
+  later n x rest item posts (inl h) = inl (omega (arith, posts))
+  later n x rest item posts (inr h) = inr h
 
-  -- a call that holds something posts the write of that number, or has still to make its own
+  -- a call that holds something posts the write of that number, or holds the place of its own
   held_way : (n : ℕ) (x : Holding) (plan : List (Item K V)) → HoldsAs n (Some x) plan →
-      (0 < weigh (post_of (held_number n x)) plan) ⊎ ((held_number n x ≡ n) × (0 < weigh may_write plan))
+      (0 < weigh (post_of (held_number n x)) plan) ⊎ (held_number n x ≡ n)
   held_way n x [] q = absurd (none_some (sym q))
   held_way n x (plan.Post write ∷ rest) q =
       let one : once (held_number n x) (number_of write) ≡ 1 =
       ap (λ v. once v (number_of write)) (place_number x n write q.0) ∙ ap (λ b. cond {A = ℕ} b 1 0) (same_number (number_of write)) in
       inl (omega arith)
-  held_way n x (plan.Write key value moment ∷ rest) q =
-      inr (ap (held_number n) (some_same q.0.1), omega arith)
-  held_way n x (plan.Turn ∷ rest) q = later n x rest plan.Turn (omega arith) (omega arith) (held_way n x rest q)
-  held_way n x (plan.Apply ∷ rest) q = later n x rest plan.Apply (omega arith) (omega arith) (held_way n x rest q)
-  held_way n x (plan.End ∷ rest) q = later n x rest plan.End (omega arith) (omega arith) (held_way n x rest q)
-  held_way n x (plan.Ended number ∷ rest) q = later n x rest (plan.Ended number) (omega arith) (omega arith) (held_way n x rest q)
-  held_way n x (plan.Notice key old ∷ rest) q = later n x rest (plan.Notice key old) (omega arith) (omega arith) (held_way n x rest q)
-  held_way n x (plan.Heard ∷ rest) q = later n x rest plan.Heard (omega arith) (omega arith) (held_way n x rest q)
-  held_way n x (plan.Unlock ∷ rest) q = later n x rest plan.Unlock (omega arith) (omega arith) (held_way n x rest q)
+  held_way n x (plan.Write key value moment ∷ rest) q = inr (own_number n x q.0)
+  held_way n x (plan.Turn ∷ rest) q = later n x rest plan.Turn (omega arith) (held_way n x rest q)
+  held_way n x (plan.Apply ∷ rest) q = later n x rest plan.Apply (omega arith) (held_way n x rest q)
+  held_way n x (plan.End ∷ rest) q = later n x rest plan.End (omega arith) (held_way n x rest q)
+  held_way n x (plan.Ended number ∷ rest) q =
+      later n x rest (plan.Ended number) (omega arith) (held_way n x rest q)
+  held_way n x (plan.Notice key old cause upsert ∷ rest) q =
+      later n x rest (plan.Notice key old cause upsert) (omega arith) (held_way n x rest q)
+  held_way n x (plan.Heard ∷ rest) q = later n x rest plan.Heard (omega arith) (held_way n x rest q)
+  held_way n x (plan.Unlock true ∷ rest) q =
+      later n x rest (plan.Unlock true) (omega arith) (held_way n x rest q)
+  held_way n x (plan.Unlock false ∷ rest) q = inr (may_number n x q.0)
+  held_way n x (plan.Out removal key ∷ rest) q = inr (own_number n x q.0)
+  held_way n x (plan.Idle ∷ rest) q = inr (own_number n x q.0)
   held_way n x (_ ∷ rest) q = absurd (none_some (sym q.0))
+
+  -- a call that gives its place back has taken up no write
+  pub idle_free : (n : ℕ) (h : Option Holding) (rest : List (Item K V)) (write : Write) →
+      HoldsAs n h (plan.Idle ∷ rest) → h ≢ Some (holding.TookUp write)
+  idle_free n h rest write q = own_not h write q.0
+
+  pub freeing_free : (n : ℕ) (h : Option Holding) (rest : List (Item K V)) (write : Write) →
+      HoldsAs n h (plan.Unlock false ∷ rest) → h ≢ Some (holding.TookUp write)
+  freeing_free n h rest write q = may_not h write q.0
 
   module _ (s : State K V) (i : IsHolding s) where
     live_posts : (m x : ℕ) (o : Option (Call K V)) → s.calls m ≡ o → 0 < weigh (post_of x) (plan_left o) → 0 < weigh_call (post_of x) (s.calls m) × (m ≤ s.world.desk.last)
     live_posts m x None e h = absurd (omega arith)
     live_posts m x (Some c) e h = (omega (arith, h, ap (weigh_call (post_of x)) e), i.balanced.numbered m c e)
 
-    -- a call that is to take the moment of its write holds none, and no write of its number is anywhere
-    pub is_unused : (n : ℕ) (c : Call K V) (key : K) (value : V) (rest : List (Item K V)) → s.calls n ≡ Some c → c.plan ≡ plan.Moment key value ∷ rest →
+    -- a call that is to take the moment of its write holds none, and no write of its number is
+    -- anywhere
+    pub is_unused : (n : ℕ) (c : Call K V) (change : Change K V) (rest : List (Item K V)) →
+        s.calls n ≡ Some c → c.plan ≡ plan.Moment change ∷ rest →
         (s.world.desk.holding n ≡ None) × IsUnused s.world.desk n
-    is_unused n c key value rest live e =
-        let q : HoldsAs n (s.world.desk.holding n) (plan.Moment key value ∷ rest) =
+    is_unused n c change rest live e =
+        let q : HoldsAs n (s.world.desk.holding n) (plan.Moment change ∷ rest) =
         subst (HoldsAs n (s.world.desk.holding n)) e (subst (λ v. HoldsAs n (s.world.desk.holding n) (plan_left v)) live (i.holds n)) in
         let spent : times n s.world.table.committed ≡ 0 = omega (arith, i.balanced.unspent n c live, ap (weigh may_write) e) in (
           q.0,
@@ -388,8 +516,9 @@ module _ {K V : Type 0} (eq : K → K → Bool) where
         apart : s.world.desk.holding n ≡ None → times n s.world.table.committed ≡ 0 → (m : ℕ) (x : Holding) → s.world.desk.holding m ≡ Some x → held_number m x ≡ n → ⊥
         apart none spent m x h is = by (held_way m x (plan_left (s.calls m)) (subst (λ v. HoldsAs m v (plan_left (s.calls m))) h (i.holds m)))
           where
-            by : (0 < weigh (post_of (held_number m x)) (plan_left (s.calls m))) ⊎ ((held_number m x ≡ m) × (0 < weigh may_write (plan_left (s.calls m)))) → ⊥
+            by : (0 < weigh (post_of (held_number m x)) (plan_left (s.calls m))) ⊎
+                (held_number m x ≡ m) → ⊥
             by (inl posts) =
                 let one = live_posts m n (s.calls m) refl (subst (λ v. 0 < weigh (post_of v) (plan_left (s.calls m))) is posts) in
                 omega (arith, one.0, i.balanced.balance n, sum_holds s.world.desk.last (λ v. weigh_call (post_of n) (s.calls v)) m one.1)
-            by (inr own) = none_some (sym none ∙ ap s.world.desk.holding (sym is ∙ own.0) ∙ h)
+            by (inr own) = none_some (sym none ∙ ap s.world.desk.holding (sym is ∙ own) ∙ h)

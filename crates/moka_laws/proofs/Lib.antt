@@ -1,6 +1,7 @@
 pub mod Reached
 pub mod StepCases
 pub mod Kept
+pub mod Steady
 pub mod Rules
 pub mod OwnKeysKept
 pub mod Outcomes
@@ -37,9 +38,18 @@ pub mod Storing
 pub mod Parting
 pub mod Moved
 pub mod Between
+pub mod Following
+pub mod Starting
+pub mod Begun
 pub mod Lawfully
 pub mod Plans
 pub mod Ways
 pub mod Asks
 pub mod Before
 pub mod Ordering
+pub mod Disabled
+pub mod Keeping
+pub mod Standing
+pub mod Removing
+pub mod Stamps
+pub mod Pending

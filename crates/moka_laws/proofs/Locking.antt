@@ -3,32 +3,33 @@ use Rattle.std.proofs.Common.{◌≡◌, ℕ, ◌+◌, ◌==◌, Bool, true, fal
 use Rattle.std.proofs.lemmas.Bool.{eqb-true, false≢true}
 use Rattle.moka_hist.specs.Finite.{put_at}
 use Rattle.moka_hist.specs.State.{State, World, Call, DeskPart}
-use Rattle.moka_hist.specs.Plan.{Item, Aim, plan_of}
+use Rattle.moka_hist.specs.Plan.{Item, Aim, Removal, plan_of, told_on}
 use Rattle.moka_hist.specs.Plan as plan
 use Rattle.moka_hist.specs.Next.{Next, goes}
-use Rattle.moka_hist.specs.Looking.{hits, misses}
+use Rattle.moka_hist.specs.Looking.{hits, misses, keeps as stays, finds_pair}
 use Rattle.moka_hist.specs.Loading.{after_read, after_told, retries}
 use Rattle.moka_hist.specs.Notices.{IsUnderLock, HoldsLock, LocksAreHeld}
 use Rattle.moka_hist.specs.Step.{Step}
 use Rattle.moka_hist.specs.Run.{IsReached, started, fresh_call}
 use Rattle.moka_hist.specs.declared.events.Start.{Start}
-use Rattle.moka_hist.specs.declared.events.Start.TheVariants as start
 use Rattle.moka_hist.specs.declared.events.Told.{Told}
 use Rattle.moka_hist.specs.declared.events.Told.TheVariants as answer
-use Rattle.moka_hist.specs.declared.replies.Answer.TheVariants as reply
+use Rattle.moka_hist.specs.declared.records.Stored.{Stored}
+use Rattle.moka_hist.specs.declared.replies.Answer.{Answer}
+use Rattle.moka_hist.specs.declared.rules.Cause.{Cause}
 use Rattle.moka_hist.specs.declared.loads.Load.{Load}
 use Rattle.moka_hist.specs.declared.rules.Rules.{Rules}
 use Rattle.moka_hist.specs.declared.visits.Settled.{Settled}
 use Rattle.moka_hist.specs.declared.visits.Settled.TheVariants as settled
 use Rattle.moka_hist.specs.declared.visits.Found.TheVariants as found
 use Rattle.moka_hist.specs.declared.accesses.Turn.{Turn}
-use Rattle.moka_laws.specs.Listening.{key_of}
+use Rattle.moka_laws.specs.Listening.{changed_key, key_of}
 use Rattle.moka_laws.proofs.Counting.{none_some, some_same, put_cases, put_here, put_there}
 use Rattle.moka_laws.proofs.Weights.{weigh}
 use Rattle.moka_laws.proofs.Balance.{IsBalanced}
 use Rattle.moka_laws.proofs.Balanced.{balanced_kept, next_free}
 use Rattle.moka_laws.proofs.Owning.{plan_left}
-use Rattle.moka_laws.proofs.Rules.{put_plans_by}
+use Rattle.moka_laws.proofs.Rules.{loaded_plans_by, kept_next, chosen_by, IsFresh, Disabled, Gets, Loads, Owns, Puts, Locks_and_puts, Takes_out, Locks_and_takes_out, Evicts, Locks_and_evicts, fresh_plan}
 use Rattle.moka_laws.proofs.Kept.{IsKept, in_reached}
 use Rattle.moka_laws.proofs.StepCases.{OnStep, step_cases}
 use Rattle.moka_laws.proofs.Outcomes.{Outcomes, outcomes}
@@ -37,58 +38,63 @@ true_false : true ≡ false → ⊥
 true_false e = false≢true (sym e)
 
 module _ {K V : Type 0} where
-  -- the item is one of a write under a lock
+  -- the item is one of a change under a lock
   abbrev of_lock : Item K V → ℕ
   of_lock (plan.Lock key) = 1
-  of_lock plan.Unlock = 1
-  of_lock (plan.Notice key old) = 1
+  of_lock (plan.Unlock wrote) = 1
+  of_lock (plan.Notice key old cause upsert) = 1
   of_lock plan.Heard = 1
-  of_lock (plan.Moment key value) = 1
+  of_lock (plan.Get (plan.To_evict key stamp cause) at) = 1
+  of_lock (plan.Holds key stamp cause there stored) = 1
+  of_lock (plan.Moment change) = 1
   of_lock (plan.Write key value moment) = 1
+  of_lock (plan.Out removal key) = 1
   of_lock _ = 0
 
   -- it locks, frees, or stands between a write and the freeing
   abbrev pub of_key : Item K V → ℕ
   of_key (plan.Lock key) = 1
-  of_key plan.Unlock = 1
-  of_key (plan.Notice key old) = 1
+  of_key (plan.Unlock wrote) = 1
+  of_key (plan.Notice key old cause upsert) = 1
   of_key plan.Heard = 1
   of_key _ = 0
 
   -- the plan frees the lock next
   abbrev pub Freeing : List (Item K V) → Type 0
-  Freeing (plan.Unlock ∷ rest) = weigh of_lock rest ≡ 0
+  Freeing (plan.Unlock wrote ∷ rest) = weigh of_lock rest ≡ 0
   Freeing _ = ⊥
 
   -- the plan of a call that holds the lock of this key
   abbrev pub Inside : K → List (Item K V) → Type 0
-  Inside k (plan.Moment key value ∷ rest) = (k ≡ key) × (weigh of_lock rest ≡ 0)
+  Inside k (plan.Get (plan.To_evict key stamp cause) at ∷ rest) =
+      (k ≡ key) × (k ≡ at) × (weigh of_lock rest ≡ 0)
+  Inside k (plan.Holds key stamp cause there stored ∷ rest) = (k ≡ key) × (weigh of_lock rest ≡ 0)
+  Inside k (plan.Moment change ∷ rest) = (k ≡ changed_key change) × (weigh of_lock rest ≡ 0)
   Inside k (plan.Write key value moment ∷ rest) = (k ≡ key) × (weigh of_lock rest ≡ 0)
-  Inside k (plan.Notice key old ∷ rest) = (k ≡ key) × Freeing rest
+  Inside k (plan.Out removal key ∷ rest) = (k ≡ key) × (weigh of_lock rest ≡ 0)
+  Inside k (plan.Notice key old cause upsert ∷ rest) = (k ≡ key) × Freeing rest
   Inside k (plan.Heard ∷ rest) = Freeing rest
-  Inside k (plan.Unlock ∷ rest) = weigh of_lock rest ≡ 0
+  Inside k (plan.Unlock wrote ∷ rest) = weigh of_lock rest ≡ 0
   Inside k _ = ⊥
-
-  -- it takes the moment of a write of this key next
-  abbrev Stamping : K → List (Item K V) → Type 0
-  Stamping k (plan.Moment key value ∷ rest) = (k ≡ key) × (weigh of_lock rest ≡ 0)
-  Stamping k _ = ⊥
 
   -- the plan of a call that holds no lock, and may come to take one
   abbrev pub Outside : List (Item K V) → Type 0
   Outside [] = Unit {0}
-  Outside (plan.Lock key ∷ rest) = Stamping key rest
+  Outside (plan.Lock key ∷ rest) = Inside key rest
   Outside (plan.Drain ∷ rest) = Outside rest
   Outside (plan.Ended number ∷ rest) = Outside rest
   Outside (plan.Post write ∷ rest) = Outside rest
   Outside (plan.Turn ∷ rest) = Outside rest
   Outside (plan.Apply ∷ rest) = Outside rest
   Outside (plan.End ∷ rest) = Outside rest
-  Outside (plan.Moment key value ∷ rest) = ⊥
+  Outside (plan.Get (plan.To_evict key stamp cause) at ∷ rest) = ⊥
+  Outside (plan.Holds key stamp cause there stored ∷ rest) = ⊥
+  Outside (plan.Moment change ∷ rest) = ⊥
   Outside (plan.Write key value moment ∷ rest) = ⊥
-  Outside (plan.Notice key old ∷ rest) = ⊥
+  Outside (plan.Out removal key ∷ rest) = ⊥
+  Outside (plan.Notice key old cause upsert ∷ rest) = ⊥
   Outside (plan.Heard ∷ rest) = ⊥
-  Outside (plan.Unlock ∷ rest) = ⊥
+  Outside (plan.Unlock wrote ∷ rest) = ⊥
   Outside (_ ∷ rest) = weigh of_lock rest ≡ 0
 
   -- The plan is that of a call that holds this lock, if any: without a listener no call holds one.
@@ -102,11 +108,14 @@ module _ {K V : Type 0} where
   calm_outside : (p : List (Item K V)) → weigh of_lock p ≡ 0 → Outside p
   calm_outside [] h = tt
   calm_outside (plan.Lock key ∷ rest) h = absurd (omega arith)
-  calm_outside (plan.Moment key value ∷ rest) h = absurd (omega arith)
+  calm_outside (plan.Get (plan.To_evict key stamp cause) at ∷ rest) h = absurd (omega arith)
+  calm_outside (plan.Holds key stamp cause there stored ∷ rest) h = absurd (omega arith)
+  calm_outside (plan.Moment change ∷ rest) h = absurd (omega arith)
   calm_outside (plan.Write key value moment ∷ rest) h = absurd (omega arith)
-  calm_outside (plan.Notice key old ∷ rest) h = absurd (omega arith)
+  calm_outside (plan.Out removal key ∷ rest) h = absurd (omega arith)
+  calm_outside (plan.Notice key old cause upsert ∷ rest) h = absurd (omega arith)
   calm_outside (plan.Heard ∷ rest) h = absurd (omega arith)
-  calm_outside (plan.Unlock ∷ rest) h = absurd (omega arith)
+  calm_outside (plan.Unlock wrote ∷ rest) h = absurd (omega arith)
   calm_outside (plan.Drain ∷ rest) h = calm_outside rest (omega arith)
   calm_outside (plan.Ended number ∷ rest) h = calm_outside rest (omega arith)
   calm_outside (plan.Post write ∷ rest) h = calm_outside rest (omega arith)
@@ -118,9 +127,9 @@ module _ {K V : Type 0} where
   calm_key : (p : List (Item K V)) → weigh of_lock p ≡ 0 → weigh of_key p ≡ 0
   calm_key [] h = refl
   calm_key (plan.Lock key ∷ rest) h = absurd (omega arith)
-  calm_key (plan.Notice key old ∷ rest) h = absurd (omega arith)
+  calm_key (plan.Notice key old cause upsert ∷ rest) h = absurd (omega arith)
   calm_key (plan.Heard ∷ rest) h = absurd (omega arith)
-  calm_key (plan.Unlock ∷ rest) h = absurd (omega arith)
+  calm_key (plan.Unlock wrote ∷ rest) h = absurd (omega arith)
   calm_key (_ ∷ rest) h = let e = calm_key rest (omega arith) in omega arith
 
   module _ (b : Bool) (l : Option K) where
@@ -155,16 +164,6 @@ module _ {K V : Type 0} where
   goes_locks b l c (plan.Reply a ∷ x ∷ rest) q = q
   goes_locks b l c [] q = q
   goes_locks b l c (_ ∷ rest) q = q
-
-  misses_calm : (c : Call K V) (aim : Aim K) → SameRules c (misses c aim).left × (weigh of_lock (plan_left (misses c aim).left) ≡ 0)
-  misses_calm c plan.To_answer = (tt, refl)
-  misses_calm c (plan.To_load load) = (refl, refl)
-  misses_calm c (plan.To_own load) = (refl, refl)
-
-  hits_calm : (c : Call K V) (aim : Aim K) (value : V) → SameRules c (hits c aim value).left × (weigh of_lock (plan_left (hits c aim value).left) ≡ 0)
-  hits_calm c plan.To_answer value = (tt, refl)
-  hits_calm c (plan.To_load load) value = (tt, refl)
-  hits_calm c (plan.To_own load) value = (refl, refl)
 
   -- What a step has to show: what this call locks then, and that the others' locks are as they were.
   record Leaves (d : DeskPart K V) (n : ℕ) (c : Call K V) (rules : Rules) (locked : ℕ → Option K) (left : Option (Call K V)) : Type 0 where
@@ -206,6 +205,22 @@ module _ {K V : Type 0} where
     free : (p : List (Item K V)) → weigh of_lock p ≡ 0 → {item : Item K V} {rest : List (Item K V)} → Now (item ∷ rest) → ((k : K) → Inside k (item ∷ rest) → ⊥) → Now p
     free p h q not = calm _ _ p q not h
 
+    is_on : c.rules.listener ≡ true → w.desk.rules.listener ≡ true
+    is_on on = ap (λ v. v.listener) (sym rules) ∙ on
+
+    is_off : c.rules.listener ≡ false → w.desk.rules.listener ≡ false
+    is_off off = ap (λ v. v.listener) (sym rules) ∙ off
+
+    -- the call frees its lock next, with nothing written under it
+    frees : (a : Answer V) {old : List (Item K V)} → (Outside old → ⊥) → Now old →
+        c.rules.listener ≡ true →
+        Now (plan.Unlock false ∷ plan.Reply a ∷ [])
+    frees a out q on = record {
+      none = λ e. absurd (true_false (sym (is_on on) ∙ e));
+      outside = λ e f. absurd (out (q.outside e f));
+      inside = λ e k f. refl;
+    }
+
     reads : (load : Load K) (rest : List (Item K V)) (with : Settled V) → Now c.plan → Now (plan.Read load ∷ rest) →
         Leaves w.desk n c w.desk.rules w.desk.locked (after_read c load (found.ReadSettled with)).left
     reads load rest (settled.Ready value) p q = keeps w.desk n c tt (free [] refl q (λ k i. i))
@@ -216,20 +231,77 @@ module _ {K V : Type 0} where
     told : (load : Load K) (rest : List (Item K V)) (given : Told V) → Now c.plan → Now (plan.Told load ∷ rest) →
         Leaves w.desk n c w.desk.rules w.desk.locked (after_told c load (found.TakeTold (Some given))).left
     told load rest (answer.Value value) p q =
-        let after : List (Item K V) = plan.Settle (settled.Ready value) ∷ plan.Reply (reply.Loaded value true) ∷ [] in
-        put_plans_by (λ v. Leaves w.desk n c w.desk.rules w.desk.locked (goes c v).left) c.rules load.key value after
-        (λ off. goes_on w.desk n c (plan.Drain ∷ plan.Moment load.key value ∷ after) (record {
+        let after : List (Item K V) = told_on value in
+        loaded_plans_by (λ v. Leaves w.desk n c w.desk.rules w.desk.locked (goes c v).left)
+        c.rules load value
+        (λ not. goes_on w.desk n c after (free after refl q (λ k i. i)))
+        (λ able off. goes_on w.desk n c
+        (plan.Drain ∷ plan.Moment (plan.To_store load.key value) ∷ after) (record {
           none = λ e. ((q.none e).0, refl);
-          outside = λ e f. absurd (true_false (sym e ∙ ap (λ v. v.listener) (sym rules) ∙ off));
+          outside = λ e f. absurd (true_false (sym e ∙ is_off off));
           inside = λ e k f. absurd (q.inside e k f);
         }))
-        (λ on. goes_on w.desk n c (plan.Drain ∷ plan.Lock load.key ∷ plan.Moment load.key value ∷ after) (record {
-          none = λ e. absurd (true_false (sym on ∙ ap (λ v. v.listener) rules ∙ e));
+        (λ able on. goes_on w.desk n c
+        (plan.Drain ∷ plan.Lock load.key ∷ plan.Moment (plan.To_store load.key value) ∷ after)
+        (record {
+          none = λ e. absurd (true_false (sym (is_on on) ∙ e));
           outside = λ e f. (refl, refl);
           inside = λ e k f. absurd (q.inside e k f);
         }))
     told load rest answer.Done p q = keeps w.desk n c refl p
     told load rest answer.Off p q = keeps w.desk n c refl p
+
+    -- the chosen record stays: the lock is to be freed, where a listener is set
+    kept : (old : List (Item K V)) → (Outside old → ⊥) → Now old →
+        Leaves w.desk n c w.desk.rules w.desk.locked (stays c).left
+    kept old out q = kept_next (λ v. Leaves w.desk n c w.desk.rules w.desk.locked v.left) c
+        (λ off. keeps w.desk n c tt (record {
+          none = λ e. ((q.none e).0, refl);
+          outside = λ e f. tt;
+          inside = λ e k f. absurd (true_false (sym e ∙ is_off off));
+        }))
+        (λ on. keeps w.desk n c refl (frees _ out q on))
+
+    missed : (aim : Aim K) (key : K) (rest : List (Item K V)) → Now (plan.Get aim key ∷ rest) →
+        Leaves w.desk n c w.desk.rules w.desk.locked (misses c aim).left
+    missed plan.To_answer key rest q = keeps w.desk n c tt (free _ refl q (λ k i. i))
+    missed (plan.To_load load) key rest q = keeps w.desk n c refl (free _ refl q (λ k i. i))
+    missed (plan.To_own load) key rest q = keeps w.desk n c refl (free _ refl q (λ k i. i))
+    missed (plan.To_evict there stamp cause) key rest q = kept _ (λ o. o) q
+
+    has_found : (aim : Aim K) (key k : K) (stored : Stored V) (rest : List (Item K V)) →
+        Now (plan.Get aim key ∷ rest) →
+        Leaves w.desk n c w.desk.rules w.desk.locked (finds_pair c aim k stored).left
+    has_found plan.To_answer key k stored rest q = keeps w.desk n c refl (free _ refl q (λ l i. i))
+    has_found (plan.To_load load) key k stored rest q =
+        keeps w.desk n c refl (free _ refl q (λ l i. i))
+    has_found (plan.To_own load) key k stored rest q =
+        keeps w.desk n c refl (free _ refl q (λ l i. i))
+    has_found (plan.To_evict there stamp cause) key k stored rest q =
+        chosen_by (λ v. Leaves w.desk n c w.desk.rules w.desk.locked v.left)
+        c there stamp cause k stored
+        (λ other. kept _ (λ o. o) q)
+        (λ same. keeps w.desk n c refl
+        (like _ _ q (λ h. refl) (λ o. absurd o) (λ l i. (i.0, refl))))
+
+    hit : (aim : Aim K) (key : K) (stored : Stored V) (rest : List (Item K V)) → Now c.plan →
+        Now (plan.Judge aim key stored ∷ rest) →
+        Leaves w.desk n c w.desk.rules w.desk.locked (hits c aim stored.value).left
+    hit plan.To_answer key stored rest p q = keeps w.desk n c tt (free _ refl q (λ k i. i))
+    hit (plan.To_load load) key stored rest p q = keeps w.desk n c tt (free _ refl q (λ k i. i))
+    hit (plan.To_own load) key stored rest p q = keeps w.desk n c refl (free _ refl q (λ k i. i))
+    hit (plan.To_evict there stamp cause) key stored rest p q = keeps w.desk n c refl p
+
+    -- after a removal, the lock is to be freed where a listener is set
+    took : (removal : Removal) (key : K) (rest new : List (Item K V)) →
+        (c.rules.listener ≡ false → weigh of_key new ≡ 0) →
+        (c.rules.listener ≡ true → (k : K) → k ≡ key → Inside k new) →
+        Now (plan.Out removal key ∷ rest) → Now new
+    took removal key rest new off on q = record {
+      none = λ e. ((q.none e).0, off (ap (λ v. v.listener) rules ∙ e));
+      outside = λ e f. absurd (q.outside e f);
+      inside = λ e k f. on (ap (λ v. v.listener) rules ∙ e) k (q.inside e k f).0;
+    }
 
     -- after a write, the lock is to be freed where a listener is set
     wrote : (key : K) (value : V) (moment : ℕ) (rest new : List (Item K V)) → (c.rules.listener ≡ false → weigh of_key rest ≡ 0 → weigh of_key new ≡ 0) →
@@ -257,14 +329,16 @@ module _ {K V : Type 0} where
         ((λ e. goes_on w.desk n c rest (like _ _ q (λ h. omega arith) (λ h. h) (λ k i. absurd i))), λ x xs e. keeps w.desk n c refl q)
     on_item plan.End rest p q = goes_on w.desk n c rest (like _ _ q (λ h. omega arith) (λ h. h) (λ k i. absurd i))
     on_item (plan.Get aim key) rest p q = (
-      λ more. keeps w.desk n c refl p,
-      keeps w.desk n c (misses_calm c aim).0 (free _ (misses_calm c aim).1 q (λ k i. i)),
-      λ k stored. keeps w.desk n c refl (free _ refl q (λ k i. i)),
+      (λ more. keeps w.desk n c refl p),
+      (λ none. missed aim key rest q),
+      λ k stored some. has_found aim key k stored rest q,
     )
-    on_item (plan.Judge aim key stored) rest p q =
-        keeps w.desk n c (hits_calm c aim stored.value).0 (free _ (hits_calm c aim stored.value).1 q (λ k i. i))
-    on_item (plan.Own load) rest p q =
-        ((λ e. keeps w.desk n c refl (free _ refl q (λ k i. i))), λ owner e. keeps w.desk n c refl (free _ refl q (λ k i. i)))
+    on_item (plan.Judge aim key stored) rest p q = hit aim key stored rest p q
+    on_item (plan.Own load) rest p q = (
+      (λ able e. keeps w.desk n c refl (free _ refl q (λ k i. i))),
+      (λ not e. keeps w.desk n c refl (free _ refl q (λ k i. i))),
+      λ owner e. keeps w.desk n c refl (free _ refl q (λ k i. i)),
+    )
     on_item (plan.Read load) rest p q = ((λ e. keeps w.desk n c refl p), λ with e. reads load rest with p q)
     on_item (plan.Settle with) rest p q = goes_on w.desk n c rest (like _ _ q (λ h. omega arith) (λ h. calm_outside rest h) (λ k i. absurd i))
     on_item (plan.Ask load) rest p q = keeps w.desk n c refl (free _ refl q (λ k i. i))
@@ -278,30 +352,26 @@ module _ {K V : Type 0} where
       λ e. keeps w.desk n c refl p,
     )
       where
-        stamping : (k : K) (p : List (Item K V)) → k ≡ key → Stamping key p → Inside k p
-        stamping k (plan.Moment there value ∷ more) is h = (is ∙ h.0, h.1)
-        stamping k [] is h = absurd h
-        stamping k (_ ∷ more) is h = absurd h
-
         by : w.desk.rules.listener ≡ true → (k : K) → Some key ≡ Some k → (l : Option K) → w.desk.locked n ≡ l → Inside k rest
-        by f k g None e = stamping k rest (sym (some_same g)) (q.outside f e)
+        by f k g None e = subst (λ v. Inside v rest) (some_same g) (q.outside f e)
         by f k g (Some held) e = absurd (q.inside f held e)
-    on_item plan.Unlock rest p q = locks_now w.desk n c None (goes_rules c rest) (goes_locks _ _ c rest (record {
-      none = λ f. absurd (let h = (q.none f).1 in omega arith);
-      outside = λ f g. by f (w.desk.locked n) refl;
-      inside = λ f k g. absurd (none_some g);
-    }))
+    on_item (plan.Unlock wrote) rest p q =
+        locks_now w.desk n c None (goes_rules c rest) (goes_locks _ _ c rest (record {
+          none = λ f. absurd (let h = (q.none f).1 in omega arith);
+          outside = λ f g. by f (w.desk.locked n) refl;
+          inside = λ f k g. absurd (none_some g);
+        }))
       where
         by : w.desk.rules.listener ≡ true → (l : Option K) → w.desk.locked n ≡ l → Outside rest
         by f None e = absurd (q.outside f e)
         by f (Some held) e = calm_outside rest (q.inside f held e)
-    on_item (plan.Notice key old) rest p q = (
+    on_item (plan.Notice key old cause upsert) rest p q = (
       λ e. goes_on w.desk n c rest (like _ _ q (λ h. absurd (omega arith)) (λ o. absurd o) (λ k i. freeing k rest i.1)),
       λ e. keeps w.desk n c refl (like _ _ q (λ h. absurd (omega arith)) (λ o. absurd o) (λ k i. i.1)),
     )
       where
         freeing : (k : K) (p : List (Item K V)) → Freeing p → Inside k p
-        freeing k (plan.Unlock ∷ more) h = h
+        freeing k (plan.Unlock wrote ∷ more) h = h
         freeing k [] h = absurd h
         freeing k (_ ∷ more) h = absurd h
     on_item plan.Heard rest p q = (
@@ -310,20 +380,51 @@ module _ {K V : Type 0} where
     )
       where
         freeing : (k : K) (p : List (Item K V)) → Freeing p → Inside k p
-        freeing k (plan.Unlock ∷ more) h = h
+        freeing k (plan.Unlock wrote ∷ more) h = h
         freeing k [] h = absurd h
         freeing k (_ ∷ more) h = absurd h
-    on_item (plan.Moment key value) rest p q = keeps w.desk n c refl (like _ _ q (λ h. omega arith) (λ o. absurd o) (λ k i. i))
+    on_item (plan.Holds key stamp cause there stored) rest p q = (
+      (λ e. keeps w.desk n c refl (like _ _ q (λ h. refl) (λ o. absurd o) (λ k i. (i.0, refl)))),
+      λ e. kept (plan.Holds key stamp cause there stored ∷ rest) (λ o. o) q,
+    )
+    on_item (plan.Moment (plan.To_store key value)) rest p q =
+        keeps w.desk n c refl (like _ _ q (λ h. omega arith) (λ o. absurd o) (λ k i. i))
+    on_item (plan.Moment (plan.To_take_out removal key)) rest p q =
+        keeps w.desk n c refl (like _ _ q (λ h. omega arith) (λ o. absurd o) (λ k i. i))
     on_item (plan.Write key value moment) rest p q = (
       λ more. keeps w.desk n c refl p,
       λ off old. keeps w.desk n c refl
           (wrote key value moment rest (plan.Post _ ∷ rest) (λ f h. omega arith) (λ on k i. absurd (true_false (sym on ∙ off))) q),
       λ on. keeps w.desk n c refl
-          (wrote key value moment rest (plan.Unlock ∷ plan.Post _ ∷ rest) (λ f h. absurd (true_false (sym on ∙ f))) (λ f k i. omega (arith, i.1)) q),
+          (wrote key value moment rest (plan.Unlock true ∷ plan.Post _ ∷ rest)
+          (λ f h. absurd (true_false (sym on ∙ f))) (λ f k i. omega (arith, i.1)) q),
       λ there old on some. keeps w.desk n c refl
-          (wrote key value moment rest (plan.Notice key old ∷ plan.Unlock ∷ plan.Post _ ∷ rest) (λ f h. absurd (true_false (sym on ∙ f)))
+          (wrote key value moment rest
+          (plan.Notice key old None true ∷ plan.Unlock true ∷ plan.Post _ ∷ rest)
+          (λ f h. absurd (true_false (sym on ∙ f)))
           (λ f k i. (i.0, omega (arith, i.1))) q),
     )
+    on_item (plan.Out removal key) rest p q = (
+      (λ more. keeps w.desk n c refl p),
+      (λ off none. keeps w.desk n c refl
+          (took removal key rest (plan.Idle ∷ plan.Reply _ ∷ []) (λ f. refl)
+          (λ on k i. absurd (true_false (sym on ∙ off)))
+          q)),
+      (λ on none. keeps w.desk n c refl
+          (took removal key rest (plan.Unlock false ∷ plan.Reply _ ∷ [])
+          (λ f. absurd (true_false (sym on ∙ f)))
+          (λ f k i. refl) q)),
+      (λ there old off some. keeps w.desk n c refl
+          (took removal key rest (plan.Post _ ∷ plan.Reply _ ∷ []) (λ f. refl)
+          (λ on k i. absurd (true_false (sym on ∙ off)))
+          q)),
+      λ there old on some. keeps w.desk n c refl
+          (took removal key rest
+          (plan.Notice key old _ false ∷ plan.Unlock true ∷ plan.Post _ ∷ plan.Reply _ ∷ [])
+          (λ f. absurd (true_false (sym on ∙ f))) (λ f k i. (i, refl)) q),
+    )
+    on_item plan.Idle rest p q = goes_on w.desk n c rest
+        (like _ _ q (λ h. omega arith) (λ h. calm_outside rest h) (λ k i. absurd i))
     on_item (plan.Reply a) rest p q = keeps w.desk n c tt (free _ refl q (λ k i. i))
 
     on_plan : (p : List (Item K V)) → c.plan ≡ p → Now c.plan → OnStep eq After w n c p
@@ -343,13 +444,46 @@ module _ {K V : Type 0} where
   none_locked false (Some k) p q e = (q.none refl).0
   none_locked true (Some k) p q e = absurd (subst (Inside k) e (q.inside refl k refl))
 
+  -- a fresh plan without the lock, and with it
+  starts : (listener : Bool) (p : List (Item K V)) → weigh of_key p ≡ 0 →
+      (listener ≡ true → Outside p) →
+      Locks listener None p
+  starts listener p zero out =
+      record {
+        none = λ e. (refl, zero);
+        outside = λ e f. out e;
+        inside = λ e k f. absurd
+            (none_some f);
+      }
+
+  starts_locked : (listener : Bool) (p : List (Item K V)) → listener ≡ true → Outside p →
+      Locks listener None p
+  starts_locked listener p on out = record {
+    none = λ e. absurd (true_false (sym on ∙ e));
+    outside = λ e f. out;
+    inside = λ e k f. absurd (none_some f);
+  }
+
+  fresh_form : (rules : Rules) (p : List (Item K V)) → IsFresh rules p → Locks rules.listener None p
+  fresh_form rules p (Disabled a d) = starts rules.listener _ refl (λ e. refl)
+  fresh_form rules p (Gets key d) = starts rules.listener _ refl (λ e. refl)
+  fresh_form rules p (Loads load d) = starts rules.listener _ refl (λ e. refl)
+  fresh_form rules p (Owns load d) = starts rules.listener _ refl (λ e. refl)
+  fresh_form rules p (Puts key value d off) =
+      starts rules.listener _ refl (λ e. absurd (true_false (sym e ∙ off)))
+  fresh_form rules p (Locks_and_puts key value d on) =
+      starts_locked rules.listener _ on (refl, refl)
+  fresh_form rules p (Takes_out removal key off) =
+      starts rules.listener _ refl (λ e. absurd (true_false (sym e ∙ off)))
+  fresh_form rules p (Locks_and_takes_out removal key on) =
+      starts_locked rules.listener _ on (refl, refl)
+  fresh_form rules p (Evicts key stamp cause off) =
+      starts rules.listener _ refl (λ e. absurd (true_false (sym e ∙ off)))
+  fresh_form rules p (Locks_and_evicts key stamp cause on) =
+      starts_locked rules.listener _ on (refl, refl, refl)
+
   fresh_locks : (rules : Rules) (start : Start K V) → Locks rules.listener None (plan_of rules start)
-  fresh_locks rules (start.Get key) = record { none = λ e. (refl, refl); outside = λ e f. refl; inside = λ e k f. absurd (none_some f) }
-  fresh_locks rules (start.Insert key value) =
-      put_plans_by (λ p. Locks rules.listener None p) rules key value _
-      (λ off. record { none = λ e. (refl, refl); outside = λ e f. absurd (true_false (sym e ∙ off)); inside = λ e k f. absurd (none_some f) })
-      (λ on. record { none = λ e. absurd (true_false (sym on ∙ e)); outside = λ e f. (refl, refl); inside = λ e k f. absurd (none_some f) })
-  fresh_locks rules (start.GetWith key) = record { none = λ e. (refl, refl); outside = λ e f. refl; inside = λ e k f. absurd (none_some f) }
+  fresh_locks rules start = fresh_form rules (plan_of rules start) (fresh_plan rules start)
 
 module _ {K V : Type 0} (eq : K → K → Bool) where
   locks_on : (s : State K V) (n : ℕ) (c : Call K V) (w : World K V) (left : Option (Call K V)) → IsLocking s →
@@ -428,40 +562,53 @@ module _ {K V : Type 0} where
   lock_free false (Some k) key rest q = absurd (none_some (sym (q.none refl).0))
   lock_free true (Some k) key rest q = absurd (q.inside refl k refl)
 
-  pub lock_held : (b : Bool) (l : Option K) (rest : List (Item K V)) → Locks b l (plan.Unlock ∷ rest) → IsSome l
-  lock_held b (Some k) rest q = refl
-  lock_held false None rest q = absurd (let h = (q.none refl).1 in omega arith)
-  lock_held true None rest q = absurd (q.outside refl refl)
+  pub lock_held : (b : Bool) (l : Option K) (wrote : Bool) (rest : List (Item K V)) →
+      Locks b l (plan.Unlock wrote ∷ rest) → IsSome l
+  lock_held b (Some k) wrote rest q = refl
+  lock_held false None wrote rest q = absurd (let h = (q.none refl).1 in omega arith)
+  lock_held true None wrote rest q = absurd (q.outside refl refl)
 
   inside_under : (k : K) (p : List (Item K V)) → Inside k p → IsUnderLock p
-  inside_under k (plan.Moment key value ∷ rest) h = tt
+  inside_under k (plan.Get (plan.To_evict key stamp cause) at ∷ rest) h = tt
+  inside_under k (plan.Holds key stamp cause there stored ∷ rest) h = tt
+  inside_under k (plan.Moment change ∷ rest) h = tt
   inside_under k (plan.Write key value moment ∷ rest) h = tt
-  inside_under k (plan.Notice key old ∷ rest) h = tt
+  inside_under k (plan.Out removal key ∷ rest) h = tt
+  inside_under k (plan.Notice key old cause upsert ∷ rest) h = tt
   inside_under k (plan.Heard ∷ rest) h = tt
-  inside_under k (plan.Unlock ∷ rest) h = tt
+  inside_under k (plan.Unlock wrote ∷ rest) h = tt
   inside_under k [] h = absurd h
   inside_under k (_ ∷ rest) h = absurd h
 
   under_not : (p : List (Item K V)) → IsUnderLock p → Outside p → ⊥
-  under_not (plan.Moment key value ∷ rest) u o = o
+  under_not (plan.Get (plan.To_evict key stamp cause) at ∷ rest) u o = o
+  under_not (plan.Holds key stamp cause there stored ∷ rest) u o = o
+  under_not (plan.Moment change ∷ rest) u o = o
   under_not (plan.Write key value moment ∷ rest) u o = o
-  under_not (plan.Notice key old ∷ rest) u o = o
+  under_not (plan.Out removal key ∷ rest) u o = o
+  under_not (plan.Notice key old cause upsert ∷ rest) u o = o
   under_not (plan.Heard ∷ rest) u o = o
-  under_not (plan.Unlock ∷ rest) u o = o
+  under_not (plan.Unlock wrote ∷ rest) u o = o
   under_not [] u o = u
   under_not (_ ∷ rest) u o = u
 
   inside_key : (k key : K) (p : List (Item K V)) → Inside k p → key_of p ≡ Some key → k ≡ key
-  inside_key k key (plan.Moment there value ∷ rest) h e = h.0 ∙ some_same e
+  inside_key k key (plan.Get (plan.To_evict there stamp cause) at ∷ rest) h e = h.1 ∙ some_same e
+  inside_key k key (plan.Holds at stamp cause there stored ∷ rest) h e = h.0 ∙ some_same e
+  inside_key k key (plan.Moment change ∷ rest) h e = h.0 ∙ some_same e
   inside_key k key (plan.Write there value moment ∷ rest) h e = h.0 ∙ some_same e
-  inside_key k key (plan.Notice there old ∷ rest) h e = h.0 ∙ some_same e
+  inside_key k key (plan.Out removal there ∷ rest) h e = h.0 ∙ some_same e
+  inside_key k key (plan.Notice there old cause upsert ∷ rest) h e = h.0 ∙ some_same e
   inside_key k key [] h e = absurd h
   inside_key k key (_ ∷ rest) h e = absurd (none_some e)
 
   key_under : (key : K) (p : List (Item K V)) → key_of p ≡ Some key → IsUnderLock p
-  key_under key (plan.Moment there value ∷ rest) e = tt
+  key_under key (plan.Get (plan.To_evict there stamp cause) at ∷ rest) e = tt
+  key_under key (plan.Holds at stamp cause there stored ∷ rest) e = tt
+  key_under key (plan.Moment change ∷ rest) e = tt
   key_under key (plan.Write there value moment ∷ rest) e = tt
-  key_under key (plan.Notice there old ∷ rest) e = tt
+  key_under key (plan.Out removal there ∷ rest) e = tt
+  key_under key (plan.Notice there old cause upsert ∷ rest) e = tt
   key_under key [] e = absurd (none_some e)
   key_under key (_ ∷ rest) e = absurd (none_some e)
 

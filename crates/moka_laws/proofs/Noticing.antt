@@ -7,7 +7,7 @@ use Rattle.moka_hist.specs.State.{State, World, Call, DeskPart}
 use Rattle.moka_hist.specs.Plan.{Item, Aim, held_by, hearing, plan_of}
 use Rattle.moka_hist.specs.Plan as plan
 use Rattle.moka_hist.specs.Next.{Next, goes}
-use Rattle.moka_hist.specs.Looking.{hits, misses}
+use Rattle.moka_hist.specs.Looking.{hits, misses, keeps, finds_pair}
 use Rattle.moka_hist.specs.Loading.{after_read, after_told, retries}
 use Rattle.moka_hist.specs.Dropping.{dropped, owed_by, owed_with, running_of}
 use Rattle.moka_hist.specs.Telling.{ended, with_end}
@@ -15,10 +15,8 @@ use Rattle.moka_hist.specs.Step.{Step}
 use Rattle.moka_hist.specs.Run.{IsReached, started, fresh_call}
 use Rattle.moka_hist.specs.Visits.{number_of, is_running, runs}
 use Rattle.moka_hist.specs.declared.events.Start.{Start}
-use Rattle.moka_hist.specs.declared.events.Start.TheVariants as start
 use Rattle.moka_hist.specs.declared.events.Told.{Told}
 use Rattle.moka_hist.specs.declared.events.Told.TheVariants as answer
-use Rattle.moka_hist.specs.declared.replies.Answer.TheVariants as reply
 use Rattle.moka_hist.specs.declared.loads.Load.{Load}
 use Rattle.moka_hist.specs.declared.notices.Notice.{Notice}
 use Rattle.moka_hist.specs.declared.notices.NoticeState.{NoticeState}
@@ -39,9 +37,9 @@ use Rattle.moka_laws.proofs.Weights.{weigh_call}
 use Rattle.moka_laws.proofs.Posts.{once, among, among_owed, post_of, posts_held}
 use Rattle.moka_laws.proofs.Balance.{times_first, times_last}
 use Rattle.moka_laws.proofs.Owning.{plan_left}
-use Rattle.moka_laws.proofs.Plans.{IsTail, Answering, Settling, IsDrained, Looking, Putting, IsPosted, Draining, Ended, Locking, IsPlan, Posted, Drained, Posting, Hearing, Noticing, Listening, Unlocking, Turning, Applying, Ending, Judging, Owning, Reading, Asking, Telling, Writing}
+use Rattle.moka_laws.proofs.Plans.{IsTail, Answering, Settling, IsDrained, Looking, Putting, IsPosted, Draining, Ended, Locking, IsPlan, Posted, Drained, Posting, Hearing, Noticing, Listening, Unlocking, Turning, Applying, Ending, Judging, Owning, Reading, Asking, Telling, Writing, IsLook, Removing, Locking_out, Choosing, Finding, Chosen, Taking, Freeing, Idling}
 use Rattle.moka_laws.proofs.Replacing.{IsReplacing, replacing_kept, not_opened}
-use Rattle.moka_laws.proofs.Rules.{put_plans}
+use Rattle.moka_laws.proofs.Rules.{loaded_plans, kept_next, chosen_next, IsFresh, Disabled, fresh_plan}
 use Rattle.moka_laws.proofs.Kept.{IsKept, in_reached}
 use Rattle.moka_laws.proofs.StepCases.{OnStep, step_cases}
 use Rattle.moka_laws.proofs.Outcomes.{outcomes}
@@ -83,7 +81,7 @@ guards_few x (o ∷ os) h =
 module _ {K V : Type 0} where
   -- the notice that the plan is to open, or hears
   abbrev pub naming : ℕ → List (Item K V) → Option ℕ
-  naming n (plan.Notice key old ∷ rest) = Some n
+  naming n (plan.Notice key old cause upsert ∷ rest) = Some n
   naming n (plan.Heard ∷ rest) = Some n
   naming n (plan.Ended number ∷ rest) = Some number
   naming n _ = None
@@ -106,7 +104,10 @@ module _ {K V : Type 0} where
   tail_none n c p (Settling with a) = refl
 
   pub drained_none : (n : ℕ) (c : Call K V) (p : List (Item K V)) → IsDrained p → naming n (plan_left (goes c p).left) ≡ None
-  drained_none n c p (Looking aim key) = refl
+  drained_none n c p (Looking aim key l) = refl
+  drained_none n c p (Owning load) = refl
+  drained_none n c p (Removing removal key) = refl
+  drained_none n c p (Locking_out removal key) = refl
   drained_none n c p (Putting key value rest t) = refl
   drained_none n c p (Locking key value rest t) = refl
 
@@ -114,15 +115,31 @@ module _ {K V : Type 0} where
   posted_none n c p (Draining rest d) = refl
   posted_none n c p (Ended rest t) = tail_none n c rest t
 
+  pub keeps_none : (n : ℕ) (c : Call K V) → naming n (plan_left (keeps c).left) ≡ None
+  keeps_none n c = kept_next (λ v. naming n (plan_left v.left) ≡ None) c (λ off. refl) (λ on. refl)
+
   pub misses_none : (n : ℕ) (c : Call K V) (aim : Aim K) → naming n (plan_left (misses c aim).left) ≡ None
   misses_none n c plan.To_answer = refl
   misses_none n c (plan.To_load load) = refl
   misses_none n c (plan.To_own load) = refl
+  misses_none n c (plan.To_evict key stamp cause) = keeps_none n c
 
-  pub hits_none : (n : ℕ) (c : Call K V) (aim : Aim K) (value : V) → naming n (plan_left (hits c aim value).left) ≡ None
-  hits_none n c plan.To_answer value = refl
-  hits_none n c (plan.To_load load) value = refl
-  hits_none n c (plan.To_own load) value = refl
+  pub finds_none : (n : ℕ) (c : Call K V) (aim : Aim K) (there : K) (stored : Stored V) →
+      naming n (plan_left (finds_pair c aim there stored).left) ≡ None
+  finds_none n c plan.To_answer there stored = refl
+  finds_none n c (plan.To_load load) there stored = refl
+  finds_none n c (plan.To_own load) there stored = refl
+  finds_none n c (plan.To_evict key stamp cause) there stored =
+      chosen_next (λ v. naming n (plan_left v.left) ≡ None) c key stamp cause there stored
+      (λ off. refl)
+      (λ on. refl) refl
+
+  pub hits_none : (n : ℕ) (c : Call K V) (aim : Aim K) (value : V) → IsLook aim →
+      naming n (plan_left (hits c aim value).left) ≡ None
+  hits_none n c plan.To_answer value l = refl
+  hits_none n c (plan.To_load load) value l = refl
+  hits_none n c (plan.To_own load) value l = refl
+  hits_none n c (plan.To_evict key stamp cause) value l = absurd l
 
   either_none : (n : ℕ) (b : Bool) (x y : Next K V) → naming n (plan_left x.left) ≡ None → naming n (plan_left y.left) ≡ None →
       naming n (plan_left (cond b x y).left) ≡ None
@@ -137,21 +154,24 @@ module _ {K V : Type 0} where
 
   pub told_none : (n : ℕ) (c : Call K V) (load : Load K) (given : Told V) → naming n c.plan ≡ None →
       naming n (plan_left (after_told c load (found.TakeTold (Some given))).left) ≡ None
-  told_none n c load (answer.Value value) h = put_plans (λ p. naming n (plan_left (goes c p).left) ≡ None) c.rules load.key value
-      (plan.Settle (settled.Ready value) ∷ plan.Reply (reply.Loaded value true) ∷ []) refl refl
+  told_none n c load (answer.Value value) h =
+      loaded_plans (λ p. naming n (plan_left (goes c p).left) ≡
+      None) c.rules load value refl refl refl
   told_none n c load answer.Done h = h
   told_none n c load answer.Off h = h
 
+  form_none : (n : ℕ) (rules : Rules) (p : List (Item K V)) → IsFresh rules p → naming n p ≡ None
+  form_none n rules p (Disabled a d) = refl
+  form_none n rules p _ = refl
+
   pub fresh_none : (n : ℕ) (rules : Rules) (start : Start K V) → naming n (plan_of rules start) ≡ None
-  fresh_none n rules (start.Get key) = refl
-  fresh_none n rules (start.Insert key value) = put_plans (λ p. naming n p ≡ None) rules key value (plan.Reply reply.Done ∷ []) refl refl
-  fresh_none n rules (start.GetWith key) = refl
+  fresh_none n rules start = form_none n rules (plan_of rules start) (fresh_plan rules start)
 
   -- a plan that hears a notice posts a write
   hears_held : (n y : ℕ) (p : List (Item K V)) → IsPlan p → hearing n p ≡ Some y → IsSome (held_by p)
   hears_held n y p (Hearing number x rest d) e = refl
   hears_held n y p (Listening x rest t) e = refl
-  hears_held n y p (Noticing key old x rest t) e = refl
+  hears_held n y p (Noticing key old cause upsert x rest t) e = refl
   hears_held n y p (Posting x rest d) e = refl
   hears_held n y p (Unlocking x rest t) e = refl
   hears_held n y p (Turning x rest d) e = refl
@@ -160,15 +180,23 @@ module _ {K V : Type 0} where
   hears_held n y p (Posted rest (Draining more d)) e = absurd (none_some e)
   hears_held n y p (Posted rest (Ended more (Answering a))) e = absurd (none_some e)
   hears_held n y p (Posted rest (Ended more (Settling with a))) e = absurd (none_some e)
-  hears_held n y p (Drained rest (Looking aim key)) e = absurd (none_some e)
+  hears_held n y p (Drained rest (Looking aim key l)) e = absurd (none_some e)
+  hears_held n y p (Drained rest (Owning load)) e = absurd (none_some e)
+  hears_held n y p (Drained rest (Removing removal key)) e = absurd (none_some e)
+  hears_held n y p (Drained rest (Locking_out removal key)) e = absurd (none_some e)
   hears_held n y p (Drained rest (Putting key value more t)) e = absurd (none_some e)
   hears_held n y p (Drained rest (Locking key value more t)) e = absurd (none_some e)
   hears_held n y p (Writing key value moment rest t) e = absurd (none_some e)
-  hears_held n y p (Judging aim key stored) e = absurd (none_some e)
-  hears_held n y p (Owning load) e = absurd (none_some e)
+  hears_held n y p (Judging aim key stored l) e = absurd (none_some e)
   hears_held n y p (Reading load) e = absurd (none_some e)
   hears_held n y p (Asking load) e = absurd (none_some e)
   hears_held n y p (Telling load) e = absurd (none_some e)
+  hears_held n y p (Choosing key stamp cause) e = absurd (none_some e)
+  hears_held n y p (Finding key stamp cause) e = absurd (none_some e)
+  hears_held n y p (Chosen key stamp cause there stored) e = absurd (none_some e)
+  hears_held n y p (Taking removal key) e = absurd (none_some e)
+  hears_held n y p (Freeing a) e = absurd (none_some e)
+  hears_held n y p (Idling a) e = absurd (none_some e)
 
   -- ---- notices with the desk
 
@@ -192,8 +220,8 @@ module _ {K V : Type 0} where
 
   -- ---- a step
 
-  -- What a step has to show: what it leaves is named; and each notice that runs is heard by a call or with an
-  -- owed write, as before or anew.
+  -- What a step has to show: what it leaves is named; and each notice that runs is heard by a call
+  -- or with an owed write, as before or anew.
   record Leaves (d : DeskPart K V) (n : ℕ) (p : List (Item K V)) (notices : ℕ → Option (Notice K V)) (opened : List ℕ) (off : Bool)
       (owed : List Owed) (last : ℕ) (left : Option (Call K V)) : Type 0 where
     last_same : last ≡ d.last
@@ -209,9 +237,10 @@ module _ {K V : Type 0} where
     Same p left = Leaves d n p d.notices d.opened d.off d.owed d.last left
 
     -- the desk's notices and owed writes are as they were, and the plan heard no notice that runs
-    keeps : (p : List (Item K V)) (left : Option (Call K V)) → ((x : ℕ) → running d.notices x ≡ true → guards x (hearing n p) ≡ 0) →
+    as_before : (p : List (Item K V)) (left : Option (Call K V)) →
+        ((x : ℕ) → running d.notices x ≡ true → guards x (hearing n p) ≡ 0) →
         IsNamed n (plan_left left) → Same p left
-    keeps p left quiet named = record {
+    as_before p left quiet named = record {
       last_same = refl;
       named = named;
       owed_named = owed;
@@ -221,7 +250,8 @@ module _ {K V : Type 0} where
 
     -- nor does it open or hear one any more
     plain : (p : List (Item K V)) (left : Option (Call K V)) → hearing n p ≡ None → naming n (plan_left left) ≡ None → Same p left
-    plain p left quiet none = keeps p left (λ x r. ap (guards x) quiet) (unnamed n (plan_left left) none)
+    plain p left quiet none = as_before p left (λ x r. ap (guards x) quiet)
+        (unnamed n (plan_left left) none)
 
     -- the call has its plan still
     stays : (p : List (Item K V)) (c : Call K V) → c.plan ≡ p → IsNamed n p → Same p (Some c)
@@ -268,7 +298,7 @@ module _ {K V : Type 0} where
           by x true e r = inr (omega (arith, ap (guards x) (hears r), subst (λ u. once u n ≡ 1) (eqb-true n x e) (ap (λ b. cond {A = ℕ} b 1 0) (same_number n))))
 
   module _ (eq : K → K → Bool) (w : World K V) (n : ℕ) (c : Call K V) (o : OwedNamed w.desk.owed) (t : Noted w.desk.notices w.desk.opened w.desk.off)
-      (fresh : (key : K) (old : Stored V) (rest : List (Item K V)) → c.plan ≡ plan.Notice key old ∷ rest → w.desk.notices n ≡ None) where
+      (fresh : OpensNotice c.plan → w.desk.notices n ≡ None) where
     abbrev Made : List (Item K V) → World K V → Next K V → Type 0
     Made p new next = Leaves w.desk n p new.desk.notices new.desk.opened new.desk.off new.desk.owed new.desk.last next.left
 
@@ -277,13 +307,30 @@ module _ {K V : Type 0} where
     on_tail p (Settling with a) = outcomes eq (Made p) w n c (plan.Settle with) (plan.Reply a ∷ []) (plain w.desk n o t p None refl refl)
 
     on_drained : (p : List (Item K V)) → c.plan ≡ p → IsDrained p → OnStep eq (Made p) w n c p
-    on_drained p e (Looking aim key) = outcomes eq (Made p) w n c (plan.Get aim key) [] (
+    on_drained p e (Looking aim key l) = outcomes eq (Made p) w n c (plan.Get aim key) [] (
       (λ more. plain w.desk n o t p _ refl (ap (naming n) e)),
-      plain w.desk n o t p _ refl (misses_none n c aim),
-      λ k stored. plain w.desk n o t p _ refl refl,
+      (λ none. plain w.desk n o t p _ refl (misses_none n c aim)),
+      λ k stored some. plain w.desk n o t p _ refl (finds_none n c aim k stored),
     )
-    on_drained p e (Putting key value rest q) = outcomes eq (Made p) w n c (plan.Moment key value) rest (plain w.desk n o t p _ refl refl)
-    on_drained p e (Locking key value rest q) = outcomes eq (Made p) w n c (plan.Lock key) (plan.Moment key value ∷ rest)
+    on_drained p e (Owning load) = outcomes eq (Made p) w n c (plan.Own load) [] (
+      (λ able none. plain w.desk n o t p _ refl refl),
+      (λ disabled none. plain w.desk n o t p _ refl refl),
+      λ owner some. plain w.desk n o t p _ refl refl,
+    )
+    on_drained p e (Putting key value rest q) =
+        outcomes eq (Made p) w n c (plan.Moment (plan.To_store key value)) rest
+        (plain w.desk n o t p _ refl refl)
+    on_drained p e (Locking key value rest q) =
+        outcomes eq (Made p) w n c (plan.Lock key) (plan.Moment (plan.To_store key value) ∷ rest) (
+          (λ free. plain w.desk n o t p _ refl refl),
+          λ held. plain w.desk n o t p _ refl
+              (ap (naming n) e),
+        )
+    on_drained p e (Removing removal key) =
+        outcomes eq (Made p) w n c (plan.Moment (plan.To_take_out removal key)) []
+        (plain w.desk n o t p _ refl refl)
+    on_drained p e (Locking_out removal key) =
+        outcomes eq (Made p) w n c (plan.Lock key) (plan.Moment (plan.To_take_out removal key) ∷ [])
         ((λ free. plain w.desk n o t p _ refl refl), λ held. plain w.desk n o t p _ refl (ap (naming n) e))
 
     on_posted : (p : List (Item K V)) → c.plan ≡ p → IsPosted p → OnStep eq (Made p) w n c p
@@ -312,19 +359,29 @@ module _ {K V : Type 0} where
     on_plan p e h (Posting v rest d) = outcomes eq (Made p) w n c (plan.Post v) rest
         ((λ room. plain w.desk n o t p _ refl (posted_none n c rest d)), λ full. plain w.desk n o t p _ refl refl)
     on_plan p e h (Hearing number v rest d) = outcomes eq (Made p) w n c (plan.Ended number) (plan.Post v ∷ rest) (
-      (λ done. keeps w.desk n o t p _ (λ x r. apart w.desk.notices x number r done) (unnamed n (plan.Post v ∷ rest) refl)),
+      (λ done. as_before w.desk n o t p _ (λ x r. apart w.desk.notices x number r done)
+          (unnamed n (plan.Post v ∷ rest) refl)),
       λ run. stays w.desk n o t p _ e h,
     )
-    on_plan p e h (Listening v rest q) = outcomes eq (Made p) w n c plan.Heard (plan.Unlock ∷ plan.Post v ∷ rest) (
-      (λ done. keeps w.desk n o t p _ (λ x r. apart w.desk.notices x n r done) (unnamed n (plan.Unlock ∷ plan.Post v ∷ rest) refl)),
-      λ run. stays w.desk n o t p _ e h,
-    )
-    on_plan p e h (Unlocking v rest q) = outcomes eq (Made p) w n c plan.Unlock (plan.Post v ∷ rest) (plain w.desk n o t p _ refl refl)
-    on_plan p e h (Noticing key old v rest q) = outcomes eq (Made p) w n c (plan.Notice key old) (plan.Unlock ∷ plan.Post v ∷ rest) (
-      (λ off. opens w.desk n o t p _ _ refl (fresh key old _ e) (λ s. off) refl (unnamed n (plan.Unlock ∷ plan.Post v ∷ rest) refl) (λ r. absurd (false≢true r))),
-      λ on. opens w.desk n o t p _ _ refl (fresh key old _ e) (λ s. absurd (running_not s)) refl (λ y u is held. h y u is held) (λ r. refl),
-    )
+    on_plan p e h (Listening v rest q) = outcomes eq (Made p) w n c plan.Heard
+        (plan.Unlock true ∷ plan.Post v ∷ rest) (
+          (λ done. as_before w.desk n o t p _ (λ x r. apart w.desk.notices x n r done)
+              (unnamed n (plan.Unlock true ∷ plan.Post v ∷ rest) refl)),
+          λ run. stays w.desk n o t p _ e h,
+        )
+    on_plan p e h (Unlocking v rest q) = outcomes eq (Made p) w n c (plan.Unlock true)
+        (plan.Post v ∷ rest) (plain w.desk n o t p _ refl refl)
+    on_plan p e h (Noticing key old cause upsert v rest q) = outcomes eq (Made p) w n c
+        (plan.Notice key old cause upsert) (plan.Unlock true ∷ plan.Post v ∷ rest) (
+          (λ off. opens w.desk n o t p _ _ refl (fresh opens_it) (λ s. off) refl
+              (unnamed n (plan.Unlock true ∷ plan.Post v ∷ rest) refl) (λ r. absurd (false≢true r))),
+          λ on. opens w.desk n o t p _ _ refl (fresh opens_it) (λ s. absurd (running_not s)) refl
+              (λ y u is held. h y u is held) (λ r. refl),
+        )
       where
+        opens_it : OpensNotice c.plan
+        opens_it = subst OpensNotice (sym e) tt
+
         running_not : notice.Running ≡ notice.Skipped → ⊥
         running_not s = false≢true (ap (λ u. cond (runs u) false true) s)
     on_plan p e h (Turning v rest d) = outcomes eq (Made p) w n c plan.Turn (plan.Apply ∷ plan.End ∷ plan.Post v ∷ rest)
@@ -332,9 +389,9 @@ module _ {K V : Type 0} where
     on_plan p e h (Applying v rest d) = outcomes eq (Made p) w n c plan.Apply (plan.End ∷ plan.Post v ∷ rest)
         ((λ none. plain w.desk n o t p _ refl refl), λ y ys some. plain w.desk n o t p _ refl refl)
     on_plan p e h (Ending v rest d) = outcomes eq (Made p) w n c plan.End (plan.Post v ∷ rest) (plain w.desk n o t p _ refl refl)
-    on_plan p e h (Judging aim key stored) = outcomes eq (Made p) w n c (plan.Judge aim key stored) [] (plain w.desk n o t p _ refl (hits_none n c aim stored.value))
-    on_plan p e h (Owning load) = outcomes eq (Made p) w n c (plan.Own load) []
-        ((λ none. plain w.desk n o t p _ refl refl), λ owner some. plain w.desk n o t p _ refl refl)
+    on_plan p e h (Judging aim key stored l) = outcomes eq (Made p) w n c
+        (plan.Judge aim key stored) [] (plain w.desk n o t p _ refl
+        (hits_none n c aim stored.value l))
     on_plan p e h (Reading load) = outcomes eq (Made p) w n c (plan.Read load) []
         ((λ none. plain w.desk n o t p _ refl (ap (naming n) e)), λ with some. plain w.desk n o t p _ refl (read_none n c load with (ap (naming n) e)))
     on_plan p e h (Asking load) = outcomes eq (Made p) w n c (plan.Ask load) [] (plain w.desk n o t p _ refl refl)
@@ -344,8 +401,41 @@ module _ {K V : Type 0} where
       (λ more. plain w.desk n o t p _ refl (ap (naming n) e)),
       (λ off old. plain w.desk n o t p _ refl refl),
       (λ on. plain w.desk n o t p _ refl refl),
-      λ k old on some. keeps w.desk n o t p _ (λ x r. refl) (λ y u is held. ap number_of (sym (some_same held)) ∙ some_same is),
+      λ k old on some. as_before w.desk n o t p _ (λ x r. refl)
+          (λ y u is held. ap number_of (sym (some_same held)) ∙ some_same is),
     )
+    on_plan p e h (Choosing key stamp cause) =
+        outcomes eq (Made p) w n c (plan.Lock key)
+        (plan.Get (plan.To_evict key stamp cause) key ∷ []) (
+          (λ free. plain w.desk n o t p _ refl refl),
+          λ held. plain w.desk n o t p _ refl
+              (ap (naming n) e),
+        )
+    on_plan p e h (Finding key stamp cause) = outcomes eq (Made p) w n c
+        (plan.Get (plan.To_evict key stamp cause) key) [] (
+          (λ more. plain w.desk n o t p _ refl (ap (naming n) e)),
+          (λ none. plain w.desk n o t p _ refl (keeps_none n c)),
+          λ k stored some. plain w.desk n o t p _ refl
+              (finds_none n c (plan.To_evict key stamp cause) k stored),
+        )
+    on_plan p e h (Chosen key stamp cause there stored) =
+        outcomes eq (Made p) w n c (plan.Holds key stamp cause there stored) [] (
+          (λ holds. plain w.desk n o t p _ refl refl),
+          λ not. plain w.desk n o t p _ refl
+              (keeps_none n c),
+        )
+    on_plan p e h (Taking removal key) = outcomes eq (Made p) w n c (plan.Out removal key) [] (
+      (λ more. plain w.desk n o t p _ refl (ap (naming n) e)),
+      (λ off none. plain w.desk n o t p _ refl refl),
+      (λ on none. plain w.desk n o t p _ refl refl),
+      (λ k old off some. plain w.desk n o t p _ refl refl),
+      λ k old on some. as_before w.desk n o t p _ (λ x r. refl)
+          (λ y u is held. ap number_of (sym (some_same held)) ∙ some_same is),
+    )
+    on_plan p e h (Freeing a) = outcomes eq (Made p) w n c (plan.Unlock false) (plan.Reply a ∷ [])
+        (plain w.desk n o t p _ refl refl)
+    on_plan p e h (Idling a) = outcomes eq (Made p) w n c plan.Idle (plan.Reply a ∷ [])
+        (plain w.desk n o t p _ refl refl)
 
     at_plan : IsNamed n c.plan → IsPlan c.plan → OnStep eq (Made c.plan) w n c c.plan
     at_plan h k = on_plan c.plan refl h k
@@ -378,9 +468,9 @@ module _ {K V : Type 0} where
         by None e = omega arith
         by (Some c) e = omega (arith, posts_held x c.plan (i.replacing.balanced.tidy n c e), one c e (hearing n c.plan) refl (held_by c.plan) refl)
 
-    opens_fresh : (n : ℕ) (c : Call K V) → s.calls n ≡ Some c → (key : K) (old : Stored V) (rest : List (Item K V)) →
-        c.plan ≡ plan.Notice key old ∷ rest → s.world.desk.notices n ≡ None
-    opens_fresh n c live key old rest e = not_opened s i.replacing n c live (subst OpensNotice (sym e) tt)
+    opens_fresh : (n : ℕ) (c : Call K V) → s.calls n ≡ Some c → OpensNotice c.plan →
+        s.world.desk.notices n ≡ None
+    opens_fresh n c live opens = not_opened s i.replacing n c live opens
 
     notices_on : (n : ℕ) (c : Call K V) → s.calls n ≡ Some c → (w : World K V) (left : Option (Call K V)) →
         Leaves s.world.desk n c.plan w.desk.notices w.desk.opened w.desk.off w.desk.owed w.desk.last left →

@@ -5,7 +5,7 @@ use Rattle.std.specs.Cmp.{IsEquivalence}
 use Rattle.std.specs.Option.{option_map, option_map_or}
 use Rattle.moka_hist.specs.Finite.{put_at, times}
 use Rattle.moka_hist.specs.State.{State, World, Call, DeskPart}
-use Rattle.moka_hist.specs.Plan.{Item, Aim, plan_of}
+use Rattle.moka_hist.specs.Plan.{Item, plan_of}
 use Rattle.moka_hist.specs.Plan as plan
 use Rattle.moka_hist.specs.Next.{Next}
 use Rattle.moka_hist.specs.Notices.{OpensNotice}
@@ -14,8 +14,8 @@ use Rattle.moka_hist.specs.Dropping.{dropped}
 use Rattle.moka_hist.specs.Telling.{ended, with_end}
 use Rattle.moka_hist.specs.Step.{Step, state_after}
 use Rattle.moka_hist.specs.Run.{started, fresh_call}
-use Rattle.moka_hist.specs.Visits.{runs, times_at}
-use Rattle.moka_hist.specs.Causes.{upsert_cause}
+use Rattle.moka_hist.specs.Visits.{cause_of, runs}
+use Rattle.moka_hist.specs.declared.rules.Cause.{Cause}
 use Rattle.moka_hist.specs.declared.events.Start.{Start}
 use Rattle.moka_hist.specs.declared.notices.Notice.{Notice}
 use Rattle.moka_hist.specs.declared.notices.NoticeState.TheVariants as notice
@@ -27,9 +27,9 @@ use Rattle.moka_laws.proofs.Before.{Before, before_is, is_before, before_more, b
 use Rattle.moka_laws.proofs.Counting.{none_some, some_same, put_cases, put_here, put_there, differ, differ_not}
 use Rattle.moka_laws.proofs.Owning.{plan_left}
 use Rattle.moka_laws.proofs.Locking.{Locks}
-use Rattle.moka_laws.proofs.Plans.{IsTail, Answering, Settling, IsDrained, Looking, Putting, IsPosted, Draining, Ended, Locking, IsPlan, Posted, Drained, Posting, Hearing, Noticing, Listening, Unlocking, Turning, Applying, Ending, Judging, Owning, Reading, Asking, Telling, Writing}
+use Rattle.moka_laws.proofs.Plans.{IsTail, Answering, Settling, IsDrained, Looking, Putting, IsPosted, Draining, Ended, Locking, IsPlan, Posted, Drained, Posting, Hearing, Noticing, Listening, Unlocking, Turning, Applying, Ending, Judging, Owning, Reading, Asking, Telling, Writing, Removing, Locking_out, Choosing, Finding, Chosen, Taking, Freeing, Idling}
 use Rattle.moka_laws.proofs.Replacing.{opens_notice, listening, not_opened, opened_committed, told_once}
-use Rattle.moka_laws.proofs.Noticing.{IsNoticing, noticing_kept, naming, running, drained_none, posted_none, misses_none, hits_none, read_none, told_none, fresh_none}
+use Rattle.moka_laws.proofs.Noticing.{IsNoticing, noticing_kept, naming, running, drained_none, posted_none, misses_none, finds_none, keeps_none, hits_none, read_none, told_none, fresh_none}
 use Rattle.moka_laws.proofs.SoundReached.{IsSound, sound_kept, reached_sound}
 use Rattle.moka_laws.proofs.Kept.{IsKept, in_reached}
 use Rattle.moka_laws.proofs.StepCases.{OnStep, step_cases}
@@ -42,14 +42,14 @@ module _ {K V : Type 0} where
   IsHearing _ = ⊥
 
   unopened : (n : ℕ) (p : List (Item K V)) → naming n p ≡ None → OpensNotice p → ⊥
-  unopened n (plan.Notice key old ∷ rest) e o = none_some (sym e)
+  unopened n (plan.Notice key old cause upsert ∷ rest) e o = none_some (sym e)
   unopened n [] e o = o
   unopened n (_ ∷ rest) e o = o
 
   -- ---- a step
 
-  -- A step that opens no notice: what is committed then stands as before, and a notice that is due then is that of the
-  -- last write.
+  -- A step that opens no notice: what is committed then stands as before, and a notice that is due
+  -- then is that of the last write.
   record Keeps (w : World K V) (n : ℕ) (notices : ℕ → Option (Notice K V)) (opened committed : List ℕ) (locked : ℕ → Option K)
       (left : Option (Call K V)) : Type 0 where
     same_notices : notices ≡ w.desk.notices
@@ -64,8 +64,10 @@ module _ {K V : Type 0} where
       (left : Option (Call K V)) : Type 0 where
     key : K
     old : Stored V
+    cause : Option Cause
+    upsert : Bool
     rest : List (Item K V)
-    is : p ≡ plan.Notice key old ∷ rest
+    is : p ≡ plan.Notice key old cause upsert ∷ rest
     told : Notice K V
     named : told.key ≡ key
     new_notices : notices ≡ put_at w.desk.notices n (Some told)
@@ -124,13 +126,30 @@ module _ {K V : Type 0} where
     on_tail p e (Settling with a) = outcomes eq (Made p) w n c (plan.Settle with) (plan.Reply a ∷ []) (quiet p None e (λ h. h) refl)
 
     on_drained : (p : List (Item K V)) → c.plan ≡ p → IsDrained p → OnStep eq (Made p) w n c p
-    on_drained p e (Looking aim key) = outcomes eq (Made p) w n c (plan.Get aim key) [] (
+    on_drained p e (Looking aim key l) = outcomes eq (Made p) w n c (plan.Get aim key) [] (
       (λ more. quiet p _ e (λ h. h) (ap (naming n) e)),
-      quiet p _ e (λ h. h) (misses_none n c aim),
-      λ k stored. quiet p _ e (λ h. h) refl,
+      (λ none. quiet p _ e (λ h. h) (misses_none n c aim)),
+      λ k stored some. quiet p _ e (λ h. h) (finds_none n c aim k stored),
     )
-    on_drained p e (Putting key value rest t) = outcomes eq (Made p) w n c (plan.Moment key value) rest (quiet p _ e (λ h. h) refl)
-    on_drained p e (Locking key value rest t) = outcomes eq (Made p) w n c (plan.Lock key) (plan.Moment key value ∷ rest)
+    on_drained p e (Owning load) = outcomes eq (Made p) w n c (plan.Own load) [] (
+      (λ able none. quiet p _ e (λ h. h) refl),
+      (λ disabled none. quiet p _ e (λ h. h) refl),
+      λ owner some. quiet p _ e (λ h. h) refl,
+    )
+    on_drained p e (Putting key value rest t) =
+        outcomes eq (Made p) w n c (plan.Moment (plan.To_store key value)) rest
+        (quiet p _ e (λ h. h) refl)
+    on_drained p e (Locking key value rest t) =
+        outcomes eq (Made p) w n c (plan.Lock key) (plan.Moment (plan.To_store key value) ∷ rest) (
+          (λ free. locks p _ (Some key) e (λ h. h) refl),
+          λ held. quiet p _ e (λ h. h)
+              (ap (naming n) e),
+        )
+    on_drained p e (Removing removal key) =
+        outcomes eq (Made p) w n c (plan.Moment (plan.To_take_out removal key)) []
+        (quiet p _ e (λ h. h) refl)
+    on_drained p e (Locking_out removal key) =
+        outcomes eq (Made p) w n c (plan.Lock key) (plan.Moment (plan.To_take_out removal key) ∷ [])
         ((λ free. locks p _ (Some key) e (λ h. h) refl), λ held. quiet p _ e (λ h. h) (ap (naming n) e))
 
     on_posted : (p : List (Item K V)) → c.plan ≡ p → IsPosted p → OnStep eq (Made p) w n c p
@@ -164,75 +183,81 @@ module _ {K V : Type 0} where
         others = λ m d. refl;
       }),
     )
-    on_plan p e (Listening v rest t) = outcomes eq (Made p) w n c plan.Heard (plan.Unlock ∷ plan.Post v ∷ rest) (
-      (λ done. inl (record {
-        same_notices = refl;
-        same_opened = refl;
-        more = λ a b h. h;
-        due = λ o. absurd o;
-        hears = λ r. absurd (false≢true (sym done ∙ r));
-        others = λ m d. refl;
-      })),
-      λ run. inl (record {
-        same_notices = refl;
-        same_opened = refl;
-        more = λ a b h. h;
-        due = λ o. absurd (subst OpensNotice e o);
-        hears = λ r. (subst IsHearing (sym e) tt, refl);
-        others = λ m d. refl;
-      }),
-    )
-    on_plan p e (Unlocking v rest t) = outcomes eq (Made p) w n c plan.Unlock (plan.Post v ∷ rest) (locks p _ None e (λ h. h) refl)
-    on_plan p e (Noticing key old v rest t) = outcomes eq (Made p) w n c (plan.Notice key old) (plan.Unlock ∷ plan.Post v ∷ rest) (
-      (λ off. inr (record {
-        key = key;
-        old = old;
-        rest = plan.Unlock ∷ plan.Post v ∷ rest;
-        is = refl;
-        told = record {
-          number = n;
-          key = key;
-          value = old.value;
-          cause = upsert_cause w.desk.rules (times_at w.desk old.stamp old.modified);
-          state = notice.Skipped;
-        };
-        named = refl;
-        new_notices = refl;
-        new_opened = refl;
-        same_committed = refl;
-        same_locked = refl;
-        calm = λ o. o;
-        hears = λ r. absurd (false≢true r);
-      })),
-      λ on. inr (record {
-        key = key;
-        old = old;
-        rest = plan.Unlock ∷ plan.Post v ∷ rest;
-        is = refl;
-        told = record {
-          number = n;
-          key = key;
-          value = old.value;
-          cause = upsert_cause w.desk.rules (times_at w.desk old.stamp old.modified);
-          state = notice.Running;
-        };
-        named = refl;
-        new_notices = refl;
-        new_opened = refl;
-        same_committed = refl;
-        same_locked = refl;
-        calm = λ o. o;
-        hears = λ r. tt;
-      }),
-    )
+    on_plan p e (Listening v rest t) = outcomes eq (Made p) w n c plan.Heard
+        (plan.Unlock true ∷ plan.Post v ∷ rest) (
+          (λ done. inl (record {
+            same_notices = refl;
+            same_opened = refl;
+            more = λ a b h. h;
+            due = λ o. absurd o;
+            hears = λ r. absurd (false≢true (sym done ∙ r));
+            others = λ m d. refl;
+          })),
+          λ run. inl (record {
+            same_notices = refl;
+            same_opened = refl;
+            more = λ a b h. h;
+            due = λ o. absurd (subst OpensNotice e o);
+            hears = λ r. (subst IsHearing (sym e) tt, refl);
+            others = λ m d. refl;
+          }),
+        )
+    on_plan p e (Unlocking v rest t) = outcomes eq (Made p) w n c (plan.Unlock true)
+        (plan.Post v ∷ rest) (locks p _ None e (λ h. h) refl)
+    on_plan p e (Noticing key old cause upsert v rest t) = outcomes eq (Made p) w n c
+        (plan.Notice key old cause upsert) (plan.Unlock true ∷ plan.Post v ∷ rest) (
+          (λ off. inr (record {
+            key = key;
+            old = old;
+            cause = cause;
+            upsert = upsert;
+            rest = plan.Unlock true ∷ plan.Post v ∷ rest;
+            is = refl;
+            told = record {
+              number = n;
+              key = key;
+              value = old.value;
+              cause = cause_of w.desk old.stamp old.modified cause upsert;
+              state = notice.Skipped;
+            };
+            named = refl;
+            new_notices = refl;
+            new_opened = refl;
+            same_committed = refl;
+            same_locked = refl;
+            calm = λ o. o;
+            hears = λ r. absurd (false≢true r);
+          })),
+          λ on. inr (record {
+            key = key;
+            old = old;
+            cause = cause;
+            upsert = upsert;
+            rest = plan.Unlock true ∷ plan.Post v ∷ rest;
+            is = refl;
+            told = record {
+              number = n;
+              key = key;
+              value = old.value;
+              cause = cause_of w.desk old.stamp old.modified cause upsert;
+              state = notice.Running;
+            };
+            named = refl;
+            new_notices = refl;
+            new_opened = refl;
+            same_committed = refl;
+            same_locked = refl;
+            calm = λ o. o;
+            hears = λ r. tt;
+          }),
+        )
     on_plan p e (Turning v rest d) = outcomes eq (Made p) w n c plan.Turn (plan.Apply ∷ plan.End ∷ plan.Post v ∷ rest)
         ((λ free. quiet p _ e (λ h. h) refl), λ taken. quiet p _ e (λ h. h) (ap (naming n) e))
     on_plan p e (Applying v rest d) = outcomes eq (Made p) w n c plan.Apply (plan.End ∷ plan.Post v ∷ rest)
         ((λ none. quiet p _ e (λ h. h) refl), λ y ys some. quiet p _ e (λ h. h) refl)
     on_plan p e (Ending v rest d) = outcomes eq (Made p) w n c plan.End (plan.Post v ∷ rest) (quiet p _ e (λ h. h) refl)
-    on_plan p e (Judging aim key stored) = outcomes eq (Made p) w n c (plan.Judge aim key stored) [] (quiet p _ e (λ h. h) (hits_none n c aim stored.value))
-    on_plan p e (Owning load) = outcomes eq (Made p) w n c (plan.Own load) []
-        ((λ none. quiet p _ e (λ h. h) refl), λ owner some. quiet p _ e (λ h. h) refl)
+    on_plan p e (Judging aim key stored l) = outcomes eq (Made p) w n c (plan.Judge aim key stored)
+        [] (quiet p _ e (λ h. h) (hits_none n c aim stored.value l))
     on_plan p e (Reading load) = outcomes eq (Made p) w n c (plan.Read load) []
         ((λ none. quiet p _ e (λ h. h) (ap (naming n) e)), λ with some. quiet p _ e (λ h. h) (read_none n c load with (ap (naming n) e)))
     on_plan p e (Asking load) = outcomes eq (Made p) w n c (plan.Ask load) [] (quiet p _ e (λ h. h) refl)
@@ -244,6 +269,34 @@ module _ {K V : Type 0} where
       (λ on. commits p _ e (λ h. h)),
       λ k old on some. commits p _ e (λ h. h),
     )
+    on_plan p e (Choosing key stamp cause) =
+        outcomes eq (Made p) w n c (plan.Lock key)
+        (plan.Get (plan.To_evict key stamp cause) key ∷ []) (
+          (λ free. locks p _ (Some key) e (λ h. h) refl),
+          λ held. quiet p _ e (λ h. h)
+              (ap (naming n) e),
+        )
+    on_plan p e (Finding key stamp cause) = outcomes eq (Made p) w n c
+        (plan.Get (plan.To_evict key stamp cause) key) [] (
+          (λ more. quiet p _ e (λ h. h) (ap (naming n) e)),
+          (λ none. quiet p _ e (λ h. h) (keeps_none n c)),
+          λ k stored some. quiet p _ e (λ h. h)
+              (finds_none n c (plan.To_evict key stamp cause) k stored),
+        )
+    on_plan p e (Chosen key stamp cause there stored) =
+        outcomes eq (Made p) w n c (plan.Holds key stamp cause there stored) []
+        ((λ holds. quiet p _ e (λ h. h) refl), λ not. quiet p _ e (λ h. h) (keeps_none n c))
+    on_plan p e (Taking removal key) = outcomes eq (Made p) w n c (plan.Out removal key) [] (
+      (λ more. quiet p _ e (λ h. h) (ap (naming n) e)),
+      (λ off none. quiet p _ e (λ h. h) refl),
+      (λ on none. quiet p _ e (λ h. h) refl),
+      (λ k old off some. commits p _ e (λ h. h)),
+      λ k old on some. commits p _ e (λ h. h),
+    )
+    on_plan p e (Freeing a) = outcomes eq (Made p) w n c (plan.Unlock false) (plan.Reply a ∷ [])
+        (locks p _ None e (λ h. h) refl)
+    on_plan p e (Idling a) = outcomes eq (Made p) w n c plan.Idle (plan.Reply a ∷ [])
+        (quiet p _ e (λ h. h) refl)
 
     at_plan : IsPlan c.plan → OnStep eq (Made c.plan) w n c c.plan
     at_plan k = on_plan c.plan refl k
@@ -259,14 +312,16 @@ module _ {K V : Type 0} where
   opened_there s i n none h = omega (arith, i.noted.opened_once n, ap (λ o. cond {A = ℕ} (is_some o) 1 0) none)
 
   -- a call whose notice is due holds the lock of its key
-  due_locked : (s : State K V) → IsNoticing s → (n : ℕ) (c : Call K V) (key : K) (old : Stored V) (rest : List (Item K V)) → s.calls n ≡ Some c →
-      c.plan ≡ plan.Notice key old ∷ rest → s.world.desk.locked n ≡ Some key
-  due_locked s i n c key old rest live e = by (s.world.desk.locked n) refl
+  due_locked : (s : State K V) → IsNoticing s → (n : ℕ) (c : Call K V) (key : K) (old : Stored V)
+      (cause : Option Cause) (upsert : Bool) (rest : List (Item K V)) → s.calls n ≡ Some c →
+      c.plan ≡ plan.Notice key old cause upsert ∷ rest → s.world.desk.locked n ≡ Some key
+  due_locked s i n c key old cause upsert rest live e = by (s.world.desk.locked n) refl
     where
       on : s.world.desk.rules.listener ≡ true
       on = listening s i.replacing n c live (opens_notice c.plan (subst OpensNotice (sym e) tt))
 
-      q : Locks s.world.desk.rules.listener (s.world.desk.locked n) (plan.Notice key old ∷ rest)
+      q : Locks s.world.desk.rules.listener (s.world.desk.locked n)
+          (plan.Notice key old cause upsert ∷ rest)
       q = subst (Locks s.world.desk.rules.listener (s.world.desk.locked n)) e
           (subst (λ v. Locks s.world.desk.rules.listener (s.world.desk.locked n) (plan_left v)) live (i.replacing.locking.locks n))
 
@@ -275,22 +330,25 @@ module _ {K V : Type 0} where
       by (Some k) f = ap Some (q.inside on k f).0
 
 module _ {K V : Type 0} (eq : K → K → Bool) where
-  -- Notices of one key were opened in the order of their writes, and a notice runs beside an earlier one only once the
-  -- call of that one is gone.
+  -- Notices of one key were opened in the order of their writes, and a notice runs beside an
+  -- earlier one only once the call of that one is gone.
   record IsOrdered (s : State K V) : Type 0 where
     noticing : IsNoticing s
     sound : IsSound eq s
     order : (a b : ℕ) (x y : Notice K V) → Before s.world.desk.opened a b → s.world.desk.notices a ≡ Some x → s.world.desk.notices b ≡ Some y →
         eq x.key y.key ≡ true → Before s.world.table.committed a b
-    due : (a b : ℕ) (c : Call K V) (x : Notice K V) (key : K) (old : Stored V) (rest : List (Item K V)) → s.calls b ≡ Some c →
-        c.plan ≡ plan.Notice key old ∷ rest → s.world.desk.notices a ≡ Some x → eq x.key key ≡ true → Before s.world.table.committed a b
+    due : (a b : ℕ) (c : Call K V) (x : Notice K V) (key : K) (old : Stored V)
+        (cause : Option Cause) (upsert : Bool) (rest : List (Item K V)) → s.calls b ≡ Some c →
+        c.plan ≡ plan.Notice key old cause upsert ∷ rest → s.world.desk.notices a ≡ Some x →
+        eq x.key key ≡ true → Before s.world.table.committed a b
     hears : (a : ℕ) (c : Call K V) (x : Notice K V) → s.calls a ≡ Some c → s.world.desk.notices a ≡ Some x → runs x.state ≡ true →
         IsHearing c.plan × (s.world.desk.locked a ≡ Some x.key)
     beside : (a b : ℕ) (x y : Notice K V) → Before s.world.desk.opened a b → s.world.desk.notices a ≡ Some x → s.world.desk.notices b ≡ Some y →
         eq x.key y.key ≡ true → runs x.state ≡ true → runs y.state ≡ true → s.calls a ≡ None
 
   -- two calls don't hold locks of equal keys
-  one_lock : (w : DeskPart K V) → SoundDesk eq w → (a b : ℕ) (k q : K) → w.locked a ≡ Some k → w.locked b ≡ Some q → eq k q ≡ true → a ≡ b
+  pub one_lock : (w : DeskPart K V) → SoundDesk eq w → (a b : ℕ) (k q : K) → w.locked a ≡ Some k →
+      w.locked b ≡ Some q → eq k q ≡ true → a ≡ b
   one_lock w h a b k q e f same = some_same (sym (h.locked k a e) ∙ h.one_locker k q same ∙ h.locked q b f)
 
   module _ (s : State K V) (i : IsOrdered s) (n : ℕ) (c : Call K V) (live : s.calls n ≡ Some c) where
@@ -313,11 +371,12 @@ module _ {K V : Type 0} (eq : K → K → Bool) where
       noticing = noticing;
       sound = sound;
       order = λ p q x y h e f same. b.more p q (i.order p q x y (was_opened p q h) (was p x e) (was q y f) same);
-      due = λ p q d x key old rest lives is e same.
+      due = λ p q d x key old cause upsert rest lives is e same.
           put_cases s.calls n left q (Some d) (Before w.table.committed p q) lives
           (λ here there. subst (λ v. Before w.table.committed p v) here
           (b.due (subst (λ v. OpensNotice (plan_left v)) (sym there) (subst OpensNotice (sym is) tt)) p (is_opened s i.noticing p x (was p x e))))
-          (λ other there. b.more p q (i.due p q d x key old rest there is (was p x e) same));
+          (λ other there. b.more p q (i.due p q d x key old cause upsert rest there is
+          (was p x e) same));
       hears = λ p d x lives e r.
           put_cases s.calls n left p (Some d) (IsHearing d.plan × (w.desk.locked p ≡ Some x.key)) lives
           (λ here there. subst (λ v. IsHearing d.plan × (w.desk.locked v ≡ Some x.key)) here (own d x there (ap w.desk.notices here ∙ e) r))
@@ -346,10 +405,11 @@ module _ {K V : Type 0} (eq : K → K → Bool) where
       noticing = noticing;
       sound = sound;
       order = λ p q x y h e f same. subst (λ v. Before v p q) (sym b.same_committed) (by_order p q x y e f same (parts p q h));
-      due = λ p q d x key old rest lives is e same. subst (λ v. Before v p q) (sym b.same_committed)
+      due = λ p q d x key old cause upsert rest lives is e same. subst (λ v. Before v p q)
+          (sym b.same_committed)
           (put_cases s.calls n left q (Some d) (Before s.world.table.committed p q) lives
           (λ here there. absurd (b.calm (subst (λ v. OpensNotice (plan_left v)) (sym there) (subst OpensNotice (sym is) tt))))
-          (λ other there. by_due p q d x key old rest there is (at p x e) other same));
+          (λ other there. by_due p q d x key old cause upsert rest there is (at p x e) other same));
       hears = λ p d x lives e r.
           put_cases s.calls n left p (Some d) (IsHearing d.plan × (w.desk.locked p ≡ Some x.key)) lives
           (λ here there. subst (λ v. IsHearing d.plan × (w.desk.locked v ≡ Some x.key)) here (own d x there (ap w.desk.notices here ∙ e) r))
@@ -358,7 +418,7 @@ module _ {K V : Type 0} (eq : K → K → Bool) where
     }
       where
         held : s.world.desk.locked n ≡ Some b.key
-        held = due_locked s i.noticing n c b.key b.old b.rest live b.is
+        held = due_locked s i.noticing n c b.key b.old b.cause b.upsert b.rest live b.is
 
         none : s.world.desk.notices n ≡ None
         none = not_opened s i.noticing.replacing n c live (subst OpensNotice (sym b.is) tt)
@@ -391,14 +451,20 @@ module _ {K V : Type 0} (eq : K → K → Bool) where
             i.order p q x y h (at_other p x (earlier p has.0) e) (at_other q y (earlier q has.1) f) same
         by_order p q x y e f same (inr h) =
             subst (λ v. Before s.world.table.committed p v) (sym h.0)
-            (i.due p n c x b.key b.old b.rest live b.is (at_other p x (earlier p h.1) e) (subst (λ v. eq x.key v ≡ true) (told_at y q h.0 f) same))
+            (i.due p n c x b.key b.old b.cause b.upsert b.rest live b.is
+            (at_other p x (earlier p h.1) e)
+            (subst (λ v. eq x.key v ≡ true) (told_at y q h.0 f) same))
 
-        by_due : (p q : ℕ) (d : Call K V) (x : Notice K V) (key : K) (old : Stored V) (rest : List (Item K V)) → s.calls q ≡ Some d →
-            d.plan ≡ plan.Notice key old ∷ rest → ((n ≡ p) × (b.told ≡ x)) ⊎ (s.world.desk.notices p ≡ Some x) → (n == q) ≡ false →
+        by_due : (p q : ℕ) (d : Call K V) (x : Notice K V) (key : K) (old : Stored V)
+            (cause : Option Cause) (upsert : Bool) (rest : List (Item K V)) → s.calls q ≡ Some d →
+            d.plan ≡ plan.Notice key old cause upsert ∷ rest → ((n ≡ p) × (b.told ≡ x)) ⊎
+            (s.world.desk.notices p ≡ Some x) → (n == q) ≡ false →
             eq x.key key ≡ true → Before s.world.table.committed p q
-        by_due p q d x key old rest there is (inr e) other same = i.due p q d x key old rest there is e same
-        by_due p q d x key old rest there is (inl e) other same =
-            absurd (differ_not n q other (one_lock s.world.desk i.sound.sound n q b.key key held (due_locked s i.noticing q d key old rest there is)
+        by_due p q d x key old cause upsert rest there is (inr e) other same =
+            i.due p q d x key old cause upsert rest there is e same
+        by_due p q d x key old cause upsert rest there is (inl e) other same =
+            absurd (differ_not n q other (one_lock s.world.desk i.sound.sound n q b.key key held
+            (due_locked s i.noticing q d key old cause upsert rest there is)
             (subst (λ v. eq v key ≡ true) (ap (λ (v : Notice K V). v.key) (sym e.1) ∙ b.named) same)))
 
         own : (d : Call K V) (x : Notice K V) → left ≡ Some d → w.desk.notices n ≡ Some x → runs x.state ≡ true →
@@ -449,10 +515,11 @@ module _ {K V : Type 0} (eq : K → K → Bool) (laws : IsEquivalence eq) where
         noticing = (noticing_kept eq).start s start i.noticing;
         sound = (sound_kept eq laws).start s start i.sound;
         order = i.order;
-        due = λ p q b x key old rest lives is e same. put_cases s.calls new (Some d) q (Some b) (Before s.world.table.committed p q) lives
+        due = λ p q b x key old cause upsert rest lives is e same. put_cases s.calls new (Some d) q
+            (Some b) (Before s.world.table.committed p q) lives
             (λ here there. absurd (unopened q (plan_of s.world.desk.rules start) (fresh_none q s.world.desk.rules start)
             (subst (λ v. OpensNotice (plan_left v)) (sym there) (subst OpensNotice (sym is) tt))))
-            (λ other there. i.due p q b x key old rest there is e same);
+            (λ other there. i.due p q b x key old cause upsert rest there is e same);
         hears = λ p b x lives e r. put_cases s.calls new (Some d) p (Some b) (IsHearing b.plan × (s.world.desk.locked p ≡ Some x.key)) lives
             (λ here there. absurd (fresh p x here e)) (λ other there. i.hears p b x there e r);
         beside = λ p q x y h e f same r u.
@@ -469,8 +536,10 @@ module _ {K V : Type 0} (eq : K → K → Bool) (laws : IsEquivalence eq) where
     noticing = (noticing_kept eq).drop s n c live between i.noticing;
     sound = (sound_kept eq laws).drop s n c live between i.sound;
     order = i.order;
-    due = λ p q d x key old rest lives is e same. put_cases s.calls n None q (Some d) (Before s.world.table.committed p q) lives
-        (λ here there. absurd (none_some there)) (λ other there. i.due p q d x key old rest there is e same);
+    due = λ p q d x key old cause upsert rest lives is e same. put_cases s.calls n None q (Some d)
+        (Before s.world.table.committed p q) lives
+        (λ here there. absurd (none_some there))
+        (λ other there. i.due p q d x key old cause upsert rest there is e same);
     hears = λ p d x lives e r. put_cases s.calls n None p (Some d) (IsHearing d.plan × (put_at s.world.desk.locked n None p ≡ Some x.key)) lives
         (λ here there. absurd (none_some there))
         (λ other there. let h = i.hears p d x there e r in (h.0, put_there s.world.desk.locked n None p other ∙ h.1));
@@ -503,7 +572,7 @@ module _ {K V : Type 0} (eq : K → K → Bool) (laws : IsEquivalence eq) where
       noticing = (noticing_kept eq).fresh rules size has_log;
       sound = (sound_kept eq laws).fresh rules size has_log;
       order = λ a b x y h e f same. absurd h;
-      due = λ a b c x key old rest live is e same. absurd (none_some live);
+      due = λ a b c x key old cause upsert rest live is e same. absurd (none_some live);
       hears = λ a c x live e r. absurd (none_some live);
       beside = λ a b x y h e f same r u. absurd h;
     };
@@ -532,8 +601,8 @@ module _ {K V : Type 0} (eq : K → K → Bool) (laws : IsEquivalence eq) where
           let v = ended_was s.world.desk n p x e in
           let u = ended_was s.world.desk n q y f in
           i.order p q v.0 u.0 h v.1 u.1 (rw (v.2, u.2) same);
-      due = λ p q c x key old rest live is e same.
-          let v = ended_was s.world.desk n p x e in i.due p q c v.0 key old rest live is v.1 (rw v.2 same);
+      due = λ p q c x key old cause upsert rest live is e same.
+          let v = ended_was s.world.desk n p x e in i.due p q c v.0 key old cause upsert rest live is v.1 (rw v.2 same);
       hears = λ p c x live e r.
           let v = ended_was s.world.desk n p x e in i.hears p c x live (v.1 ∙ ap Some (v.3 r)) r;
       beside = λ p q x y h e f same r k.

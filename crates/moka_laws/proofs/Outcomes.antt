@@ -5,18 +5,18 @@ use Rattle.std.proofs.lemmas.Bool.{eqb-true}
 use Rattle.std.proofs.lemmas.Bool.Decides.{nat_tests}
 use Rattle.moka_hist.specs.Finite.{put_at}
 use Rattle.moka_hist.specs.State.{Call, World, DeskPart}
-use Rattle.moka_hist.specs.Plan.{Item, Aim, look}
+use Rattle.moka_hist.specs.Plan.{Item, Aim, Change, Removal, look, is_disabled}
 use Rattle.moka_hist.specs.Plan as plan
-use Rattle.moka_hist.specs.Causes.{upsert_cause}
-use Rattle.moka_hist.specs.Visits.{decided, is_running, is_unlocked_for, locked_by, times_at, unlocked, with_notice, without_moment, first_of, holding_with, claimed, claim_of, finds, has_room, is_free_for, settlement_for, readers_without, settled_without, stamped, judged, settled_as, opened, took_told, ended_turn}
-use Rattle.moka_hist.specs.Tables.{answer_of, written}
+use Rattle.moka_hist.specs.Causes.{chosen_holds}
+use Rattle.moka_hist.specs.Visits.{cause_of, gave_back, decided, is_running, is_unlocked_for, locked_by, times_at, unlocked, with_notice, without_moment, first_of, holding_with, claimed, claim_of, finds, has_room, is_free_for, settlement_for, readers_without, settled_without, stamped, judged, settled_as, opened, took_told, ended_turn}
+use Rattle.moka_hist.specs.Tables.{answer_of, by_pair, removed, taken_by, written}
 use Rattle.moka_hist.specs.Bound.{times_of, stayed, decided_by, most_undecided}
 use Rattle.moka_hist.specs.Next.{Next, goes, stays, waits, asks, answers}
 use Rattle.moka_hist.specs.Listening.{after_hearing, after_lock, after_notice}
 use Rattle.moka_hist.specs.Posting.{once_ended, after_drain, after_post, after_turn, after_apply}
-use Rattle.moka_hist.specs.Looking.{misses, hits, after_get}
-use Rattle.moka_hist.specs.Loading.{after_own, after_read, after_told}
-use Rattle.moka_hist.specs.Writing.{old_stamp, once_told}
+use Rattle.moka_hist.specs.Looking.{misses, hits, keeps, finds_pair, after_get, after_holds}
+use Rattle.moka_hist.specs.Loading.{owner_rest, after_own, after_read, after_told}
+use Rattle.moka_hist.specs.Writing.{cause_handed, changes, nothing_answer, nothing_rest, old_stamp, once_told, removed_answer, removed_rest, stamp_asked, after_out}
 use Rattle.moka_hist.specs.Step.{access_for, takes_of}
 use Rattle.moka_hist.specs.declared.records.Stored.{Stored}
 use Rattle.moka_hist.specs.declared.events.Told.{Told}
@@ -26,7 +26,8 @@ use Rattle.moka_hist.specs.declared.notices.NoticeState.{NoticeState}
 use Rattle.moka_hist.specs.declared.notices.NoticeState.TheVariants as notice
 use Rattle.moka_hist.specs.declared.writes.Owed.{Owed}
 use Rattle.moka_hist.specs.declared.writes.Write.{Write}
-use Rattle.moka_hist.specs.declared.writes.Write.TheVariants.{Upsert}
+use Rattle.moka_hist.specs.declared.writes.Write.TheVariants.{Remove, Upsert}
+use Rattle.moka_hist.specs.declared.rules.Cause.{Cause}
 use Rattle.moka_hist.specs.declared.replies.Ask.TheVariants as ask
 use Rattle.moka_hist.specs.declared.visits.Settled.{Settled}
 use Rattle.moka_hist.specs.declared.visits.Settled.TheVariants as settled
@@ -68,12 +69,13 @@ module _ {K V : Type 0} (eq : K → K → Bool) where
   was_applied d first rest = record d { log = rest; applied = d.applied ++ first ∷ [] }
 
   -- the desk once the call has opened its notice, in this state
-  abbrev pub was_opened : DeskPart K V → ℕ → K → Stored V → NoticeState → DeskPart K V
-  was_opened d n key old state = with_notice (decided d n) n (record {
+  abbrev pub was_opened : DeskPart K V → ℕ → K → Stored V → Option Cause → Bool → NoticeState →
+      DeskPart K V
+  was_opened d n key old cause upsert state = with_notice (decided d n) n (record {
     number = n;
     key = key;
     value = old.value;
-    cause = upsert_cause d.rules (times_at d old.stamp old.modified);
+    cause = cause_of d old.stamp old.modified cause upsert;
     state = state;
   })
 
@@ -83,6 +85,15 @@ module _ {K V : Type 0} (eq : K → K → Bool) where
   -- the world once a look of this call has decided
   abbrev pub done : World K V → ℕ → World K V
   done w n = record w { stay = decided_by n }
+
+  -- the world once this call has taken out what stood under the key
+  abbrev pub taken_out : World K V → ℕ → K → World K V
+  taken_out w n key = record w { table = removed eq n w.table key; stay = decided_by n }
+
+  -- the chosen record has still to leave for this cause
+  abbrev pub has_to_leave : DeskPart K V → Stored V → Cause → Bool
+  has_to_leave d stored cause =
+      chosen_holds d.rules (times_at d stored.stamp stored.modified) false cause
 
   -- M holds where the operation stays undecided once more
   abbrev pub Undecided : (World K V → Next K V → Type 0) → World K V → ℕ → Call K V → Type 0
@@ -110,11 +121,18 @@ module _ {K V : Type 0} (eq : K → K → Bool) where
       ((x : Write) (xs : List Write) → w.desk.log ≡ x ∷ xs → M (on_desk w (was_applied w.desk x xs)) (goes c (plan.Apply ∷ rest)))
   Outcomes M w n c plan.End rest = M (on_desk w (ended_turn w.desk)) (goes c rest)
   Outcomes M w n c (plan.Get aim key) rest =
-      Undecided M w n c × M (done w n) (misses c aim) × ((k : K) (stored : Stored V) → M (done w n) (goes c (plan.Judge aim k stored ∷ [])))
+      Undecided M w n c ×
+      (w.table.stored key ≡ None → M (done w n) (misses c aim)) ×
+      ((k : K) (stored : Stored V) → w.table.stored key ≡ Some (k, stored) →
+      M (done w n) (finds_pair c aim k stored))
   Outcomes M w n c (plan.Judge aim key stored) rest = M (on_desk w (judged w.desk stored.stamp stored.modified)) (hits c aim stored.value)
   Outcomes M w n c (plan.Own load) rest =
-      (w.desk.owners load ≡ None → M (on_desk w (claimed eq w.desk n load None)) (goes c (look (plan.To_own load) load.key))) ×
-      ((owner : ℕ) → w.desk.owners load ≡ Some owner → M (on_desk w (claimed eq w.desk n load (Some owner))) (goes c (plan.Read load ∷ [])))
+      (is_disabled c.rules ≡ false → w.desk.owners load ≡ None →
+      M (on_desk w (claimed eq w.desk n load None)) (goes c (look (plan.To_own load) load.key))) ×
+      (is_disabled c.rules ≡ true → w.desk.owners load ≡ None →
+      M (on_desk w (claimed eq w.desk n load None)) (goes c (plan.Ask load ∷ []))) ×
+      ((owner : ℕ) → w.desk.owners load ≡ Some owner →
+      M (on_desk w (claimed eq w.desk n load (Some owner))) (goes c (plan.Read load ∷ [])))
   Outcomes M w n c (plan.Read load) rest =
       (settlement_for w.desk n ≡ None → M w (waits c)) ×
       ((with : Settled V) → settlement_for w.desk n ≡ Some with → M (on_desk w (was_read w.desk n)) (after_read c load (found.ReadSettled with)))
@@ -126,23 +144,50 @@ module _ {K V : Type 0} (eq : K → K → Bool) where
   Outcomes M w n c (plan.Lock key) rest =
       (is_unlocked_for w.desk n key ≡ true → M (on_desk w (locked_by eq w.desk n key true)) (goes c rest)) ×
       (is_unlocked_for w.desk n key ≡ false → M w (waits c))
-  Outcomes M w n c plan.Unlock rest = M (on_desk w (unlocked w.desk n)) (goes c rest)
-  Outcomes M w n c (plan.Notice key old) rest =
-      (w.desk.off ≡ true → M (on_desk w (was_opened w.desk n key old notice.Skipped)) (goes c rest)) ×
-      (w.desk.off ≡ false → M (on_desk w (was_opened w.desk n key old notice.Running))
-      (asks c (ask.Listener key old.value (upsert_cause w.desk.rules (times_at w.desk old.stamp old.modified))) (plan.Heard ∷ rest)))
+  Outcomes M w n c (plan.Unlock wrote) rest = M (on_desk w (unlocked w.desk n wrote)) (goes c rest)
+  Outcomes M w n c (plan.Notice key old cause upsert) rest =
+      (w.desk.off ≡ true → M (on_desk w (was_opened w.desk n key old cause upsert notice.Skipped))
+      (goes c rest)) ×
+      (w.desk.off ≡ false → M (on_desk w (was_opened w.desk n key old cause upsert notice.Running))
+      (asks c (ask.Listener key old.value (cause_of w.desk old.stamp old.modified cause upsert))
+      (plan.Heard ∷ rest)))
   Outcomes M w n c plan.Heard rest =
       (is_running w.desk n ≡ false → M w (goes c rest)) × (is_running w.desk n ≡ true → M w (waits c))
-  Outcomes M w n c (plan.Moment key value) rest = M (on_desk w (stamped w.desk n)) (goes c (plan.Write key value w.desk.clock ∷ rest))
+  Outcomes M w n c (plan.Holds key stamp cause there stored) rest =
+      (has_to_leave w.desk stored cause ≡ true →
+      M w (goes c (plan.Moment (plan.To_take_out (plan.To_evict_chosen stamp cause) key) ∷ []))) ×
+      (has_to_leave w.desk stored cause ≡ false → M w (keeps c))
+  Outcomes M w n c (plan.Moment (plan.To_store key value)) rest =
+      M (on_desk w (stamped w.desk n)) (goes c (plan.Write key value w.desk.clock ∷ rest))
+  Outcomes M w n c (plan.Moment (plan.To_take_out removal key)) rest =
+      M (on_desk w (stamped w.desk n)) (goes c (plan.Out removal key ∷ rest))
   Outcomes M w n c (plan.Write key value moment) rest =
       let stored : Stored V = record { value = value; stamp = n; modified = moment } in
       let new : World K V = record w { table = written eq n w.table key stored; stay = decided_by n } in
       Undecided M w n c ×
       (c.rules.listener ≡ false → (old : Option ℕ) → M new (goes c (plan.Post (Upsert n old) ∷ rest))) ×
-      (c.rules.listener ≡ true → M new (goes c (plan.Unlock ∷ plan.Post (Upsert n None) ∷ rest))) ×
+      (c.rules.listener ≡ true →
+      M new (goes c (plan.Unlock true ∷ plan.Post (Upsert n None) ∷ rest))) ×
       ((k : K) (old : Stored V) → c.rules.listener ≡ true → w.table.stored key ≡ Some (k, old) →
-      M new (goes c (plan.Notice key old ∷ plan.Unlock ∷ plan.Post (Upsert n (Some old.stamp)) ∷ rest)))
-  Outcomes M w n c (plan.Reply answer) rest = M w (answers answer)
+      M new (goes c (plan.Notice key old None true ∷ plan.Unlock true ∷ plan.Post
+      (Upsert n (Some old.stamp)) ∷ rest)))
+  Outcomes M w n c (plan.Out removal key) rest =
+      let out : Option (K × Stored V) = taken_by (stamp_asked removal) (w.table.stored key) in
+      Undecided M w n c ×
+      (c.rules.listener ≡ false → out ≡ None →
+      M (done w n) (goes c (plan.Idle ∷ plan.Reply (nothing_answer removal) ∷ []))) ×
+      (c.rules.listener ≡ true → out ≡ None →
+      M (done w n) (goes c (plan.Unlock false ∷ plan.Reply (nothing_answer removal) ∷ []))) ×
+      ((k : K) (old : Stored V) → c.rules.listener ≡ false → out ≡ Some (k, old) →
+      M (taken_out w n key)
+      (goes c (plan.Post (Remove n old.stamp) ∷ plan.Reply (removed_answer removal old.value)
+      ∷ []))) ×
+      ((k : K) (old : Stored V) → c.rules.listener ≡ true → out ≡ Some (k, old) →
+      M (taken_out w n key)
+      (goes c (plan.Notice key old (cause_handed removal) false ∷ plan.Unlock true ∷
+      plan.Post (Remove n old.stamp) ∷ plan.Reply (removed_answer removal old.value) ∷ [])))
+  Outcomes M w n c plan.Idle rest = M (on_desk w (gave_back w.desk n)) (goes c rest)
+  Outcomes M w n c (plan.Reply answer) rest = M (on_desk w (gave_back w.desk n)) (answers answer)
 
   -- the desk once the call has tried to post its write
   abbrev posted_if : DeskPart K V → ℕ → Write → Bool → DeskPart K V
@@ -174,12 +219,16 @@ module _ {K V : Type 0} (eq : K → K → Bool) where
     locks key rest true e o = o.0 e
     locks key rest false e o = o.1 e
 
-    tells : (key : K) (old : Stored V) (rest : List (Item K V)) (b : Bool) → w.desk.off ≡ b → Outcomes M w n c (plan.Notice key old) rest →
-        M (on_desk w (was_opened w.desk n key old (cond b notice.Skipped notice.Running)))
+    tells : (key : K) (old : Stored V) (cause : Option Cause) (upsert : Bool)
+        (rest : List (Item K V)) (b : Bool) →
+        w.desk.off ≡ b → Outcomes M w n c (plan.Notice key old cause upsert) rest →
+        M (on_desk w (was_opened w.desk n key old cause upsert
+        (cond b notice.Skipped notice.Running)))
         (after_notice c key old rest
-        (found.OpenNotice (cond b None (Some (upsert_cause w.desk.rules (times_at w.desk old.stamp old.modified))))))
-    tells key old rest true e o = o.0 e
-    tells key old rest false e o = o.1 e
+        (found.OpenNotice (cond b None
+        (Some (cause_of w.desk old.stamp old.modified cause upsert)))))
+    tells key old cause upsert rest true e o = o.0 e
+    tells key old cause upsert rest false e o = o.1 e
 
     wrote : (key : K) (value : V) (moment : ℕ) (rest : List (Item K V)) (pair : Option (K × Stored V)) → w.table.stored key ≡ pair →
         Outcomes M w n c (plan.Write key value moment) rest →
@@ -214,16 +263,48 @@ module _ {K V : Type 0} (eq : K → K → Bool) where
         (λ b. M (on_desk w (record w.desk { log = xs; applied = w.desk.applied ++ x ∷ [] })) (after_apply c rest (found.ApplyOne b)))
         (sym (some_left (length xs))) (o.1 x xs e)
 
-    got : (aim : Aim K) (key : K) (rest : List (Item K V)) (pair : Option (K × Stored V)) → Outcomes M w n c (plan.Get aim key) rest →
+    got : (aim : Aim K) (key : K) (rest : List (Item K V)) (pair : Option (K × Stored V)) →
+        w.table.stored key ≡ pair → Outcomes M w n c (plan.Get aim key) rest →
         M (done w n) (after_get c aim (table.Decided (answer_of pair)))
-    got aim key rest None o = o.1
-    got aim key rest (Some pair) o = o.2 pair.0 pair.1
+    got aim key rest None e o = o.1 e
+    got aim key rest (Some pair) e o = o.2 pair.0 pair.1 e
+
+    judged_so : (key : K) (stamp : ℕ) (cause : Cause) (there : K) (stored : Stored V)
+        (rest : List (Item K V))
+        (b : Bool) → has_to_leave w.desk stored cause ≡ b →
+        Outcomes M w n c (plan.Holds key stamp cause there stored) rest →
+        M w (after_holds c key stamp cause (found.Holds b))
+    judged_so key stamp cause there stored rest true e o = o.0 e
+    judged_so key stamp cause there stored rest false e o = o.1 e
+
+    took : (removal : Removal) (key : K) (rest : List (Item K V)) (out : Option (K × Stored V)) →
+        taken_by (stamp_asked removal) (w.table.stored key) ≡ out →
+        Outcomes M w n c (plan.Out removal key) rest →
+        M (record w { table = by_pair out (removed eq n w.table key) w.table; stay = decided_by n })
+        (after_out n c removal key (table.Decided (answer_of out)))
+    took removal key rest None e o = by c.rules.listener refl
+      where
+        by : (listener : Bool) → c.rules.listener ≡ listener →
+            M (done w n) (goes c (nothing_rest listener removal))
+        by false is = o.1 is e
+        by true is = o.2 is e
+    took removal key rest (Some pair) e o = by c.rules.listener refl
+      where
+        by : (listener : Bool) → c.rules.listener ≡ listener →
+            M (taken_out w n key) (goes c (removed_rest listener n removal key pair.1))
+        by false is = o.3 pair.0 pair.1 is e
+        by true is = o.4 pair.0 pair.1 is e
 
     owned : (load : Load K) (rest : List (Item K V)) (owner : Option ℕ) → w.desk.owners load ≡ owner →
         Outcomes M w n c (plan.Own load) rest →
         M (on_desk w (claimed eq w.desk n load owner)) (after_own c load (found.WaitOrOwn (claim_of owner)))
-    owned load rest None e o = o.0 e
-    owned load rest (Some owner) e o = o.1 owner e
+    owned load rest None e o = by (is_disabled c.rules) refl
+      where
+        by : (b : Bool) → is_disabled c.rules ≡ b →
+            M (on_desk w (claimed eq w.desk n load None)) (goes c (owner_rest b load))
+        by false is = o.0 is e
+        by true is = o.1 is e
+    owned load rest (Some owner) e o = o.2 owner e
 
     was_told : (load : Load K) (rest : List (Item K V)) (with : Option (Settled V)) → settlement_for w.desk n ≡ with →
         Outcomes M w n c (plan.Read load) rest →
@@ -243,20 +324,32 @@ module _ {K V : Type 0} (eq : K → K → Bool) where
   outcomes M w n c (plan.Ended number) rest o = heard M w n c rest number (is_running w.desk number) refl o
   outcomes M w n c plan.Heard rest o = heard M w n c rest n (is_running w.desk n) refl o
   outcomes M w n c (plan.Lock key) rest o = locks M w n c key rest (is_unlocked_for w.desk n key) refl o
-  outcomes M w n c plan.Unlock rest o = o
-  outcomes M w n c (plan.Notice key old) rest o = tells M w n c key old rest w.desk.off refl o
+  outcomes M w n c (plan.Unlock wrote) rest o = o
+  outcomes M w n c (plan.Notice key old cause upsert) rest o =
+      tells M w n c key old cause upsert rest w.desk.off refl o
   outcomes M w n c (plan.Post write) rest o = posts M w n c write rest (has_room w.desk) refl o
   outcomes M w n c plan.Turn rest o = turned M w n c rest (is_free_for w.desk n) refl o
   outcomes M w n c plan.Apply rest o = applied M w n c rest w.desk.log refl o
   outcomes M w n c plan.End rest o = o
-  outcomes M w n c (plan.Get aim key) rest o = (o.0, λ answer t h. rw (h.1, h.0) (got M w n c aim key rest (w.table.stored key) o))
+  outcomes M w n c (plan.Get aim key) rest o =
+      (o.0, λ answer t h. rw (h.1, h.0) (got M w n c aim key rest (w.table.stored key) refl o))
   outcomes M w n c (plan.Judge aim key stored) rest o = o
   outcomes M w n c (plan.Own load) rest o = owned M w n c load rest (w.desk.owners load) refl o
   outcomes M w n c (plan.Read load) rest o = was_told M w n c load rest (settlement_for w.desk n) refl o
   outcomes M w n c (plan.Settle with) rest o = o
   outcomes M w n c (plan.Ask load) rest o = o
   outcomes M w n c (plan.Told load) rest o = taken M w n c load rest (w.desk.told n) refl o
-  outcomes M w n c (plan.Moment key value) rest o = o
+  outcomes M w n c (plan.Holds key stamp cause there stored) rest o =
+      judged_so M w n c key stamp cause there stored rest (has_to_leave w.desk stored cause) refl o
+  outcomes M w n c (plan.Moment (plan.To_store key value)) rest o = o
+  outcomes M w n c (plan.Moment (plan.To_take_out removal key)) rest o = o
   outcomes M w n c (plan.Write key value moment) rest o =
       (o.0, λ answer t h. rw (h.1, h.0) (wrote M w n c key value moment rest (w.table.stored key) refl o))
+  outcomes M w n c (plan.Out removal key) rest o = (
+    o.0,
+    λ answer t h. rw (h.1, h.0)
+        (took M w n c removal key rest (taken_by (stamp_asked removal) (w.table.stored key))
+        refl o),
+  )
+  outcomes M w n c plan.Idle rest o = o
   outcomes M w n c (plan.Reply answer) rest o = o

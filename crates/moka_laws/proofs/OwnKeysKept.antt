@@ -1,9 +1,9 @@
 -- Each step keeps stored pairs under their own keys.
-use Rattle.std.proofs.Common.{◌≡◌, ℕ, Bool, true, false, cond, Option, Some, refl, sym, ap, subst, ◌∙◌}
+use Rattle.std.proofs.Common.{◌≡◌, ℕ, Bool, true, false, cond, Option, Some, None, refl, sym, ap, subst, ◌∙◌}
 use Rattle.moka_hist.specs.State.{State, TablePart, World}
 use Rattle.moka_hist.specs.Step.{Access, Gets, Step, access_of}
 use Rattle.moka_hist.specs.Step as step
-use Rattle.moka_hist.specs.Tables.{Operates}
+use Rattle.moka_hist.specs.Tables.{Operates, by_pair, removed, taken_by, written}
 use Rattle.moka_hist.specs.declared.records.Stored.{Stored}
 use Rattle.moka_hist.specs.declared.tables.TableAnswer.{TableAnswer}
 use Rattle.moka_hist.specs.declared.tables.TableOp.{TableOp}
@@ -13,6 +13,7 @@ use Rattle.moka_hist.specs.declared.accesses.Got.{Got}
 use Rattle.moka_hist.specs.declared.accesses.Got.TheVariants as got
 use Rattle.moka_hist.specs.declared.accesses.Turn.{Turn}
 use Rattle.moka_laws.specs.OwnKeys.{UnderOwnKeys, ReachedIsUnderOwnKeys}
+use Rattle.moka_laws.proofs.Counting.{none_some}
 use Rattle.moka_laws.proofs.Kept.{IsKept, in_reached}
 
 module _ {K V : Type 0} (eq : K → K → Bool) where
@@ -34,6 +35,25 @@ module _ {K V : Type 0} (eq : K → K → Bool) where
   operation_keeps n w t (op.InsertOrModify key stored) answer o under =
       subst (λ (v : TablePart K V). IsUnder v.stored) (sym o.1)
       (λ q p is. put_under key q (key, stored) p (w.stored q) (eq key q) refl refl is (under q p))
+  operation_keeps n w t (op.InsertIfAbsent key stored) answer o under =
+      subst (λ (v : TablePart K V). IsUnder v.stored) (sym o.1) (by (w.stored key))
+    where
+      by : (there : Option (K × Stored V)) →
+          IsUnder (by_pair there w (written eq n w key stored)).stored
+      by None = λ q p is. put_under key q (key, stored) p (w.stored q) (eq key q) refl refl is
+          (under q p)
+      by (Some pair) = under
+  operation_keeps n w t (op.RemoveIf key stamp) answer o under =
+      subst (λ (v : TablePart K V). IsUnder v.stored) (sym o.1) (by (taken_by stamp (w.stored key)))
+    where
+      gone : (b : Bool) (old : Option (K × Stored V)) (p : K × Stored V) →
+          cond b None old ≡ Some p → old ≡ Some p
+      gone true old p is = absurd (none_some is)
+      gone false old p is = is
+
+      by : (out : Option (K × Stored V)) → IsUnder (by_pair out (removed eq n w key) w).stored
+      by None = under
+      by (Some pair) = λ q p is. under q p (gone (eq key q) (w.stored q) p is)
 
   access_keeps : (n : ℕ) (w new : World K V) (a : Access K V) (g : Got K V) → Gets eq n w a g new → IsUnder w.table.stored → IsUnder new.table.stored
   access_keeps n w new (step.On_table o) (got.Table table.Going) gets under = subst (λ (v : World K V). IsUnder v.table.stored) (sym gets.1) under

@@ -9,7 +9,7 @@ use Rattle.moka_hist.specs.Plan.{Item, Aim, plan_of}
 use Rattle.moka_hist.specs.Plan as plan
 use Rattle.moka_hist.specs.Visits.{owners_without}
 use Rattle.moka_hist.specs.Next.{Next, goes}
-use Rattle.moka_hist.specs.Looking.{hits, misses}
+use Rattle.moka_hist.specs.Looking.{hits, misses, keeps as stays, finds_pair}
 use Rattle.moka_hist.specs.Loading.{after_read, after_told, retries}
 use Rattle.moka_hist.specs.Step.{Step, state_after}
 use Rattle.moka_hist.specs.Run.{IsReached, fresh_call}
@@ -20,14 +20,13 @@ use Rattle.moka_hist.specs.declared.loads.Kind.{Kind}
 use Rattle.moka_hist.specs.declared.loads.Kind.TheVariants.{GetWith}
 use Rattle.moka_hist.specs.declared.rules.Rules.{Rules}
 use Rattle.moka_hist.specs.declared.events.Start.{Start}
-use Rattle.moka_hist.specs.declared.events.Start.TheVariants as start
 use Rattle.moka_hist.specs.declared.events.Told.{Told}
 use Rattle.moka_hist.specs.declared.events.Told.TheVariants as answer
 use Rattle.moka_hist.specs.declared.visits.Settled.{Settled}
 use Rattle.moka_hist.specs.declared.visits.Settled.TheVariants as settled
 use Rattle.moka_hist.specs.declared.visits.Found.TheVariants as found
 use Rattle.moka_hist.specs.declared.accesses.Turn.{Turn}
-use Rattle.moka_laws.proofs.Rules.{put_plans}
+use Rattle.moka_laws.proofs.Rules.{loaded_plans, kept_next, chosen_next, IsFresh, Disabled, fresh_plan}
 use Rattle.moka_laws.proofs.Counting.{some_same, none_some, put_cases, other_number}
 use Rattle.moka_laws.proofs.Weights.{weigh}
 use Rattle.moka_laws.proofs.Kept.{IsKept, in_reached}
@@ -107,22 +106,37 @@ module _ {K V : Type 0} where
     goes_owns c [] h = owns_none [] h
     goes_owns c (item ∷ rest) h = owns_none (item ∷ rest) h
 
+    keeps_owns : (c : Call K V) → Owns owners n (plan_left (stays c).left)
+    keeps_owns c = kept_next (λ v. Owns owners n (plan_left v.left)) c (λ off. owns_none [] refl)
+        (λ on. owns_none (plan.Unlock false ∷ plan.Reply _ ∷ []) refl)
+
     misses_owns : (c : Call K V) (aim : Aim K) (key : K) (rest : List (Item K V)) → Owns owners n (plan.Get aim key ∷ rest) →
         Owns owners n (plan_left (misses c aim).left)
     misses_owns c plan.To_answer key rest o = owns_none [] refl
     misses_owns c (plan.To_load load) key rest o = owns_none (plan.Own load ∷ []) refl
     misses_owns c (plan.To_own load) key rest o = record { first = o.first; later = refl }
+    misses_owns c (plan.To_evict there stamp cause) key rest o = keeps_owns c
 
-    judge_owns : (aim : Aim K) (key k : K) (stored : Stored V) (rest : List (Item K V)) → Owns owners n (plan.Get aim key ∷ rest) →
-        Owns owners n (plan.Judge aim k stored ∷ [])
-    judge_owns plan.To_answer key k stored rest o = owns_none (plan.Judge plan.To_answer k stored ∷ []) refl
-    judge_owns (plan.To_load load) key k stored rest o = owns_none (plan.Judge (plan.To_load load) k stored ∷ []) refl
-    judge_owns (plan.To_own load) key k stored rest o = record { first = o.first; later = refl }
+    finds_owns : (c : Call K V) (aim : Aim K) (key k : K) (stored : Stored V) (rest : List (Item K V)) →
+        Owns owners n (plan.Get aim key ∷ rest) →
+        Owns owners n (plan_left (finds_pair c aim k stored).left)
+    finds_owns c plan.To_answer key k stored rest o =
+        owns_none (plan.Judge plan.To_answer k stored ∷ []) refl
+    finds_owns c (plan.To_load load) key k stored rest o =
+        owns_none (plan.Judge (plan.To_load load) k stored ∷ []) refl
+    finds_owns c (plan.To_own load) key k stored rest o = record { first = o.first; later = refl }
+    finds_owns c (plan.To_evict there stamp cause) key k stored rest o =
+        chosen_next (λ v. Owns owners n (plan_left v.left)) c there stamp cause k stored
+        (λ off. owns_none [] refl) (λ on. owns_none (plan.Unlock false ∷ plan.Reply _ ∷ []) refl)
+        (owns_none (plan.Holds there stamp cause k stored ∷ []) refl)
 
-    hits_owns : (c : Call K V) (aim : Aim K) (value : V) → Owns owners n (plan_left (hits c aim value).left)
-    hits_owns c plan.To_answer value = owns_none [] refl
-    hits_owns c (plan.To_load load) value = owns_none [] refl
-    hits_owns c (plan.To_own load) value = owns_none (plan.Settle (settled.Ready value) ∷ plan.Reply _ ∷ []) refl
+    hits_owns : (c : Call K V) (aim : Aim K) (value : V) → Owns owners n c.plan →
+        Owns owners n (plan_left (hits c aim value).left)
+    hits_owns c plan.To_answer value p = owns_none [] refl
+    hits_owns c (plan.To_load load) value p = owns_none [] refl
+    hits_owns c (plan.To_own load) value p =
+        owns_none (plan.Settle (settled.Ready value) ∷ plan.Reply _ ∷ []) refl
+    hits_owns c (plan.To_evict key stamp cause) value p = p
 
     either_owns : (b : Bool) (x y : Next K V) → Owns owners n (plan_left x.left) → Owns owners n (plan_left y.left) →
         Owns owners n (plan_left (cond b x y).left)
@@ -138,15 +152,18 @@ module _ {K V : Type 0} where
     told_owns : (c : Call K V) (load : Load K) (given : Told V) → Owns owners n c.plan →
         Owns owners n (plan_left (after_told c load (found.TakeTold (Some given))).left)
     told_owns c load (answer.Value value) h =
-        put_plans (λ p. Owns owners n (plan_left (goes c p).left)) c.rules load.key value _ (owns_none _ refl) (owns_none _ refl)
+        loaded_plans (λ p. Owns owners n (plan_left (goes c p).left)) c.rules load value
+        (owns_none _ refl) (owns_none _ refl) (owns_none _ refl)
     told_owns c load answer.Done h = h
     told_owns c load answer.Off h = h
 
+    fresh_weighs : (rules : Rules) (p : List (Item K V)) → IsFresh rules p → weigh owning p ≡ 0
+    fresh_weighs rules p (Disabled a d) = refl
+    fresh_weighs rules p _ = refl
+
     fresh_owns : (rules : Rules) (start : Start K V) → Owns owners n (plan_of rules start)
-    fresh_owns rules (start.Get key) = owns_none _ refl
-    fresh_owns rules (start.Insert key value) =
-        put_plans (λ p. Owns owners n p) rules key value _ (owns_none _ refl) (owns_none _ refl)
-    fresh_owns rules (start.GetWith key) = owns_none _ refl
+    fresh_owns rules start =
+        owns_none (plan_of rules start) (fresh_weighs rules (plan_of rules start) (fresh_plan rules start))
 
 module _ {K V : Type 0} (eq : K → K → Bool) where
   -- each live call owns what it asks for, and equal loads have one owner
@@ -192,6 +209,12 @@ module _ {K V : Type 0} (eq : K → K → Bool) where
     claimed_owns : (load : Load K) → put_key (load_eq eq) w.desk.owners load (Some n) load ≡ Some n
     claimed_owns load = ap (λ b. cond b (Some n) (w.desk.owners load)) (loads_self eq laws load)
 
+    owns_now : (load l : Load K) → Some load ≡ Some l →
+        put_key (load_eq eq) w.desk.owners load (Some n) l ≡ Some n
+    owns_now load l e =
+        subst (λ v. put_key (load_eq eq) w.desk.owners load (Some n) v ≡ Some n) (some_same e)
+        (claimed_owns load)
+
     -- the owners are as they were
     keeps : {new : World K V} {next : Next K V} → new.desk.owners ≡ w.desk.owners → Owns new.desk.owners n (plan_left next.left) →
         Leaves w n new next
@@ -209,8 +232,8 @@ module _ {K V : Type 0} (eq : K → K → Bool) where
     on_item (plan.Ended number) rest p o = (λ e. keeps refl (goes_owns _ n c rest o.later), λ e. keeps refl p)
     on_item plan.Heard rest p o = (λ e. keeps refl (goes_owns _ n c rest o.later), λ e. keeps refl p)
     on_item (plan.Lock key) rest p o = (λ e. keeps refl (goes_owns _ n c rest o.later), λ e. keeps refl p)
-    on_item plan.Unlock rest p o = keeps refl (goes_owns _ n c rest o.later)
-    on_item (plan.Notice key old) rest p o =
+    on_item (plan.Unlock wrote) rest p o = keeps refl (goes_owns _ n c rest o.later)
+    on_item (plan.Notice key old cause upsert) rest p o =
         ((λ e. keeps refl (goes_owns _ n c rest o.later)), λ e. keeps refl (owns_none _ n (plan.Heard ∷ rest) (omega (arith, o.later))))
     on_item (plan.Post write) rest p o = (
       λ e. keeps refl (goes_owns _ n c rest o.later),
@@ -224,19 +247,23 @@ module _ {K V : Type 0} (eq : K → K → Bool) where
           (owns_none _ n (plan.Apply ∷ rest) (omega (arith, o.later))),
     )
     on_item plan.End rest p o = keeps refl (goes_owns _ n c rest o.later)
-    on_item (plan.Get aim key) rest p o =
-        ((λ more. keeps refl p), keeps refl (misses_owns _ n c aim key rest o), λ k stored. keeps refl (judge_owns _ n aim key k stored rest o))
-    on_item (plan.Judge aim key stored) rest p o = keeps refl (hits_owns _ n c aim stored.value)
+    on_item (plan.Get aim key) rest p o = (
+      (λ more. keeps refl p),
+      (λ none. keeps refl (misses_owns _ n c aim key rest o)),
+      λ k stored some. keeps refl (finds_owns _ n c aim key k stored rest o),
+    )
+    on_item (plan.Judge aim key stored) rest p o = keeps refl (hits_owns _ n c aim stored.value p)
     on_item (plan.Own load) rest p o = (
-      λ none. record {
+      (λ able none. record {
         one_owner = claimed_one_owner load;
-        owns = record {
-          first = λ l e. subst (λ v. put_key (load_eq eq) w.desk.owners load (Some n) v ≡ Some n) (some_same e)
-              (claimed_owns load);
-          later = refl;
-        };
+        owns = record { first = λ l e. owns_now load l e; later = refl };
         others = claimed_others load none;
-      },
+      }),
+      (λ not none. record {
+        one_owner = claimed_one_owner load;
+        owns = record { first = λ l e. owns_now load l e; later = refl };
+        others = claimed_others load none;
+      }),
       λ owner some. keeps refl (owns_none _ n (plan.Read load ∷ []) refl),
     )
     on_item (plan.Read load) rest p o = (λ none. keeps refl p, λ with some. keeps refl (read_owns _ n c load with p))
@@ -244,13 +271,29 @@ module _ {K V : Type 0} (eq : K → K → Bool) where
         record { one_owner = without_one_owner w.desk n one; owns = goes_owns _ n c rest o.later; others = without_others w.desk n }
     on_item (plan.Ask load) rest p o = keeps refl (record { first = o.first; later = refl })
     on_item (plan.Told load) rest p o = (λ none. keeps refl p, λ given some. keeps refl (told_owns _ n c load given p))
-    on_item (plan.Moment key value) rest p o = keeps refl (owns_none _ n (plan.Write key value w.desk.clock ∷ rest) (omega (arith, o.later)))
+    on_item (plan.Holds key stamp cause there stored) rest p o =
+        ((λ e. keeps refl (owns_none _ n (plan.Moment _ ∷ []) refl)), λ e. keeps refl (keeps_owns _ n c))
+    on_item (plan.Moment (plan.To_store key value)) rest p o =
+        keeps refl (owns_none _ n (plan.Write key value w.desk.clock ∷ rest) (omega (arith, o.later)))
+    on_item (plan.Moment (plan.To_take_out removal key)) rest p o =
+        keeps refl (owns_none _ n (plan.Out removal key ∷ rest) (omega (arith, o.later)))
     on_item (plan.Write key value moment) rest p o = (
       λ more. keeps refl p,
       λ off old. keeps refl (owns_none _ n (plan.Post _ ∷ rest) (omega (arith, o.later))),
-      λ on. keeps refl (owns_none _ n (plan.Unlock ∷ plan.Post _ ∷ rest) (omega (arith, o.later))),
-      λ k old on some. keeps refl (owns_none _ n (plan.Notice key old ∷ plan.Unlock ∷ plan.Post _ ∷ rest) (omega (arith, o.later))),
+      λ on. keeps refl (owns_none _ n (plan.Unlock true ∷ plan.Post _ ∷ rest) (omega (arith, o.later))),
+      λ k old on some. keeps refl
+          (owns_none _ n (plan.Notice key old None true ∷ plan.Unlock true ∷ plan.Post _ ∷ rest)
+          (omega (arith, o.later))),
     )
+    on_item (plan.Out removal key) rest p o = (
+      (λ more. keeps refl p),
+      (λ off none. keeps refl (owns_none _ n (plan.Idle ∷ plan.Reply _ ∷ []) refl)),
+      (λ on none. keeps refl (owns_none _ n (plan.Unlock false ∷ plan.Reply _ ∷ []) refl)),
+      (λ k old off some. keeps refl (owns_none _ n (plan.Post _ ∷ plan.Reply _ ∷ []) refl)),
+      λ k old on some. keeps refl
+          (owns_none _ n (plan.Notice key old _ false ∷ plan.Unlock true ∷ plan.Post _ ∷ plan.Reply _ ∷ []) refl),
+    )
+    on_item plan.Idle rest p o = keeps refl (goes_owns _ n c rest o.later)
     on_item (plan.Reply answer) rest p o = keeps refl (owns_none _ n [] refl)
 
     on_plan : (plan : List (Item K V)) → c.plan ≡ plan → Owns w.desk.owners n c.plan → OnStep eq (Leaves w n) w n c plan

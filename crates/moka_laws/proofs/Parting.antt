@@ -8,7 +8,7 @@ use Rattle.moka_hist.specs.Plan.{Item, Aim, held_by}
 use Rattle.moka_hist.specs.Plan as plan
 use Rattle.moka_hist.specs.Visits.{claimed, has_room, is_unlocked_for, locked_by, makes, number_of, settlement_for}
 use Rattle.moka_hist.specs.Next.{Next, goes}
-use Rattle.moka_hist.specs.Looking.{hits, misses}
+use Rattle.moka_hist.specs.Looking.{hits, misses, keeps, finds_pair}
 use Rattle.moka_hist.specs.Loading.{after_read, after_told, after_abort, retries}
 use Rattle.moka_hist.specs.Step.{Access, On_table, On_desk, Gets, access_of, state_after}
 use Rattle.moka_hist.specs.Dropping.{dropped, owed_by, owed_with}
@@ -22,8 +22,8 @@ use Rattle.moka_hist.specs.declared.events.Told.{Told}
 use Rattle.moka_hist.specs.declared.events.Told.TheVariants as answer
 use Rattle.moka_hist.specs.declared.loads.Load.{Load}
 use Rattle.moka_hist.specs.declared.replies.Answer.{Answer}
-use Rattle.moka_hist.specs.declared.replies.Answer.TheVariants as reply
 use Rattle.moka_hist.specs.declared.tables.TableTurn.TheVariants as table
+use Rattle.moka_hist.specs.declared.records.Stored.{Stored}
 use Rattle.moka_hist.specs.declared.visits.Settled.{Settled}
 use Rattle.moka_hist.specs.declared.visits.Settled.TheVariants as settled
 use Rattle.moka_hist.specs.declared.visits.Found.TheVariants as found
@@ -34,10 +34,10 @@ use Rattle.moka_laws.specs.Answered.{AnsweredIsPosted, IsPosted, PostedStays}
 use Rattle.moka_laws.proofs.Counting.{none_some, put_cases, put_there, other_number}
 use Rattle.moka_laws.proofs.Sums.{sum_has, sum_holds}
 use Rattle.moka_laws.proofs.Weights.{weigh, weigh_call, weigh_goes}
-use Rattle.moka_laws.proofs.Posts.{among, among_owed, post_of, posts_held, fresh_clear, hits_clear, misses_clear}
+use Rattle.moka_laws.proofs.Posts.{among, among_owed, post_of, posts_held, fresh_clear}
 use Rattle.moka_laws.proofs.Balance.{IsBalanced, owed_append, among_last, times_first, with_calls}
 use Rattle.moka_laws.proofs.Balanced.{balanced_kept, gives_up}
-use Rattle.moka_laws.proofs.Rules.{put_plans}
+use Rattle.moka_laws.proofs.Rules.{loaded_plans, kept_next, chosen_by}
 use Rattle.moka_laws.proofs.Between.{run_more}
 use Rattle.moka_laws.proofs.OnePlace.{contains_times}
 use Rattle.moka_laws.proofs.Kept.{IsKept, IsStable, in_reached, runs}
@@ -47,8 +47,8 @@ use Rattle.moka_laws.proofs.Outcomes.{Outcomes, outcomes}
 module _ {K V : Type 0} where
   -- ---- the write of a live call is with no other call, and isn't owed
 
-  -- How a call with this plan goes on: it posts no other call's write but one that it posted before or that was owed,
-  -- and it is gone where it answers.
+  -- How a call with this plan goes on: it posts no other call's write but one that it posted before
+  -- or that was owed, and it is gone where it answers.
   record Parts (owed : ℕ → ℕ) (n : ℕ) (plan : List (Item K V)) (next : Next K V) : Type 0 where
     posts : (x : ℕ) → (n == x) ≡ false → weigh_call (post_of x) next.left ≤ weigh (post_of x) plan + owed x
     gone : (a : Answer V) → next.turn ≡ turn.Answer a → next.left ≡ None
@@ -77,15 +77,35 @@ module _ {K V : Type 0} where
         Parts owed n before next
     still_parts next h g = record { posts = λ x d. omega (arith, h x); gone = g }
 
-  misses_gone : (c : Call K V) (aim : Aim K) (a : Answer V) → (misses c aim).turn ≡ turn.Answer a → (misses c aim).left ≡ None
-  misses_gone c plan.To_answer a e = refl
-  misses_gone c (plan.To_load load) a e = cc
-  misses_gone c (plan.To_own load) a e = cc
+  module _ (owed : ℕ → ℕ) (n : ℕ) (before : List (Item K V)) (c : Call K V) where
+    keeps_parts : Parts owed n before (keeps c)
+    keeps_parts = kept_next (Parts owed n before) c
+        (λ off. clear_parts owed n before (λ x. refl) (λ a e. refl))
+        (λ on. clear_parts owed n before (λ x. refl) (λ a e. cc))
 
-  hits_gone : (c : Call K V) (aim : Aim K) (value : V) (a : Answer V) → (hits c aim value).turn ≡ turn.Answer a → (hits c aim value).left ≡ None
-  hits_gone c plan.To_answer value a e = refl
-  hits_gone c (plan.To_load load) value a e = refl
-  hits_gone c (plan.To_own load) value a e = cc
+    misses_parts : (aim : Aim K) → Parts owed n before (misses c aim)
+    misses_parts plan.To_answer = clear_parts owed n before (λ x. refl) (λ a e. refl)
+    misses_parts (plan.To_load load) = clear_parts owed n before (λ x. refl) (λ a e. cc)
+    misses_parts (plan.To_own load) = clear_parts owed n before (λ x. refl) (λ a e. cc)
+    misses_parts (plan.To_evict key stamp cause) = keeps_parts
+
+    finds_parts : (aim : Aim K) (there : K) (stored : Stored V) → Parts owed n before
+        (finds_pair c aim there stored)
+    finds_parts plan.To_answer there stored = clear_parts owed n before (λ x. refl) (λ a e. cc)
+    finds_parts (plan.To_load load) there stored = clear_parts owed n before (λ x. refl) (λ a e. cc)
+    finds_parts (plan.To_own load) there stored = clear_parts owed n before (λ x. refl) (λ a e. cc)
+    finds_parts (plan.To_evict key stamp cause) there stored =
+        chosen_by (Parts owed n before) c key stamp cause there stored (λ other. keeps_parts)
+        (λ same. clear_parts owed n before (λ x. refl) (λ a e. cc))
+
+  hits_parts : (owed : ℕ → ℕ) (n : ℕ) (c : Call K V) (aim : Aim K) (value : V) → Parts owed n c.plan
+      (hits c aim value)
+  hits_parts owed n c plan.To_answer value = clear_parts owed n c.plan (λ x. refl) (λ a e. refl)
+  hits_parts owed n c (plan.To_load load) value = clear_parts owed n c.plan (λ x. refl)
+      (λ a e. refl)
+  hits_parts owed n c (plan.To_own load) value = clear_parts owed n c.plan (λ x. refl) (λ a e. cc)
+  hits_parts owed n c (plan.To_evict key stamp cause) value = still_parts owed n c.plan _
+      (λ x. refl) (λ a e. cc)
 
   read_parts : (owed : ℕ → ℕ) (n : ℕ) (c : Call K V) (load : Load K) (with : Settled V) → Parts owed n c.plan (after_read c load (found.ReadSettled with))
   read_parts owed n c load (settled.Ready value) = clear_parts owed n c.plan (λ x. refl) (λ a e. refl)
@@ -98,7 +118,8 @@ module _ {K V : Type 0} where
 
   told_parts : (owed : ℕ → ℕ) (n : ℕ) (c : Call K V) (load : Load K) (given : Told V) → Parts owed n c.plan (after_told c load (found.TakeTold (Some given)))
   told_parts owed n c load (answer.Value value) =
-      put_plans (λ p. Parts owed n c.plan (goes c p)) c.rules load.key value (plan.Settle (settled.Ready value) ∷ plan.Reply (reply.Loaded value true) ∷ [])
+      loaded_plans (λ p. Parts owed n c.plan (goes c p)) c.rules load value
+      (clear_parts owed n c.plan (λ x. refl) (λ a e. cc))
       (clear_parts owed n c.plan (λ x. refl) (λ a e. cc)) (clear_parts owed n c.plan (λ x. refl) (λ a e. cc))
   told_parts owed n c load answer.Done = still_parts owed n c.plan _ (λ x. refl) (λ a e. cc)
   told_parts owed n c load answer.Off = still_parts owed n c.plan _ (λ x. refl) (λ a e. cc)
@@ -153,9 +174,9 @@ module _ {K V : Type 0} where
       λ free. as_owed refl refl (goes_on (plan.Lock key) rest e),
       λ held. as_owed refl refl (still_parts owes n c.plan _ (λ x. refl) (λ a e. cc)),
     )
-    on_item plan.Unlock rest e = as_owed refl refl (goes_on plan.Unlock rest e)
-    on_item (plan.Notice key old) rest e = (
-      λ off. as_owed refl refl (goes_on (plan.Notice key old) rest e),
+    on_item (plan.Unlock wrote) rest e = as_owed refl refl (goes_on (plan.Unlock wrote) rest e)
+    on_item (plan.Notice key old cause upsert) rest e = (
+      λ off. as_owed refl refl (goes_on (plan.Notice key old cause upsert) rest e),
       λ on. as_owed refl refl (moves (λ a e. cc) (λ x d. omega (arith, ap (weigh (post_of x)) e))),
     )
     on_item (plan.Post write) rest e = (
@@ -173,12 +194,14 @@ module _ {K V : Type 0} where
     on_item plan.End rest e = as_owed refl refl (goes_on plan.End rest e)
     on_item (plan.Get aim key) rest e = (
       λ more. as_owed refl refl (still_parts owes n c.plan _ (λ x. refl) (λ a e. cc)),
-      as_owed refl refl (clear_parts owes n c.plan (misses_clear c aim).posts (misses_gone c aim)),
-      λ k stored. as_owed refl refl (clear_parts owes n c.plan (λ x. refl) (λ a e. cc)),
+      λ none. as_owed refl refl (misses_parts owes n c.plan c aim),
+      λ k stored some. as_owed refl refl (finds_parts owes n c.plan c aim k stored),
     )
-    on_item (plan.Judge aim key stored) rest e = as_owed refl refl (clear_parts owes n c.plan (hits_clear c aim stored.value).posts (hits_gone c aim stored.value))
+    on_item (plan.Judge aim key stored) rest e = as_owed refl refl
+        (hits_parts owes n c aim stored.value)
     on_item (plan.Own load) rest e = (
-      λ none. as_owed refl refl (clear_parts owes n c.plan (λ x. refl) (λ a e. cc)),
+      λ able none. as_owed refl refl (clear_parts owes n c.plan (λ x. refl) (λ a e. cc)),
+      λ disabled none. as_owed refl refl (clear_parts owes n c.plan (λ x. refl) (λ a e. cc)),
       λ owner some. as_owed refl refl (clear_parts owes n c.plan (λ x. refl) (λ a e. cc)),
     )
     on_item (plan.Read load) rest e = (
@@ -191,7 +214,24 @@ module _ {K V : Type 0} where
       λ none. as_owed refl refl (still_parts owes n c.plan _ (λ x. refl) (λ a e. cc)),
       λ given some. as_owed refl refl (told_parts owes n c load given),
     )
-    on_item (plan.Moment key value) rest e = as_owed refl refl (moves (λ a e. cc) (λ x d. omega (arith, ap (weigh (post_of x)) e)))
+    on_item (plan.Holds key stamp cause there stored) rest e = (
+      λ holds. as_owed refl refl (clear_parts owes n c.plan (λ x. refl) (λ a e. cc)),
+      λ not. as_owed refl refl (keeps_parts owes n c.plan c),
+    )
+    on_item (plan.Moment (plan.To_store key value)) rest e =
+        as_owed refl refl (moves (λ a e. cc) (λ x d. omega (arith, ap (weigh (post_of x)) e)))
+    on_item (plan.Moment (plan.To_take_out removal key)) rest e =
+        as_owed refl refl (moves (λ a e. cc) (λ x d. omega (arith, ap (weigh (post_of x)) e)))
+    on_item (plan.Out removal key) rest e = (
+      λ more. as_owed refl refl (still_parts owes n c.plan _ (λ x. refl) (λ a e. cc)),
+      λ off none. as_owed refl refl (clear_parts owes n c.plan (λ x. refl) (λ a e. cc)),
+      λ on none. as_owed refl refl (clear_parts owes n c.plan (λ x. refl) (λ a e. cc)),
+      λ k old off some. as_owed refl refl (moves (λ a e. cc)
+          (λ x d. omega (arith, ap (λ b. cond {A = ℕ} b 1 0) (other_number n x d)))),
+      λ k old on some. as_owed refl refl (moves (λ a e. cc)
+          (λ x d. omega (arith, ap (λ b. cond {A = ℕ} b 1 0) (other_number n x d)))),
+    )
+    on_item plan.Idle rest e = as_owed refl refl (goes_on plan.Idle rest e)
     on_item (plan.Write key value moment) rest e = (
       λ more. as_owed refl refl (still_parts owes n c.plan _ (λ x. refl) (λ a e. cc)),
       λ off old. as_owed refl refl (moves (λ a e. cc)

@@ -2,19 +2,19 @@
 use Rattle.std.proofs.Common.{◌≡◌, ℕ, ◌+◌, ◌<◌, ◌==◌, Bool, true, false, List, [], ◌∷◌, Option, Some, None, refl, subst, arith}
 use Rattle.std.proofs.lemmas.Bool.Decides.{nat_tests}
 use Rattle.moka_hist.specs.State.{State, Call, World}
-use Rattle.moka_hist.specs.Plan.{Item, Aim, plan_of}
+use Rattle.moka_hist.specs.Plan.{Item, Aim, Removal, plan_of, is_disabled}
 use Rattle.moka_hist.specs.Plan as plan
-use Rattle.moka_hist.specs.Next.{Next, goes}
-use Rattle.moka_hist.specs.Looking.{hits, misses}
+use Rattle.moka_hist.specs.Next.{Next, goes, waits}
+use Rattle.moka_hist.specs.Looking.{hits, misses, keeps, finds_pair}
 use Rattle.moka_hist.specs.Loading.{after_read, after_abort, after_told, retries}
 use Rattle.moka_hist.specs.Run.{IsReached, fresh_call}
 use Rattle.moka_hist.specs.Step.{Step, state_after}
 use Rattle.moka_hist.specs.declared.events.Start.{Start}
-use Rattle.moka_hist.specs.declared.events.Start.TheVariants as start
 use Rattle.moka_hist.specs.declared.events.Told.{Told}
 use Rattle.moka_hist.specs.declared.events.Told.TheVariants as told
 use Rattle.moka_hist.specs.declared.loads.Load.{Load}
 use Rattle.moka_hist.specs.declared.records.Mode.TheVariants as mode
+use Rattle.moka_hist.specs.declared.rules.Cause.{Cause}
 use Rattle.moka_hist.specs.declared.rules.Rules.{Rules}
 use Rattle.moka_hist.specs.declared.records.Stored.{Stored}
 use Rattle.moka_hist.specs.declared.replies.Answer.{Answer}
@@ -23,11 +23,16 @@ use Rattle.moka_hist.specs.declared.visits.Settled.{Settled}
 use Rattle.moka_hist.specs.declared.visits.Settled.TheVariants as settled
 use Rattle.moka_hist.specs.declared.visits.Found.TheVariants as found
 use Rattle.moka_hist.specs.declared.writes.Write as write
-use Rattle.moka_laws.proofs.Rules.{put_plans}
+use Rattle.moka_laws.proofs.Rules.{loaded_plans, kept_next, chosen_next, IsFresh, Disabled, Gets, Loads, Owns, Puts, Locks_and_puts, Takes_out, Locks_and_takes_out, Evicts, Locks_and_evicts, fresh_plan}
 use Rattle.moka_laws.proofs.StepCases.{OnStep, step_cases}
 use Rattle.moka_laws.proofs.Outcomes.{outcomes}
 use Rattle.moka_laws.proofs.Kept.{IsKept, in_reached}
 use Rattle.moka_laws.proofs.Counting.{none_some, put_cases}
+
+-- what is looked for may be seen: it isn't a record that was chosen to leave
+abbrev pub IsLook : {K : Type 0} → Aim K → Type 0
+IsLook (plan.To_evict key stamp cause) = ⊥
+IsLook _ = Unit {0}
 
 module _ {K V : Type 0} where
   -- what is left once a call has written and posted its write: it settles, and answers
@@ -35,11 +40,18 @@ module _ {K V : Type 0} where
     Answering : (answer : Answer V) → IsTail (plan.Reply answer ∷ [])
     Settling : (with : Settled V) (answer : Answer V) → IsTail (plan.Settle with ∷ plan.Reply answer ∷ [])
 
-  -- what is left once it has taken up what was owed: it looks, or writes
+  -- what is left once it has taken up what was owed: it looks, owns, writes, or takes out
   pub data IsDrained : List (Item K V) → Type 0 where
-    Looking : (aim : Aim K) (key : K) → IsDrained (plan.Get aim key ∷ [])
-    Putting : (key : K) (value : V) (rest : List (Item K V)) → IsTail rest → IsDrained (plan.Moment key value ∷ rest)
-    Locking : (key : K) (value : V) (rest : List (Item K V)) → IsTail rest → IsDrained (plan.Lock key ∷ plan.Moment key value ∷ rest)
+    Looking : (aim : Aim K) (key : K) → IsLook aim → IsDrained (plan.Get aim key ∷ [])
+    Owning : (load : Load K) → IsDrained (plan.Own load ∷ [])
+    Putting : (key : K) (value : V) (rest : List (Item K V)) → IsTail rest →
+        IsDrained (plan.Moment (plan.To_store key value) ∷ rest)
+    Locking : (key : K) (value : V) (rest : List (Item K V)) → IsTail rest →
+        IsDrained (plan.Lock key ∷ plan.Moment (plan.To_store key value) ∷ rest)
+    Removing : (removal : Removal) (key : K) →
+        IsDrained (plan.Moment (plan.To_take_out removal key) ∷ [])
+    Locking_out : (removal : Removal) (key : K) →
+        IsDrained (plan.Lock key ∷ plan.Moment (plan.To_take_out removal key) ∷ [])
 
   -- what is left once a write is posted: more may be owed, or it was the call's own
   pub data IsPosted : List (Item K V) → Type 0 where
@@ -52,19 +64,34 @@ module _ {K V : Type 0} where
     Posting : (held : write.Write) (rest : List (Item K V)) → IsPosted rest → IsPlan (plan.Post held ∷ rest)
     -- the notice of an owed write is heard, or the call's own is opened and heard; and the lock is freed
     Hearing : (number : ℕ) (held : write.Write) (rest : List (Item K V)) → IsPosted rest → IsPlan (plan.Ended number ∷ plan.Post held ∷ rest)
-    Noticing : (key : K) (old : Stored V) (held : write.Write) (rest : List (Item K V)) → IsTail rest →
-        IsPlan (plan.Notice key old ∷ plan.Unlock ∷ plan.Post held ∷ rest)
-    Listening : (held : write.Write) (rest : List (Item K V)) → IsTail rest → IsPlan (plan.Heard ∷ plan.Unlock ∷ plan.Post held ∷ rest)
-    Unlocking : (held : write.Write) (rest : List (Item K V)) → IsTail rest → IsPlan (plan.Unlock ∷ plan.Post held ∷ rest)
+    Noticing : (key : K) (old : Stored V) (cause : Option Cause) (upsert : Bool)
+        (held : write.Write)
+        (rest : List (Item K V)) → IsTail rest →
+        IsPlan (plan.Notice key old cause upsert ∷ plan.Unlock true ∷ plan.Post held ∷ rest)
+    Listening : (held : write.Write) (rest : List (Item K V)) → IsTail rest →
+        IsPlan (plan.Heard ∷ plan.Unlock true ∷ plan.Post held ∷ rest)
+    Unlocking : (held : write.Write) (rest : List (Item K V)) → IsTail rest →
+        IsPlan (plan.Unlock true ∷ plan.Post held ∷ rest)
     Turning : (held : write.Write) (rest : List (Item K V)) → IsPosted rest → IsPlan (plan.Turn ∷ plan.Apply ∷ plan.End ∷ plan.Post held ∷ rest)
     Applying : (held : write.Write) (rest : List (Item K V)) → IsPosted rest → IsPlan (plan.Apply ∷ plan.End ∷ plan.Post held ∷ rest)
     Ending : (held : write.Write) (rest : List (Item K V)) → IsPosted rest → IsPlan (plan.End ∷ plan.Post held ∷ rest)
-    Judging : (aim : Aim K) (key : K) (stored : Stored V) → IsPlan (plan.Judge aim key stored ∷ [])
-    Owning : (load : Load K) → IsPlan (plan.Own load ∷ [])
+    Judging : (aim : Aim K) (key : K) (stored : Stored V) → IsLook aim →
+        IsPlan (plan.Judge aim key stored ∷ [])
     Reading : (load : Load K) → IsPlan (plan.Read load ∷ [])
     Asking : (load : Load K) → IsPlan (plan.Ask load ∷ [])
     Telling : (load : Load K) → IsPlan (plan.Told load ∷ [])
     Writing : (key : K) (value : V) (moment : ℕ) (rest : List (Item K V)) → IsTail rest → IsPlan (plan.Write key value moment ∷ rest)
+    -- a chosen record is looked up, under its key's lock where a listener is set, and judged
+    Choosing : (key : K) (stamp : ℕ) (cause : Cause) →
+        IsPlan (plan.Lock key ∷ plan.Get (plan.To_evict key stamp cause) key ∷ [])
+    Finding : (key : K) (stamp : ℕ) (cause : Cause) →
+        IsPlan (plan.Get (plan.To_evict key stamp cause) key ∷ [])
+    Chosen : (key : K) (stamp : ℕ) (cause : Cause) (there : K) (stored : Stored V) →
+        IsPlan (plan.Holds key stamp cause there stored ∷ [])
+    -- a record is taken out; and where nothing was, the lock is freed or the clock is read
+    Taking : (removal : Removal) (key : K) → IsPlan (plan.Out removal key ∷ [])
+    Freeing : (answer : Answer V) → IsPlan (plan.Unlock false ∷ plan.Reply answer ∷ [])
+    Idling : (answer : Answer V) → IsPlan (plan.Idle ∷ plan.Reply answer ∷ [])
 
   -- the call's plan has one of these forms, and it has not given up yet
   pub record IsKnown (c : Call K V) : Type 0 where
@@ -82,15 +109,36 @@ module _ {K V : Type 0} where
   goes_known c (plan.Reply a ∷ x ∷ rest) y p = record { plan = p; young = y }
   goes_known c (item ∷ rest) y p = record { plan = p; young = y }
 
+  keeps_known : (c : Call K V) → c.aborts < retries → KnownIf (keeps c).left
+  keeps_known c y = kept_next (λ v. KnownIf v.left) c (λ off. tt)
+      (λ on. record { plan = Freeing _; young = y })
+
   misses_known : (c : Call K V) (aim : Aim K) → c.aborts < retries → KnownIf (misses c aim).left
   misses_known c plan.To_answer y = tt
-  misses_known c (plan.To_load load) y = record { plan = Owning load; young = y }
+  misses_known c (plan.To_load load) y = record { plan = Drained _ (Owning load); young = y }
   misses_known c (plan.To_own load) y = record { plan = Asking load; young = y }
+  misses_known c (plan.To_evict key stamp cause) y = keeps_known c y
 
-  hits_known : (c : Call K V) (aim : Aim K) (value : V) → c.aborts < retries → KnownIf (hits c aim value).left
-  hits_known c plan.To_answer value y = tt
-  hits_known c (plan.To_load load) value y = tt
-  hits_known c (plan.To_own load) value y = record { plan = Posted _ (Ended _ (Settling _ _)); young = y }
+  finds_known : (c : Call K V) (aim : Aim K) (there : K) (stored : Stored V) → c.aborts < retries →
+      KnownIf (finds_pair c aim there stored).left
+  finds_known c plan.To_answer there stored y =
+      record { plan = Judging _ there stored tt; young = y }
+  finds_known c (plan.To_load load) there stored y =
+      record { plan = Judging _ there stored tt; young = y }
+  finds_known c (plan.To_own load) there stored y =
+      record { plan = Judging _ there stored tt; young = y }
+  finds_known c (plan.To_evict key stamp cause) there stored y =
+      chosen_next (λ v. KnownIf v.left) c key stamp cause there stored (λ off. tt)
+      (λ on. record { plan = Freeing _; young = y })
+      (record { plan = Chosen key stamp cause there stored; young = y })
+
+  hits_known : (c : Call K V) (aim : Aim K) (value : V) → IsLook aim → c.aborts < retries →
+      KnownIf (hits c aim value).left
+  hits_known c plan.To_answer value l y = tt
+  hits_known c (plan.To_load load) value l y = tt
+  hits_known c (plan.To_own load) value l y =
+      record { plan = Posted _ (Ended _ (Settling _ _)); young = y }
+  hits_known c (plan.To_evict key stamp cause) value l y = absurd l
 
   read_known : (c : Call K V) (load : Load K) (with : Settled V) → IsKnown c → KnownIf (after_read c load (found.ReadSettled with)).left
   read_known c load (settled.Ready value) h = tt
@@ -99,23 +147,39 @@ module _ {K V : Type 0} where
     where
       by : (b : Bool) → (c.aborts + 1 == retries) ≡ b → KnownIf (after_abort c load).left
       by true e = rw e tt
-      by false e = rw e (record { plan = Owning load; young = grind (arith, nat_tests, e, h.young) })
+      by false e = rw e (record {
+        plan = Drained _ (Owning load);
+        young = grind
+            (arith, nat_tests, e, h.young);
+      })
 
   told_known : (c : Call K V) (load : Load K) (given : Told V) → IsKnown c → KnownIf (after_told c load (found.TakeTold (Some given))).left
   told_known c load (told.Value value) h =
-      put_plans (λ p. KnownIf (goes c p).left) c.rules load.key value _
+      loaded_plans (λ p. KnownIf (goes c p).left) c.rules load value
+      (record { plan = Posted _ (Ended _ (Settling _ _)); young = h.young })
       (record { plan = Posted _ (Draining _ (Putting _ _ _ (Settling _ _))); young = h.young })
       (record { plan = Posted _ (Draining _ (Locking _ _ _ (Settling _ _))); young = h.young })
   told_known c load told.Done h = record { plan = h.plan; young = h.young }
   told_known c load told.Off h = record { plan = h.plan; young = h.young }
 
+  fresh_form : (rules : Rules) (p : List (Item K V)) → IsFresh rules p → IsPlan p
+  fresh_form rules p (Disabled a d) = Posted _ (Ended _ (Answering a))
+  fresh_form rules p (Gets key d) = Posted _ (Draining _ (Looking _ key tt))
+  fresh_form rules p (Loads load d) = Posted _ (Draining _ (Looking _ load.key tt))
+  fresh_form rules p (Owns load d) = Posted _ (Draining _ (Owning load))
+  fresh_form rules p (Puts key value d off) =
+      Posted _ (Draining _ (Putting key value _ (Answering _)))
+  fresh_form rules p (Locks_and_puts key value d on) =
+      Posted _ (Draining _ (Locking key value _ (Answering _)))
+  fresh_form rules p (Takes_out removal key off) = Posted _ (Draining _ (Removing removal key))
+  fresh_form rules p (Locks_and_takes_out removal key on) =
+      Posted _ (Draining _ (Locking_out removal key))
+  fresh_form rules p (Evicts key stamp cause off) = Finding key stamp cause
+  fresh_form rules p (Locks_and_evicts key stamp cause on) = Choosing key stamp cause
+
   fresh_known : (rules : Rules) (s : Start K V) → IsKnown (fresh_call rules s)
-  fresh_known rules (start.Get key) = record { plan = Posted _ (Draining _ (Looking _ _)); young = omega arith }
-  fresh_known rules (start.Insert key value) =
-      put_plans (λ p. IsKnown (record { rules = rules; mode = mode.Fresh; plan = p; aborts = 0 })) rules key value _
-      (record { plan = Posted _ (Draining _ (Putting _ _ _ (Answering _))); young = omega arith })
-      (record { plan = Posted _ (Draining _ (Locking _ _ _ (Answering _))); young = omega arith })
-  fresh_known rules (start.GetWith key) = record { plan = Posted _ (Draining _ (Looking _ _)); young = omega arith }
+  fresh_known rules s =
+      record { plan = fresh_form rules (plan_of rules s) (fresh_plan rules s); young = omega arith }
 
   module _ (eq : K → K → Bool) (w : World K V) (n : ℕ) (c : Call K V) (h : IsKnown c) where
     abbrev Leaves : World K V → Next K V → Type 0
@@ -126,12 +190,32 @@ module _ {K V : Type 0} where
     on_tail p (Settling with a) = outcomes eq Leaves w n c (plan.Settle with) (plan.Reply a ∷ []) tt
 
     on_drained : (p : List (Item K V)) → IsDrained p → OnStep eq Leaves w n c p
-    on_drained p (Looking aim key) = outcomes eq Leaves w n c (plan.Get aim key) []
-        ((λ more. record { plan = h.plan; young = h.young }), misses_known c aim h.young, λ k stored. record { plan = Judging aim k stored; young = h.young })
-    on_drained p (Putting key value rest t) = outcomes eq Leaves w n c (plan.Moment key value) rest
+    on_drained p (Looking aim key l) = outcomes eq Leaves w n c (plan.Get aim key) [] (
+      (λ more. record { plan = h.plan; young = h.young }),
+      (λ none. misses_known c aim h.young),
+      λ k stored some. finds_known c aim k stored h.young,
+    )
+    on_drained p (Owning load) = outcomes eq Leaves w n c (plan.Own load) [] (
+      (λ able e. record { plan = Drained _ (Looking _ _ tt); young = h.young }),
+      (λ not e. record { plan = Asking load; young = h.young }),
+      λ owner e. record { plan = Reading load; young = h.young },
+    )
+    on_drained p (Putting key value rest t) =
+        outcomes eq Leaves w n c (plan.Moment (plan.To_store key value)) rest
         (record { plan = Writing key value _ rest t; young = h.young })
-    on_drained p (Locking key value rest t) = outcomes eq Leaves w n c (plan.Lock key) (plan.Moment key value ∷ rest)
-        ((λ e. record { plan = Drained _ (Putting key value rest t); young = h.young }), λ e. record { plan = h.plan; young = h.young })
+    on_drained p (Locking key value rest t) =
+        outcomes eq Leaves w n c (plan.Lock key) (plan.Moment (plan.To_store key value) ∷ rest) (
+          (λ e. record { plan = Drained _ (Putting key value rest t); young = h.young }),
+          λ e. record { plan = h.plan; young = h.young },
+        )
+    on_drained p (Removing removal key) =
+        outcomes eq Leaves w n c (plan.Moment (plan.To_take_out removal key)) []
+        (record { plan = Taking removal key; young = h.young })
+    on_drained p (Locking_out removal key) =
+        outcomes eq Leaves w n c (plan.Lock key) (plan.Moment (plan.To_take_out removal key) ∷ []) (
+          (λ e. record { plan = Drained _ (Removing removal key); young = h.young }),
+          λ e. record { plan = h.plan; young = h.young },
+        )
 
     on_posted : (p : List (Item K V)) → IsPosted p → OnStep eq Leaves w n c p
     on_posted p (Draining rest d) = outcomes eq Leaves w n c plan.Drain rest (
@@ -148,19 +232,23 @@ module _ {K V : Type 0} where
         ((λ e. goes_known c rest h.young (Posted rest d)), λ e. record { plan = Turning x rest d; young = h.young })
     on_plan p (Hearing number x rest d) = outcomes eq Leaves w n c (plan.Ended number) (plan.Post x ∷ rest)
         ((λ e. record { plan = Posting x rest d; young = h.young }), λ e. record { plan = h.plan; young = h.young })
-    on_plan p (Noticing key old x rest t) = outcomes eq Leaves w n c (plan.Notice key old) (plan.Unlock ∷ plan.Post x ∷ rest)
+    on_plan p (Noticing key old cause upsert x rest t) =
+        outcomes eq Leaves w n c (plan.Notice key old cause upsert)
+        (plan.Unlock true ∷ plan.Post x ∷ rest)
         ((λ e. record { plan = Unlocking x rest t; young = h.young }), λ e. record { plan = Listening x rest t; young = h.young })
-    on_plan p (Listening x rest t) = outcomes eq Leaves w n c plan.Heard (plan.Unlock ∷ plan.Post x ∷ rest)
+    on_plan p (Listening x rest t) =
+        outcomes eq Leaves w n c plan.Heard (plan.Unlock true ∷ plan.Post x ∷ rest)
         ((λ e. record { plan = Unlocking x rest t; young = h.young }), λ e. record { plan = h.plan; young = h.young })
-    on_plan p (Unlocking x rest t) = outcomes eq Leaves w n c plan.Unlock (plan.Post x ∷ rest) (record { plan = Posting x rest (Ended rest t); young = h.young })
+    on_plan p (Unlocking x rest t) = outcomes eq Leaves w n c (plan.Unlock true)
+        (plan.Post x ∷ rest) (record { plan = Posting x rest (Ended rest t); young = h.young })
     on_plan p (Turning x rest d) = outcomes eq Leaves w n c plan.Turn (plan.Apply ∷ plan.End ∷ plan.Post x ∷ rest)
         ((λ e. record { plan = Applying x rest d; young = h.young }), λ e. record { plan = h.plan; young = h.young })
     on_plan p (Applying x rest d) = outcomes eq Leaves w n c plan.Apply (plan.End ∷ plan.Post x ∷ rest)
         ((λ e. record { plan = Ending x rest d; young = h.young }), λ y ys e. record { plan = Applying x rest d; young = h.young })
     on_plan p (Ending x rest d) = outcomes eq Leaves w n c plan.End (plan.Post x ∷ rest) (record { plan = Posting x rest d; young = h.young })
-    on_plan p (Judging aim key stored) = outcomes eq Leaves w n c (plan.Judge aim key stored) [] (hits_known c aim stored.value h.young)
-    on_plan p (Owning load) = outcomes eq Leaves w n c (plan.Own load) []
-        ((λ e. record { plan = Drained _ (Looking _ _); young = h.young }), λ owner e. record { plan = Reading load; young = h.young })
+    on_plan p (Judging aim key stored l) =
+        outcomes eq Leaves w n c (plan.Judge aim key stored) []
+        (hits_known c aim stored.value l h.young)
     on_plan p (Reading load) = outcomes eq Leaves w n c (plan.Read load) []
         ((λ e. record { plan = h.plan; young = h.young }), λ with e. read_known c load with h)
     on_plan p (Asking load) = outcomes eq Leaves w n c (plan.Ask load) [] (record { plan = Telling load; young = h.young })
@@ -170,8 +258,33 @@ module _ {K V : Type 0} where
       (λ more. record { plan = h.plan; young = h.young }),
       (λ off old. record { plan = Posting _ rest (Ended rest t); young = h.young }),
       (λ on. record { plan = Unlocking _ rest t; young = h.young }),
-      λ k old on some. record { plan = Noticing key old _ rest t; young = h.young },
+      λ k old on some. record { plan = Noticing key old _ _ _ rest t; young = h.young },
     )
+    on_plan p (Choosing key stamp cause) =
+        outcomes eq Leaves w n c (plan.Lock key) (plan.Get (plan.To_evict key stamp cause) key ∷ []) (
+          (λ e. record { plan = Finding key stamp cause; young = h.young }),
+          λ e. record { plan = h.plan; young = h.young },
+        )
+    on_plan p (Finding key stamp cause) =
+        outcomes eq Leaves w n c (plan.Get (plan.To_evict key stamp cause) key) [] (
+          (λ more. record { plan = h.plan; young = h.young }),
+          (λ none. keeps_known c h.young),
+          λ k stored some. finds_known c (plan.To_evict key stamp cause) k stored h.young,
+        )
+    on_plan p (Chosen key stamp cause there stored) =
+        outcomes eq Leaves w n c (plan.Holds key stamp cause there stored) [] (
+          (λ e. record { plan = Drained _ (Removing _ key); young = h.young }),
+          λ e. keeps_known c h.young,
+        )
+    on_plan p (Taking removal key) = outcomes eq Leaves w n c (plan.Out removal key) [] (
+      (λ more. record { plan = h.plan; young = h.young }),
+      (λ off none. record { plan = Idling _; young = h.young }),
+      (λ on none. record { plan = Freeing _; young = h.young }),
+      (λ k old off some. record { plan = Posting _ _ (Ended _ (Answering _)); young = h.young }),
+      λ k old on some. record { plan = Noticing key old _ _ _ _ (Answering _); young = h.young },
+    )
+    on_plan p (Freeing a) = outcomes eq Leaves w n c (plan.Unlock false) (plan.Reply a ∷ []) tt
+    on_plan p (Idling a) = outcomes eq Leaves w n c plan.Idle (plan.Reply a ∷ []) tt
 
 module _ {K V : Type 0} (eq : K → K → Bool) where
   -- each live call is known

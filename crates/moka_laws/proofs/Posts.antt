@@ -7,22 +7,21 @@ use Rattle.moka_hist.specs.Plan.{Item, Aim, held_by, plan_of}
 use Rattle.moka_hist.specs.Plan as plan
 use Rattle.moka_hist.specs.Visits.{number_of}
 use Rattle.moka_hist.specs.Next.{Next, goes}
-use Rattle.moka_hist.specs.Looking.{hits, misses}
+use Rattle.moka_hist.specs.Looking.{hits, misses, keeps, finds_pair}
 use Rattle.moka_hist.specs.Loading.{after_read, after_told, retries}
 use Rattle.moka_hist.specs.Run.{fresh_call}
 use Rattle.moka_hist.specs.declared.writes.Write.{Write}
-use Rattle.moka_hist.specs.declared.records.Mode.TheVariants as mode
+use Rattle.moka_hist.specs.declared.records.Stored.{Stored}
 use Rattle.moka_hist.specs.declared.rules.Rules.{Rules}
 use Rattle.moka_hist.specs.declared.writes.Owed.{Owed}
 use Rattle.moka_hist.specs.declared.loads.Load.{Load}
 use Rattle.moka_hist.specs.declared.events.Start.{Start}
-use Rattle.moka_hist.specs.declared.events.Start.TheVariants as start
 use Rattle.moka_hist.specs.declared.events.Told.{Told}
 use Rattle.moka_hist.specs.declared.events.Told.TheVariants as answer
 use Rattle.moka_hist.specs.declared.visits.Settled.{Settled}
 use Rattle.moka_hist.specs.declared.visits.Settled.TheVariants as settled
 use Rattle.moka_hist.specs.declared.visits.Found.TheVariants as found
-use Rattle.moka_laws.proofs.Rules.{put_plans}
+use Rattle.moka_laws.proofs.Rules.{loaded_plans, kept_next, chosen_next, IsFresh, Disabled, fresh_plan}
 use Rattle.moka_laws.proofs.Weights.{weigh, weigh_call}
 
 -- 1 where two numbers are one, and else 0
@@ -56,9 +55,10 @@ module _ {K V : Type 0} where
   may_write plan.End = 0
   may_write (plan.Ended notice) = 0
   may_write (plan.Lock key) = 0
-  may_write plan.Unlock = 0
-  may_write (plan.Notice key old) = 0
+  may_write (plan.Unlock wrote) = 0
+  may_write (plan.Notice key old cause upsert) = 0
   may_write plan.Heard = 0
+  may_write plan.Idle = 0
   may_write (plan.Settle with) = 0
   may_write (plan.Reply answer) = 0
   may_write _ = 1
@@ -71,9 +71,9 @@ module _ {K V : Type 0} where
   late (plan.Apply ∷ rest) = late rest
   late (plan.End ∷ rest) = late rest
   late (plan.Ended number ∷ rest) = late rest
-  late (plan.Notice key old ∷ rest) = late rest
+  late (plan.Notice key old cause upsert ∷ rest) = late rest
   late (plan.Heard ∷ rest) = late rest
-  late (plan.Unlock ∷ rest) = late rest
+  late (plan.Unlock wrote ∷ rest) = late rest
   late (_ ∷ rest) = weigh any_post rest
 
   abbrev pub late_call : Option (Call K V) → ℕ
@@ -93,9 +93,9 @@ module _ {K V : Type 0} where
   late_none (plan.Apply ∷ rest) h = late_none rest (omega arith)
   late_none (plan.End ∷ rest) h = late_none rest (omega arith)
   late_none (plan.Ended number ∷ rest) h = late_none rest (omega arith)
-  late_none (plan.Notice key old ∷ rest) h = late_none rest (omega arith)
+  late_none (plan.Notice key old cause upsert ∷ rest) h = late_none rest (omega arith)
   late_none (plan.Heard ∷ rest) h = late_none rest (omega arith)
-  late_none (plan.Unlock ∷ rest) h = late_none rest (omega arith)
+  late_none (plan.Unlock wrote ∷ rest) h = late_none rest (omega arith)
   late_none (_ ∷ rest) h = omega arith
 
   -- where no write is posted the write of no number is
@@ -111,9 +111,9 @@ module _ {K V : Type 0} where
   posts_held x (plan.Apply ∷ rest) h = let e = posts_held x rest h in omega arith
   posts_held x (plan.End ∷ rest) h = let e = posts_held x rest h in omega arith
   posts_held x (plan.Ended number ∷ rest) h = let e = posts_held x rest h in omega arith
-  posts_held x (plan.Notice key old ∷ rest) h = let e = posts_held x rest h in omega arith
+  posts_held x (plan.Notice key old cause upsert ∷ rest) h = let e = posts_held x rest h in omega arith
   posts_held x (plan.Heard ∷ rest) h = let e = posts_held x rest h in omega arith
-  posts_held x (plan.Unlock ∷ rest) h = let e = posts_held x rest h in omega arith
+  posts_held x (plan.Unlock wrote ∷ rest) h = let e = posts_held x rest h in omega arith
   posts_held x (plan.Post write ∷ rest) h = let e = posts_none x rest h in omega arith
   posts_held x (_ ∷ rest) h = let e = posts_held x rest (late_none rest h) in omega arith
 
@@ -125,22 +125,52 @@ module _ {K V : Type 0} where
     pub posts : (x : ℕ) → weigh_call (post_of x) left ≡ 0
     pub may : weigh_call may_write left ≤ 1
 
+  -- the plan posts no write, none late, and may make at most one
+  record IsClearPlan (p : List (Item K V)) : Type 0 where
+    late : late p ≡ 0
+    posts : (x : ℕ) → weigh (post_of x) p ≡ 0
+    may : weigh may_write p ≤ 1
+
+  fresh_form : (rules : Rules) (p : List (Item K V)) → IsFresh rules p → IsClearPlan p
+  fresh_form rules p (Disabled a d) = record { late = refl; posts = λ x. refl; may = omega arith }
+  fresh_form rules p _ = record { late = refl; posts = λ x. refl; may = omega arith }
+
   pub fresh_clear : (rules : Rules) (start : Start K V) → IsClear (Some (fresh_call rules start))
-  fresh_clear rules (start.Get key) = record { late = refl; posts = λ x. refl; may = omega arith }
-  fresh_clear rules (start.Insert key value) =
-      put_plans (λ p. IsClear (Some (record { rules = rules; mode = mode.Fresh; plan = p; aborts = 0 }))) rules key value _
-      (record { late = refl; posts = λ x. refl; may = omega arith }) (record { late = refl; posts = λ x. refl; may = omega arith })
-  fresh_clear rules (start.GetWith key) = record { late = refl; posts = λ x. refl; may = omega arith }
+  fresh_clear rules start =
+      let f = fresh_form rules (plan_of rules start) (fresh_plan rules start) in
+      record { late = f.late; posts = f.posts; may = f.may }
+
+  pub keeps_clear : (c : Call K V) → IsClear (keeps c).left
+  keeps_clear c = kept_next (λ v. IsClear v.left) c
+      (λ off. record { late = refl; posts = λ x. refl; may = omega arith })
+      (λ on. record { late = refl; posts = λ x. refl; may = omega arith })
 
   pub misses_clear : (c : Call K V) (aim : Aim K) → IsClear (misses c aim).left
   misses_clear c plan.To_answer = record { late = refl; posts = λ x. refl; may = omega arith }
   misses_clear c (plan.To_load load) = record { late = refl; posts = λ x. refl; may = omega arith }
   misses_clear c (plan.To_own load) = record { late = refl; posts = λ x. refl; may = omega arith }
+  misses_clear c (plan.To_evict key stamp cause) = keeps_clear c
 
-  pub hits_clear : (c : Call K V) (aim : Aim K) (value : V) → IsClear (hits c aim value).left
-  hits_clear c plan.To_answer value = record { late = refl; posts = λ x. refl; may = omega arith }
-  hits_clear c (plan.To_load load) value = record { late = refl; posts = λ x. refl; may = omega arith }
-  hits_clear c (plan.To_own load) value = record { late = refl; posts = λ x. refl; may = omega arith }
+  pub finds_clear : (c : Call K V) (aim : Aim K) (there : K) (stored : Stored V) →
+      IsClear (finds_pair c aim there stored).left
+  finds_clear c plan.To_answer there stored = record { late = refl; posts = λ x. refl; may = omega arith }
+  finds_clear c (plan.To_load load) there stored =
+      record { late = refl; posts = λ x. refl; may = omega arith }
+  finds_clear c (plan.To_own load) there stored =
+      record { late = refl; posts = λ x. refl; may = omega arith }
+  finds_clear c (plan.To_evict key stamp cause) there stored =
+      chosen_next (λ v. IsClear v.left) c key stamp cause there stored
+      (λ off. record { late = refl; posts = λ x. refl; may = omega arith })
+      (λ on. record { late = refl; posts = λ x. refl; may = omega arith })
+      (record { late = refl; posts = λ x. refl; may = omega arith })
+
+  pub hits_clear : (c : Call K V) (aim : Aim K) (value : V) → IsClear (Some c) →
+      IsClear (hits c aim value).left
+  hits_clear c plan.To_answer value h = record { late = refl; posts = λ x. refl; may = omega arith }
+  hits_clear c (plan.To_load load) value h = record { late = refl; posts = λ x. refl; may = omega arith }
+  hits_clear c (plan.To_own load) value h = record { late = refl; posts = λ x. refl; may = omega arith }
+  hits_clear c (plan.To_evict key stamp cause) value h =
+      record { late = h.late; posts = h.posts; may = h.may }
 
   either_clear : (b : Bool) (x y : Next K V) → IsClear x.left → IsClear y.left → IsClear (cond b x y).left
   either_clear true x y h k = h
@@ -157,7 +187,9 @@ module _ {K V : Type 0} where
   pub told_clear : (c : Call K V) (load : Load K) (given : Told V) → IsClear (Some c) →
       IsClear (after_told c load (found.TakeTold (Some given))).left
   told_clear c load (answer.Value value) h =
-      put_plans (λ p. IsClear (goes c p).left) c.rules load.key value _
-      (record { late = refl; posts = λ x. refl; may = omega arith }) (record { late = refl; posts = λ x. refl; may = omega arith })
+      loaded_plans (λ p. IsClear (goes c p).left) c.rules load value
+      (record { late = refl; posts = λ x. refl; may = omega arith })
+      (record { late = refl; posts = λ x. refl; may = omega arith })
+      (record { late = refl; posts = λ x. refl; may = omega arith })
   told_clear c load answer.Done h = record { late = h.late; posts = h.posts; may = h.may }
   told_clear c load answer.Off h = record { late = h.late; posts = h.posts; may = h.may }

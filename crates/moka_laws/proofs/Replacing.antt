@@ -7,19 +7,17 @@ use Rattle.moka_hist.specs.State.{State, Stay, World, Call, DeskPart}
 use Rattle.moka_hist.specs.Plan.{Item, Aim, held_by, hearing, plan_of}
 use Rattle.moka_hist.specs.Plan as plan
 use Rattle.moka_hist.specs.Next.{Next, goes}
-use Rattle.moka_hist.specs.Looking.{hits, misses}
+use Rattle.moka_hist.specs.Looking.{hits, misses, keeps, finds_pair}
 use Rattle.moka_hist.specs.Loading.{after_read, after_told, retries}
 use Rattle.moka_hist.specs.Notices.{OpensNotice}
 use Rattle.moka_hist.specs.Dropping.{dropped, owed_by, owed_with}
 use Rattle.moka_hist.specs.Step.{Step, state_after}
 use Rattle.moka_hist.specs.Run.{IsReached, started, fresh_call}
-use Rattle.moka_hist.specs.Visits.{number_of, old_of, times_at}
+use Rattle.moka_hist.specs.Visits.{cause_of, number_of, old_of}
 use Rattle.moka_hist.specs.declared.events.Start.{Start}
-use Rattle.moka_hist.specs.declared.events.Start.TheVariants as start
 use Rattle.moka_hist.specs.declared.events.Told.{Told}
 use Rattle.moka_hist.specs.declared.events.Told.TheVariants as answer
 use Rattle.moka_hist.specs.declared.loads.Load.{Load}
-use Rattle.moka_hist.specs.Causes.{upsert_cause}
 use Rattle.moka_hist.specs.Telling.{ended, with_end}
 use Rattle.moka_hist.specs.declared.notices.Notice.{Notice}
 use Rattle.moka_hist.specs.declared.notices.NoticeState.{NoticeState}
@@ -43,8 +41,8 @@ use Rattle.moka_laws.proofs.Balance.{IsBalanced, times_first}
 use Rattle.moka_laws.proofs.Balanced.{balanced_kept, next_free}
 use Rattle.moka_laws.proofs.Locking.{IsLocking, locking_kept, of_key}
 use Rattle.moka_laws.proofs.Owning.{plan_left}
-use Rattle.moka_laws.proofs.Plans.{IsTail, Answering, Settling, IsDrained, Looking, Putting, IsPosted, Draining, Ended, Locking, IsPlan, Posted, Drained, Posting, Hearing, Noticing, Listening, Unlocking, Turning, Applying, Ending, Judging, Owning, Reading, Asking, Telling, Writing, IsKnown, known_kept}
-use Rattle.moka_laws.proofs.Rules.{put_plans}
+use Rattle.moka_laws.proofs.Plans.{IsTail, Answering, Settling, IsDrained, Looking, Putting, IsPosted, Draining, Ended, Locking, IsPlan, Posted, Drained, Posting, Hearing, Noticing, Listening, Unlocking, Turning, Applying, Ending, Judging, Owning, Reading, Asking, Telling, Writing, IsKnown, known_kept, IsLook, Removing, Locking_out, Choosing, Finding, Chosen, Taking, Freeing, Idling}
+use Rattle.moka_laws.proofs.Rules.{loaded_plans, kept_next, chosen_next, IsFresh, Disabled, fresh_plan}
 use Rattle.moka_laws.proofs.Kept.{IsKept, in_reached}
 use Rattle.moka_laws.proofs.StepCases.{OnStep, step_cases}
 use Rattle.moka_laws.proofs.Outcomes.{outcomes}
@@ -98,7 +96,7 @@ module _ {K V : Type 0} where
   swap_of x _ = 0
 
   abbrev pub notice_of : Item K V → ℕ
-  notice_of (plan.Notice key old) = 1
+  notice_of (plan.Notice key old cause upsert) = 1
   notice_of _ = 0
 
   swap_posts : (x : ℕ) (p : List (Item K V)) → weigh (swap_of x) p ≤ weigh (post_of x) p
@@ -113,23 +111,25 @@ module _ {K V : Type 0} where
   swap_held x (plan.Apply ∷ rest) h = let e = swap_held x rest h in omega arith
   swap_held x (plan.End ∷ rest) h = let e = swap_held x rest h in omega arith
   swap_held x (plan.Ended number ∷ rest) h = let e = swap_held x rest h in omega arith
-  swap_held x (plan.Notice key old ∷ rest) h = let e = swap_held x rest h in omega arith
+  swap_held x (plan.Notice key old cause upsert ∷ rest) h = let e =
+      swap_held x rest h in omega arith
   swap_held x (plan.Heard ∷ rest) h = let e = swap_held x rest h in omega arith
-  swap_held x (plan.Unlock ∷ rest) h = let e = swap_held x rest h in omega arith
+  swap_held x (plan.Unlock wrote ∷ rest) h = let e = swap_held x rest h in omega arith
   swap_held x (plan.Post write ∷ rest) h = let e = posts_none x rest h in omega (arith, swap_posts x rest)
   swap_held x (_ ∷ rest) h = let e = swap_held x rest (late_none rest h) in omega arith
 
   -- an opening stands under a lock
   notice_key : (p : List (Item K V)) → weigh notice_of p ≤ weigh of_key p
   notice_key [] = omega arith
-  notice_key (plan.Notice key old ∷ rest) = let e = notice_key rest in omega arith
+  notice_key (plan.Notice key old cause upsert ∷ rest) = let e = notice_key rest in omega arith
   notice_key (_ ∷ rest) = let e = notice_key rest in omega arith
 
   pub call_swaps_few : (x : ℕ) (o : Option (Call K V)) → weigh_call (swap_of x) o ≤ weigh_call (post_of x) o
   call_swaps_few x None = omega arith
   call_swaps_few x (Some c) = swap_posts x c.plan
 
-  -- how often the write of the number, if it replaced a record, stands with the desk, and with live calls
+  -- how often the write of the number, if it replaced a record, stands with the desk, and with live
+  -- calls
   abbrev pub swaps_on : ℕ → DeskPart K V → ℕ
   swaps_on x d = swaps_owed x d.owed + swaps x d.log + swaps x d.applied
 
@@ -143,15 +143,33 @@ module _ {K V : Type 0} where
     swaps : (x : ℕ) → weigh_call (swap_of x) left ≡ 0
     notice : weigh_call notice_of left ≡ 0
 
+  keeps_clear : (c : Call K V) → Clear (keeps c).left
+  keeps_clear c = kept_next (λ v. Clear v.left) c
+      (λ off. record { swaps = λ x. refl; notice = refl })
+      (λ on. record { swaps = λ x. refl; notice = refl })
+
   misses_clear : (c : Call K V) (aim : Aim K) → Clear (misses c aim).left
   misses_clear c plan.To_answer = record { swaps = λ x. refl; notice = refl }
   misses_clear c (plan.To_load load) = record { swaps = λ x. refl; notice = refl }
   misses_clear c (plan.To_own load) = record { swaps = λ x. refl; notice = refl }
+  misses_clear c (plan.To_evict key stamp cause) = keeps_clear c
 
-  hits_clear : (c : Call K V) (aim : Aim K) (value : V) → Clear (hits c aim value).left
-  hits_clear c plan.To_answer value = record { swaps = λ x. refl; notice = refl }
-  hits_clear c (plan.To_load load) value = record { swaps = λ x. refl; notice = refl }
-  hits_clear c (plan.To_own load) value = record { swaps = λ x. refl; notice = refl }
+  finds_clear : (c : Call K V) (aim : Aim K) (there : K) (stored : Stored V) →
+      Clear (finds_pair c aim there stored).left
+  finds_clear c plan.To_answer there stored = record { swaps = λ x. refl; notice = refl }
+  finds_clear c (plan.To_load load) there stored = record { swaps = λ x. refl; notice = refl }
+  finds_clear c (plan.To_own load) there stored = record { swaps = λ x. refl; notice = refl }
+  finds_clear c (plan.To_evict key stamp cause) there stored =
+      chosen_next (λ v. Clear v.left) c key stamp cause there stored
+      (λ off. record { swaps = λ x. refl; notice = refl })
+      (λ on. record { swaps = λ x. refl; notice = refl })
+      (record { swaps = λ x. refl; notice = refl })
+
+  hits_clear : (c : Call K V) (aim : Aim K) (value : V) → IsLook aim → Clear (hits c aim value).left
+  hits_clear c plan.To_answer value l = record { swaps = λ x. refl; notice = refl }
+  hits_clear c (plan.To_load load) value l = record { swaps = λ x. refl; notice = refl }
+  hits_clear c (plan.To_own load) value l = record { swaps = λ x. refl; notice = refl }
+  hits_clear c (plan.To_evict key stamp cause) value l = absurd l
 
   either_clear : (b : Bool) (x y : Next K V) → Clear x.left → Clear y.left → Clear (cond b x y).left
   either_clear true x y h k = h
@@ -165,16 +183,25 @@ module _ {K V : Type 0} where
 
   told_clear : (c : Call K V) (load : Load K) (given : Told V) → Clear (Some c) → Clear (after_told c load (found.TakeTold (Some given))).left
   told_clear c load (answer.Value value) h =
-      put_plans (λ p. Clear (goes c p).left) c.rules load.key value _ (record { swaps = λ x. refl; notice = refl }) (record { swaps = λ x. refl; notice = refl })
+      loaded_plans (λ p. Clear (goes c p).left) c.rules load value
+      (record { swaps = λ x. refl; notice = refl })
+      (record { swaps = λ x. refl; notice = refl }) (record { swaps = λ x. refl; notice = refl })
   told_clear c load answer.Done h = record { swaps = h.swaps; notice = h.notice }
   told_clear c load answer.Off h = record { swaps = h.swaps; notice = h.notice }
 
+  -- the plan posts nothing, and opens nothing
+  record ClearPlan (p : List (Item K V)) : Type 0 where
+    swaps : (x : ℕ) → weigh (swap_of x) p ≡ 0
+    notice : weigh notice_of p ≡ 0
+
+  fresh_form : (rules : Rules) (p : List (Item K V)) → IsFresh rules p → ClearPlan p
+  fresh_form rules p (Disabled a d) = record { swaps = λ x. refl; notice = refl }
+  fresh_form rules p _ = record { swaps = λ x. refl; notice = refl }
+
   fresh_clear : (rules : Rules) (start : Start K V) → Clear (Some (fresh_call rules start))
-  fresh_clear rules (start.Get key) = record { swaps = λ x. refl; notice = refl }
-  fresh_clear rules (start.Insert key value) =
-      put_plans (λ p. Clear (Some (record { rules = rules; mode = mode.Fresh; plan = p; aborts = 0 }))) rules key value _
-      (record { swaps = λ x. refl; notice = refl }) (record { swaps = λ x. refl; notice = refl })
-  fresh_clear rules (start.GetWith key) = record { swaps = λ x. refl; notice = refl }
+  fresh_clear rules start =
+      let f = fresh_form rules (plan_of rules start) (fresh_plan rules start) in
+      record { swaps = f.swaps; notice = f.notice }
 
   -- ---- a step
 
@@ -189,9 +216,9 @@ module _ {K V : Type 0} where
   goes_mid c [] = refl
   goes_mid c (_ ∷ rest) = refl
 
-  -- What a step has to show: what this call and the desk have of replacing writes changes by what this
-  -- call's notice does, and the other notices are as they were; a call that is to open its notice is
-  -- between two steps.
+  -- What a step has to show: what this call and the desk have of replacing writes changes by what
+  -- this call's notice does, and the other notices are as they were; a call that is to open its
+  -- notice is between two steps.
   record Leaves (w : World K V) (n : ℕ) (p : List (Item K V)) (new : World K V) (next : Next K V) : Type 0 where
     last : new.desk.last ≡ w.desk.last
     rules : new.desk.rules ≡ w.desk.rules
@@ -250,7 +277,10 @@ module _ {K V : Type 0} where
   tail_clear p (Settling with a) = (refl, λ x. refl)
 
   drained_clear : (p : List (Item K V)) → IsDrained p → weigh notice_of p ≡ 0
-  drained_clear p (Looking aim key) = refl
+  drained_clear p (Looking aim key l) = refl
+  drained_clear p (Owning load) = refl
+  drained_clear p (Removing removal key) = refl
+  drained_clear p (Locking_out removal key) = refl
   drained_clear p (Putting key value rest t) = omega (arith, (tail_clear rest t).0)
   drained_clear p (Locking key value rest t) = omega (arith, (tail_clear rest t).0)
 
@@ -260,7 +290,7 @@ module _ {K V : Type 0} where
 
   -- a plan that opens a notice at all opens it next
   pub plan_opens : (p : List (Item K V)) → IsPlan p → 0 < weigh notice_of p → OpensNotice p
-  plan_opens p (Noticing key old x rest t) h = tt
+  plan_opens p (Noticing key old cause upsert x rest t) h = tt
   plan_opens p (Posted rest d) h = absurd (omega (arith, posted_clear rest d))
   plan_opens p (Drained rest d) h = absurd (omega (arith, drained_clear rest d))
   plan_opens p (Posting x rest d) h = absurd (omega (arith, posted_clear rest d))
@@ -271,14 +301,19 @@ module _ {K V : Type 0} where
   plan_opens p (Applying x rest d) h = absurd (omega (arith, posted_clear rest d))
   plan_opens p (Ending x rest d) h = absurd (omega (arith, posted_clear rest d))
   plan_opens p (Writing key value moment rest t) h = absurd (omega (arith, (tail_clear rest t).0))
-  plan_opens p (Judging aim key stored) h = absurd (omega arith)
-  plan_opens p (Owning load) h = absurd (omega arith)
+  plan_opens p (Judging aim key stored l) h = absurd (omega arith)
   plan_opens p (Reading load) h = absurd (omega arith)
   plan_opens p (Asking load) h = absurd (omega arith)
   plan_opens p (Telling load) h = absurd (omega arith)
+  plan_opens p (Choosing key stamp cause) h = absurd (omega arith)
+  plan_opens p (Finding key stamp cause) h = absurd (omega arith)
+  plan_opens p (Chosen key stamp cause there stored) h = absurd (omega arith)
+  plan_opens p (Taking removal key) h = absurd (omega arith)
+  plan_opens p (Freeing a) h = absurd (omega arith)
+  plan_opens p (Idling a) h = absurd (omega arith)
 
   pub opens_notice : (p : List (Item K V)) → OpensNotice p → 0 < weigh notice_of p
-  opens_notice (plan.Notice key old ∷ rest) h = omega arith
+  opens_notice (plan.Notice key old cause upsert ∷ rest) h = omega arith
   opens_notice [] h = absurd h
   opens_notice (_ ∷ rest) h = absurd h
 
@@ -294,17 +329,37 @@ module _ {K V : Type 0} where
         (clears eq w n c p refl refl refl (record { swaps = λ x. refl; notice = refl }) refl (λ x. refl) (λ x. refl))
 
     on_drained : (p : List (Item K V)) → c.plan ≡ p → IsDrained p → OnStep eq (Made p) w n c p
-    on_drained p e (Looking aim key) = outcomes eq (Made p) w n c (plan.Get aim key) [] (
+    on_drained p e (Looking aim key l) = outcomes eq (Made p) w n c (plan.Get aim key) [] (
       (λ more. stays_put eq w n c p mode.Mid turn.Going _ e refl),
-      clears eq w n c p refl refl refl (misses_clear c aim) refl (λ x. refl) (λ x. refl),
-      λ k stored. clears eq w n c p refl refl refl (record { swaps = λ x. refl; notice = refl }) refl (λ x. refl) (λ x. refl),
+      (λ none. clears eq w n c p refl refl refl (misses_clear c aim) refl (λ x. refl) (λ x. refl)),
+      λ k stored some. clears eq w n c p refl refl refl (finds_clear c aim k stored) refl
+          (λ x. refl) (λ x. refl),
     )
-    on_drained p e (Putting key value rest t) = outcomes eq (Made p) w n c (plan.Moment key value) rest
+    on_drained p e (Owning load) = outcomes eq (Made p) w n c (plan.Own load) [] (
+      (λ able none. clears eq w n c p refl refl refl
+          (record { swaps = λ x. refl; notice = refl }) refl (λ x. refl) (λ x. refl)),
+      (λ disabled none. clears eq w n c p refl refl refl
+          (record { swaps = λ x. refl; notice = refl }) refl (λ x. refl) (λ x. refl)),
+      λ owner some. clears eq w n c p refl refl refl
+          (record { swaps = λ x. refl; notice = refl }) refl (λ x. refl) (λ x. refl),
+    )
+    on_drained p e (Putting key value rest t) = outcomes eq (Made p) w n c
+        (plan.Moment (plan.To_store key value)) rest
         (same eq w n c p refl refl refl (λ some. refl) (omega arith) (λ x. omega arith))
-    on_drained p e (Locking key value rest t) = outcomes eq (Made p) w n c (plan.Lock key) (plan.Moment key value ∷ rest) (
-      (λ free. same eq w n c p refl refl refl (λ some. refl) (omega arith) (λ x. omega arith)),
-      λ held. stays_put eq w n c p mode.Parked turn.Wait w.stay e (omega (arith, (tail_clear rest t).0)),
-    )
+    on_drained p e (Locking key value rest t) =
+        outcomes eq (Made p) w n c (plan.Lock key) (plan.Moment (plan.To_store key value) ∷ rest) (
+          (λ free. same eq w n c p refl refl refl (λ some. refl) (omega arith) (λ x. omega arith)),
+          λ held. stays_put eq w n c p mode.Parked turn.Wait w.stay e
+              (omega (arith, (tail_clear rest t).0)),
+        )
+    on_drained p e (Removing removal key) = outcomes eq (Made p) w n c
+        (plan.Moment (plan.To_take_out removal key)) []
+        (same eq w n c p refl refl refl (λ some. refl) (omega arith) (λ x. omega arith))
+    on_drained p e (Locking_out removal key) =
+        outcomes eq (Made p) w n c (plan.Lock key) (plan.Moment (plan.To_take_out removal key) ∷ []) (
+          (λ free. same eq w n c p refl refl refl (λ some. refl) (omega arith) (λ x. omega arith)),
+          λ held. stays_put eq w n c p mode.Parked turn.Wait w.stay e refl,
+        )
 
     on_posted : (p : List (Item K V)) → c.plan ≡ p → IsPosted p → OnStep eq (Made p) w n c p
     on_posted p e (Draining rest d) = outcomes eq (Made p) w n c plan.Drain rest (
@@ -325,32 +380,35 @@ module _ {K V : Type 0} where
       (λ ended. same eq w n c p refl refl refl (λ some. refl) (omega arith) (λ x. omega arith)),
       λ runs. stays_put eq w n c p mode.Parked turn.Wait w.stay e (omega (arith, posted_clear rest d)),
     )
-    on_plan p e (Listening v rest t) = outcomes eq (Made p) w n c plan.Heard (plan.Unlock ∷ plan.Post v ∷ rest) (
-      (λ ended. same eq w n c p refl refl refl (λ some. refl) (omega arith) (λ x. omega arith)),
-      λ runs. stays_put eq w n c p mode.Parked turn.Wait w.stay e (omega (arith, (tail_clear rest t).0)),
-    )
-    on_plan p e (Unlocking v rest t) = outcomes eq (Made p) w n c plan.Unlock (plan.Post v ∷ rest)
+    on_plan p e (Listening v rest t) = outcomes eq (Made p) w n c plan.Heard
+        (plan.Unlock true ∷ plan.Post v ∷ rest) (
+          (λ ended. same eq w n c p refl refl refl (λ some. refl) (omega arith) (λ x. omega arith)),
+          λ runs. stays_put eq w n c p mode.Parked turn.Wait w.stay e (omega (arith, (tail_clear rest t).0)),
+        )
+    on_plan p e (Unlocking v rest t) = outcomes eq (Made p) w n c (plan.Unlock true)
+        (plan.Post v ∷ rest)
         (same eq w n c p refl refl refl (λ some. refl) (omega arith) (λ x. omega arith))
-    on_plan p e (Noticing key old v rest t) = outcomes eq (Made p) w n c (plan.Notice key old) (plan.Unlock ∷ plan.Post v ∷ rest) (
-      (λ off. record {
-        last = refl;
-        rules = refl;
-        mid = λ some. refl;
-        notices = λ m d. put_there w.desk.notices n _ m d;
-        quiet = λ off. absurd (false≢true (sym off ∙ on opens));
-        own = λ l. omega (arith, unopened opens, ap told_once (put_here w.desk.notices n (Some (notice_at key old notice.Skipped))));
-        others = λ l x d. omega arith;
-      }),
-      λ run. record {
-        last = refl;
-        rules = refl;
-        mid = λ some. absurd (omega (arith, some, (tail_clear rest t).0));
-        notices = λ m d. put_there w.desk.notices n _ m d;
-        quiet = λ off. absurd (false≢true (sym off ∙ on opens));
-        own = λ l. omega (arith, unopened opens, ap told_once (put_here w.desk.notices n (Some (notice_at key old notice.Running))));
-        others = λ l x d. omega arith;
-      },
-    )
+    on_plan p e (Noticing key old cause upsert v rest t) = outcomes eq (Made p) w n c
+        (plan.Notice key old cause upsert) (plan.Unlock true ∷ plan.Post v ∷ rest) (
+          (λ off. record {
+            last = refl;
+            rules = refl;
+            mid = λ some. refl;
+            notices = λ m d. put_there w.desk.notices n _ m d;
+            quiet = λ off. absurd (false≢true (sym off ∙ on opens));
+            own = λ l. omega (arith, unopened opens, ap told_once (put_here w.desk.notices n (Some (notice_at key old notice.Skipped))));
+            others = λ l x d. omega arith;
+          }),
+          λ run. record {
+            last = refl;
+            rules = refl;
+            mid = λ some. absurd (omega (arith, some, (tail_clear rest t).0));
+            notices = λ m d. put_there w.desk.notices n _ m d;
+            quiet = λ off. absurd (false≢true (sym off ∙ on opens));
+            own = λ l. omega (arith, unopened opens, ap told_once (put_here w.desk.notices n (Some (notice_at key old notice.Running))));
+            others = λ l x d. omega arith;
+          },
+        )
       where
         opens : 0 < weigh notice_of c.plan
         opens = omega (arith, ap (weigh notice_of) e)
@@ -360,7 +418,7 @@ module _ {K V : Type 0} where
           number = n;
           key = key;
           value = old.value;
-          cause = upsert_cause w.desk.rules (times_at w.desk old.stamp old.modified);
+          cause = cause_of w.desk old.stamp old.modified cause upsert;
           state = state;
         }
     on_plan p e (Turning v rest d) = outcomes eq (Made p) w n c plan.Turn (plan.Apply ∷ plan.End ∷ plan.Post v ∷ rest) (
@@ -373,12 +431,10 @@ module _ {K V : Type 0} where
     )
     on_plan p e (Ending v rest d) = outcomes eq (Made p) w n c plan.End (plan.Post v ∷ rest)
         (same eq w n c p refl refl refl (λ some. refl) (omega arith) (λ x. omega arith))
-    on_plan p e (Judging aim key stored) = outcomes eq (Made p) w n c (plan.Judge aim key stored) []
-        (clears eq w n c p refl refl refl (hits_clear c aim stored.value) refl (λ x. refl) (λ x. refl))
-    on_plan p e (Owning load) = outcomes eq (Made p) w n c (plan.Own load) [] (
-      (λ none. clears eq w n c p refl refl refl (record { swaps = λ x. refl; notice = refl }) refl (λ x. refl) (λ x. refl)),
-      λ owner some. clears eq w n c p refl refl refl (record { swaps = λ x. refl; notice = refl }) refl (λ x. refl) (λ x. refl),
-    )
+    on_plan p e (Judging aim key stored l) = outcomes eq (Made p) w n c (plan.Judge aim key stored)
+        []
+        (clears eq w n c p refl refl refl (hits_clear c aim stored.value l) refl (λ x. refl)
+        (λ x. refl))
     on_plan p e (Reading load) = outcomes eq (Made p) w n c (plan.Read load) [] (
       (λ none. stays_put eq w n c p mode.Parked turn.Wait w.stay e refl),
       λ with some. clears eq w n c p refl refl refl (read_clear c load with (was_clear eq w n c p e refl (λ x. refl))) refl (λ x. refl) (λ x. refl),
@@ -414,6 +470,59 @@ module _ {K V : Type 0} where
       where
         listens : c.rules.listener ≡ false → w.desk.rules.listener ≡ true → ⊥
         listens off l = false≢true (sym off ∙ ap (λ v. v.listener) rules ∙ l)
+    on_plan p e (Choosing key stamp cause) =
+        outcomes eq (Made p) w n c (plan.Lock key)
+        (plan.Get (plan.To_evict key stamp cause) key ∷ []) (
+          (λ free. same eq w n c p refl refl refl (λ some. refl) (omega arith) (λ x. omega arith)),
+          λ held. stays_put eq w n c p mode.Parked turn.Wait w.stay e refl,
+        )
+    on_plan p e (Finding key stamp cause) = outcomes eq (Made p) w n c
+        (plan.Get (plan.To_evict key stamp cause) key) [] (
+          (λ more. stays_put eq w n c p mode.Mid turn.Going _ e refl),
+          (λ none. clears eq w n c p refl refl refl (keeps_clear c) refl (λ x. refl) (λ x. refl)),
+          λ k stored some. clears eq w n c p refl refl refl
+              (finds_clear c (plan.To_evict key stamp cause) k stored) refl (λ x. refl) (λ x. refl),
+        )
+    on_plan p e (Chosen key stamp cause there stored) =
+        outcomes eq (Made p) w n c (plan.Holds key stamp cause there stored) [] (
+          (λ holds. clears eq w n c p refl refl refl
+              (record { swaps = λ x. refl; notice = refl }) refl (λ x. refl) (λ x. refl)),
+          λ not. clears eq w n c p refl refl refl (keeps_clear c) refl (λ x. refl) (λ x. refl),
+        )
+    on_plan p e (Taking removal key) = outcomes eq (Made p) w n c (plan.Out removal key) [] (
+      (λ more. stays_put eq w n c p mode.Mid turn.Going _ e refl),
+      (λ off none. clears eq w n c p refl refl refl
+          (record { swaps = λ x. refl; notice = refl }) refl (λ x. refl) (λ x. refl)),
+      (λ l none. clears eq w n c p refl refl refl (record { swaps = λ x. refl; notice = refl }) refl
+          (λ x. refl) (λ x. refl)),
+      (λ k old off some. record {
+        last = refl;
+        rules = refl;
+        mid = λ some. refl;
+        notices = λ m d. refl;
+        quiet = λ l. refl;
+        own = λ l. absurd (listens off l);
+        others = λ l x d. absurd (listens off l);
+      }),
+      λ k old l some. record {
+        last = refl;
+        rules = refl;
+        mid = λ some. refl;
+        notices = λ m d. refl;
+        quiet = λ l. refl;
+        own = λ l. omega (arith, ap (λ b. cond {A = ℕ} b 1 0) (same_number n));
+        others = λ l x d. omega (arith, ap (λ b. cond {A = ℕ} b 1 0) (other_number n x d));
+      },
+    )
+      where
+        listens : c.rules.listener ≡ false → w.desk.rules.listener ≡ true → ⊥
+        listens off l = false≢true (sym off ∙ ap (λ v. v.listener) rules ∙ l)
+    on_plan p e (Freeing a) = outcomes eq (Made p) w n c (plan.Unlock false) (plan.Reply a ∷ [])
+        (clears eq w n c p refl refl refl (record { swaps = λ x. refl; notice = refl }) refl
+        (λ x. refl) (λ x. refl))
+    on_plan p e (Idling a) = outcomes eq (Made p) w n c plan.Idle (plan.Reply a ∷ [])
+        (clears eq w n c p refl refl refl (record { swaps = λ x. refl; notice = refl }) refl
+        (λ x. refl) (λ x. refl))
 
     at_plan : IsPlan c.plan → OnStep eq (Leaves w n c.plan) w n c c.plan
     at_plan h = on_plan c.plan refl h
@@ -427,7 +536,8 @@ module _ {K V : Type 0} where
     pub known : (n : ℕ) (c : Call K V) → s.calls n ≡ Some c → IsKnown c
     -- a call that is to open its notice is between two steps
     pub mid : (n : ℕ) (c : Call K V) → s.calls n ≡ Some c → 0 < weigh notice_of c.plan → c.mode ≡ mode.Mid
-    -- without a listener there is no notice; with one each replacing write has one, opened or still to be
+    -- without a listener there is no notice; with one each replacing write has one, opened or still
+    -- to be
     pub quiet : s.world.desk.rules.listener ≡ false → (x : ℕ) → s.world.desk.notices x ≡ None
     pub each : s.world.desk.rules.listener ≡ true → (x : ℕ) →
         swaps_with x s + swaps_on x s.world.desk ≡ weigh_call notice_of (s.calls x) + told_once (s.world.desk.notices x)

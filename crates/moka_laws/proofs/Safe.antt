@@ -14,10 +14,12 @@ use Rattle.moka_hist.specs.declared.loads.Kind.{Kind}
 use Rattle.moka_hist.specs.declared.loads.Kind.TheVariants as kind
 use Rattle.moka_hist.specs.declared.visits.Settled.{Settled}
 use Rattle.moka_hist.specs.declared.visits.Settled.TheVariants as settled
+use Rattle.std.proofs.lemmas.Bool.{false≢true}
+use Rattle.moka_laws.proofs.Counting.{none_some}
 use Rattle.moka_laws.proofs.Weights.{weigh}
 use Rattle.moka_laws.proofs.Answering.{EndsWell, some_ready}
 use Rattle.moka_laws.proofs.Asking.{AsksWhole, IsAsking, asking_kept, ask_open, none_asked, whole}
-use Rattle.moka_laws.proofs.Holding.{IsHolding, HoldsAs, holding_kept, is_unused}
+use Rattle.moka_laws.proofs.Holding.{IsHolding, HoldsAs, holding_kept, idle_free, freeing_free, is_unused}
 use Rattle.moka_laws.proofs.Owning.{plan_left}
 use Rattle.moka_laws.proofs.Roles.{Fits, owners}
 use Rattle.moka_laws.proofs.Served.{IsServed, served_kept}
@@ -144,8 +146,14 @@ module _ {K V : Type 0} (eq : K → K → Bool) (s : State K V) (well : IsWell e
   may_item (plan.Ended number) rest e k = tt
   may_item plan.Heard rest e k = tt
   may_item (plan.Lock key) rest e k = lock_free _ (s.world.desk.locked n) key rest k.locks
-  may_item plan.Unlock rest e k = lock_held _ (s.world.desk.locked n) rest k.locks
-  may_item (plan.Notice key old) rest e k = none_is _ (not_opened s well.replacing n c live (subst OpensNotice (sym e) tt))
+  may_item (plan.Unlock true) rest e k =
+      (lock_held _ (s.world.desk.locked n) true rest k.locks, λ not. absurd (false≢true (sym not)))
+  may_item (plan.Unlock false) rest e k = (
+    lock_held _ (s.world.desk.locked n) false rest k.locks,
+    λ not write. freeing_free eq n (s.world.desk.holding n) rest write k.holds,
+  )
+  may_item (plan.Notice key old cause upsert) rest e k =
+      none_is _ (not_opened s well.replacing n c live (subst OpensNotice (sym e) tt))
   may_item (plan.Post write) rest e k = k.holds.0
   may_item plan.Turn rest e k = λ has. k.turns.has has
   may_item plan.Apply rest e k = k.turns.applies k.turns.first
@@ -164,11 +172,14 @@ module _ {K V : Type 0} (eq : K → K → Bool) (s : State K V) (well : IsWell e
       let alone : AsksWhole s.world.desk n (plan.Ask load ∷ []) = subst (λ v. AsksWhole s.world.desk n (plan.Ask load ∷ v)) k.fits.last k.asks in
       none_asked s.world.desk n (plan.Ask load ∷ []) alone.asked refl
   may_item (plan.Told load) rest e k = either_asked s.world.desk n (ask_open s.world.desk n load rest k.asks)
-  may_item (plan.Moment key value) rest e k =
-      let free = is_unused eq s well.holding n c key value rest live e in
+  may_item (plan.Holds key stamp cause there stored) rest e k = tt
+  may_item (plan.Moment change) rest e k =
+      let free = is_unused eq s well.holding n c change rest live e in
       (none_is _ free.0, free.1)
   may_item (plan.Write key value moment) rest e k = tt
-  may_item (plan.Reply answer) rest e k = tt
+  may_item (plan.Out removal key) rest e k = tt
+  may_item plan.Idle rest e k = λ write. idle_free eq n (s.world.desk.holding n) rest write k.holds
+  may_item (plan.Reply answer) rest e k = λ write is. none_some (sym k.holds.0 ∙ is)
 
   stands : Stands s.world.desk n c.plan
   stands = record {
@@ -180,7 +191,8 @@ module _ {K V : Type 0} (eq : K → K → Bool) (s : State K V) (well : IsWell e
   }
 
   by_plan : (rules : Rules) (mode : Mode) (plan : List (Item K V)) (aborts : ℕ) → c.plan ≡ plan → May s.world (access_of n (record { rules = rules; mode = mode; plan = plan; aborts = aborts }))
-  by_plan rules mode [] aborts e = tt
+  by_plan rules mode [] aborts e = λ write is.
+      none_some (sym (subst (HoldsAs n (s.world.desk.holding n)) e stands.holds) ∙ is)
   by_plan rules mode (item ∷ rest) aborts e = may_item item rest e (subst (Stands s.world.desk n) e stands)
 
   pub may_step : May s.world (access_of n c)

@@ -13,7 +13,8 @@ use Rattle.moka_hist.specs.declared.visits.Settled.{Settled}
 use Rattle.moka_hist.specs.declared.visits.Settled.TheVariants as settled
 use Rattle.moka_laws.proofs.Counting.{none_some, some_same, put_here, put_there, other_number}
 use Rattle.moka_laws.proofs.Owning.{plan_left}
-use Rattle.moka_laws.proofs.Roles.{Fits, awaited}
+use Rattle.moka_laws.proofs.Roles.{Fits, IsLast, awaited, owners}
+use Rattle.moka_laws.proofs.Weights.{weigh}
 use Rattle.moka_laws.proofs.Reading.{joins, joins_self, fewer_readers, Answered, OwnerOf, answered_without, answered_with}
 
 -- what the desk keeps of owners and of those that wait for them
@@ -116,19 +117,23 @@ module _ {K V : Type 0} (eq : K → K → Bool) where
           by false h e = still_owner o l (owner l o e)
 
       -- the call owns the load
-      pub claims : (key : K) {left : Option (Call K V)} → plan_left left ≡ plan.Get (plan.To_own load) key ∷ [] →
-          is_some (d.joined n) ≡ false →
+      pub claims : {left : Option (Call K V)} → IsLast (plan_left left) →
+          weigh owners (plan_left left) ≡ 1 →
+          awaited (plan_left left) ≡ None → is_some (d.joined n) ≡ false →
           Serves d n (part (record d { owners = put_key (load_eq eq) d.owners load (Some n); owning = put_at d.owning n (Some load) })) left
-      claims key p free = record {
+      claims last one idle free = record {
         last = refl;
-        fits = subst (Fits (put_at d.owning n (Some load) n) (d.joined n)) (sym p)
-            (record { last = refl; owning = ap (λ v. cond (is_some v) 1 0) (sym (put_here d.owning n (Some load))); waiting = free });
+        fits = record {
+          last = last;
+          owning = one ∙ ap (λ v. cond (is_some v) 1 0) (sym (put_here d.owning n (Some load)));
+          waiting = free ∙ ap is_some (sym idle);
+        };
         owner = claims_owner;
         joined = λ m h. refl;
         owning = λ m h. put_there d.owning n (Some load) m h;
         counted = λ o. refl;
         others = λ m o l h j a. still_answered o l a;
-        own = λ o l j a. absurd (none_some (ap awaited (sym p) ∙ a));
+        own = λ o l j a. absurd (none_some (sym idle ∙ a));
       }
 
     -- the call waits for the owner of the load

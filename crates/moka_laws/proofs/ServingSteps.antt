@@ -1,21 +1,23 @@
 -- Each item of a plan keeps what those that wait for owners count on.
-use Rattle.std.proofs.Common.{ap, ◌≡◌, ℕ, ◌+◌, ◌≤◌, ◌==◌, Bool, false, List, [], ◌∷◌, Option, Some, None, is_some, refl, sym, ◌∙◌, subst, arith}
+use Rattle.std.proofs.Common.{ap, ◌≡◌, ℕ, ◌+◌, ◌≤◌, ◌==◌, Bool, true, false, List, [], ◌∷◌, Option, Some, None, is_some, refl, sym, ◌∙◌, subst, arith}
 use Rattle.moka_hist.specs.State.{World, Call}
 use Rattle.moka_hist.specs.Plan.{Item, Aim}
 use Rattle.moka_hist.specs.Plan as plan
+use Rattle.moka_hist.specs.Looking.{hits}
 use Rattle.moka_hist.specs.Next.{Next, goes}
+use Rattle.moka_hist.specs.declared.records.Stored.{Stored}
 use Rattle.moka_hist.specs.Loading.{after_told}
 use Rattle.moka_hist.specs.declared.loads.Load.{Load}
 use Rattle.moka_hist.specs.declared.events.Told.{Told}
 use Rattle.moka_hist.specs.declared.events.Told.TheVariants as answer
 use Rattle.moka_hist.specs.declared.visits.Found.TheVariants as found
-use Rattle.moka_laws.proofs.Rules.{put_plans}
+use Rattle.moka_laws.proofs.Rules.{loaded_plans}
 use Rattle.moka_laws.proofs.Weights.{weigh}
 use Rattle.moka_laws.proofs.StepCases.{OnStep}
 use Rattle.moka_laws.proofs.Outcomes.{Outcomes, outcomes}
 use Rattle.moka_laws.proofs.Answering.{HasAnswers, settlement_ready}
 use Rattle.moka_laws.proofs.Owning.{plan_left}
-use Rattle.moka_laws.proofs.Roles.{IsLast, owners, Fits, awaited, goes_fits, misses_fits, judge_fits, hits_fits, told_fits, read_fits, goes_awaits, misses_awaits, hits_awaits}
+use Rattle.moka_laws.proofs.Roles.{IsLast, owners, Fits, awaited, goes_fits, keeps_fits, misses_fits, finds_fits, hits_fits, told_fits, read_fits, goes_awaits, keeps_awaits, misses_awaits, finds_awaits, hits_awaits}
 use Rattle.moka_laws.proofs.Reading.{joins, Answered, OwnerOf}
 use Rattle.moka_laws.proofs.Serving.{Serves, part, no_load, no_owner, at_most_one, keeps, keeps_none, claims, joins_owner, leaves_owner, ends_own}
 
@@ -56,7 +58,8 @@ module _ {K V : Type 0} (eq : K → K → Bool) (w : World K V) (n : ℕ) (c : C
       Serves eq w.desk n (part w.desk) (after_told c load (found.TakeTold (Some given))).left
   takes_told load (answer.Value value) p f =
       goes_free (told_fits _ _ c load (answer.Value value) p.fits f)
-      (put_plans (λ q. awaited (plan_left (goes c q).left) ≡ None) c.rules load.key value _ refl refl)
+      (loaded_plans (λ q. awaited (plan_left (goes c q).left) ≡ None)
+      c.rules load value refl refl refl)
   takes_told load answer.Done p f = goes_with _ p
   takes_told load answer.Off p f = goes_with _ p
 
@@ -67,6 +70,15 @@ module _ {K V : Type 0} (eq : K → K → Bool) (w : World K V) (n : ℕ) (c : C
     own = λ o load j a. p.own o load j (sym alike ∙ a);
   }
 
+  -- a call that judges what may be seen goes on with a plan that awaits no load
+  judges : (aim : Aim K) (key : K) (stored : Stored V) → Plans c.plan →
+      Fits (w.desk.owning n) (w.desk.joined n) (plan.Judge aim key stored ∷ []) →
+      Serves eq w.desk n (part w.desk) (hits c aim stored.value).left
+  judges (plan.To_evict there stamp cause) key stored p f = goes_with _ p
+  judges aim key stored p f =
+      goes_free (hits_fits _ _ c aim key stored stored.value p.fits f)
+      (hits_awaits c aim stored.value tt)
+
   on_item : (item : Item K V) (rest : List (Item K V)) → Plans c.plan → Plans (item ∷ rest) → Outcomes eq Leaves w n c item rest
   on_item plan.Drain rest p q = (
     λ e. goes_rest rest (like rest _ q q.fits.last (omega arith) refl),
@@ -76,8 +88,9 @@ module _ {K V : Type 0} (eq : K → K → Bool) (w : World K V) (n : ℕ) (c : C
   on_item (plan.Ended number) rest p q = (λ e. goes_rest rest (like rest _ q q.fits.last (omega arith) refl), λ e. goes_with _ p)
   on_item plan.Heard rest p q = (λ e. goes_rest rest (like rest _ q q.fits.last (omega arith) refl), λ e. goes_with _ p)
   on_item (plan.Lock key) rest p q = (λ e. goes_rest rest (like rest _ q q.fits.last (omega arith) refl), λ e. goes_with _ p)
-  on_item plan.Unlock rest p q = goes_rest rest (like rest _ q q.fits.last (omega arith) refl)
-  on_item (plan.Notice key old) rest p q = (
+  on_item (plan.Unlock wrote) rest p q =
+      goes_rest rest (like rest _ q q.fits.last (omega arith) refl)
+  on_item (plan.Notice key old cause upsert) rest p q = (
     λ e. goes_rest rest (like rest _ q q.fits.last (omega arith) refl),
     λ e. goes_with _ (like (plan.Heard ∷ rest) _ q q.fits.last (omega arith) refl),
   )
@@ -91,15 +104,17 @@ module _ {K V : Type 0} (eq : K → K → Bool) (w : World K V) (n : ℕ) (c : C
   on_item (plan.Get aim key) rest p q =
       let f = alone (plan.Get aim key) rest q.fits.last q in (
         λ more. goes_with _ p,
-        goes_free (misses_fits _ _ c aim key f) (misses_awaits c aim),
-        λ k stored. goes_free (judge_fits _ _ aim key k stored f) refl,
+        λ none. goes_free (misses_fits _ _ c aim key f) (misses_awaits c aim),
+        λ k stored some. goes_free (finds_fits _ _ c aim key k stored f)
+            (finds_awaits c aim k stored),
       )
   on_item (plan.Judge aim key stored) rest p q =
-      goes_free (hits_fits _ _ c aim key stored stored.value (alone (plan.Judge aim key stored) rest q.fits.last q)) (hits_awaits c aim stored.value)
+      judges aim key stored p (alone (plan.Judge aim key stored) rest q.fits.last q)
   on_item (plan.Own load) rest p q =
       let f = alone (plan.Own load) rest q.fits.last q in
       let none = no_load (w.desk.owning n) (sym f.owning) in (
-        λ e. claims eq w.desk n owner enough enough_own load none load.key refl f.waiting,
+        λ able e. claims eq w.desk n owner enough enough_own load none refl refl refl f.waiting,
+        λ not e. claims eq w.desk n owner enough enough_own load none refl refl refl f.waiting,
         λ who e. joins_owner eq w.desk n owner enough enough_own load who e refl none (no_owner (w.desk.joined n) f.waiting),
       )
   on_item (plan.Read load) rest p q = (
@@ -121,14 +136,38 @@ module _ {K V : Type 0} (eq : K → K → Bool) (w : World K V) (n : ℕ) (c : C
     λ e. goes_with _ p,
     λ given e. takes_told load given p (alone (plan.Told load) rest q.fits.last q),
   )
-  on_item (plan.Moment key value) rest p q =
+  on_item (plan.Holds key stamp cause there stored) rest p q =
+      let f = alone (plan.Holds key stamp cause there stored) rest q.fits.last q in (
+        λ e. goes_free (record { last = refl; owning = f.owning; waiting = f.waiting }) refl,
+        λ e. goes_free (keeps_fits _ _ c (sym f.owning) f.waiting) (keeps_awaits c),
+      )
+  on_item (plan.Moment (plan.To_store key value)) rest p q =
       goes_with _ (like (plan.Write key value w.desk.clock ∷ rest) _ q q.fits.last refl refl)
+  on_item (plan.Moment (plan.To_take_out removal key)) rest p q =
+      goes_with _ (like (plan.Out removal key ∷ rest) _ q q.fits.last refl refl)
   on_item (plan.Write key value moment) rest p q = (
     λ more. goes_with _ p,
     λ off old. goes_with _ (like (plan.Post _ ∷ rest) _ q q.fits.last refl refl),
-    λ on. goes_with _ (like (plan.Unlock ∷ plan.Post _ ∷ rest) (plan.Write key value moment ∷ rest) q q.fits.last (omega arith) refl),
-    λ k old on some. goes_with _ (like (plan.Notice key old ∷ plan.Unlock ∷ plan.Post _ ∷ rest) (plan.Write key value moment ∷ rest) q q.fits.last (omega arith) refl),
+    λ on. goes_with _
+        (like (plan.Unlock true ∷ plan.Post _ ∷ rest) (plan.Write key value moment ∷ rest)
+        q q.fits.last (omega arith) refl),
+    λ k old on some. goes_with _
+        (like (plan.Notice key old None true ∷ plan.Unlock true ∷ plan.Post _ ∷ rest)
+        (plan.Write key value moment ∷ rest) q q.fits.last (omega arith) refl),
   )
+  on_item (plan.Out removal key) rest p q =
+      let f = alone (plan.Out removal key) rest q.fits.last q in (
+        (λ more. goes_with _ p),
+        (λ off none. goes_free (record { last = refl; owning = f.owning; waiting = f.waiting })
+            refl),
+        (λ on none. goes_free (record { last = refl; owning = f.owning; waiting = f.waiting })
+            refl),
+        (λ k old off some. goes_free
+            (record { last = refl; owning = f.owning; waiting = f.waiting }) refl),
+        λ k old on some. goes_free (record { last = refl; owning = f.owning; waiting = f.waiting })
+            refl,
+      )
+  on_item plan.Idle rest p q = goes_rest rest (like rest _ q q.fits.last (omega arith) refl)
   on_item (plan.Reply answer) rest p q =
       let f = alone (plan.Reply answer) rest q.fits.last q in
       goes_free (record { last = tt; owning = omega (arith, f.owning); waiting = f.waiting }) refl

@@ -5,7 +5,7 @@ use Rattle.std.specs.Cmp.{IsEquivalence}
 use Rattle.std.specs.Option.{IsSomeAnd, option_map, option_map_or}
 use Rattle.moka_hist.specs.Finite.{load_eq, put_at, put_key, times}
 use Rattle.moka_hist.specs.State.{DeskPart}
-use Rattle.moka_hist.specs.Visits.{cause_of, claimed, decided, has_room, is_unlocked_for, locked_by, makes, number_of, opened_notice, unlocked, posted, settlement_for, took_owed, without_moment}
+use Rattle.moka_hist.specs.Visits.{cause_of, claimed, decided, gave_back, has_room, is_unlocked_for, locked_by, makes, number_of, once_decided, opened_notice, unlocked, posted, settlement_for, took_owed, without_moment}
 use Rattle.moka_hist.specs.Conditions.{held_number, numbers_of, HoldsWrite, IsPlaceOf, IsUnused}
 use Rattle.moka_hist.specs.SoundDesk.{SoundDesk}
 use Rattle.moka_hist.specs.Dropping.{left, owed_with}
@@ -80,7 +80,8 @@ module _ (held : ℕ → Option Holding) (stands after : ℕ → ℕ) (call : �
           let none : once y (held_number call x) ≡ 0 = ap (λ b. cond {A = ℕ} b 1 0) e in
           omega (arith, more y, a.once y)
 
-  -- a call that held nothing holds this now; no other call holds its number, and what stands with the desk is fewer by what it took up
+  -- a call that held nothing holds this now; no other call holds its number, and what stands with
+  -- the desk is fewer by what it took up
   takes : (x : Holding) → held call ≡ None → Apart held stands → ((y : ℕ) → after y ≤ stands y) → after (held_number call x) ≡ 0 →
       ((n : ℕ) (h : Holding) → held n ≡ Some h → held_number n h ≡ held_number call x → ⊥) → Apart (put_at held call (Some x)) after
   takes x none a fewer gone alone = record {
@@ -335,10 +336,25 @@ module _ {K V : Type 0} where
         free None held ok = refl
         free (Some holder) held ok = absurd (tested holder (holder == call) refl held ok)
 
-    unlocked_sound : (w : DeskPart K V) (call : ℕ) → SoundDesk eq w → SoundDesk eq (unlocked w call)
-    unlocked_sound w call h =
-        let d = decided_sound w call h in
-        both (unlocked w call) (apart_in (decided w call) d) (loads_in (decided w call) d) (without_call eq w.locks w.locked call (locks_in w h))
+    -- places that are given back are those of a write that stands nowhere
+    gave_sound : (w : DeskPart K V) (call : ℕ) → SoundDesk eq w → SoundDesk eq (gave_back w call)
+    gave_sound w call h =
+        both (gave_back w call) (clears w.holding (stands w) (stands w) call (apart_in w h)
+        (λ x. refl)) (loads_in w h)
+        (locks_in w h)
+
+    once_sound : (w : DeskPart K V) (call : ℕ) (wrote : Bool) → SoundDesk eq w → SoundDesk eq
+        (once_decided w call wrote)
+    once_sound w call true h = decided_sound w call h
+    once_sound w call false h = gave_sound w call h
+
+    unlocked_sound : (w : DeskPart K V) (call : ℕ) (wrote : Bool) → SoundDesk eq w → SoundDesk eq
+        (unlocked w call wrote)
+    unlocked_sound w call wrote h =
+        let d = once_sound w call wrote h in
+        both (unlocked w call wrote) (apart_in (once_decided w call wrote) d)
+        (loads_in (once_decided w call wrote) d)
+        (without_call eq w.locks w.locked call (locks_in w h))
 
     opened_sound : (w : DeskPart K V) (call : ℕ) (key : K) (value : V) (cause : Cause) → SoundDesk eq w → SoundDesk eq (opened_notice w call key value cause)
     opened_sound w call key value cause h =
@@ -346,16 +362,17 @@ module _ {K V : Type 0} where
         both (opened_notice w call key value cause) (apart_in (decided w call) d) (loads_in (decided w call) d) (locks_in (decided w call) d)
 
     pub visit_sound : IsEquivalence eq → VisitsKeepSound K V eq
-    visit_sound laws w (visit.Clock call) h may = h
+    visit_sound laws w (visit.Clock call) h may = gave_sound w call h
     visit_sound laws w (visit.TakeOwed call) h may = took_sound w call (is_none_of (w.holding call) may) h
     visit_sound laws w (visit.NoticeEnded call number) h may = h
     visit_sound laws w (visit.LockKey call key) h may =
         locked_sound laws w call key (is_none_of (w.locked call) may) (is_unlocked_for w call key) refl h
-    visit_sound laws w (visit.UnlockKey call) h may = unlocked_sound w call h
+    visit_sound laws w (visit.UnlockKey call wrote) h may = unlocked_sound w call wrote h
     visit_sound laws w (visit.OpenNotice call key value stamp modified cause upsert) h may =
         opened_sound w call key value (cause_of w stamp modified cause upsert) h
     visit_sound laws w (visit.StampMoment call) h may = stamped_sound w call (is_none_of (w.holding call) may.0) may.1 h
     visit_sound laws w (visit.Judge key stored) h may = both (makes eq w (visit.Judge key stored)) (apart_in w h) (loads_in w h) (locks_in w h)
+    visit_sound laws w (visit.Holds key stored cause) h may = h
     visit_sound laws w (visit.WaitOrOwn call key kind) h may =
         let load : Load K = record { key = key; kind = kind } in
         claimed_sound laws w call load (is_none_of (w.owning call) may.0) (w.owners load) refl h

@@ -2,7 +2,7 @@
 use Rattle.std.proofs.Common.{ℕ, ◌<◌, Bool, List, [], ◌∷◌, sym, subst}
 use Rattle.moka_hist.specs.State.{State, Call, TablePart, World}
 use Rattle.moka_hist.specs.Plan.{Item}
-use Rattle.moka_hist.specs.Visits.{finds, makes}
+use Rattle.moka_hist.specs.Visits.{finds, gave_back, makes}
 use Rattle.moka_hist.specs.Tables.{Operates}
 use Rattle.moka_hist.specs.Bound.{times_of, stayed, decided_by, most_undecided}
 use Rattle.moka_hist.specs.Next.{Next, waits}
@@ -27,7 +27,7 @@ module _ {K V : Type 0} (eq : K → K → Bool) where
 
   -- M holds of all that a step may make of the world and of the call, with this plan
   abbrev pub OnStep : (World K V → Next K V → Type 0) → World K V → ℕ → Call K V → List (Item K V) → Type 0
-  OnStep M w n c [] = M w (waits c)
+  OnStep M w n c [] = M (record w { desk = gave_back w.desk n }) (waits c)
   OnStep M w n c (item ∷ rest) = OnAccess M w n c item rest (access_for n item)
 
   -- how a call goes on whose plan begins with the item
@@ -62,7 +62,8 @@ module _ {K V : Type 0} (eq : K → K → Bool) where
   more_access M N f w n c item rest (On_table op) m = (λ h. f _ _ (m.0 h), λ answer t o. f _ _ (m.1 answer t o))
   more_access M N f w n c item rest (On_desk made) m = f _ _ m
 
-  more_step : (M N : World K V → Next K V → Type 0) → ((w : World K V) (next : Next K V) → M w next → N w next) →
+  pub more_step : (M N : World K V → Next K V → Type 0) →
+      ((w : World K V) (next : Next K V) → M w next → N w next) →
       (w : World K V) (n : ℕ) (c : Call K V) (plan : List (Item K V)) → OnStep M w n c plan → OnStep N w n c plan
   more_step M N f w n c [] m = f _ _ m
   more_step M N f w n c (item ∷ rest) m = more_access M N f w n c item rest (access_for n item) m

@@ -8,7 +8,7 @@ use Rattle.moka_hist.specs.Plan.{Item, Aim, plan_of}
 use Rattle.moka_hist.specs.Plan as plan
 use Rattle.moka_hist.specs.Visits.{is_free_for}
 use Rattle.moka_hist.specs.Next.{Next, goes}
-use Rattle.moka_hist.specs.Looking.{hits, misses}
+use Rattle.moka_hist.specs.Looking.{hits, misses, keeps, finds_pair}
 use Rattle.moka_hist.specs.Loading.{after_read, after_told, retries}
 use Rattle.moka_hist.specs.Step.{Step}
 use Rattle.moka_hist.specs.Run.{IsReached, fresh_call}
@@ -16,15 +16,15 @@ use Rattle.moka_hist.specs.declared.records.Mode.TheVariants as mode
 use Rattle.moka_hist.specs.declared.loads.Load.{Load}
 use Rattle.moka_hist.specs.declared.rules.Rules.{Rules}
 use Rattle.moka_hist.specs.declared.events.Start.{Start}
-use Rattle.moka_hist.specs.declared.events.Start.TheVariants as start
 use Rattle.moka_hist.specs.declared.events.Told.{Told}
 use Rattle.moka_hist.specs.declared.events.Told.TheVariants as answer
+use Rattle.moka_hist.specs.declared.records.Stored.{Stored}
 use Rattle.moka_hist.specs.declared.visits.Settled.{Settled}
 use Rattle.moka_hist.specs.declared.visits.Settled.TheVariants as settled
 use Rattle.moka_hist.specs.declared.visits.Found.TheVariants as found
 use Rattle.moka_hist.specs.declared.accesses.Turn.{Turn}
 use Rattle.moka_laws.specs.Missing.{TurnIsHeld, AppliesLog, IsApplying}
-use Rattle.moka_laws.proofs.Rules.{put_plans}
+use Rattle.moka_laws.proofs.Rules.{loaded_plans, kept_next, chosen_by, IsFresh, Disabled, fresh_plan}
 use Rattle.moka_laws.proofs.Counting.{none_some, some_same, put_here, put_there, differ_not, other_number}
 use Rattle.moka_laws.proofs.Weights.{weigh}
 use Rattle.moka_laws.proofs.Balance.{IsBalanced}
@@ -111,15 +111,30 @@ module _ {K V : Type 0} where
   goes_mid c [] h = refl
   goes_mid c (item ∷ rest) h = refl
 
+  keeps_calm : (c : Call K V) → weigh of_turn (plan_left (keeps c).left) ≡ 0
+  keeps_calm c = kept_next (λ v. weigh of_turn (plan_left v.left) ≡ 0) c (λ off. refl) (λ on. refl)
+
   misses_calm : (c : Call K V) (aim : Aim K) → weigh of_turn (plan_left (misses c aim).left) ≡ 0
   misses_calm c plan.To_answer = refl
   misses_calm c (plan.To_load load) = refl
   misses_calm c (plan.To_own load) = refl
+  misses_calm c (plan.To_evict key stamp cause) = keeps_calm c
 
-  hits_calm : (c : Call K V) (aim : Aim K) (value : V) → weigh of_turn (plan_left (hits c aim value).left) ≡ 0
-  hits_calm c plan.To_answer value = refl
-  hits_calm c (plan.To_load load) value = refl
-  hits_calm c (plan.To_own load) value = refl
+  finds_calm : (c : Call K V) (aim : Aim K) (there : K) (stored : Stored V) →
+      weigh of_turn (plan_left (finds_pair c aim there stored).left) ≡ 0
+  finds_calm c plan.To_answer there stored = refl
+  finds_calm c (plan.To_load load) there stored = refl
+  finds_calm c (plan.To_own load) there stored = refl
+  finds_calm c (plan.To_evict key stamp cause) there stored =
+      chosen_by (λ v. weigh of_turn (plan_left v.left) ≡ 0) c key stamp cause there stored
+      (λ other. keeps_calm c) (λ same. refl)
+
+  hits_calm : (c : Call K V) (aim : Aim K) (value : V) → weigh of_turn c.plan ≡ 0 →
+      weigh of_turn (plan_left (hits c aim value).left) ≡ 0
+  hits_calm c plan.To_answer value h = refl
+  hits_calm c (plan.To_load load) value h = refl
+  hits_calm c (plan.To_own load) value h = refl
+  hits_calm c (plan.To_evict key stamp cause) value h = h
 
   either_calm : (b : Bool) (x y : Next K V) → weigh of_turn (plan_left x.left) ≡ 0 → weigh of_turn (plan_left y.left) ≡ 0 →
       weigh of_turn (plan_left (cond b x y).left) ≡ 0
@@ -134,15 +149,18 @@ module _ {K V : Type 0} where
 
   told_calm : (c : Call K V) (load : Load K) (given : Told V) → weigh of_turn c.plan ≡ 0 →
       weigh of_turn (plan_left (after_told c load (found.TakeTold (Some given))).left) ≡ 0
-  told_calm c load (answer.Value value) h = put_plans (λ p. weigh of_turn (plan_left (goes c p).left) ≡ 0) c.rules load.key value _ refl refl
+  told_calm c load (answer.Value value) h =
+      loaded_plans (λ p. weigh of_turn (plan_left (goes c p).left) ≡
+      0) c.rules load value refl refl refl
   told_calm c load answer.Done h = h
   told_calm c load answer.Off h = h
 
+  form_calm : (rules : Rules) (p : List (Item K V)) → IsFresh rules p → weigh of_turn p ≡ 0
+  form_calm rules p (Disabled a d) = refl
+  form_calm rules p _ = refl
+
   fresh_calm : (rules : Rules) (start : Start K V) → weigh of_turn (plan_of rules start) ≡ 0
-  fresh_calm rules (start.Get key) = refl
-  fresh_calm rules (start.Insert key value) =
-      put_plans (λ p. weigh of_turn p ≡ 0) rules key value _ (refl) (refl)
-  fresh_calm rules (start.GetWith key) = refl
+  fresh_calm rules start = form_calm rules (plan_of rules start) (fresh_plan rules start)
 
   -- ---- a step
 
@@ -184,8 +202,12 @@ module _ {K V : Type 0} where
     on_item (plan.Lock key) rest e q =
         let c_calm : weigh of_turn c.plan ≡ 0 = omega (arith, ap (weigh of_turn) e, q.first) in
         (λ free. calm _ n (goes_calm c rest q.first) q.has, λ held. calm _ n c_calm q.has)
-    on_item plan.Unlock rest e q = calm _ n (goes_calm c rest q.first) q.has
-    on_item (plan.Notice key old) rest e q = (λ off. calm _ n (goes_calm c rest q.first) q.has, λ on. calm _ n (omega (arith, q.first)) q.has)
+    on_item (plan.Unlock wrote) rest e q = calm _ n (goes_calm c rest q.first) q.has
+    on_item (plan.Notice key old cause upsert) rest e q = (
+      λ off. calm _ n (goes_calm c rest q.first) q.has,
+      λ on. calm _ n
+          (omega (arith, q.first)) q.has,
+    )
     on_item (plan.Post write) rest e q = (
       λ room. calm _ n (goes_calm c rest q.first) q.has,
       λ full. record {
@@ -216,10 +238,19 @@ module _ {K V : Type 0} where
       others = λ m d. (λ h. absurd (none_some h), λ h. absurd (differ_not n m d (some_same (sym (q.applies q.first) ∙ h))));
     }
     on_item (plan.Get aim key) rest e q =
+        let c_calm : weigh of_turn c.plan ≡ 0 = omega (arith, ap (weigh of_turn) e, q.first) in (
+          (λ more. calm _ n c_calm q.has),
+          (λ none. calm _ n (misses_calm c aim) q.has),
+          λ k stored some. calm _ n (finds_calm c aim k stored) q.has,
+        )
+    on_item (plan.Judge aim key stored) rest e q =
         let c_calm : weigh of_turn c.plan ≡ 0 = omega (arith, ap (weigh of_turn) e, q.first) in
-        ((λ more. calm _ n c_calm q.has), calm _ n (misses_calm c aim) q.has, λ k stored. calm _ n refl q.has)
-    on_item (plan.Judge aim key stored) rest e q = calm _ n (hits_calm c aim stored.value) q.has
-    on_item (plan.Own load) rest e q = (λ none. calm _ n refl q.has, λ owner some. calm _ n refl q.has)
+        calm _ n (hits_calm c aim stored.value c_calm) q.has
+    on_item (plan.Own load) rest e q = (
+      λ able none. calm _ n refl q.has,
+      λ disabled none. calm _ n refl q.has,
+      λ owner some. calm _ n refl q.has,
+    )
     on_item (plan.Read load) rest e q =
         let c_calm : weigh of_turn c.plan ≡ 0 = omega (arith, ap (weigh of_turn) e, q.first) in
         (λ none. calm _ n c_calm q.has, λ with some. calm _ n (read_calm c load with c_calm) q.has)
@@ -228,7 +259,12 @@ module _ {K V : Type 0} where
     on_item (plan.Told load) rest e q =
         let c_calm : weigh of_turn c.plan ≡ 0 = omega (arith, ap (weigh of_turn) e, q.first) in
         (λ none. calm _ n c_calm q.has, λ given some. calm _ n (told_calm c load given c_calm) q.has)
-    on_item (plan.Moment key value) rest e q = calm _ n (omega (arith, q.first)) q.has
+    on_item (plan.Holds key stamp cause there stored) rest e q =
+        (λ holds. calm _ n refl q.has, λ not. calm _ n (keeps_calm c) q.has)
+    on_item (plan.Moment (plan.To_store key value)) rest e q = calm _ n
+        (omega (arith, q.first)) q.has
+    on_item (plan.Moment (plan.To_take_out removal key)) rest e q = calm _ n
+        (omega (arith, q.first)) q.has
     on_item (plan.Write key value moment) rest e q =
         let c_calm : weigh of_turn c.plan ≡ 0 = omega (arith, ap (weigh of_turn) e, q.first) in (
           (λ more. calm _ n c_calm q.has),
@@ -236,6 +272,15 @@ module _ {K V : Type 0} where
           (λ on. calm _ n (omega (arith, q.first)) q.has),
           λ k old on some. calm _ n (omega (arith, q.first)) q.has,
         )
+    on_item (plan.Out removal key) rest e q =
+        let c_calm : weigh of_turn c.plan ≡ 0 = omega (arith, ap (weigh of_turn) e, q.first) in (
+          (λ more. calm _ n c_calm q.has),
+          (λ off none. calm _ n refl q.has),
+          (λ on none. calm _ n refl q.has),
+          (λ k old off some. calm _ n refl q.has),
+          λ k old on some. calm _ n refl q.has,
+        )
+    on_item plan.Idle rest e q = calm _ n (goes_calm c rest q.first) q.has
     on_item (plan.Reply answer) rest e q = calm _ n refl q.has
 
     on_plan : (plan : List (Item K V)) → c.plan ≡ plan → TurnFits w.desk.turn n c.plan → OnStep eq Leaves w n c plan

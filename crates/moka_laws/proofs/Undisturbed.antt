@@ -1,7 +1,7 @@
 -- An insert and then a get, with no step of others between.
-use Rattle.std.proofs.Common.{◌≡◌, ℕ, zero, suc, ◌+◌, Bool, true, cond, List, [], ◌∷◌, Option, Some, refl, sym, ap, ◌∙◌, subst}
+use Rattle.std.proofs.Common.{◌≡◌, ℕ, zero, suc, ◌+◌, Bool, true, false, cond, List, [], ◌∷◌, Option, Some, None, refl, sym, ap, ◌∙◌, subst}
 use Rattle.moka_hist.specs.State.{State, World, Call, DeskPart}
-use Rattle.moka_hist.specs.Plan.{Item, plan_of}
+use Rattle.moka_hist.specs.Plan.{Item, get_plan, insert_plan, is_disabled, plan_of}
 use Rattle.moka_hist.specs.Plan as plan
 use Rattle.moka_hist.specs.Next.{Next, goes, answers, waits}
 use Rattle.moka_hist.specs.Tables.{answer_of, written}
@@ -17,6 +17,7 @@ use Rattle.moka_hist.specs.declared.replies.Answer.TheVariants as answer
 use Rattle.moka_laws.specs.Alone.{AnswersAlone, InsertThenGet}
 use Rattle.moka_laws.proofs.Counting.{some_same, put_here}
 use Rattle.moka_laws.proofs.Rules.{put_plans}
+use Rattle.moka_laws.proofs.Steady.{goings_rules, step_rules}
 use Rattle.moka_laws.proofs.StepCases.{OnStep, step_cases}
 use Rattle.moka_laws.proofs.Outcomes.{outcomes, on_desk}
 
@@ -28,13 +29,13 @@ abbrev Map : Type 0 → Type 0 → Type 0
 Map K V = K → Option (K × Stored V)
 
 module _ {K V : Type 0} where
-  -- the item neither looks a key up nor stores anything: it takes owed writes up, posts one, or has part
-  -- in a lock or a notice
+  -- the item neither looks a key up nor stores anything: it takes owed writes up, posts one, or has
+  -- part in a lock or a notice
   abbrev IsPosting : Item K V → Type 0
   IsPosting (plan.Ended number) = Unit {0}
   IsPosting (plan.Lock key) = Unit {0}
-  IsPosting plan.Unlock = Unit {0}
-  IsPosting (plan.Notice key old) = Unit {0}
+  IsPosting (plan.Unlock wrote) = Unit {0}
+  IsPosting (plan.Notice key old cause upsert) = Unit {0}
   IsPosting plan.Heard = Unit {0}
   IsPosting plan.Drain = Unit {0}
   IsPosting (plan.Post write) = Unit {0}
@@ -57,8 +58,8 @@ module _ {K V : Type 0} where
   before_reply last a p e (Then plan.End rest i b) = cc
   before_reply last a p e (Then (plan.Ended number) rest i b) = cc
   before_reply last a p e (Then (plan.Lock key) rest i b) = cc
-  before_reply last a p e (Then plan.Unlock rest i b) = cc
-  before_reply last a p e (Then (plan.Notice key old) rest i b) = cc
+  before_reply last a p e (Then (plan.Unlock wrote) rest i b) = cc
+  before_reply last a p e (Then (plan.Notice key old cause upsert) rest i b) = cc
   before_reply last a p e (Then plan.Heard rest i b) = cc
   before_reply last a p e (Then _ rest i b) = absurd i
 
@@ -101,8 +102,10 @@ module _ {K V : Type 0} where
       )
       before_step p here (Then (plan.Ended number) rest i b) = outcomes eq Goes w n c (plan.Ended number) rest ((λ e. follows w.desk rest b), λ e. parks w c)
       before_step p here (Then (plan.Lock key) rest i b) = outcomes eq Goes w n c (plan.Lock key) rest ((λ e. follows _ rest b), λ e. parks w c)
-      before_step p here (Then plan.Unlock rest i b) = outcomes eq Goes w n c plan.Unlock rest (follows _ rest b)
-      before_step p here (Then (plan.Notice key old) rest i b) = outcomes eq Goes w n c (plan.Notice key old) rest
+      before_step p here (Then (plan.Unlock wrote) rest i b) = outcomes eq Goes w n c
+          (plan.Unlock wrote) rest (follows _ rest b)
+      before_step p here (Then (plan.Notice key old cause upsert) rest i b) = outcomes eq Goes w n c
+          (plan.Notice key old cause upsert) rest
           ((λ e. follows _ rest b), λ e. record { going = λ f. cc; ends = λ a f. cc })
       before_step p here (Then plan.Heard rest i b) = outcomes eq Goes w n c plan.Heard rest ((λ e. follows w.desk rest b), λ e. parks w c)
       before_step p here (Then (plan.Post write) rest i b) = outcomes eq Goes w n c (plan.Post write) rest (
@@ -150,7 +153,8 @@ module _ {K V : Type 0} (eq : K → K → Bool) (key q : K) (value : V) (same : 
   done = plan.Reply answer.Done ∷ []
 
   data Inserts (stored : Map K V) : List (Item K V) → Type 0 where
-    Early : (p : List (Item K V)) → Before (plan.Moment key value ∷ plan.Reply answer.Done ∷ []) p → Inserts stored p
+    Early : (p : List (Item K V)) → Before (plan.Moment (plan.To_store key value) ∷
+        plan.Reply answer.Done ∷ []) p → Inserts stored p
     Writing : (moment : ℕ) → Inserts stored (plan.Write key value moment ∷ plan.Reply answer.Done ∷ [])
     Late : (p : List (Item K V)) → Has stored → Before (plan.Reply answer.Done ∷ []) p → Inserts stored p
 
@@ -159,14 +163,19 @@ module _ {K V : Type 0} (eq : K → K → Bool) (key q : K) (value : V) (same : 
 
   inserts : (n : ℕ) (w : World K V) (c : Call K V) (p : List (Item K V)) → c.plan ≡ p → Inserts w.table.stored p → OnStep eq (Goes Inserts Inserted) w n c p
   inserts n w c p e (Early q b) =
-      before_step Inserts Inserted eq w n c (plan.Moment key value ∷ plan.Reply answer.Done ∷ []) (λ r d. Early r d) (λ a f. cc) p
-      (outcomes eq (Goes Inserts Inserted) w n c (plan.Moment key value) (plan.Reply answer.Done ∷ [])
+      before_step Inserts Inserted eq w n c (plan.Moment (plan.To_store key value) ∷
+      plan.Reply answer.Done ∷ []) (λ r d. Early r d) (λ a f. cc) p
+      (outcomes eq (Goes Inserts Inserted) w n c (plan.Moment (plan.To_store key value))
+      (plan.Reply answer.Done ∷ [])
       (on Inserts Inserted (on_desk eq w _) c _ (Writing w.desk.clock))) b
   inserts n w c p e (Writing moment) = outcomes eq (Goes Inserts Inserted) w n c (plan.Write key value moment) (plan.Reply answer.Done ∷ []) (
     (λ more. record { going = λ f. (record c { mode = mode.Mid }, refl, subst (Inserts w.table.stored) (sym e) (Writing moment)); ends = λ a f. cc }),
     λ off old. on Inserts Inserted _ c _ (Late _ has (Then (plan.Post _) _ tt Here)),
-    λ l. on Inserts Inserted _ c _ (Late _ has (Then plan.Unlock _ tt (Then (plan.Post _) _ tt Here))),
-    λ k old l some. on Inserts Inserted _ c _ (Late _ has (Then (plan.Notice key old) _ tt (Then plan.Unlock _ tt (Then (plan.Post _) _ tt Here)))),
+    λ l. on Inserts Inserted _ c _ (Late _ has (Then (plan.Unlock true) _ tt
+        (Then (plan.Post _) _ tt Here))),
+    λ k old l some. on Inserts Inserted _ c _
+        (Late _ has (Then (plan.Notice key old None true) _ tt
+        (Then (plan.Unlock true) _ tt (Then (plan.Post _) _ tt Here)))),
   )
     where
       has : Has (written eq n w.table key (record { value = value; stamp = n; modified = moment })).stored
@@ -178,7 +187,8 @@ module _ {K V : Type 0} (eq : K → K → Bool) (key q : K) (value : V) (same : 
       )
   inserts n w c p e (Late q has b) =
       before_step Inserts Inserted eq w n c (plan.Reply answer.Done ∷ []) (λ r d. Late r has d) (λ a f. has) p
-      (outcomes eq (Goes Inserts Inserted) w n c (plan.Reply answer.Done) [] (ended Inserts Inserted w answer.Done has)) b
+      (outcomes eq (Goes Inserts Inserted) w n c (plan.Reply answer.Done) []
+      (ended Inserts Inserted _ answer.Done has)) b
 
   -- ---- the get
 
@@ -201,19 +211,41 @@ module _ {K V : Type 0} (eq : K → K → Bool) (key q : K) (value : V) (same : 
 
   -- ---- both
 
-  found : (s t u : State K V) (n : ℕ) (a : Answer V) → s.calls n ≡ Some (fresh_call s.world.desk.rules (start.Insert key value)) → AnswersAlone eq s n answer.Done t →
+  found : (s t u : State K V) (n : ℕ) (a : Answer V) → is_disabled s.world.desk.rules ≡ false →
+      s.calls n ≡ Some (fresh_call s.world.desk.rules (start.Insert key value)) →
+      AnswersAlone eq s n answer.Done t →
       AnswersAlone eq (started t (start.Get q)) (t.world.desk.last + 1) a u → a ≡ answer.Found (Some value)
-  found s t u n a live inserted got =
+  found s t u n a able live inserted got =
       let has : Has t.world.table.stored =
       in_end Inserts Inserted eq n (λ w c p. inserts n w c c.plan refl p) s t answer.Done
       (fresh_call s.world.desk.rules (start.Insert key value), live, early) inserted in
-      in_end Looks Finds eq (t.world.desk.last + 1) (λ w c p. looks (t.world.desk.last + 1) w c c.plan refl p) (started t (start.Get q)) u a
-      (fresh_call t.world.desk.rules (start.Get q), put_here t.calls (t.world.desk.last + 1) (Some (fresh_call t.world.desk.rules (start.Get q))), Seeking _ has (Then plan.Drain _ tt Here)) got
+      in_end Looks Finds eq (t.world.desk.last + 1) (λ w c p. looks (t.world.desk.last + 1) w c c.plan refl p) (started t (start.Get q)) u a (
+        fresh_call t.world.desk.rules (start.Get q),
+        put_here t.calls (t.world.desk.last + 1)
+            (Some (fresh_call t.world.desk.rules (start.Get q))),
+        seeking has,
+      ) got
     where
       early : Inserts s.world.table.stored (plan_of s.world.desk.rules (start.Insert key value))
-      early = put_plans (Inserts s.world.table.stored) s.world.desk.rules key value (plan.Reply answer.Done ∷ [])
-          (Early _ (Then plan.Drain _ tt Here)) (Early _ (Then plan.Drain _ tt (Then (plan.Lock key) _ tt Here)))
+      early = subst (λ b. Inserts s.world.table.stored (insert_plan b s.world.desk.rules key value))
+          (sym able)
+          (put_plans (Inserts s.world.table.stored) s.world.desk.rules key value
+          (plan.Reply answer.Done ∷ [])
+          (Early _ (Then plan.Drain _ tt Here))
+          (Early _ (Then plan.Drain _ tt (Then (plan.Lock key) _ tt Here))))
+
+      -- the rules are those of the insert
+      rules : t.world.desk.rules ≡ s.world.desk.rules
+      rules = step_rules eq inserted.mid t n _ inserted.last ∙
+          goings_rules eq Any inserted.going s inserted.mid n inserted.goes
+
+      seeking : Has t.world.table.stored → Looks t.world.table.stored
+          (plan_of t.world.desk.rules (start.Get q))
+      seeking has = subst (λ b. Looks t.world.table.stored (get_plan b q))
+          (sym (ap is_disabled rules ∙ able))
+          (Seeking _ has (Then plan.Drain _ tt Here))
 
 module _ {K V : Type 0} (eq : K → K → Bool) where
   pub inserted_is_found : InsertThenGet K V eq
-  inserted_is_found s t u n key q value a h live inserted same got = found eq key q value same s t u n a live inserted got
+  inserted_is_found s t u n key q value a h able live inserted same got =
+      found eq key q value same s t u n a able live inserted got

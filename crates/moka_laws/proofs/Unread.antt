@@ -23,7 +23,7 @@ use Rattle.moka_laws.proofs.Sums.{sum_to, sum_has, sum_zero, sum_suc}
 use Rattle.moka_laws.proofs.Kept.{IsKept, in_reached}
 use Rattle.moka_laws.proofs.Weights.{weigh}
 use Rattle.moka_laws.proofs.Owning.{plan_left}
-use Rattle.moka_laws.proofs.Plans.{IsTail, Answering, Settling, IsDrained, Looking, Putting, IsPosted, Draining, Ended, Locking, IsPlan, Posted, Drained, Posting, Hearing, Noticing, Listening, Unlocking, Turning, Applying, Ending, Judging, Owning, Reading, Asking, Telling, Writing}
+use Rattle.moka_laws.proofs.Plans.{IsTail, Answering, Settling, IsDrained, Looking, Putting, IsPosted, Draining, Ended, Locking, IsPlan, Posted, Drained, Posting, Hearing, Noticing, Listening, Unlocking, Turning, Applying, Ending, Judging, Owning, Reading, Asking, Telling, Writing, Removing, Locking_out, Choosing, Finding, Chosen, Taking, Freeing, Idling}
 use Rattle.moka_laws.proofs.Reading.{joins, reader_joins}
 use Rattle.moka_laws.proofs.Roles.{Fits, awaited, owners}
 use Rattle.moka_laws.proofs.Safe.{IsWell, well_kept, in_well}
@@ -118,7 +118,10 @@ module _ {K V : Type 0} where
   tail_role p (Settling with a) = refl
 
   pub drained_role : (p : List (Item K V)) → IsDrained p → awaited p ≡ None
-  drained_role p (Looking aim key) = refl
+  drained_role p (Looking aim key l) = refl
+  drained_role p (Owning load) = refl
+  drained_role p (Removing removal key) = refl
+  drained_role p (Locking_out removal key) = refl
   drained_role p (Putting key value rest t) = tail_role rest t
   drained_role p (Locking key value rest t) = tail_role rest t
 
@@ -132,16 +135,21 @@ module _ {K V : Type 0} where
   plan_role p (Drained rest d) = inr (drained_role rest d)
   plan_role p (Posting x rest d) = inr (posted_role rest d)
   plan_role p (Hearing number x rest d) = inr (posted_role rest d)
-  plan_role p (Noticing key old x rest t) = inr (tail_role rest t)
+  plan_role p (Noticing key old cause upsert x rest t) = inr (tail_role rest t)
   plan_role p (Listening x rest t) = inr (tail_role rest t)
   plan_role p (Unlocking x rest t) = inr (tail_role rest t)
   plan_role p (Turning x rest d) = inr (posted_role rest d)
   plan_role p (Applying x rest d) = inr (posted_role rest d)
   plan_role p (Ending x rest d) = inr (posted_role rest d)
-  plan_role p (Judging aim key stored) = inr refl
-  plan_role p (Owning load) = inr refl
+  plan_role p (Judging aim key stored l) = inr refl
   plan_role p (Asking load) = inr refl
   plan_role p (Telling load) = inr refl
+  plan_role p (Choosing key stamp cause) = inr refl
+  plan_role p (Finding key stamp cause) = inr refl
+  plan_role p (Chosen key stamp cause there stored) = inr refl
+  plan_role p (Taking removal key) = inr refl
+  plan_role p (Freeing a) = inr refl
+  plan_role p (Idling a) = inr refl
   plan_role p (Writing key value moment rest t) = inr (tail_role rest t)
 
   role_alone : (o : Option (Load K)) (j : Option ℕ) (p : List (Item K V)) → Fits o j p → OneRole p → is_some o ≡ true → is_some j ≡ false

@@ -2,14 +2,14 @@
 use Rattle.std.proofs.Common.{◌≡◌, ◌≢◌, ◌↔◌, ℕ, ◌+◌, ◌==◌, Bool, true, false, List, [], ◌∷◌, Option, Some, None, IsNone, is_some, refl, sym, ap, ◌∙◌, subst}
 use Rattle.std.proofs.lemmas.Bool.{false≢true}
 use Rattle.moka_hist.specs.State.{World, Call}
-use Rattle.moka_hist.specs.Plan.{Item, Aim}
+use Rattle.moka_hist.specs.Plan.{Item, Aim, told_on}
 use Rattle.moka_hist.specs.Plan as plan
 use Rattle.moka_hist.specs.Next.{Next, goes, waits}
-use Rattle.moka_hist.specs.Looking.{hits, misses}
+use Rattle.moka_hist.specs.Looking.{hits, misses, keeps, finds_pair}
 use Rattle.moka_hist.specs.Loading.{after_read, after_told, after_abort, retries}
 use Rattle.moka_hist.specs.Missing.{IsMissing}
 use Rattle.moka_hist.specs.declared.records.Mode.TheVariants as mode
-use Rattle.moka_hist.specs.declared.replies.Answer.TheVariants as reply
+use Rattle.moka_hist.specs.declared.records.Stored.{Stored}
 use Rattle.moka_hist.specs.declared.loads.Load.{Load}
 use Rattle.moka_hist.specs.declared.events.Told.{Told}
 use Rattle.moka_hist.specs.declared.events.Told.TheVariants as answer
@@ -19,7 +19,8 @@ use Rattle.moka_hist.specs.declared.visits.Found.TheVariants as found
 use Rattle.moka_hist.specs.declared.accesses.Turn.TheVariants as turn
 use Rattle.moka_laws.specs.Waiting.{WaitsByCause, WaitsFor}
 use Rattle.moka_laws.proofs.Counting.{none_some}
-use Rattle.moka_laws.proofs.Rules.{put_plans}
+use Rattle.moka_laws.proofs.Rules.{loaded_plans, kept_next, chosen_next}
+use Rattle.moka_laws.proofs.Plans.{IsLook, IsTail, Answering, IsDrained, Looking, IsPosted, Draining, Ended, IsPlan, Posted, Drained, Judging, calls_known}
 use Rattle.moka_laws.proofs.StepCases.{OnStep, step_cases}
 use Rattle.moka_laws.proofs.Outcomes.{Outcomes, outcomes}
 use Rattle.moka_laws.proofs.Answering.{IsValue, HasAnswers, answering, settlement_ready}
@@ -40,15 +41,28 @@ module _ {K V : Type 0} where
   goes_on c [] = λ e. cc
   goes_on c (_ ∷ rest) = λ e. cc
 
+  keeps_on : (c : Call K V) → GoesOn (keeps c)
+  keeps_on c = kept_next GoesOn c (λ off e. cc) (λ on e. cc)
+
   misses_on : (c : Call K V) (aim : Aim K) → GoesOn (misses c aim)
   misses_on c plan.To_answer = λ e. cc
   misses_on c (plan.To_load load) = λ e. cc
   misses_on c (plan.To_own load) = λ e. cc
+  misses_on c (plan.To_evict key stamp cause) = keeps_on c
 
-  hits_on : (c : Call K V) (aim : Aim K) (value : V) → GoesOn (hits c aim value)
-  hits_on c plan.To_answer value = λ e. cc
-  hits_on c (plan.To_load load) value = λ e. cc
-  hits_on c (plan.To_own load) value = λ e. cc
+  finds_on : (c : Call K V) (aim : Aim K) (k : K) (stored : Stored V) →
+      GoesOn (finds_pair c aim k stored)
+  finds_on c plan.To_answer k stored = λ e. cc
+  finds_on c (plan.To_load load) k stored = λ e. cc
+  finds_on c (plan.To_own load) k stored = λ e. cc
+  finds_on c (plan.To_evict key stamp cause) k stored =
+      chosen_next GoesOn c key stamp cause k stored (λ off e. cc) (λ on e. cc) (λ e. cc)
+
+  hits_on : (c : Call K V) (aim : Aim K) (value : V) → IsLook aim → GoesOn (hits c aim value)
+  hits_on c plan.To_answer value l = λ e. cc
+  hits_on c (plan.To_load load) value l = λ e. cc
+  hits_on c (plan.To_own load) value l = λ e. cc
+  hits_on c (plan.To_evict key stamp cause) value l = absurd l
 
   read_on : (c : Call K V) (load : Load K) (with : Settled V) → Some with ≢ Some settled.NotYet →
       GoesOn (after_read c load (found.ReadSettled with))
@@ -60,13 +74,39 @@ module _ {K V : Type 0} where
       by true e = rw e (λ e. cc)
       by false e = rw e (λ e. cc)
 
-  told_on : (c : Call K V) (load : Load K) (given : Told V) → IsValue (Some given) →
+  tells_on : (c : Call K V) (load : Load K) (given : Told V) → IsValue (Some given) →
       GoesOn (after_told c load (found.TakeTold (Some given)))
-  told_on c load (answer.Value value) is =
-      let after : List (Item K V) = plan.Settle (settled.Ready value) ∷ plan.Reply (reply.Loaded value true) ∷ [] in
-      put_plans (λ p. GoesOn (goes c p)) c.rules load.key value after (goes_on c (plan.Drain ∷ plan.Moment load.key value ∷ after)) (goes_on c (plan.Drain ∷ plan.Lock load.key ∷ plan.Moment load.key value ∷ after))
-  told_on c load answer.Done is = absurd is
-  told_on c load answer.Off is = absurd is
+  tells_on c load (answer.Value value) is =
+      let after : List (Item K V) = told_on value in
+      loaded_plans (λ p. GoesOn (goes c p)) c.rules load value (goes_on c after)
+      (goes_on c (plan.Drain ∷ plan.Moment (plan.To_store load.key value) ∷ after))
+      (goes_on c (plan.Drain ∷ plan.Lock load.key ∷ plan.Moment (plan.To_store load.key value)
+      ∷ after))
+  tells_on c load answer.Done is = absurd is
+  tells_on c load answer.Off is = absurd is
+
+  -- what the plan judges first, if anything, may be seen
+  abbrev Judges : List (Item K V) → Type 0
+  Judges (plan.Judge aim key stored ∷ rest) = IsLook aim
+  Judges _ = Unit {0}
+
+  tail_judges : (p : List (Item K V)) → IsTail p → Judges p
+  tail_judges p (Answering a) = tt
+  tail_judges p _ = tt
+
+  drained_judges : (p : List (Item K V)) → IsDrained p → Judges p
+  drained_judges p (Looking aim key l) = tt
+  drained_judges p _ = tt
+
+  posted_judges : (p : List (Item K V)) → IsPosted p → Judges p
+  posted_judges p (Draining rest d) = tt
+  posted_judges p (Ended rest t) = tail_judges rest t
+
+  plan_judges : (p : List (Item K V)) → IsPlan p → Judges p
+  plan_judges p (Judging aim key stored l) = l
+  plan_judges p (Posted rest d) = posted_judges rest d
+  plan_judges p (Drained rest d) = drained_judges rest d
+  plan_judges p _ = tt
 
   -- what a step has to show: it waits where Q holds, and then it changes nothing
   record Waits (w : World K V) (c : Call K V) (Q : Type 0) (new : World K V) (next : Next K V) : Type 0 where
@@ -82,42 +122,71 @@ module _ {K V : Type 0} where
     always q = record { cause = (λ e. q, λ q. refl); world = λ e. refl; left = λ e. refl }
 
   module _ (eq : K → K → Bool) (w : World K V) (n : ℕ) (c : Call K V) (has : HasAnswers w.desk) (asked : AsksWhole w.desk n c.plan) where
-    on_item : (item : Item K V) (rest : List (Item K V)) → c.plan ≡ item ∷ rest → Outcomes eq (Waits w c (IsMissing w.desk n item)) w n c item rest
-    on_item plan.Drain rest p = (
+    on_item : (item : Item K V) (rest : List (Item K V)) → c.plan ≡ item ∷ rest →
+        Judges (item ∷ rest) →
+        Outcomes eq (Waits w c (IsMissing w.desk n item)) w n c item rest
+    on_item plan.Drain rest p l = (
       λ e. never w c (λ q. q) (goes_on c rest),
       λ x xs e. never w c (λ q. q) (λ e. cc),
       λ x number xs e. never w c (λ q. q) (λ e. cc),
     )
-    on_item (plan.Ended number) rest p = (λ e. never w c (λ q. false≢true (sym e ∙ q)) (goes_on c rest), λ e. always w c e)
-    on_item plan.Heard rest p = (λ e. never w c (λ q. false≢true (sym e ∙ q)) (goes_on c rest), λ e. always w c e)
-    on_item (plan.Lock key) rest p = (λ e. never w c (λ q. false≢true (sym q ∙ e)) (goes_on c rest), λ e. always w c e)
-    on_item plan.Unlock rest p = never w c (λ q. q) (goes_on c rest)
-    on_item (plan.Notice key old) rest p = (λ e. never w c (λ q. q) (goes_on c rest), λ e. never w c (λ q. q) (λ e. cc))
-    on_item (plan.Post write) rest p = (λ e. never w c (λ q. q) (goes_on c rest), λ e. never w c (λ q. q) (λ e. cc))
-    on_item plan.Turn rest p = (λ e. never w c (λ q. false≢true (sym q ∙ e)) (goes_on c rest), λ e. always w c e)
-    on_item plan.Apply rest p = (λ e. never w c (λ q. q) (goes_on c rest), λ x xs e. never w c (λ q. q) (λ e. cc))
-    on_item plan.End rest p = never w c (λ q. q) (goes_on c rest)
-    on_item (plan.Get aim key) rest p = ((λ more. never w c (λ q. q) (λ e. cc)), never w c (λ q. q) (misses_on c aim), λ k stored. never w c (λ q. q) (λ e. cc))
-    on_item (plan.Judge aim key stored) rest p = never w c (λ q. q) (hits_on c aim stored.value)
-    on_item (plan.Own load) rest p = (λ e. never w c (λ q. q) (λ e. cc), λ owner e. never w c (λ q. q) (λ e. cc))
-    on_item (plan.Read load) rest p = (
+    on_item (plan.Ended number) rest p l =
+        (λ e. never w c (λ q. false≢true (sym e ∙ q)) (goes_on c rest), λ e. always w c e)
+    on_item plan.Heard rest p l =
+        (λ e. never w c (λ q. false≢true (sym e ∙ q)) (goes_on c rest), λ e. always w c e)
+    on_item (plan.Lock key) rest p l =
+        (λ e. never w c (λ q. false≢true (sym q ∙ e)) (goes_on c rest), λ e. always w c e)
+    on_item (plan.Unlock wrote) rest p l = never w c (λ q. q) (goes_on c rest)
+    on_item (plan.Notice key old cause upsert) rest p l =
+        (λ e. never w c (λ q. q) (goes_on c rest), λ e. never w c (λ q. q) (λ e. cc))
+    on_item (plan.Post write) rest p l =
+        (λ e. never w c (λ q. q) (goes_on c rest), λ e. never w c (λ q. q) (λ e. cc))
+    on_item plan.Turn rest p l =
+        (λ e. never w c (λ q. false≢true (sym q ∙ e)) (goes_on c rest), λ e. always w c e)
+    on_item plan.Apply rest p l =
+        (λ e. never w c (λ q. q) (goes_on c rest), λ x xs e. never w c (λ q. q) (λ e. cc))
+    on_item plan.End rest p l = never w c (λ q. q) (goes_on c rest)
+    on_item (plan.Get aim key) rest p l = (
+      (λ more. never w c (λ q. q) (λ e. cc)),
+      (λ none. never w c (λ q. q) (misses_on c aim)),
+      λ k stored some. never w c (λ q. q) (finds_on c aim k stored),
+    )
+    on_item (plan.Judge aim key stored) rest p l = never w c (λ q. q) (hits_on c aim stored.value l)
+    on_item (plan.Own load) rest p l = (
+      (λ able e. never w c (λ q. q) (λ e. cc)),
+      (λ not e. never w c (λ q. q) (λ e. cc)),
+      λ owner e. never w c (λ q. q) (λ e. cc),
+    )
+    on_item (plan.Read load) rest p l = (
       λ e. always w c (ap is_some e),
       λ with e. never w c (not_none _ e) (read_on c load with (settlement_ready w.desk n with has e)),
     )
-    on_item (plan.Settle with) rest p = never w c (λ q. q) (goes_on c rest)
-    on_item (plan.Ask load) rest p = never w c (λ q. q) (λ e. cc)
-    on_item (plan.Told load) rest p = (
+    on_item (plan.Settle with) rest p l = never w c (λ q. q) (goes_on c rest)
+    on_item (plan.Ask load) rest p l = never w c (λ q. q) (λ e. cc)
+    on_item (plan.Told load) rest p l = (
       λ e. always w c (ask_open w.desk n load rest (subst (AsksWhole w.desk n) p asked) (ap is_some e)),
-      λ given e. never w c (ask_closed w.desk n load rest (subst (AsksWhole w.desk n) p asked) (ap is_some e)) (told_on c load given (subst IsValue e (has.told n))),
+      λ given e. never w c (ask_closed w.desk n load rest (subst (AsksWhole w.desk n) p asked)
+          (ap is_some e)) (tells_on c load given (subst IsValue e (has.told n))),
     )
-    on_item (plan.Moment key value) rest p = never w c (λ q. q) (λ e. cc)
-    on_item (plan.Write key value moment) rest p = (
+    on_item (plan.Holds key stamp cause there stored) rest p l =
+        ((λ e. never w c (λ q. q) (λ f. cc)), λ e. never w c (λ q. q) (keeps_on c))
+    on_item (plan.Moment (plan.To_store key value)) rest p l = never w c (λ q. q) (λ e. cc)
+    on_item (plan.Moment (plan.To_take_out removal key)) rest p l = never w c (λ q. q) (λ e. cc)
+    on_item (plan.Write key value moment) rest p l = (
       λ more. never w c (λ q. q) (λ e. cc),
       λ off old. never w c (λ q. q) (λ e. cc),
       λ on. never w c (λ q. q) (λ e. cc),
       λ k old on some. never w c (λ q. q) (λ e. cc),
     )
-    on_item (plan.Reply answer) rest p = never w c (λ q. q) (λ e. cc)
+    on_item (plan.Out removal key) rest p l = (
+      (λ more. never w c (λ q. q) (λ e. cc)),
+      (λ off none. never w c (λ q. q) (λ e. cc)),
+      (λ on none. never w c (λ q. q) (λ e. cc)),
+      (λ k old off some. never w c (λ q. q) (λ e. cc)),
+      λ k old on some. never w c (λ q. q) (λ e. cc),
+    )
+    on_item plan.Idle rest p l = never w c (λ q. q) (goes_on c rest)
+    on_item (plan.Reply answer) rest p l = never w c (λ q. q) (λ e. cc)
 
 module _ {K V : Type 0} (eq : K → K → Bool) where
   -- a call that a look-up gives is the one that another gives
@@ -129,7 +198,10 @@ module _ {K V : Type 0} (eq : K → K → Bool) where
       let M : World K V → Next K V → Type 0 = Waits s.world c (IsMissing s.world.desk n item) in
       let on_plan : OnStep eq M s.world n c c.plan =
       subst (λ p. OnStep eq M s.world n c p) (sym e)
-      (outcomes eq M s.world n c item rest (on_item eq s.world n c (answering eq s h).desk (whole s (in_asking eq s h) n c live) item rest e)) in
+      (outcomes eq M s.world n c item rest
+      (on_item eq s.world n c (answering eq s h).desk (whole s (in_asking eq s h) n c live)
+      item rest e
+      (subst Judges e (plan_judges c.plan (calls_known eq s h n c live).plan)))) in
       step_cases eq M (λ v r. WaitsFor s n c item r v) s t n reply step
       (subst (λ v. OnStep eq M s.world n v v.plan) (one_call c step.call live step.live) on_plan)
       (λ w next m. record {

@@ -8,7 +8,7 @@ use Rattle.moka_hist.specs.Run.{Goings, Happens, Refuses, Run, Steps, Any, IsRea
 use Rattle.moka_hist.specs.State.{Call, State, TablePart, World}
 use Rattle.moka_hist.specs.Step.{Access, Gets, Step, access_of, going_as, next_of, state_after}
 use Rattle.moka_hist.specs.Step as step
-use Rattle.moka_hist.specs.Tables.{Operates, written as written_to}
+use Rattle.moka_hist.specs.Tables.{Operates, by_pair, removed, taken_by, written as written_to}
 use Rattle.moka_hist.specs.declared.accesses.Got.{Got}
 use Rattle.moka_hist.specs.declared.accesses.Got.TheVariants as got
 use Rattle.moka_hist.specs.declared.accesses.Turn.{Turn}
@@ -30,7 +30,7 @@ use Rattle.moka_bound.proofs.Size.{access_size}
 use Rattle.moka_laws.specs.Bounded.{LogsHaveRoom, StepsAreBounded, StepEventsAreBounded}
 use Rattle.moka_laws.proofs.Counting.{none_some, put_here, same_number}
 use Rattle.moka_laws.proofs.Kept.{IsKept, in_reached}
-use Rattle.moka_laws.proofs.Plans.{IsTail, Answering, Settling, IsDrained, Looking, Putting, IsPosted, Draining, Ended, Locking, IsPlan, Posted, Drained, Posting, Hearing, Noticing, Listening, Unlocking, Turning, Applying, Ending, Judging, Owning, Reading, Asking, Telling, Writing, calls_known}
+use Rattle.moka_laws.proofs.Plans.{IsTail, Answering, Settling, IsDrained, Looking, Owning, Putting, Removing, Locking_out, IsPosted, Draining, Ended, Locking, IsPlan, Posted, Drained, Posting, Hearing, Noticing, Listening, Unlocking, Turning, Applying, Ending, Judging, Reading, Asking, Telling, Writing, Choosing, Finding, Chosen, Taking, Freeing, Idling, calls_known}
 use Rattle.moka_laws.proofs.Reached.{step_reached, steps_reached}
 
 -- ---- what a plan takes at most
@@ -39,6 +39,7 @@ judge_few : {K : Type 0} (most aborts : ℕ) (aim : Aim K) → judge_steps most 
 judge_few most aborts plan.To_answer = omega arith
 judge_few most aborts (plan.To_load load) = omega arith
 judge_few most aborts (plan.To_own load) = omega arith
+judge_few most aborts (plan.To_evict key stamp cause) = omega arith
 
 module _ {K V : Type 0} (owed most aborts left : ℕ) (within : left ≤ most) where
   tail_steps : (room : Bool) (l : ℕ) (p : List (Item K V)) → IsTail p → steps_of owed most aborts room l p ≤ 2
@@ -51,7 +52,10 @@ module _ {K V : Type 0} (owed most aborts left : ℕ) (within : left ≤ most) w
   put_steps m l p (Settling with a) = omega arith
 
   drained_steps : (room : Bool) (l : ℕ) (p : List (Item K V)) → l ≤ most → IsDrained p → steps_of owed most aborts room l p ≤ 2 * most + 408
-  drained_steps room l p h (Looking aim key) = omega (arith, h, judge_few most aborts aim)
+  drained_steps room l p h (Looking aim key look) = omega (arith, h, judge_few most aborts aim)
+  drained_steps room l p h (Owning load) = omega (arith, h)
+  drained_steps room l p h (Removing removal key) = omega (arith, h)
+  drained_steps room l p h (Locking_out removal key) = omega (arith, h)
   drained_steps room l p h (Putting key value rest t) = omega (arith, put_steps (most + growth) (most + growth) rest t)
   drained_steps room l p h (Locking key value rest t) = omega (arith, put_steps (most + growth) (most + growth) rest t)
 
@@ -64,18 +68,24 @@ module _ {K V : Type 0} (owed most aborts left : ℕ) (within : left ≤ most) w
   few_steps room p (Drained rest d) = omega (arith, drained_steps room left rest within d)
   few_steps room p (Posting x rest d) = omega (arith, post_worst room, posted_steps false most rest d)
   few_steps room p (Hearing number x rest d) = omega (arith, posted_steps false most rest d)
-  few_steps room p (Noticing key old x rest t) = omega (arith, tail_steps false most rest t)
+  few_steps room p (Noticing key old cause upsert x rest t) =
+      omega (arith, tail_steps false most rest t)
   few_steps room p (Listening x rest t) = omega (arith, tail_steps false most rest t)
   few_steps room p (Unlocking x rest t) = omega (arith, tail_steps false most rest t)
   few_steps room p (Turning x rest d) = omega (arith, posted_steps false most rest d)
   few_steps room p (Applying x rest d) = omega (arith, posted_steps false most rest d)
   few_steps room p (Ending x rest d) = omega (arith, post_worst room, posted_steps false most rest d)
-  few_steps room p (Judging aim key stored) = omega (arith, judge_few most aborts aim)
-  few_steps room p (Owning load) = omega arith
+  few_steps room p (Judging aim key stored look) = omega (arith, judge_few most aborts aim)
   few_steps room p (Reading load) = omega arith
   few_steps room p (Asking load) = omega arith
   few_steps room p (Telling load) = omega arith
   few_steps room p (Writing key value moment rest t) = omega (arith, within, put_steps (most + growth) (most + growth) rest t)
+  few_steps room p (Choosing key stamp cause) = omega arith
+  few_steps room p (Finding key stamp cause) = omega (arith, within)
+  few_steps room p (Chosen key stamp cause there stored) = omega arith
+  few_steps room p (Taking removal key) = omega (arith, within)
+  few_steps room p (Freeing a) = omega arith
+  few_steps room p (Idling a) = omega arith
 
 -- ---- what each access does to it
 
@@ -87,6 +97,27 @@ module _ {K V : Type 0} (eq : K → K → Bool) where
   operation_peak : (n : ℕ) (w t : TablePart K V) (o : TableOp K V) (answer : TableAnswer K V) → Operates eq n w o answer t → w.keys ≤ w.peak → t.keys ≤ t.peak
   operation_peak n w t (op.Get key) answer o h = subst (λ (v : TablePart K V). v.keys ≤ v.peak) (sym o.1) h
   operation_peak n w t (op.InsertOrModify key stored) answer o h = subst (λ (v : TablePart K V). v.keys ≤ v.peak) (sym o.1) (omega arith)
+  operation_peak n w t (op.InsertIfAbsent key stored) answer o h =
+      subst (λ (v : TablePart K V). v.keys ≤ v.peak) (sym o.1) (by (w.stored key))
+    where
+      kept : (there : TablePart K V) → there.keys ≤ there.peak → (absent : TablePart K V) →
+          absent.keys ≤ absent.peak →
+          (out : Option (K × Stored V)) →
+          (by_pair out there absent).keys ≤ (by_pair out there absent).peak
+      kept there a absent b None = b
+      kept there a absent b (Some pair) = a
+
+      by : (out : Option (K × Stored V)) →
+          (by_pair out w (written_to eq n w key stored)).keys ≤
+          (by_pair out w (written_to eq n w key stored)).peak
+      by out = kept w h (written_to eq n w key stored) (omega arith) out
+  operation_peak n w t (op.RemoveIf key stamp) answer o h =
+      subst (λ (v : TablePart K V). v.keys ≤ v.peak) (sym o.1) (by (taken_by stamp (w.stored key)))
+    where
+      by : (out : Option (K × Stored V)) →
+          (by_pair out (removed eq n w key) w).keys ≤ (by_pair out (removed eq n w key) w).peak
+      by None = h
+      by (Some pair) = omega (arith, h)
 
   access_peak : (n : ℕ) (w new : World K V) (a : Access K V) (g : Got K V) → Gets eq n w a g new → w.table.keys ≤ w.table.peak → new.table.keys ≤ new.table.peak
   access_peak n w new (step.On_table o) (got.Table table.Going) gets h = subst (λ (v : World K V). v.table.keys ≤ v.table.peak) (sym gets.1) h
@@ -136,6 +167,58 @@ module _ {K V : Type 0} (eq : K → K → Bool) where
       (λ v. Shortens (work_in n w) (work_in n (record w { table = v; stay = decided_by n })) (step.On_table (op.InsertOrModify key stored))
       (got.Table (table.Decided g)))
       (sym o.1) (record { within = omega arith; raises = written n w.table key stored h; going = λ e. absurd (decided_not g e) })
+  decided_shortens n w t (op.InsertIfAbsent key stored) g o h =
+      subst
+      (λ v. Shortens (work_in n w) (work_in n (record w { table = v; stay = decided_by n }))
+      (step.On_table (op.InsertIfAbsent key stored))
+      (got.Table (table.Decided g)))
+      (sym o.1) (by (w.table.stored key))
+    where
+      by : (there : Option (K × Stored V)) →
+          Shortens (work_in n w)
+          (work_in n (record w {
+            table = by_pair there w.table (written_to eq n w.table key stored);
+            stay = decided_by n;
+          }))
+          (step.On_table (op.InsertIfAbsent key stored)) (got.Table (table.Decided g))
+      by None = record {
+        within = omega arith;
+        raises = written n w.table key stored h;
+        going = λ e. absurd (decided_not g e);
+      }
+      by (Some pair) = record {
+        within = omega arith;
+        raises = omega arith;
+        going = λ e. absurd
+            (decided_not g e);
+      }
+  decided_shortens n w t (op.RemoveIf key stamp) g o h =
+      subst
+      (λ v. Shortens (work_in n w) (work_in n (record w { table = v; stay = decided_by n }))
+      (step.On_table (op.RemoveIf key stamp))
+      (got.Table (table.Decided g)))
+      (sym o.1) (by (taken_by stamp (w.table.stored key)))
+    where
+      by : (out : Option (K × Stored V)) →
+          Shortens (work_in n w)
+          (work_in n (record w {
+            table = by_pair out (removed eq n w.table key) w.table;
+            stay =
+                decided_by n;
+          }))
+          (step.On_table (op.RemoveIf key stamp)) (got.Table (table.Decided g))
+      by None = record {
+        within = omega arith;
+        raises = omega arith;
+        going = λ e. absurd
+            (decided_not g e);
+      }
+      by (Some pair) = record {
+        within = omega arith;
+        raises = omega arith;
+        going = λ e. absurd
+            (decided_not g e);
+      }
 
   shortens_in : (n : ℕ) (w new : World K V) (a : Access K V) (g : Got K V) → Gets eq n w a g new → w.table.keys ≤ w.table.peak →
       Shortens (work_in n w) (work_in n new) a g

@@ -1,5 +1,6 @@
 -- What a call gives that is stepped with no step of others between.
-use Rattle.std.specs.Prelude.{◌≡◌, ℕ, ◌+◌, Bool, true, Some}
+use Rattle.std.specs.Prelude.{◌≡◌, ℕ, ◌+◌, Bool, true, false, Some}
+use Rattle.moka_hist.specs.Plan.{is_disabled}
 use Rattle.moka_hist.specs.State.{State}
 use Rattle.moka_hist.specs.Step.{Step}
 use Rattle.moka_hist.specs.Run.{Goings, Any, IsReached, started, fresh_call}
@@ -15,12 +16,13 @@ pub record AnswersAlone {K V : Type 0} (eq : K → K → Bool) (s : State K V) (
   pub goes : Goings eq Any going s n mid
   pub last : Step eq mid n (turn.Answer a) t
 
--- an insert, and then a get of an equal key, give the inserted value, where no other call makes a step
--- between
+-- an insert, and then a get of an equal key, give the inserted value, where no other call makes a
+-- step between, and the cache is not disabled
 abbrev pub InsertThenGet : (K V : Type 0) → (K → K → Bool) → Type 0
 InsertThenGet K V eq =
     (s t u : State K V) (n : ℕ) (key q : K) (value : V) (a : Answer V) →
-    IsReached eq s → s.calls n ≡ Some (fresh_call s.world.desk.rules (start.Insert key value)) →
+    IsReached eq s → is_disabled s.world.desk.rules ≡ false → s.calls n ≡ Some
+    (fresh_call s.world.desk.rules (start.Insert key value)) →
     AnswersAlone eq s n answer.Done t →
     eq key q ≡ true → AnswersAlone eq (started t (start.Get q)) (t.world.desk.last + 1) a u →
     a ≡ answer.Found (Some value)

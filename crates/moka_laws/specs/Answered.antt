@@ -1,32 +1,39 @@
 -- What becomes of the write of a call that has answered.
 use Rattle.std.specs.Prelude.{◌≡◌, ◌⊎◌, ℕ, Bool, true, false, List, Contains}
 use Rattle.moka_hist.specs.State.{State}
+use Rattle.moka_hist.specs.Plan.{is_disabled}
 use Rattle.moka_hist.specs.Step.{Step}
 use Rattle.moka_hist.specs.Run.{Run, IsReached}
 use Rattle.moka_hist.specs.Places.{IsLawful, StandsAt}
 use Rattle.moka_hist.specs.declared.accesses.Turn.TheVariants as turn
 use Rattle.moka_hist.specs.declared.events.Event.{Event}
+use Rattle.moka_hist.specs.declared.events.Start.{Start}
+use Rattle.moka_hist.specs.declared.events.Start.TheVariants as start
 use Rattle.moka_hist.specs.declared.replies.Answer.{Answer}
 use Rattle.moka_hist.specs.declared.replies.Answer.TheVariants as answer
 use Rattle.moka_hist.specs.declared.replies.Reply.{Reply}
 use Rattle.moka_hist.specs.declared.writes.Place.TheVariants as place
+use Rattle.moka_laws.specs.Starting.{WasStarted}
 
--- the answer says that its call has stored a value: an insert's, and a load's whose own initializer
--- gave the value
-abbrev pub says_stored : {V : Type 0} → Answer V → Bool
-says_stored answer.Done = true
-says_stored (answer.Loaded value fresh) = fresh
-says_stored _ = false
+-- the answer of a call that was started for this says that it has stored a value: an insert's, and
+-- a load's whose own initializer gave the value
+abbrev pub says_stored : {K V : Type 0} → Start K V → Answer V → Bool
+says_stored (start.Insert key value) answer.Done = true
+says_stored (start.GetWith key) (answer.Loaded value fresh) = fresh
+says_stored _ _ = false
 
 -- the write of this number is in the log, or applied
 abbrev pub IsPosted : {K V : Type 0} → State K V → ℕ → Type 0
 IsPosted s n = StandsAt s place.Logged n ⊎ StandsAt s place.Applied n
 
--- a call whose answer says that it has stored a value has committed its write
+-- a call whose answer says that it has stored a value has committed its write, unless the cache is
+-- disabled
 abbrev pub StoredIsCommitted : (K V : Type 0) → (K → K → Bool) → Type 0
 StoredIsCommitted K V eq =
-    (s t : State K V) (n : ℕ) (a : Answer V) → IsReached eq s → Step eq s n (turn.Answer a) t →
-    says_stored a ≡ true → Contains t.world.table.committed n
+    (s t : State K V) (start : Start K V) (n : ℕ) (a : Answer V) → WasStarted eq start n s →
+    is_disabled s.world.desk.rules ≡ false → Step eq s n (turn.Answer a) t → says_stored start a ≡
+    true →
+    Contains t.world.table.committed n
 
 -- where a call answers that has committed a write, that is logged or applied
 abbrev pub AnsweredIsPosted : (K V : Type 0) → (K → K → Bool) → Type 0

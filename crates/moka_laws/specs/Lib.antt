@@ -1,3 +1,4 @@
+pub mod Starting
 pub mod Reaching
 pub mod Held
 pub mod Waiting
@@ -11,3 +12,4 @@ pub mod Listening
 pub mod Readers
 pub mod Answered
 pub mod Alone
+pub mod Removals

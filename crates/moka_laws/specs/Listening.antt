@@ -1,14 +1,14 @@
 -- Key locks, notices and open asks in every reached state.
 use Rattle.std.specs.Prelude.{◌≡◌, ◌≢◌, ℕ, Bool, true, List, ◌∷◌, Option, Some, None, IsSome}
 use Rattle.moka_hist.specs.State.{Call, State}
-use Rattle.moka_hist.specs.Plan.{Item}
+use Rattle.moka_hist.specs.Plan.{Change, Item}
 use Rattle.moka_hist.specs.Plan as plan
 use Rattle.moka_hist.specs.Notices.{LocksAreHeld, NoticesAreInOrder, NoticesAreSettled}
 use Rattle.moka_hist.specs.Run.{IsReached}
 use Rattle.moka_hist.specs.Visits.{is_running}
 
--- in every reached state each replaced record has its notice, and no write is logged while its notice
--- runs
+-- in every reached state each replaced or removed record has its notice, and no write is logged
+-- while its notice runs
 abbrev pub ReachedNoticesAreSettled : (K V : Type 0) → (K → K → Bool) → Type 0
 ReachedNoticesAreSettled K V eq = (s : State K V) → IsReached eq s → NoticesAreSettled s
 
@@ -17,15 +17,24 @@ abbrev pub ReachedLocksAreHeld : (K V : Type 0) → (K → K → Bool) → Type 
 ReachedLocksAreHeld K V eq = (s : State K V) → IsReached eq s → LocksAreHeld s
 
 module _ {K V : Type 0} where
-  -- the key that the plan is to write, or to tell the listener of
+  -- the key that a moment is taken for
+  abbrev pub changed_key : Change K V → K
+  changed_key (plan.To_store key value) = key
+  changed_key (plan.To_take_out removal key) = key
+
+  -- the key that the plan is to write or to take out, to look up for that, or to tell the listener
+  -- of
   abbrev pub key_of : List (Item K V) → Option K
-  key_of (plan.Moment key value ∷ rest) = Some key
+  key_of (plan.Get (plan.To_evict key stamp cause) at ∷ rest) = Some at
+  key_of (plan.Holds key stamp cause there stored ∷ rest) = Some key
+  key_of (plan.Moment change ∷ rest) = Some (changed_key change)
   key_of (plan.Write key value moment ∷ rest) = Some key
-  key_of (plan.Notice key old ∷ rest) = Some key
+  key_of (plan.Out removal key ∷ rest) = Some key
+  key_of (plan.Notice key old cause upsert ∷ rest) = Some key
   key_of _ = None
 
--- in every reached state under a listener a call holds the lock of the key that it is to write or to
--- tell of
+-- in every reached state under a listener a call holds the lock of the key that it is to write or
+-- to take out, to look up for that, or to tell of
 abbrev pub KeysAreLocked : (K V : Type 0) → (K → K → Bool) → Type 0
 KeysAreLocked K V eq =
     (s : State K V) (n : ℕ) (c : Call K V) (key : K) → IsReached eq s →

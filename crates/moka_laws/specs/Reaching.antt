@@ -1,12 +1,14 @@
 -- Which states a run can reach, and how a run goes on.
-use Rattle.std.specs.Prelude.{ℕ, ◌<◌, Bool, List, [], ◌∷◌, ◌++◌}
-use Rattle.moka_hist.specs.State.{State, fresh}
+use Rattle.std.specs.Prelude.{◌≡◌, ℕ, ◌<◌, Bool, List, [], ◌∷◌, ◌++◌, Some}
+use Rattle.moka_hist.specs.State.{Call, State, fresh}
 use Rattle.moka_hist.specs.Step.{Step}
 use Rattle.moka_hist.specs.Run.{Goings, Happens, Run, Any, IsReached}
 use Rattle.moka_hist.specs.declared.rules.Rules.{Rules}
 use Rattle.moka_hist.specs.declared.events.Event.{Event}
+use Rattle.moka_hist.specs.declared.events.Start.{Start}
 use Rattle.moka_hist.specs.declared.replies.Reply.{Reply}
 use Rattle.moka_hist.specs.declared.accesses.Turn.{Turn}
+use Rattle.moka_laws.specs.Starting.{WasStarted}
 
 -- a fresh cache of any rules is reached, with a log of any size but none
 abbrev pub FreshIsReached : (K V : Type 0) → (K → K → Bool) → Type 0
@@ -32,6 +34,12 @@ abbrev pub ReachedByRun : (K V : Type 0) → (K → K → Bool) → Type 0
 ReachedByRun K V eq =
     (s t : State K V) (es : List (Event K V)) (rs : List (Reply K V)) →
     IsReached eq s → Run eq Any s es rs t → IsReached eq t
+
+-- every live call of a reached state was started
+abbrev pub LiveWasStarted : (K V : Type 0) → (K → K → Bool) → Type 0
+LiveWasStarted K V eq =
+    (s : State K V) (n : ℕ) (c : Call K V) → IsReached eq s → s.calls n ≡ Some c →
+    (start : Start K V) × WasStarted eq start n s
 
 -- a run goes on by one event at its end
 abbrev pub RunGoesOn : (K V : Type 0) → (K → K → Bool) → Type 0

@@ -14,6 +14,7 @@ mod missing;
 mod moving;
 mod reaching;
 mod readers;
+mod removals;
 mod sound;
 mod stored;
 mod waiting;
@@ -32,10 +33,14 @@ pub use listening::{
 pub use missing::{missing_can_come, turn_is_held, waiters_have_owners};
 pub use moving::{calls_are_safe, move_is_step, moves_are_steps, polled_is_poll};
 pub use reaching::{
-    fresh_is_reached, reached_by_event, reached_by_run, reached_by_step, reached_by_steps,
-    run_goes_on,
+    fresh_is_reached, live_was_started, reached_by_event, reached_by_run, reached_by_step,
+    reached_by_steps, run_goes_on,
 };
 pub use readers::{nothing_unread_is_kept, readers_are_counted, waiters_answer_settled};
+pub use removals::{
+    chosen_stands, disabled_stores_nothing, evicted_is_out, kept_by_cause, places_come_back,
+    removals_answer, remove_answers_taken, stamps_are_one,
+};
 pub use sound::{
     clock_keeps_sound, deciding_keeps_sound, entering_keeps_sound, fresh_is_sound,
     leaving_keeps_sound, reached_is_sound, telling_keeps_sound, visits_keep_sound,

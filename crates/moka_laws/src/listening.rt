@@ -16,7 +16,8 @@ pub fn locks_are_held<K: Eq, V>()
 {}
 
 /// Cites the law that in every reached state, where a listener is set, the key that a live call is to
-/// write, or to tell the listener of, is the one whose lock it holds.
+/// write or to take out, to look up for that, or to tell the listener of, is the one whose lock it
+/// holds.
 pub fn keys_are_locked<K: Eq, V>()
     ensures locked { KeysAreLocked K V K.eq }
 {}

@@ -1,6 +1,6 @@
 //! Which states a run can reach, and how a run goes on.
 
-ghost use Rattle.moka_laws.specs.Reaching.{FreshIsReached, ReachedByEvent, ReachedByRun, ReachedByStep, ReachedBySteps, RunGoesOn};
+ghost use Rattle.moka_laws.specs.Reaching.{FreshIsReached, LiveWasStarted, ReachedByEvent, ReachedByRun, ReachedByStep, ReachedBySteps, RunGoesOn};
 
 /// Cites the law that a fresh cache is reached, with a log of any size but 0.
 pub fn fresh_is_reached<K: Eq, V>()
@@ -25,6 +25,12 @@ pub fn reached_by_steps<K: Eq, V>()
 /// Cites the law that events on a reached state leave a reached state.
 pub fn reached_by_run<K: Eq, V>()
     ensures reached { ReachedByRun K V K.eq }
+{}
+
+/// Cites the law that every live call of a reached state was started on a reached state, from which some
+/// events led here.
+pub fn live_was_started<K: Eq, V>()
+    ensures started { LiveWasStarted K V K.eq }
 {}
 
 /// Cites the law that a run goes on by one event at its end.

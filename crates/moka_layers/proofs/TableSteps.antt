@@ -1,12 +1,14 @@
 -- A step of the table is the reference's.
-use Rattle.std.proofs.Common.{◌≡◌, ◌≢◌, ◌<◌, ◌≤◌, ◌==◌, ℕ, ◌+◌, max, Bool, true, false, cond, Option, Some, None, is_some, IsSome, IfSome, refl, sym, ap, subst, ◌∙◌, ◌⊎◌, inl, inr, arith}
+use Rattle.std.proofs.Common.{◌≡◌, ◌≢◌, ◌<◌, ◌≤◌, ◌==◌, ℕ, ◌+◌, ◌-◌, max, Bool, true, false, cond, Option, Some, None, is_some, IsSome, IfSome, refl, sym, ap, subst, ◌∙◌, ◌⊎◌, inl, inr, arith}
 use Rattle.std.proofs.lemmas.Bool.Decides.{eqb_tells}
 use Rattle.std.specs.declared.cmp.PartialEq as PartialEq
 use Rattle.std.specs.declared.hash.Hash as Hash
 use Rattle.moka_hist.specs.Bound.{times_of, stayed, decided_by, most_undecided}
 use Rattle.moka_hist.specs.State.{Stay, TablePart, World}
 use Rattle.moka_hist.specs.Step as step
-use Rattle.moka_hist.specs.Tables.{Operates, answer_of, key_of, written}
+use Rattle.moka_hist.specs.Finite.{put_key}
+use Rattle.moka_hist.specs.Tables.{Operates, answer_of, by_pair, removed, taken_by, written}
+use Rattle.moka_hist.specs.declared.records.Stored.{Stored}
 use Rattle.moka_hist.specs.declared.tables.TableOp.{TableOp}
 use Rattle.moka_hist.specs.declared.tables.TableOp.TheVariants as op
 use Rattle.moka_hist.specs.declared.tables.TableAnswer.{TableAnswer}
@@ -51,6 +53,11 @@ times_other n k m apart = by (eqb_tells n m)
 one_more : (b : Bool) (n : ℕ) → cond b n (n + 1) ≤ n + 1
 one_more true n = omega arith
 one_more false n = omega arith
+
+-- a removal takes one out at most
+no_more : (b : Bool) (n : ℕ) → cond b (n - 1) n ≤ n
+no_more true n = omega arith
+no_more false n = omega arith
 
 module _ {K V T C : Type 0} (t : Table.Ghosts T K V C) (eq : K → K → Bool) where
   -- a table may leave operations undecided for no longer than the reference allows
@@ -114,6 +121,102 @@ module _ {K V T C : Type 0} (t : Table.Ghosts T K V C) (eq : K → K → Bool) w
           first = s.first ∙ is.first;
         };
       }
+  decides n (op.InsertIfAbsent key stored) old new call on answer part s is =
+      by (part.stored key) refl
+    where
+      by : (there : Option (K × Stored V)) → part.stored key ≡ there →
+          Decided n (op.InsertIfAbsent key stored) part new answer
+      by None e =
+          let found : t.map old key ≡ None = is.map key ∙ e in
+          let keys : t.count new ≡ part.keys + 1 =
+          s.moves.2 ∙ ap (λ x. cond (is_some x) (t.count old) (t.count old + 1)) found
+          ∙ ap (λ k. k + 1) is.keys in
+          let counted : (written eq n part key stored).keys ≡ part.keys + 1 =
+          ap (λ x. cond (is_some x) part.keys (part.keys + 1)) e in
+          record {
+            after = written eq n part key stored;
+            operates = (
+              s.moves.0 ∙ ap answer_of (is.map key),
+              sym (ap (λ x. by_pair x part (written eq n part key stored)) e),
+            );
+            is = record {
+              map = λ q.
+                  s.moves.1 q
+                  ∙ ap (λ x. cond (is_some x) (t.map old)
+                  (put_key eq (t.map old) key (Some (key, stored))) q) found
+                  ∙ ap (λ x. cond (eq key q) (Some (key, stored)) x) (is.map q);
+              keys = keys ∙ sym counted;
+              peak = omega (arith, s.peak, keys, counted, is.peak);
+              first = s.first ∙ is.first;
+            };
+          }
+      by (Some pair) e =
+          let found : t.map old key ≡ Some pair = is.map key ∙ e in
+          let keys : t.count new ≡ t.count old =
+          s.moves.2 ∙ ap (λ x. cond (is_some x) (t.count old) (t.count old + 1)) found in
+          record {
+            after = part;
+            operates = (
+              s.moves.0 ∙ ap answer_of (is.map key),
+              sym (ap (λ x. by_pair x part (written eq n part key stored)) e),
+            );
+            is = record {
+              map = λ q.
+                  s.moves.1 q
+                  ∙ ap (λ x. cond (is_some x) (t.map old)
+                  (put_key eq (t.map old) key (Some (key, stored))) q) found
+                  ∙ is.map q;
+              keys = keys ∙ is.keys;
+              peak = omega (arith, s.peak, keys, s.holds, is.peak);
+              first = s.first ∙ is.first;
+            };
+          }
+  decides n (op.RemoveIf key stamp) old new call on answer part s is =
+      by (taken_by stamp (part.stored key)) refl
+    where
+      by : (out : Option (K × Stored V)) → taken_by stamp (part.stored key) ≡ out →
+          Decided n (op.RemoveIf key stamp) part new answer
+      by None e =
+          let found : taken_by stamp (t.map old key) ≡ None = ap (taken_by stamp) (is.map key) ∙ e in
+          let keys : t.count new ≡ t.count old =
+          s.moves.2 ∙ ap (λ x. cond (is_some x) (t.count old - 1) (t.count old)) found in
+          record {
+            after = part;
+            operates = (
+              s.moves.0 ∙ ap (λ x. answer_of (taken_by stamp x)) (is.map key),
+              sym (ap (λ x. by_pair x (removed eq n part key) part) e),
+            );
+            is = record {
+              map = λ q.
+                  s.moves.1 q
+                  ∙ ap (λ x. cond (is_some x) (put_key eq (t.map old) key None) (t.map old) q) found
+                  ∙ is.map q;
+              keys = keys ∙ is.keys;
+              peak = omega (arith, s.peak, keys, s.holds, is.peak);
+              first = s.first ∙ is.first;
+            };
+          }
+      by (Some pair) e =
+          let found : taken_by stamp (t.map old key) ≡ Some pair =
+          ap (taken_by stamp) (is.map key) ∙ e in
+          let keys : t.count new ≡ t.count old - 1 =
+          s.moves.2 ∙ ap (λ x. cond (is_some x) (t.count old - 1) (t.count old)) found in
+          record {
+            after = removed eq n part key;
+            operates = (
+              s.moves.0 ∙ ap (λ x. answer_of (taken_by stamp x)) (is.map key),
+              sym (ap (λ x. by_pair x (removed eq n part key) part) e),
+            );
+            is = record {
+              map = λ q.
+                  s.moves.1 q
+                  ∙ ap (λ x. cond (is_some x) (put_key eq (t.map old) key None) (t.map old) q) found
+                  ∙ ap (λ x. cond (eq key q) None x) (is.map q);
+              keys = keys ∙ ap (λ k. k - 1) is.keys;
+              peak = omega (arith, s.peak, keys, s.holds, is.peak);
+              first = s.first ∙ is.first;
+            };
+          }
 
   -- by how much a step may raise how long operations stay undecided
   raises : (o : TableOp K V) (old new : T) (call on : C) (turned : TableTurn K V) → Stepped t eq o old call turned new on
@@ -124,6 +227,14 @@ module _ {K V T C : Type 0} (t : Table.Ghosts T K V C) (eq : K → K → Bool) w
       let more = one_more (is_some (t.map old key)) (t.count old) in
       let count : t.count new ≡ cond (is_some (t.map old key)) (t.count old) (t.count old + 1) = s.moves.2 in
       omega (arith, s.peak, s.first, count, more, s.holds)
+  raises (op.InsertIfAbsent key stored) old new call on (turn.Decided answer) s =
+      let more = one_more (is_some (t.map old key)) (t.count old) in
+      let count : t.count new ≡ cond (is_some (t.map old key)) (t.count old) (t.count old + 1) = s.moves.2 in
+      omega (arith, s.peak, s.first, count, more, s.holds)
+  raises (op.RemoveIf key stamp) old new call on (turn.Decided answer) s =
+      let fewer = no_more (is_some (taken_by stamp (t.map old key))) (t.count old) in
+      let count : t.count new ≡ cond (is_some (taken_by stamp (t.map old key))) (t.count old - 1) (t.count old) = s.moves.2 in
+      omega (arith, s.peak, s.first, count, fewer, s.holds)
 
 module _ {K V T C : Type 0} {same : PartialEq.Ghosts K} {hash : Hash.Ghosts K} (t : Table.Ghosts T K V C) (eq : K → K → Bool) where
   -- an undecided step

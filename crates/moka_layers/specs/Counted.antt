@@ -10,8 +10,10 @@ use Rattle.moka_layers.specs.Layers.{GroundIs, work_of}
 use Rattle.moka_layers.specs.declared.layers.Layers.{Layers}
 
 -- it is so in each world that they stand for
-pub counted : {K V T C : Type 0} {same : PartialEq.Ghosts K} {hash : Hash.Ghosts K} (t : Table.Ghosts T K V C) (eq : K → K → Bool)
-    (layers : Layers K V T C same hash) (w : World K V) → GroundIs eq t layers w → Counts w (work_of t layers)
+pub counted : {K V T C : Type 0} {same : PartialEq.Ghosts K} {hash : Hash.Ghosts K}
+    (t : Table.Ghosts T K V C) (eq : K → K → Bool) (layers : Layers K V T C same hash)
+    (w : World K V) → GroundIs eq t layers w
+    → Counts w (work_of t layers)
 counted t eq layers w h =
     let writes = h.world.desk.writes in
     record { owed = ap length writes.owed; logged = ap length writes.log; size = writes.size }

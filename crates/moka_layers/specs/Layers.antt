@@ -1,5 +1,6 @@
 -- What the layers of a cache stand for.
-use Rattle.std.specs.Prelude.{◌≡◌, ◌≢◌, ◌≤◌, ℕ, ◌+◌, Bool, length, Option, Some, None, IfSome, IsSome}
+use Rattle.std.specs.Prelude.{◌≡◌, ◌≢◌, ◌≤◌, ℕ, ◌+◌, Bool, length, Option, Some, None, IfSome}
+use Rattle.std.specs.Prelude.{IsSome}
 use Rattle.std.specs.Option.{option_and_then, option_map_or}
 use Rattle.std.specs.declared.cmp.PartialEq as PartialEq
 use Rattle.std.specs.declared.hash.Hash as Hash
@@ -17,9 +18,10 @@ use Rattle.moka_desk.specs.Sizes.{owed_in, logged_in, room_in}
 use Rattle.moka_init.specs.Grounds.{Account, MayWant, nothing_told}
 use Rattle.moka_layers.specs.declared.layers.Layers.{Layers}
 
--- The table has the map, and as many keys. It never had more than the reference's, and its first array was no longer than
--- the reference allows.
-pub record TableIs {K V T C : Type 0} (t : Table.Ghosts T K V C) (table : T) (part : TablePart K V) : Type 0 where
+-- The table has the map, and as many keys. It never had more than the reference's, and its first
+-- array was no longer than the reference allows.
+pub record TableIs {K V T C : Type 0} (t : Table.Ghosts T K V C) (table : T)
+    (part : TablePart K V) : Type 0 where
   pub map : (q : K) → t.map table q ≡ part.stored q
   pub keys : t.count table ≡ part.keys
   pub peak : t.peak table ≤ part.peak
@@ -38,20 +40,27 @@ module _ {K V T C : Type 0} where
   abbrev pub left_in : Table.Ghosts T K V C → T → Option C → ℕ
   left_in t table begun = option_map_or (λ c. t.left table c) begun (most_on t table)
 
--- What a call has begun on the table: it may go on with it, and does so for no longer than the reference allows.
-pub record BegunIs {K V T C : Type 0} (t : Table.Ghosts T K V C) (table : T) (call : ℕ) (begun : Option C) (part : TablePart K V) (stay : Stay) : Type 0 where
+-- What a call has begun on the table: it may go on with it, and does so for no longer than the
+-- reference allows.
+pub record BegunIs {K V T C : Type 0} (t : Table.Ghosts T K V C) (table : T) (call : ℕ)
+    (begun : Option C) (part : TablePart K V) (stay : Stay) : Type 0 where
   pub fits : IfSome begun (λ c. t.fits table c × IsSome (t.operation_of c))
   pub within : left_in t table begun ≤ most_on t table
   pub patient : times_of stay call + left_in t table begun ≤ most_undecided part
 
--- Table and desk are those of the world. Who made its last step on the table had a number given out.
-pub record WorldIs {K V T C : Type 0} {same : PartialEq.Ghosts K} {hash : Hash.Ghosts K} (eq : K → K → Bool) (t : Table.Ghosts T K V C) (layers : Layers K V T C same hash) (w : World K V) : Type 0 where
+-- Table and desk are those of the world. Who made its last step on the table had a number given
+-- out.
+pub record WorldIs {K V T C : Type 0} {same : PartialEq.Ghosts K} {hash : Hash.Ghosts K}
+    (eq : K → K → Bool) (t : Table.Ghosts T K V C) (layers : Layers K V T C same hash)
+    (w : World K V) : Type 0 where
   pub table : TableIs t layers.table w.table
   pub desk : desk.StandsFor eq layers.desk w.desk
   pub stay : w.stay.call ≤ w.desk.last
 
 -- They are so for the call that reaches them, with what it has begun.
-pub record GroundIs {K V T C : Type 0} {same : PartialEq.Ghosts K} {hash : Hash.Ghosts K} (eq : K → K → Bool) (t : Table.Ghosts T K V C) (layers : Layers K V T C same hash) (w : World K V) : Type 0 where
+pub record GroundIs {K V T C : Type 0} {same : PartialEq.Ghosts K} {hash : Hash.Ghosts K}
+    (eq : K → K → Bool) (t : Table.Ghosts T K V C) (layers : Layers K V T C same hash)
+    (w : World K V) : Type 0 where
   pub world : WorldIs eq t layers w
   pub begun : BegunIs t layers.table layers.call layers.begun w.table w.stay
   pub given : layers.call ≤ w.desk.last
@@ -77,20 +86,29 @@ module _ {K V T C : Type 0} {same : PartialEq.Ghosts K} {hash : Hash.Ghosts K} w
   }
 
   -- some world that they stand for allows what is wanted
-  abbrev pub Allows : (K → K → Bool) → Table.Ghosts T K V C → Layers K V T C same hash → Want K V → Type 0
-  Allows eq t layers wish = (w : World K V) × GroundIs eq t layers w × MayWant w (operation_in t layers.begun) wish
+  abbrev pub Allows : (K → K → Bool) → Table.Ghosts T K V C → Layers K V T C same hash → Want K V
+      → Type 0
+  Allows eq t layers wish =
+      (w : World K V) × GroundIs eq t layers w × MayWant w (operation_in t layers.begun) wish
 
   -- what other calls have begun there they may still go on with
-  abbrev pub OthersStay : Table.Ghosts T K V C → Layers K V T C same hash → World K V → Layers K V T C same hash → World K V → Type 0
+  abbrev pub OthersStay : Table.Ghosts T K V C → Layers K V T C same hash → World K V
+      → Layers K V T C same hash → World K V → Type 0
   OthersStay t old w new after =
-      (n : ℕ) (begun : Option C) → old.call ≢ n → BegunIs t old.table n begun w.table w.stay → BegunIs t new.table n begun after.table after.stay
+      (n : ℕ) (begun : Option C) → old.call ≢ n → BegunIs t old.table n begun w.table w.stay
+      → BegunIs t new.table n begun after.table after.stay
 
-  -- the access gave this, and made its change to each world that the layers stood for and that allows it
-  abbrev pub Serves : (K → K → Bool) → Table.Ghosts T K V C → Layers K V T C same hash → Access K V → Got K V → Layers K V T C same hash → Type 0
+  -- the access gave this, and made its change to each world that the layers stood for and that
+  -- allows it
+  abbrev pub Serves : (K → K → Bool) → Table.Ghosts T K V C → Layers K V T C same hash → Access K V
+      → Got K V → Layers K V T C same hash → Type 0
   Serves eq t old access given new =
       (w : World K V) → GroundIs eq t old w → May w access
-      → (after : World K V) × Gets eq old.call w access given after × GroundIs eq t new after × OthersStay t old w new after
+      → (after : World K V) × Gets eq old.call w access given after × GroundIs eq t new after
+      × OthersStay t old w new after
 
   -- the layers stand for what they stood for
-  abbrev pub Keeps : (K → K → Bool) → Table.Ghosts T K V C → Layers K V T C same hash → Layers K V T C same hash → Type 0
-  Keeps eq t old new = (w : World K V) → GroundIs eq t old w → GroundIs eq t new w × OthersStay t old w new w
+  abbrev pub LayersStay : (K → K → Bool) → Table.Ghosts T K V C → Layers K V T C same hash
+      → Layers K V T C same hash → Type 0
+  LayersStay eq t old new =
+      (w : World K V) → GroundIs eq t old w → GroundIs eq t new w × OthersStay t old w new w

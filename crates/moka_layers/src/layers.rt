@@ -31,8 +31,10 @@ impl<K: Eq + Hash + Clone + Drop, V: Clone + Drop, C: Drop, T: Table<K, V, Call 
     ghost use Rattle.moka_hist.specs.State.{World};
     ghost use Rattle.moka_hist.specs.Step.{Access, On_table, On_desk};
     ghost use Rattle.moka_hist.specs.declared.tables.TableOp.{TableOp};
-    ghost use Rattle.moka_init.specs.Grounds.{Accesses, Lacks, OfWanted, VisitNeedsMemory, NeedsMemory, still_begun};
-    ghost use Rattle.moka_layers.specs.Layers.{GroundIs, Allows, Serves, Keeps, account_of, most_on, operation_in};
+    ghost use Rattle.moka_init.specs.Grounds.{Accesses, Lacks, OfWanted, VisitNeedsMemory};
+    ghost use Rattle.moka_init.specs.Grounds.{NeedsMemory, still_begun};
+    ghost use Rattle.moka_layers.specs.Layers.{GroundIs, Allows, Serves, LayersStay, account_of};
+    ghost use Rattle.moka_layers.specs.Layers.{most_on, operation_in};
 
     // Makes a step of the operation that was begun. It stays begun where it is undecided, or memory
     // was wanting.
@@ -48,7 +50,7 @@ impl<K: Eq + Hash + Clone + Drop, V: Clone + Drop, C: Drop, T: Table<K, V, Call 
             → Accesses (account_of T.Table (record self.old { begun = Some call })) (On_table o)
             given (account_of T.Table self.new)) }
         ensures err { OnErr result
-            (Keeps K.eq T.Table (record self.old { begun = Some call }) self.new) }
+            (LayersStay K.eq T.Table (record self.old { begun = Some call }) self.new) }
         ensures err_account { OnErr result (account_of T.Table self.new
             ≡ account_of T.Table (record self.old { begun = Some call })) }
         ensures call { self.new.call ≡ self.old.call }
@@ -78,7 +80,7 @@ impl<K: Eq + Hash + Clone + Drop, V: Clone + Drop, C: Drop, T: Table<K, V, Call 
             Serves K.eq T.Table self.old (On_table operation) given self.new) }
         ensures tells { IfOk result (λ given. Accesses (account_of T.Table self.old)
             (On_table operation) given (account_of T.Table self.new)) }
-        ensures err { OnErr result (Keeps K.eq T.Table self.old self.new) }
+        ensures err { OnErr result (LayersStay K.eq T.Table self.old self.new) }
         ensures err_account { OnErr result
             (account_of T.Table self.new ≡ account_of T.Table self.old) }
         ensures call { self.new.call ≡ self.old.call }
@@ -106,7 +108,7 @@ impl<K: Eq + Hash + Clone + Drop, V: Clone + Drop, C: Drop, T: Table<K, V, Call 
             → operation_in T.Table self.old.begun ≡ Some o
             → Accesses (account_of T.Table self.old) (On_table o) given
             (account_of T.Table self.new)) }
-        ensures err { OnErr result (Keeps K.eq T.Table self.old self.new) }
+        ensures err { OnErr result (LayersStay K.eq T.Table self.old self.new) }
         ensures err_account { OnErr result
             (account_of T.Table self.new ≡ account_of T.Table self.old) }
         ensures call { self.new.call ≡ self.old.call }
@@ -127,7 +129,7 @@ impl<K: Eq + Hash + Clone + Drop, V: Clone + Drop, C: Drop, T: Table<K, V, Call 
             Serves K.eq T.Table self.old (On_desk visit) given self.new) }
         ensures tells { IfOk result (λ given. Accesses (account_of T.Table self.old)
             (On_desk visit) given (account_of T.Table self.new)) }
-        ensures err { OnErr result (Keeps K.eq T.Table self.old self.new) }
+        ensures err { OnErr result (LayersStay K.eq T.Table self.old self.new) }
         ensures err_needs { OnErr result ((w : World K V) → GroundIs K.eq T.Table self.old w
             → VisitNeedsMemory w.desk visit) }
         ensures err_account { OnErr result
@@ -153,7 +155,7 @@ impl<K: Eq + Hash + Clone + Drop, V: Clone + Drop, C: Drop, T: Table<K, V, Call 
             (account_of T.Table self.new))) }
         ensures call { self.new.call ≡ self.old.call }
         // Without memory.
-        ensures err { OnErr result (Keeps K.eq T.Table self.old self.new) }
+        ensures err { OnErr result (LayersStay K.eq T.Table self.old self.new) }
         ensures err_account { OnErr result
             (account_of T.Table self.new ≡ account_of T.Table self.old) }
         ensures err_needs { OnErr result (OfWanted (account_of T.Table self.old) want

@@ -2,15 +2,15 @@
 ghost use Rattle.std.specs.Prelude.{IfOk, OnErr};
 ghost use Rattle.moka_hist.specs.Finite.{IsExact};
 ghost use Rattle.moka_desk.specs.StandsFor.{Can};
-ghost use Rattle.moka_layers.specs.Visiting.{VisitIs, JudgeIs, Keeps, Lacks};
+ghost use Rattle.moka_layers.specs.Visiting.{HoldsIs, JudgeIs, DeskStays, VisitLacks, VisitIs};
 
 use moka_desk::Desk;
 use moka_hist::{Cause, Found, Load, Settled, Takes, Visit};
 use std::alloc::AllocError;
 use std::hash::Hash;
 
-/// Makes the visit. After want of memory the desk stands for what it stood for. Which calls it woke is
-/// let go: nobody polls them here.
+/// Makes the visit. After want of memory the desk stands for what it stood for. Which calls it woke
+/// is let go: nobody polls them here.
 pub(crate) fn make_visit<K: Eq + Hash + Clone + Drop, V: Clone + Drop>(
     desk: &mut Desk<K, V>,
     visit: Visit<K, V>,
@@ -19,15 +19,15 @@ pub(crate) fn make_visit<K: Eq + Hash + Clone + Drop, V: Clone + Drop>(
     requires values { IsExact V.is_clone }
     requires can { Can K.eq desk.old visit }
     ensures ok { IfOk result (λ found. VisitIs K.eq desk.old visit found desk.new) }
-    ensures err { OnErr result (Keeps K.eq desk.old desk.new) }
-    ensures err_needs { OnErr result (Lacks K.eq desk.old visit) }
+    ensures err { OnErr result (DeskStays K.eq desk.old desk.new) }
+    ensures err_needs { OnErr result (VisitLacks K.eq desk.old visit) }
 {
     match visit {
-        Visit::Clock { .. } => Ok(Found::Clock(desk.clock())),
+        Visit::Clock { call } => Ok(Found::Clock(desk.read_clock(call))),
         Visit::TakeOwed { call } => Ok(Found::TakeOwed(desk.take_owed(call))),
         Visit::NoticeEnded { call, notice } => notice_ended(desk, call, notice),
         Visit::LockKey { call, key } => lock_key(desk, call, key),
-        Visit::UnlockKey { call } => Ok(unlock_key(desk, call)),
+        Visit::UnlockKey { call, wrote } => Ok(unlock_key(desk, call, wrote)),
         Visit::OpenNotice {
             call,
             key,
@@ -39,6 +39,9 @@ pub(crate) fn make_visit<K: Eq + Hash + Clone + Drop, V: Clone + Drop>(
         } => open_notice(desk, call, key, value, stamp, modified, cause, upsert),
         Visit::StampMoment { call } => stamp_moment(desk, call),
         Visit::Judge { stored, .. } => judge(desk, stored.stamp, stored.modified),
+        Visit::Holds { stored, cause, .. } => {
+            Ok(holds(desk, stored.stamp, stored.modified, cause))
+        }
         Visit::WaitOrOwn { call, key, kind } => wait_or_own(desk, call, Load { key, kind }),
         Visit::ReadSettled { call } => read_settled(desk, call),
         Visit::Settle { call, with } => Ok(settle(desk, call, with)),
@@ -58,7 +61,7 @@ fn stamp_moment<K: Eq + Hash + Clone + Drop, V: Clone + Drop>(
     requires { Can K.eq desk.old (Visit.StampMoment call) }
     ensures ok { IfOk result (λ found.
         VisitIs K.eq desk.old (Visit.StampMoment call) found desk.new) }
-    ensures err { OnErr result (Keeps K.eq desk.old desk.new) }
+    ensures err { OnErr result (DeskStays K.eq desk.old desk.new) }
 {
     let moment = desk.stamp_moment(call)?;
     Ok(Found::StampMoment(moment))
@@ -70,10 +73,21 @@ fn judge<K: Eq + Hash + Clone + Drop, V: Clone + Drop>(
     modified: u64,
 ) -> Result<Found<V>, AllocError>
     ensures ok { IfOk result (λ found. JudgeIs K.eq desk.old stamp modified found desk.new) }
-    ensures err { OnErr result (Keeps K.eq desk.old desk.new) }
+    ensures err { OnErr result (DeskStays K.eq desk.old desk.new) }
 {
     let seen = desk.judge(stamp, modified)?;
     Ok(Found::Judge(seen))
+}
+
+fn holds<K: Eq + Hash + Clone + Drop, V: Clone + Drop>(
+    desk: &mut Desk<K, V>,
+    stamp: u64,
+    modified: u64,
+    cause: Cause,
+) -> Found<V>
+    ensures { HoldsIs K.eq desk.old stamp modified cause result desk.new }
+{
+    Found::Holds(desk.holds(stamp, modified, cause))
 }
 
 fn wait_or_own<K: Eq + Hash + Clone + Drop, V: Clone + Drop>(
@@ -85,7 +99,7 @@ fn wait_or_own<K: Eq + Hash + Clone + Drop, V: Clone + Drop>(
     requires can { Can K.eq desk.old (Visit.WaitOrOwn call load.key load.kind) }
     ensures ok { IfOk result (λ found.
         VisitIs K.eq desk.old (Visit.WaitOrOwn call load.key load.kind) found desk.new) }
-    ensures err { OnErr result (Keeps K.eq desk.old desk.new) }
+    ensures err { OnErr result (DeskStays K.eq desk.old desk.new) }
 {
     let claim = desk.wait_or_own(call, load)?;
     Ok(Found::WaitOrOwn(claim))
@@ -99,7 +113,7 @@ fn read_settled<K: Eq + Hash + Clone + Drop, V: Clone + Drop>(
     requires can { Can K.eq desk.old (Visit.ReadSettled call) }
     ensures ok { IfOk result (λ found.
         VisitIs K.eq desk.old (Visit.ReadSettled call) found desk.new) }
-    ensures err { OnErr result (Keeps K.eq desk.old desk.new) }
+    ensures err { OnErr result (DeskStays K.eq desk.old desk.new) }
 {
     let settled = desk.read_settled(call)?;
     Ok(Found::ReadSettled(settled))
@@ -113,7 +127,7 @@ fn open_ask<K: Eq + Hash + Clone + Drop, V: Clone + Drop>(
     requires { Can K.eq desk.old (Visit.OpenAsk call takes) }
     ensures ok { IfOk result (λ found.
         VisitIs K.eq desk.old (Visit.OpenAsk call takes) found desk.new) }
-    ensures err { OnErr result (Keeps K.eq desk.old desk.new) }
+    ensures err { OnErr result (DeskStays K.eq desk.old desk.new) }
 {
     desk.open_ask(call, takes)?;
     Ok(Found::OpenAsk)
@@ -149,8 +163,8 @@ fn notice_ended<K: Eq + Hash + Clone + Drop, V: Clone + Drop>(
 ) -> Result<Found<V>, AllocError>
     ensures ok { IfOk result (λ found.
         VisitIs K.eq desk.old (Visit.NoticeEnded call notice) found desk.new) }
-    ensures err { OnErr result (Keeps K.eq desk.old desk.new) }
-    ensures err_needs { OnErr result (Lacks K.eq desk.old (Visit.NoticeEnded call notice)) }
+    ensures err { OnErr result (DeskStays K.eq desk.old desk.new) }
+    ensures err_needs { OnErr result (VisitLacks K.eq desk.old (Visit.NoticeEnded call notice)) }
 {
     let ended = desk.notice_ended(call, notice)?;
     Ok(Found::NoticeEnded(ended))
@@ -165,7 +179,7 @@ fn lock_key<K: Eq + Hash + Clone + Drop, V: Clone + Drop>(
     requires can { Can K.eq desk.old (Visit.LockKey call key) }
     ensures ok { IfOk result (λ found.
         VisitIs K.eq desk.old (Visit.LockKey call key) found desk.new) }
-    ensures err { OnErr result (Keeps K.eq desk.old desk.new) }
+    ensures err { OnErr result (DeskStays K.eq desk.old desk.new) }
 {
     let locked = desk.lock_key(call, &key)?;
     Ok(Found::LockKey(locked))
@@ -174,11 +188,12 @@ fn lock_key<K: Eq + Hash + Clone + Drop, V: Clone + Drop>(
 fn unlock_key<K: Eq + Hash + Clone + Drop, V: Clone + Drop>(
     desk: &mut Desk<K, V>,
     call: u64,
+    wrote: bool,
 ) -> Found<V>
-    requires { Can K.eq desk.old (Visit.UnlockKey call) }
-    ensures { VisitIs K.eq desk.old (Visit.UnlockKey call) result desk.new }
+    requires { Can K.eq desk.old (Visit.UnlockKey call wrote) }
+    ensures { VisitIs K.eq desk.old (Visit.UnlockKey call wrote) result desk.new }
 {
-    let _ = desk.unlock_key(call);
+    let _ = desk.unlock_key(call, wrote);
     Found::UnlockKey
 }
 
@@ -196,7 +211,7 @@ fn open_notice<K: Eq + Hash + Clone + Drop, V: Clone + Drop>(
         (Visit.OpenNotice call key value stamp modified cause upsert) }
     ensures ok { IfOk result (λ found. VisitIs K.eq desk.old
         (Visit.OpenNotice call key value stamp modified cause upsert) found desk.new) }
-    ensures err { OnErr result (Keeps K.eq desk.old desk.new) }
+    ensures err { OnErr result (DeskStays K.eq desk.old desk.new) }
 {
     let told = desk.open_notice(call, key, value, stamp, modified, cause, upsert)?;
     Ok(Found::OpenNotice(told))
@@ -209,8 +224,8 @@ fn take_turn<K: Eq + Hash + Clone + Drop, V: Clone + Drop>(
     requires { Can K.eq desk.old (Visit.TakeTurn call) }
     ensures ok { IfOk result (λ found.
         VisitIs K.eq desk.old (Visit.TakeTurn call) found desk.new) }
-    ensures err { OnErr result (Keeps K.eq desk.old desk.new) }
-    ensures err_needs { OnErr result (Lacks K.eq desk.old (Visit.TakeTurn call)) }
+    ensures err { OnErr result (DeskStays K.eq desk.old desk.new) }
+    ensures err_needs { OnErr result (VisitLacks K.eq desk.old (Visit.TakeTurn call)) }
 {
     let taken = desk.take_turn(call)?;
     Ok(Found::TakeTurn(taken))

@@ -9,24 +9,34 @@ usage: moka play < SCHEDULE > REPORT
 
 play runs a schedule on a cache of one thread, and writes a report of it.
 
-A schedule is lines of text. The first line is one of
-  cache                      a cache whose write log has room for 384 writes
-  cache log=N                the same with room for N writes, from 1 to 65536
+A schedule is lines of text. The first line is cache, and then these options, each or not, in this
+order:
+  cap=N                      the capacity is N; a cache of capacity 0 stores nothing
+  log=N                      the write log has room for N writes, from 1 to 65536, and not for 384
+  listener                   a listener hears of each record that is replaced or taken out
 and each other line is an event:
   at MOMENT                  the clock moves on to the moment, in nanoseconds
   start get KEY              a call looks the key up
   start insert KEY VALUE     a call stores the value under the key
   start get_with KEY         a call looks the key up, and loads its value where there is none
+  start invalidate KEY       a call takes the key's record out
+  start remove KEY           a call takes the key's record out, and answers its value
+  start evict KEY STAMP CAUSE
+                             a call takes the key's record out, where it is the one of this stamp
+                             and has to leave for this cause: Expired, Explicit, Replaced or Size
   step CALL                  the call makes one step
   poll CALL                  the call makes steps until it waits, asks or answers
   tell CALL value VALUE      the open ask of the call is told the value
-  tell CALL done             the open ask is told that it is done; no ask takes this yet
+  tell CALL done             the open notice of this number ends: the listener has heard
+  tell CALL off              the same, and the listener hears of no further record
   drop CALL                  the call is dropped where it stands
-Keys and values are below 2^32, moments and calls below 2^64, all in decimal.
-Calls are numbered from 1, as they are started. One that waits is not woken: it is polled again.
+Keys and values are below 2^32, moments, stamps and calls below 2^64, all in decimal.
+Calls are numbered from 1, as they are started. A record's stamp is the call that wrote it.
+A call that waits is not woken: it is polled again.
 
 A report is a line for each event, then for each stored record, ascending by key,
-then for each committed write, ascending by number, with where it stands.
+then for each committed write, ascending by number, with where it stands,
+then for each notice, ascending by number, with how far it is.
 
 exit status: 0 done, 1 bad words, 2 bad line, 3 too long, 4 read fault,
              5 write fault, 6 memory; but at 0 a line on standard error says which

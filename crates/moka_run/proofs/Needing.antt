@@ -17,7 +17,7 @@ use Rattle.moka_desk.specs.declared.state.Desk.{Desk}
 use Rattle.moka_init.specs.declared.flow.Flow.{Flow}
 use Rattle.moka_init.specs.Grounds.{NeedsMemory, TakesCopies, VisitNeedsMemory, access_at}
 use Rattle.moka_init.specs.Steps.{MayLack}
-use Rattle.moka_run.specs.Machine.{StandsFor}
+use Rattle.moka_run.specs.Machine.{MachineIs}
 use Rattle.moka_run.specs.Running.{CallNeedsMemory}
 use Rattle.moka_run.specs.declared.machine.Machine.{Machine}
 use Rattle.moka_run.proofs.Places.{set_at}
@@ -29,6 +29,7 @@ module _ {K V : Type 0} where
   copies_need w (step.On_desk (visit.LockKey n key)) copies = tt
   copies_need w (step.On_desk (visit.OpenNotice n key value stamp modified cause upsert)) copies = tt
   copies_need w (step.On_desk (visit.Judge key stored)) copies = tt
+  copies_need w (step.On_desk (visit.Holds key stored cause)) copies = tt
   copies_need w (step.On_desk (visit.WaitOrOwn n key kind)) copies = tt
   copies_need w (step.On_desk (visit.Settle n with)) copies = tt
   copies_need w (step.On_desk _) copies = absurd copies
@@ -64,7 +65,7 @@ module _ {K V : Type 0} {same : PartialEq.Ghosts K} {hash : Hash.Ghosts K} (eq :
 
 -- whatever state the machine stands for, the call that was put back is live in it, and stands there
 pub call_needs : {K V : Type 0} {same : PartialEq.Ghosts K} {hash : Hash.Ghosts K} (eq : K → K → Bool) (m : Machine K V same hash) (n : ℕ) (d : Call K V)
-    (others : ℕ → Option (Call K V)) (w : World K V) (s : State K V) → StandsFor eq m (record { world = w; calls = put_at others n (Some d) }) → StandsFor eq m s
+    (others : ℕ → Option (Call K V)) (w : World K V) (s : State K V) → MachineIs eq m (record { world = w; calls = put_at others n (Some d) }) → MachineIs eq m s
     → NeedsMemory w (access_of n d) → CallNeedsMemory s n
 call_needs {K} {V} eq m n d others w s back stands needs =
     let live : s.calls n ≡ Some d = sym (stands.calls n) ∙ back.calls n ∙ set_at others n (Some d) in

@@ -44,4 +44,5 @@ module _ {K V : Type 0} {same : PartialEq.Ghosts K} {hash : Hash.Ghosts K} (eq :
               begun = stay k x.begun apart is.begun;
               given = subst (λ (n : ℕ). k ≤ n) (sym last) is.given;
             };
+        used = λ k ne. h.used k (λ e. ne (call ∙ e));
       }

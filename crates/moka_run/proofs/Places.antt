@@ -1,10 +1,11 @@
 -- Calls that are put into their places and taken out.
-use Rattle.std.proofs.Common.{◌≡◌, ◌≢◌, ◌==◌, ℕ, true, false, cond, Option, Some, None, refl, sym, ap, subst, ◌∙◌, ◌⊎◌, inl, inr}
+use Rattle.std.proofs.Common.{◌≡◌, ◌≢◌, ◌==◌, ℕ, Bool, true, false, cond, Option, Some, None, refl, sym, ap, subst, ◌∙◌, ◌⊎◌, inl, inr}
 use Rattle.std.specs.Option.{option_map}
 use Rattle.std.proofs.lemmas.Bool.Decides.{eqb_tells}
 use Rattle.moka_hist.specs.Finite.{put_at}
 use Rattle.moka_hist.specs.State.{Call}
 use Rattle.moka_run.specs.declared.calls.Running.{Running}
+use Rattle.moka_run.specs.Calls.{IsUsed, emptied, runs_in}
 use Rattle.moka_run.specs.Machine.{call_in}
 
 -- what is at the place that was set, or at another
@@ -52,10 +53,40 @@ module _ {K V : Type 0} where
       by (inl f) = subst (λ (m : ℕ). Q m x) f.0 (is x (sym f.1 ∙ sym (news k) ∙ e))
       by (inr f) = olds k x (sym f.1 ∙ sym (news k) ∙ e)
 
-  -- taking what isn't there changes nothing
-  pub unset_same : (old new : ℕ → Option (Running K V)) (n : ℕ) → old n ≡ None → ((k : ℕ) → new k ≡ put_at old n None k) → (k : ℕ) → new k ≡ old k
-  unset_same old new n none news k = by (set_or_other old n None k)
+  -- the calls that run, where one place was set
+  pub runs_at : (old new : ℕ → Option (Option (Running K V))) (n : ℕ) (p : Option (Option (Running K V))) → ((k : ℕ) → new k ≡ put_at old n p k)
+      → (k : ℕ) → runs_in (new k) ≡ put_at (λ m. runs_in (old m)) n (runs_in p) k
+  runs_at old new n p news k = ap runs_in (news k) ∙ by (n == k)
     where
-      by : ((n ≡ k) × (put_at old n None k ≡ None)) ⊎ ((n ≢ k) × (put_at old n None k ≡ old k)) → new k ≡ old k
-      by (inl e) = news k ∙ e.1 ∙ sym none ∙ ap old e.0
+      by : (b : Bool) → runs_in (cond b p (old k)) ≡ cond b (runs_in p) (runs_in (old k))
+      by true = refl
+      by false = refl
+
+  -- where a place is it is used, where one was set
+  pub set_used : (old new : ℕ → Option (Option (Running K V))) (n : ℕ) (p : Option (Option (Running K V))) → ((k : ℕ) → new k ≡ put_at old n p k) → IsUsed p
+      → ((k : ℕ) → n ≢ k → IsUsed (old k)) → (k : ℕ) → IsUsed (new k)
+  set_used old new n p news is olds k = subst (λ (x : Option (Option (Running K V))). IsUsed x) (sym (news k)) (by (set_or_other old n p k))
+    where
+      by : ((n ≡ k) × (put_at old n p k ≡ p)) ⊎ ((n ≢ k) × (put_at old n p k ≡ old k)) → IsUsed (put_at old n p k)
+      by (inl e) = subst (λ (x : Option (Option (Running K V))). IsUsed x) (sym e.1) is
+      by (inr e) = subst (λ (x : Option (Option (Running K V))). IsUsed x) (sym e.1) (olds k e.0)
+
+  -- no call runs in a place that was emptied
+  pub none_runs : (p : Option (Option (Running K V))) → runs_in (emptied p) ≡ None
+  none_runs None = refl
+  none_runs (Some r) = refl
+
+  -- a place that is used and in which no call runs is none
+  unused : (p : Option (Option (Running K V))) → runs_in p ≡ None → IsUsed p → p ≡ emptied p
+  unused None none is = refl
+  unused (Some None) none is = let f : false ≡ true = is refl in absurd (cc)
+  unused (Some (Some r)) none is = absurd (cc)
+
+  -- taking what isn't there changes nothing
+  pub untaken : (old new : ℕ → Option (Option (Running K V))) (n : ℕ) → runs_in (old n) ≡ None → IsUsed (old n) → ((k : ℕ) → new k ≡ put_at old n (emptied (old n)) k)
+      → (k : ℕ) → new k ≡ old k
+  untaken old new n none is news k = by (set_or_other old n (emptied (old n)) k)
+    where
+      by : ((n ≡ k) × (put_at old n (emptied (old n)) k ≡ emptied (old n))) ⊎ ((n ≢ k) × (put_at old n (emptied (old n)) k ≡ old k)) → new k ≡ old k
+      by (inl e) = news k ∙ e.1 ∙ sym (unused (old n) none is) ∙ ap old e.0
       by (inr e) = news k ∙ e.1

@@ -10,13 +10,13 @@ use Rattle.moka_init.specs.declared.flow.Flow.{Flow}
 use Rattle.moka_init.specs.FlowPlan.{call_of}
 use Rattle.moka_init.specs.Grounds.{HasBegun}
 use Rattle.moka_layers.specs.Layers.{BegunIs, TableIs, operation_in}
-use Rattle.moka_run.specs.Calls.{running_at}
-use Rattle.moka_run.specs.Machine.{IsOf, IsOut, Without, StandsFor}
+use Rattle.moka_run.specs.Calls.{place_at, running_at}
+use Rattle.moka_run.specs.Machine.{IsOf, IsOut, Without, MachineIs}
 use Rattle.moka_run.specs.TheTable.{TheCall, TheTable, the_table}
 use Rattle.moka_run.specs.declared.calls.Calls.{Calls}
 use Rattle.moka_run.specs.declared.calls.Running.{Running}
 use Rattle.moka_run.specs.declared.machine.Machine.{Machine}
-use Rattle.moka_run.proofs.Places.{set_calls, set_each}
+use Rattle.moka_run.proofs.Places.{runs_at, set_calls, set_each, set_used}
 
 -- a call that hasn't stepped on the table has left nothing undecided there
 not_last : (stay : Stay) (last n : ℕ) → stay.call ≤ last → last < n → times_of stay n ≡ 0
@@ -45,12 +45,13 @@ module _ {K V : Type 0} {same : PartialEq.Ghosts K} {hash : Hash.Ghosts K} (eq :
   -- the call is back in its place
   pub back_in : (m : Machine K V same hash) (n : ℕ) (flow : Flow K V) (begun after : Option (TheCall K V)) (new : Calls K V) (others : ℕ → Option (Call K V)) (w : World K V)
       → begun ≡ m.layers.begun
-      → ((k : ℕ) → running_at new k ≡ put_at (running_at m.calls) n (Some (record { flow = flow; begun = begun })) k)
+      → ((k : ℕ) → place_at new k ≡ put_at (place_at m.calls) n (Some (Some (record { flow = flow; begun = begun }))) k)
       → Without eq m n others w → IsOut eq m flow
-      → StandsFor eq (record { layers = record m.layers { begun = after }; calls = new }) (record { world = w; calls = put_at others n (Some (call_of flow)) })
+      → MachineIs eq (record { layers = record m.layers { begun = after }; calls = new }) (record { world = w; calls = put_at others n (Some (call_of flow)) })
   back_in m n flow begun after new others w same_begun puts h out =
       let back : Running K V = record { flow = flow; begun = begun } in
       let layers = h.reaches.layers in
+      let runs = runs_at (place_at m.calls) (place_at new) n (Some (Some back)) puts in
       let is : IsOf eq m.layers.table w.table w.stay w.desk.last n back =
       record {
         number = sym out.on.call ∙ h.number;
@@ -62,19 +63,22 @@ module _ {K V : Type 0} {same : PartialEq.Ghosts K} {hash : Hash.Ghosts K} (eq :
       } in
       record {
         world = record { table = layers.world.table; desk = layers.world.desk; stay = layers.world.stay };
-        calls = set_calls (running_at m.calls) (running_at new) others n (Some back) (Some (call_of flow)) refl puts h.calls;
+        calls = set_calls (running_at m.calls) (running_at new) others n (Some back) (Some (call_of flow)) refl runs h.calls;
         each = set_each (IsOf eq m.layers.table w.table w.stay w.desk.last) (running_at m.calls) (running_at new) n (Some back)
-            (λ x e. let f : back ≡ x = cc in subst (λ (r : Running K V). IsOf eq m.layers.table w.table w.stay w.desk.last n r) f is) puts h.reaches.each;
+            (λ x e. let f : back ≡ x = cc in subst (λ (r : Running K V). IsOf eq m.layers.table w.table w.stay w.desk.last n r) f is) runs h.reaches.each;
+        used = set_used (place_at m.calls) (place_at new) n (Some (Some back)) puts (λ e. e) (λ k ne. h.reaches.used k (λ e. ne (sym h.number ∙ e)));
       }
 
   -- the call has given its place up
   pub gone_out : (m : Machine K V same hash) (n : ℕ) (new : Calls K V) (others : ℕ → Option (Call K V)) (w : World K V)
-      → ((k : ℕ) → running_at new k ≡ put_at (running_at m.calls) n None k) → Without eq m n others w
-      → StandsFor eq (record { layers = record m.layers { begun = None }; calls = new }) (record { world = w; calls = put_at others n None })
+      → ((k : ℕ) → place_at new k ≡ put_at (place_at m.calls) n None k) → Without eq m n others w
+      → MachineIs eq (record { layers = record m.layers { begun = None }; calls = new }) (record { world = w; calls = put_at others n None })
   gone_out m n new others w puts h =
       let layers = h.reaches.layers in
+      let runs = runs_at (place_at m.calls) (place_at new) n None puts in
       record {
         world = record { table = layers.world.table; desk = layers.world.desk; stay = layers.world.stay };
-        calls = set_calls (running_at m.calls) (running_at new) others n None None refl puts h.calls;
-        each = set_each (IsOf eq m.layers.table w.table w.stay w.desk.last) (running_at m.calls) (running_at new) n None (λ x e. absurd (cc)) puts h.reaches.each;
+        calls = set_calls (running_at m.calls) (running_at new) others n None None refl runs h.calls;
+        each = set_each (IsOf eq m.layers.table w.table w.stay w.desk.last) (running_at m.calls) (running_at new) n None (λ x e. absurd (cc)) runs h.reaches.each;
+        used = set_used (place_at m.calls) (place_at new) n None puts (λ e. e) (λ k ne. h.reaches.used k (λ e. ne (sym h.number ∙ e)));
       }

@@ -5,8 +5,9 @@ use Rattle.std.specs.declared.hash.Hash as Hash
 use Rattle.std.specs.Option.{option_map}
 use Rattle.moka_hist.specs.State.{Call, World}
 use Rattle.moka_init.specs.declared.flow.Flow.{Flow}
-use Rattle.moka_init.specs.FlowPlan.{IsLive}
+use Rattle.moka_init.specs.FlowPlan.{StandsStill}
 use Rattle.moka_init.specs.Grounds.{Account, IsOn}
+use Rattle.moka_init.proofs.Still.{live_still, on_still}
 use Rattle.moka_layers.specs.Layers.{account_of}
 use Rattle.moka_run.specs.Calls.{running_at}
 use Rattle.moka_run.specs.Machine.{IsOut, Reaches, Without, call_in}
@@ -26,12 +27,11 @@ module _ {K V : Type 0} {same : PartialEq.Ghosts K} {hash : Hash.Ghosts K} (eq :
         calls = subst (λ (m : Calls K V). (k : ℕ) → n ≢ k → option_map call_in (running_at m k) ≡ others k) (sym calls) h.calls;
       }
 
-  -- the flow is as it was
-  pub still_out : (old new : Machine K V same hash) (before after : Flow K V) → after ≡ before
+  -- the flow stands for what it stood for
+  pub still_out : (old new : Machine K V same hash) (before after : Flow K V) → StandsStill before after
       → account_of (the_table eq) new.layers ≡ account_of (the_table eq) old.layers → IsOut eq old before → IsOut eq new after
   still_out old new before after is account out =
       record {
-        on = subst (λ (f : Flow K V). IsOn (account_of (the_table eq) new.layers) f) (sym is)
-            (subst (λ (a : Account K V). IsOn a before) (sym account) out.on);
-        live = subst (λ (f : Flow K V). IsLive f) (sym is) out.live;
+        on = on_still (account_of (the_table eq) new.layers) before after is (subst (λ (a : Account K V). IsOn a before) (sym account) out.on);
+        live = live_still before after is out.live;
       }

@@ -9,7 +9,7 @@ use Rattle.moka_hist.specs.Run.{Any, Goings, Run, IsReached}
 use Rattle.moka_hist.specs.declared.events.Event.{Event}
 use Rattle.moka_hist.specs.declared.events.Event.TheVariants as event
 use Rattle.moka_hist.specs.declared.replies.Reply.{Reply}
-use Rattle.moka_run.specs.Machine.{Begins, StandsFor}
+use Rattle.moka_run.specs.Machine.{Begins, MachineIs}
 use Rattle.moka_run.specs.Running.{StopsAt, MayStopIn}
 use Rattle.moka_run.specs.declared.machine.Machine.{Machine}
 use Rattle.moka_run.specs.declared.report.Memory.{Memory}
@@ -49,7 +49,7 @@ module _ {K V : Type 0} (eq : K → K → Bool) where
 module _ {K V : Type 0} {same : PartialEq.Ghosts K} {hash : Hash.Ghosts K} (eq : K → K → Bool) where
   -- memory was wanting between two events, or after the last
   pub stops_between : (m : Machine K V same hash) (events : List (Event K V)) (stop : Memory K V) (done : ℕ) (replies : List (Reply K V)) (s mid : State K V)
-      → stop ≡ record { done = done; steps = 0; replies = replies } → Run eq (IsLawful eq) s (take done events) replies mid → StandsFor eq m mid
+      → stop ≡ record { done = done; steps = 0; replies = replies } → Run eq (IsLawful eq) s (take done events) replies mid → MachineIs eq m mid
       → ((done ≡ 0) × (◌≡◌ {A = ℕ} 0 0)) ⊎ IfSome (slice_get events done) (MayStopIn mid)
       → StopsAt eq events stop.done stop.steps stop.replies m s
   stops_between m events stop done replies s mid is run stands cause =
@@ -59,7 +59,7 @@ module _ {K V : Type 0} {same : PartialEq.Ghosts K} {hash : Hash.Ghosts K} (eq :
   -- memory was wanting in an event
   pub stops_in : (m : Machine K V same hash) (events : List (Event K V)) (stop : Memory K V) (done steps : ℕ) (replies : List (Reply K V)) (s mid t : State K V) (e : Event K V)
       → stop ≡ record { done = done; steps = steps; replies = replies } → Run eq (IsLawful eq) s (take done events) replies mid → slice_get events done ≡ Some e
-      → ((k n : ℕ) → Goings eq Any k mid n t → Goings eq (IsLawful eq) k mid n t) → Begins eq Any mid (Some e) steps t → StandsFor eq m t → MayStopIn t e
+      → ((k n : ℕ) → Goings eq Any k mid n t → Goings eq (IsLawful eq) k mid n t) → Begins eq Any mid (Some e) steps t → MachineIs eq m t → MayStopIn t e
       → StopsAt eq events stop.done stop.steps stop.replies m s
   stops_in m events stop done steps replies s mid t e is run next lawful begins stands takes =
       subst (λ (x : Memory K V). StopsAt eq events x.done x.steps x.replies m s) (sym is)

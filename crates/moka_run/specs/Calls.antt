@@ -1,5 +1,5 @@
 -- The live calls of a machine, by number.
-use Rattle.std.specs.Prelude.{◌≡◌, ℕ, List, Option, Some, IsSome, nat_eq}
+use Rattle.std.specs.Prelude.{◌≡◌, ℕ, List, Option, Some, None, IsSome, nat_eq}
 use Rattle.std.specs.List.{filter_map}
 use Rattle.std.specs.Option.{option_and_then, option_map}
 use Rattle.std.specs.HashMap.{get}
@@ -13,13 +13,29 @@ use Rattle.moka_run.specs.declared.calls.Calls.{Calls}
 use Rattle.moka_run.specs.declared.calls.Running.{Running}
 
 module _ {K V : Type 0} where
+  -- what the number has: no place, an empty one, or one in which a call runs
+  abbrev pub place_at : Calls K V → ℕ → Option (Option (Running K V))
+  place_at calls n = get nat_eq calls.places n
+
+  -- the call that runs there
+  abbrev pub runs_in : Option (Option (Running K V)) → Option (Running K V)
+  runs_in place = option_and_then (λ r. r) place
+
+  -- where there is a place a call runs in it
+  abbrev pub IsUsed : Option (Option (Running K V)) → Type 0
+  IsUsed place = IsSome place → IsSome (runs_in place)
+
+  -- the place, if there is one, once its call was taken out
+  abbrev pub emptied : Option (Option (Running K V)) → Option (Option (Running K V))
+  emptied place = option_map (λ _. None) place
+
   -- the running call of this number
   abbrev pub running_at : Calls K V → ℕ → Option (Running K V)
-  running_at calls n = option_and_then (λ place. place) (get nat_eq calls.places n)
+  running_at calls n = runs_in (place_at calls n)
 
   -- the number has a place, where a call runs or was taken out
   abbrev pub HasPlace : Calls K V → ℕ → Type 0
-  HasPlace calls n = IsSome (get nat_eq calls.places n)
+  HasPlace calls n = IsSome (place_at calls n)
 
   -- the number of the write that the call of this place holds, where one runs
   abbrev pub held_in : Option (Running K V) → Option ℕ

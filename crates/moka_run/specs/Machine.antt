@@ -17,7 +17,7 @@ use Rattle.moka_init.specs.declared.flow.Flow.{Flow}
 use Rattle.moka_init.specs.FlowPlan.{call_of, IsLive}
 use Rattle.moka_init.specs.Grounds.{HasBegun, IsOn, MayWant, access_at, NeedsMemory}
 use Rattle.moka_layers.specs.Layers.{BegunIs, GroundIs, WorldIs, account_of, operation_in}
-use Rattle.moka_run.specs.Calls.{running_at}
+use Rattle.moka_run.specs.Calls.{running_at, place_at, IsUsed}
 use Rattle.moka_run.specs.TheTable.{TheTable, the_table}
 use Rattle.moka_run.specs.declared.calls.Running.{Running}
 use Rattle.moka_run.specs.declared.machine.Machine.{Machine}
@@ -27,15 +27,18 @@ module _ {K V : Type 0} where
   abbrev pub call_in : Running K V → Call K V
   call_in r = call_of r.flow
 
-  -- so many steps were made of the event, which is a poll, each of which left its call going, through states that meet P;
-  -- nothing of any other event, or where there is none
-  abbrev pub Begins : (K → K → Bool) → (State K V → Type 0) → State K V → Option (Event K V) → ℕ → State K V → Type 0
-  Begins eq P s (Some (event.Poll n)) steps t = (made : ℕ) × (steps ≡ as_told made) × Goings eq P made s n t
+  -- so many steps were made of the event, which is a poll, each of which left its call going,
+  -- through states that meet P; nothing of any other event, or where there is none
+  abbrev pub Begins : (K → K → Bool) → (State K V → Type 0) → State K V → Option (Event K V) → ℕ
+      → State K V → Type 0
+  Begins eq P s (Some (event.Poll n)) steps t =
+      (made : ℕ) × (steps ≡ as_told made) × Goings eq P made s n t
   Begins eq P s _ steps t = (steps ≡ 0) × (t ≡ s)
 
--- The running call is of this number, which was given out. It has something left to do, and may go on with what it has begun
--- on the table.
-pub record IsOf {K V : Type 0} (eq : K → K → Bool) (table : TheTable K V) (part : TablePart K V) (stay : Stay) (last n : ℕ) (r : Running K V) : Type 0 where
+-- The running call is of this number, which was given out. It has something left to do, and may go
+-- on with what it has begun on the table.
+pub record IsOf {K V : Type 0} (eq : K → K → Bool) (table : TheTable K V) (part : TablePart K V)
+    (stay : Stay) (last n : ℕ) (r : Running K V) : Type 0 where
   pub number : r.flow.call ≡ n
   pub live : IsLive r.flow
   pub on : HasBegun (operation_in (the_table eq) r.begun) r.flow
@@ -46,22 +49,31 @@ module _ {K V : Type 0} {same : PartialEq.Ghosts K} {hash : Hash.Ghosts K} where
   -- each call that runs is that of its number
   abbrev pub EachIsOf : (K → K → Bool) → Machine K V same hash → World K V → Type 0
   EachIsOf eq m w =
-      (n : ℕ) (r : Running K V) → running_at m.calls n ≡ Some r → IsOf eq m.layers.table w.table w.stay w.desk.last n r
+      (n : ℕ) (r : Running K V) → running_at m.calls n ≡ Some r
+      → IsOf eq m.layers.table w.table w.stay w.desk.last n r
 
 -- The machine stands for the state: its layers for the world, its running calls for the live ones.
-pub record StandsFor {K V : Type 0} {same : PartialEq.Ghosts K} {hash : Hash.Ghosts K} (eq : K → K → Bool) (m : Machine K V same hash) (s : State K V) : Type 0 where
+-- It keeps a place for no other call.
+pub record MachineIs {K V : Type 0} {same : PartialEq.Ghosts K} {hash : Hash.Ghosts K}
+    (eq : K → K → Bool) (m : Machine K V same hash) (s : State K V) : Type 0 where
   pub world : WorldIs eq (the_table eq) m.layers s.world
   pub calls : (n : ℕ) → option_map call_in (running_at m.calls n) ≡ s.calls n
   pub each : EachIsOf eq m s.world
+  pub used : (n : ℕ) → IsUsed (place_at m.calls n)
 
 -- The machine stands for the world as the call reaches it that was taken out.
-pub record Reaches {K V : Type 0} {same : PartialEq.Ghosts K} {hash : Hash.Ghosts K} (eq : K → K → Bool) (m : Machine K V same hash) (w : World K V) : Type 0 where
+pub record Reaches {K V : Type 0} {same : PartialEq.Ghosts K} {hash : Hash.Ghosts K}
+    (eq : K → K → Bool) (m : Machine K V same hash) (w : World K V) : Type 0 where
   pub layers : GroundIs eq (the_table eq) m.layers w
   pub out : running_at m.calls m.layers.call ≡ None
   pub each : EachIsOf eq m w
+  pub used : (n : ℕ) → m.layers.call ≢ n → IsUsed (place_at m.calls n)
 
--- The call of this number was taken out of the machine. It reaches the world, and the other calls are these.
-pub record Without {K V : Type 0} {same : PartialEq.Ghosts K} {hash : Hash.Ghosts K} (eq : K → K → Bool) (m : Machine K V same hash) (n : ℕ) (others : ℕ → Option (Call K V)) (w : World K V) : Type 0 where
+-- The call of this number was taken out of the machine. It reaches the world, and the other calls
+-- are these.
+pub record Without {K V : Type 0} {same : PartialEq.Ghosts K} {hash : Hash.Ghosts K}
+    (eq : K → K → Bool) (m : Machine K V same hash) (n : ℕ) (others : ℕ → Option (Call K V))
+    (w : World K V) : Type 0 where
   pub reaches : Reaches eq m w
   pub number : m.layers.call ≡ n
   pub calls : (k : ℕ) → n ≢ k → option_map call_in (running_at m.calls k) ≡ others k
@@ -70,17 +82,19 @@ module _ {K V : Type 0} {same : PartialEq.Ghosts K} {hash : Hash.Ghosts K} where
   -- the machine stands for a state that a run can reach
   pub record IsValid (eq : K → K → Bool) (m : Machine K V same hash) : Type 0 where
     pub state : State K V
-    pub stands : StandsFor eq m state
+    pub stands : MachineIs eq m state
     pub reached : IsReached eq state
 
   -- the live call of this number is taken out of the state that the machine stood for
-  pub record TakenOut (eq : K → K → Bool) (m : Machine K V same hash) (n : ℕ) (flow : Flow K V) (s : State K V) : Type 0 where
+  pub record TakenOut (eq : K → K → Bool) (m : Machine K V same hash) (n : ℕ) (flow : Flow K V)
+      (s : State K V) : Type 0 where
     pub live : s.calls n ≡ Some (call_of flow)
     pub rest : Without eq m n s.calls s.world
 
   -- some world that the call reaches allows what is wanted
   abbrev pub Allows : (K → K → Bool) → Machine K V same hash → Want K V → Type 0
-  Allows eq m wish = (w : World K V) × Reaches eq m w × MayWant w (operation_in (the_table eq) m.layers.begun) wish
+  Allows eq m wish =
+      (w : World K V) × Reaches eq m w × MayWant w (operation_in (the_table eq) m.layers.begun) wish
 
   -- this flow is that of the call that was taken out, which has something left to do
   pub record IsOut (eq : K → K → Bool) (m : Machine K V same hash) (flow : Flow K V) : Type 0 where
@@ -88,43 +102,58 @@ module _ {K V : Type 0} {same : PartialEq.Ghosts K} {hash : Hash.Ghosts K} where
     pub live : IsLive flow
 
   -- the event was carried out or refused with this reply, from whatever state the machine stood for
-  abbrev pub Serves : (K → K → Bool) → Machine K V same hash → Event K V → Reply K V → Machine K V same hash → Type 0
+  abbrev pub Serves : (K → K → Bool) → Machine K V same hash → Event K V → Reply K V
+      → Machine K V same hash → Type 0
   Serves eq old e r new =
-      (s : State K V) → StandsFor eq old s → IsReached eq s → (t : State K V) × Happens eq Any s e r t × StandsFor eq new t
+      (s : State K V) → MachineIs eq old s → IsReached eq s
+      → (t : State K V) × Happens eq Any s e r t × MachineIs eq new t
 
   -- nothing has changed
-  abbrev pub Keeps : (K → K → Bool) → Machine K V same hash → Machine K V same hash → Type 0
-  Keeps eq old new = (s : State K V) → StandsFor eq old s → StandsFor eq new s
+  abbrev pub KeepsState : (K → K → Bool) → Machine K V same hash → Machine K V same hash → Type 0
+  KeepsState eq old new = (s : State K V) → MachineIs eq old s → MachineIs eq new s
 
   -- want of memory came with the event, and this much of it was done
-  abbrev pub Stops : (K → K → Bool) → Machine K V same hash → Event K V → ℕ → Machine K V same hash → Type 0
+  abbrev pub Stops : (K → K → Bool) → Machine K V same hash → Event K V → ℕ
+      → Machine K V same hash → Type 0
   Stops eq old e steps new =
-      (s : State K V) → StandsFor eq old s → IsReached eq s → (t : State K V) × Begins eq Any s (Some e) steps t × StandsFor eq new t
+      (s : State K V) → MachineIs eq old s → IsReached eq s
+      → (t : State K V) × Begins eq Any s (Some e) steps t × MachineIs eq new t
 
   -- a step of a call that was taken out: the call made it, and was put back or has ended
-  abbrev pub StepOut : (K → K → Bool) → Machine K V same hash → ℕ → Flow K V → Reply K V → Machine K V same hash → Type 0
+  abbrev pub StepOut : (K → K → Bool) → Machine K V same hash → ℕ → Flow K V → Reply K V
+      → Machine K V same hash → Type 0
   StepOut eq old n flow r new =
-      (others : ℕ → Option (Call K V)) (w : World K V) → Without eq old n others w → May w (access_at flow)
-      → (next : Next K V) × (after : World K V) × Moves eq n (call_of flow) w next after × (r ≡ reply_of next.turn)
-      × StandsFor eq new (record { world = after; calls = put_at others n next.left })
+      (others : ℕ → Option (Call K V)) (w : World K V)
+      → Without eq old n others w → May w (access_at flow)
+      → (next : Next K V) × (after : World K V)
+      × Moves eq n (call_of flow) w next after × (r ≡ reply_of next.turn)
+      × MachineIs eq new (record { world = after; calls = put_at others n next.left })
 
   -- the call that was taken out was put back as it was
-  abbrev pub KeepsOut : (K → K → Bool) → Machine K V same hash → ℕ → Flow K V → Machine K V same hash → Type 0
+  abbrev pub KeepsOut : (K → K → Bool) → Machine K V same hash → ℕ → Flow K V
+      → Machine K V same hash → Type 0
   KeepsOut eq old n flow new =
       (others : ℕ → Option (Call K V)) (w : World K V) → Without eq old n others w
-      → StandsFor eq new (record { world = w; calls = put_at others n (Some (call_of flow)) })
+      → MachineIs eq new (record { world = w; calls = put_at others n (Some (call_of flow)) })
 
   -- a poll of a call that was taken out
-  abbrev pub PollOut : (K → K → Bool) → Machine K V same hash → ℕ → Flow K V → Reply K V → Machine K V same hash → Type 0
+  abbrev pub PollOut : (K → K → Bool) → Machine K V same hash → ℕ → Flow K V → Reply K V
+      → Machine K V same hash → Type 0
   PollOut eq old n flow r new =
-      (others : ℕ → Option (Call K V)) (w : World K V) → Without eq old n others w → IsSafe eq n (call_of flow) w
-      → (next : Next K V) × (after : World K V) × Polled eq n (call_of flow) w next after × (r ≡ reply_of next.turn)
-      × StandsFor eq new (record { world = after; calls = put_at others n next.left })
+      (others : ℕ → Option (Call K V)) (w : World K V)
+      → Without eq old n others w → IsSafe eq n (call_of flow) w
+      → (next : Next K V) × (after : World K V)
+      × Polled eq n (call_of flow) w next after × (r ≡ reply_of next.turn)
+      × MachineIs eq new (record { world = after; calls = put_at others n next.left })
 
-  -- so many steps of a call that was taken out, each of which left it going, up to an access that needs memory
-  abbrev pub UnfinishedOut : (K → K → Bool) → Machine K V same hash → ℕ → Flow K V → ℕ → Machine K V same hash → Type 0
+  -- so many steps of a call that was taken out, each of which left it going, up to an access that
+  -- needs memory
+  abbrev pub UnfinishedOut : (K → K → Bool) → Machine K V same hash → ℕ → Flow K V → ℕ
+      → Machine K V same hash → Type 0
   UnfinishedOut eq old n flow steps new =
       (made : ℕ) × (steps ≡ as_told made)
-      × ((others : ℕ → Option (Call K V)) (w : World K V) → Without eq old n others w → IsSafe eq n (call_of flow) w
+      × ((others : ℕ → Option (Call K V)) (w : World K V)
+      → Without eq old n others w → IsSafe eq n (call_of flow) w
       → (d : Call K V) × (after : World K V) × MovesOn eq made n (call_of flow) w d after
-      × StandsFor eq new (record { world = after; calls = put_at others n (Some d) }) × NeedsMemory after (access_of n d))
+      × MachineIs eq new (record { world = after; calls = put_at others n (Some d) })
+      × NeedsMemory after (access_of n d))

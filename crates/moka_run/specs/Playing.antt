@@ -38,15 +38,17 @@ pub record ListsByKey (entries : List (ℕ × Stored ℕ)) (stored : Pairs ℕ �
   pub ascending : IsStrictlyIncreasing (keys_of entries)
 
 -- What was run on a fresh cache with a log of this size is to be reported so.
-pub record RunsFresh (rules : Rules) (log : ℕ) (events : List (Event ℕ ℕ)) (report : Report ℕ ℕ) : Type 0 where
+pub record RunsFresh (rules : Rules) (log : ℕ) (events : List (Event ℕ ℕ))
+    (report : Report ℕ ℕ) : Type 0 where
   pub final : State ℕ ℕ
   pub run : Run nat_eq (IsLawful nat_eq) (fresh ℕ ℕ rules log) events report.replies final
   pub reports : Reports nat_eq report.entries report.places report.notices final
   pub reached : IsReached nat_eq final
 
--- The text reports a run of the reference cache on the events, from a fresh cache with a log of this
--- size, in which each state is lawful: its replies, and what stands after it.
-pub record ReportsRun (rules : Rules) (log : ℕ) (events : List (Event ℕ ℕ)) (text : List ℕ) : Type 0 where
+-- The text reports a run of the reference cache on the events, from a fresh cache with a log of
+-- this size, in which each state is lawful: its replies, and what stands after it.
+pub record ReportsRun (rules : Rules) (log : ℕ) (events : List (Event ℕ ℕ))
+    (text : List ℕ) : Type 0 where
   pub replies : List (Reply ℕ ℕ)
   pub final : State ℕ ℕ
   pub run : Run nat_eq (IsLawful nat_eq) (fresh ℕ ℕ rules log) events replies final
@@ -109,7 +111,9 @@ pub record FindsBadLine (left left' : Option (List ℕ)) (line : ℕ) : Type 0 w
 
 -- no text both says a schedule and has a bad line
 abbrev pub SaysOrIsBad : Type 0
-SaysOrIsBad = (text : List ℕ) (log : ℕ) (rules : Rules) (events : List (Event ℕ ℕ)) (line : ℕ) → Says text log rules events → IsFirstBad text line → ⊥
+SaysOrIsBad =
+    (text : List ℕ) (log : ℕ) (rules : Rules) (events : List (Event ℕ ℕ)) (line : ℕ)
+    → Says text log rules events → IsFirstBad text line → ⊥
 
 -- how a play may end once the source was read to its end
 abbrev pub IsAfterReading : Status → Type 0
@@ -135,12 +139,14 @@ IsBroken status.TooLong = ⊥
 abbrev pub EndsAs : Status → Status → Type 0
 EndsAs due ended = (ended ≡ due) ⊎ IsBroken ended
 
--- How a play of these bytes is due to end: too long where they are, at the first bad line where there is one, and done where they
--- say a schedule.
+-- How a play of these bytes is due to end: too long where they are, at the first bad line where
+-- there is one, and done where they say a schedule.
 pub record IsDue (bytes : List ℕ) (ended : Status) : Type 0 where
   pub too_long : most_bytes < length bytes → EndsAs status.TooLong ended
-  pub bad_line : (line : ℕ) → length bytes ≤ most_bytes → IsFirstBad bytes line → EndsAs (status.BadLine line) ended
-  pub done : (log : ℕ) (rules : Rules) (events : List (Event ℕ ℕ)) → length bytes ≤ most_bytes → Says bytes log rules events → EndsAs status.Done ended
+  pub bad_line : (line : ℕ) → length bytes ≤ most_bytes → IsFirstBad bytes line
+      → EndsAs (status.BadLine line) ended
+  pub done : (log : ℕ) (rules : Rules) (events : List (Event ℕ ℕ)) → length bytes ≤ most_bytes
+      → Says bytes log rules events → EndsAs status.Done ended
 
 -- the status after the source failed so
 abbrev pub status_of_read : ReadError → Status

@@ -51,7 +51,8 @@ module _ {K V : Type 0} where
   abbrev pub opened_in : DeskPart K V → List (Notice K V)
   opened_in w = filter_map w.notices w.opened
 
-  -- the notice that the visit is to open, as it waits: with the cause that it would be opened with now
+  -- the notice that the visit is to open, as it waits: with the cause that it would be opened with
+  -- now
   abbrev pub waiting : DeskPart K V → Visit K V → Option (Notice K V)
   waiting w (visit.OpenNotice call key value stamp modified cause upsert) =
       Some (record {
@@ -65,7 +66,8 @@ module _ {K V : Type 0} where
 
   -- the notices of the state: those that were opened, and those of these calls that are due
   abbrev pub all_notices : List (ℕ × Call K V) → State K V → List (Notice K V)
-  all_notices calls s = opened_in s.world.desk ++ filter_map (waiting s.world.desk) (filter_map opening_of calls)
+  all_notices calls s =
+      opened_in s.world.desk ++ filter_map (waiting s.world.desk) (filter_map opening_of calls)
 
   -- the list has each notice of the state, once, ascending by number
   pub record AreNotices (notices : List (Notice K V)) (s : State K V) : Type 0 where
@@ -75,7 +77,8 @@ module _ {K V : Type 0} where
     pub ascending : IsSortedByKey (λ x. x.number) nat_cmp notices
 
   -- the lists of a report are those of the state
-  pub record Reports (eq : K → K → Bool) (stored : List (K × Stored V)) (writes : List (ℕ × Place)) (told : List (Notice K V)) (s : State K V) : Type 0 where
+  pub record Reports (eq : K → K → Bool) (stored : List (K × Stored V)) (writes : List (ℕ × Place))
+      (told : List (Notice K V)) (s : State K V) : Type 0 where
     pub entries : ListsPairs eq stored s.world.table.stored
     pub places : ArePlaces writes s
     pub notices : AreNotices told s

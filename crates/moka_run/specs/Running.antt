@@ -12,7 +12,7 @@ use Rattle.moka_hist.specs.declared.events.Told.{Told}
 use Rattle.moka_hist.specs.declared.events.Told.TheVariants as told
 use Rattle.moka_hist.specs.declared.replies.Reply.{Reply}
 use Rattle.moka_init.specs.Grounds.{NeedsMemory}
-use Rattle.moka_run.specs.Machine.{StandsFor, Begins}
+use Rattle.moka_run.specs.Machine.{MachineIs, Begins}
 use Rattle.moka_run.specs.declared.machine.Machine.{Machine}
 
 module _ {V : Type 0} where
@@ -27,9 +27,10 @@ module _ {K V : Type 0} where
   abbrev pub CallNeedsMemory : State K V → ℕ → Type 0
   CallNeedsMemory s n = MatchOption (s.calls n) ⊥ (λ c. NeedsMemory s.world (access_of n c))
 
-  -- Memory may be wanting in such an event in this state. In a step or a poll it may only where the call stands at an access that
-  -- needs some: none is needed to take up what is owed or told, to free a lock, to post a write and to apply the log,
-  -- nor to take a turn that is free or to hear of a notice that has ended.
+  -- Memory may be wanting in such an event in this state. In a step or a poll it may only where the
+  -- call stands at an access that needs some: none is needed to take up what is owed or told, to
+  -- free a lock, to post a write and to apply the log, nor to take a turn that is free or to hear
+  -- of a notice that has ended.
   abbrev pub MayStopIn : State K V → Event K V → Type 0
   MayStopIn s (event.At moment) = ⊥
   MayStopIn s (event.Start start) = Unit {0}
@@ -41,17 +42,22 @@ module _ {K V : Type 0} where
 -- The headline: from each reached state that the machine stood for these replies answer the events
 -- in order, one for each, by a run of the reference cache through lawful states to a state that the
 -- machine stands for now.
-pub record Answers {K V : Type 0} {same : PartialEq.Ghosts K} {hash : Hash.Ghosts K} (eq : K → K → Bool) (events : List (Event K V)) (replies : List (Reply K V)) (new : Machine K V same hash) (s : State K V) : Type 0 where
+pub record Answers {K V : Type 0} {same : PartialEq.Ghosts K} {hash : Hash.Ghosts K}
+    (eq : K → K → Bool) (events : List (Event K V)) (replies : List (Reply K V))
+    (new : Machine K V same hash) (s : State K V) : Type 0 where
   pub final : State K V
   pub run : Run eq (IsLawful eq) s events replies final
-  pub stands : StandsFor eq new final
+  pub stands : MachineIs eq new final
 
 -- Memory was wanting: the first events were done, and then so many steps of the next one.
-pub record StopsAt {K V : Type 0} {same : PartialEq.Ghosts K} {hash : Hash.Ghosts K} (eq : K → K → Bool) (events : List (Event K V)) (done steps : ℕ) (replies : List (Reply K V)) (new : Machine K V same hash) (s : State K V) : Type 0 where
+pub record StopsAt {K V : Type 0} {same : PartialEq.Ghosts K} {hash : Hash.Ghosts K}
+    (eq : K → K → Bool) (events : List (Event K V)) (done steps : ℕ) (replies : List (Reply K V))
+    (new : Machine K V same hash) (s : State K V) : Type 0 where
   pub mid : State K V
   pub run : Run eq (IsLawful eq) s (take done events) replies mid
   pub final : State K V
   pub begins : Begins eq (IsLawful eq) mid (slice_get events done) steps final
-  pub stands : StandsFor eq new final
-  -- at the very beginning, for the room of the replies; in an event that needs memory there; or after the last one, for the lists
+  pub stands : MachineIs eq new final
+  -- at the very beginning, for the room of the replies; in an event that needs memory there; or
+  -- after the last one, for the lists
   pub cause : ((done ≡ 0) × (steps ≡ 0)) ⊎ IfSome (slice_get events done) (MayStopIn final)

@@ -1,4 +1,5 @@
--- The table of a machine. Nothing but this, the two types of `machine.rt` and `Machine::build` says which one it is.
+-- The table of a machine. Nothing but this, the two types of `machine.rt` and `Machine::build` says
+-- which one it is.
 use Rattle.std.specs.Prelude.{Bool}
 use Rattle.moka_table.specs.Plain.{plain_table}
 use Rattle.moka_table.specs.declared.plain.PlainCall.{PlainCall}
@@ -13,5 +14,6 @@ abbrev pub TheCall : (K V : Type 0) → Type 0
 TheCall K V = PlainCall K V
 
 -- what contracts see of it
-abbrev pub the_table : {K V : Type 0} → (K → K → Bool) → Table.Ghosts (TheTable K V) K V (TheCall K V)
+abbrev pub the_table : {K V : Type 0} → (K → K → Bool)
+    → Table.Ghosts (TheTable K V) K V (TheCall K V)
 the_table eq = plain_table eq

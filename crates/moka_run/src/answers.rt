@@ -2,7 +2,7 @@
 ghost use Rattle.std.specs.Prelude.{◌≡◌, ◌<◌, ◌≤◌, ℕ, length, nat_eq, IfOk, IsErrOf, IsPermutation, IsSortedByKey};
 ghost use Rattle.std.specs.Ordering.{nat_cmp};
 ghost use Rattle.std.specs.String.{string_bytes};
-ghost use Rattle.moka_text.specs.ScheduleText.{IsFirstBad, Says, listening};
+ghost use Rattle.moka_text.specs.ScheduleText.{IsFirstBad, Says, rules_of};
 ghost use Rattle.moka_run.specs.Playing.{IsReport, ReportsRun, RunsFresh};
 
 use crate::machine::Machine;
@@ -30,7 +30,7 @@ fn run_fresh(
     log: usize,
     events: &[Event<u32, u32>],
 ) -> Result<Report<u32, u32>, AllocError>
-    requires rules { rules ≡ listening rules.listener }
+    requires rules { rules ≡ rules_of rules.max_capacity rules.listener }
     requires least { 1 ≤ log }
     requires most { log ≤ 65536 }
     ensures { IfOk result (λ report. RunsFresh rules log events.now report) }
@@ -50,7 +50,7 @@ fn run_given(
     log: usize,
     events: Vec<Event<u32, u32>>,
 ) -> Result<Report<u32, u32>, AllocError>
-    requires rules { rules ≡ listening rules.listener }
+    requires rules { rules ≡ rules_of rules.max_capacity rules.listener }
     requires least { 1 ≤ log }
     requires most { log ≤ 65536 }
     ensures { IfOk result (λ report. RunsFresh rules log events.items report) }
@@ -58,15 +58,15 @@ fn run_given(
     run_fresh(alloc, rules, log, &events)
 }
 
-/// Runs the events on a fresh cache of these rules with a log of this many writes, and answers the report's text. The
-/// events are given up before that is made.
+/// Runs the events on a fresh cache of these rules with a log of this many writes, and answers the
+/// report's text. The events are given up before that is made.
 fn report_on(
     alloc: Global,
     rules: Rules,
     log: usize,
     events: Vec<Event<u32, u32>>,
 ) -> Result<String, AllocError>
-    requires rules { rules ≡ listening rules.listener }
+    requires rules { rules ≡ rules_of rules.max_capacity rules.listener }
     requires least { 1 ≤ log }
     requires most { log ≤ 65536 }
     ensures { IfOk result (λ text. ReportsRun rules log events.items (string_bytes text)) }
@@ -99,8 +99,8 @@ fn read_given(alloc: Global, bytes: Vec<u8>) -> Result<Schedule, ScheduleError>
     read_schedule(alloc, &bytes)
 }
 
-/// Answers the text of the report of the schedule that the bytes say. These are given up once they are
-/// read.
+/// Answers the text of the report of the schedule that the bytes say. These are given up once they
+/// are read.
 ///
 /// `BadLine` comes with the first line that is not in the grammar, `Memory` where memory runs out.
 pub(crate) fn answer(alloc: Global, bytes: Vec<u8>) -> Result<String, ScheduleError>

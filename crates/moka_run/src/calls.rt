@@ -3,7 +3,8 @@ ghost use Rattle.std.specs.Prelude.{◌≡◌, ℕ, ◌<◌, Some, None, IfOk, O
 ghost use Rattle.std.specs.Option.{option_map};
 ghost use Rattle.std.specs.HashMap.{spare};
 ghost use Rattle.moka_hist.specs.Finite.{IsExact, put_at};
-ghost use Rattle.moka_run.specs.Calls.{running_at, held_in, due_in, HasPlace, AreDue, AreNumbered};
+ghost use Rattle.moka_run.specs.Calls.{place_at, emptied, running_at, held_in, due_in};
+ghost use Rattle.moka_run.specs.Calls.{HasPlace, AreDue, AreNumbered};
 ghost use Rattle.moka_run.specs.Machine.{call_in};
 ghost use Rattle.moka_run.specs.Report.{AreHeld};
 
@@ -21,7 +22,8 @@ pub(crate) struct Running<K, V> {
     pub(crate) begun: Option<TheCall<K, V>>,
 }
 
-/// The live calls, by number. A call that is being stepped is taken out, and its place stays.
+/// The live calls, by number. A call that is being stepped is taken out, and its place stays until
+/// it is put back or forgotten.
 #[derive(Drop)]
 pub(crate) struct Calls<K, V> {
     places: HashMap<u64, Option<Running<K, V>>>,
@@ -30,7 +32,7 @@ pub(crate) struct Calls<K, V> {
 impl<K: Drop, V: Drop> Calls<K, V> {
     /// No calls. It takes no memory.
     pub(crate) fn new(alloc: Global) -> Self
-        ensures { (n : ℕ) → running_at result n ≡ None }
+        ensures { (n : ℕ) → place_at result n ≡ None }
     {
         Calls {
             places: HashMap::new(alloc),
@@ -40,7 +42,7 @@ impl<K: Drop, V: Drop> Calls<K, V> {
     /// Makes room for one more call.
     pub(crate) fn reserve(&mut self) -> Result<(), AllocError>
         ensures room { OnOk result (0 < spare self.new.places) }
-        ensures same { (n : ℕ) → running_at self.new n ≡ running_at self.old n }
+        ensures same { (n : ℕ) → place_at self.new n ≡ place_at self.old n }
     {
         self.places.reserve(1)
     }
@@ -48,8 +50,8 @@ impl<K: Drop, V: Drop> Calls<K, V> {
     /// A call starts to run. There is room, so it takes no memory.
     pub(crate) fn add(&mut self, call: u64, running: Running<K, V>)
         requires { 0 < spare self.old.places }
-        ensures { (n : ℕ) → running_at self.new n
-            ≡ put_at (running_at self.old) call (Some running) n }
+        ensures { (n : ℕ) → place_at self.new n
+            ≡ put_at (place_at self.old) call (Some (Some running)) n }
     {
         match self.places.insert(call, Some(running)) {
             Ok(_) => {}
@@ -60,7 +62,8 @@ impl<K: Drop, V: Drop> Calls<K, V> {
     /// Takes a running call out, and leaves its place.
     pub(crate) fn take(&mut self, call: u64) -> Option<Running<K, V>>
         ensures taken { result ≡ running_at self.old call }
-        ensures rest { (n : ℕ) → running_at self.new n ≡ put_at (running_at self.old) call None n }
+        ensures rest { (n : ℕ) → place_at self.new n
+            ≡ put_at (place_at self.old) call (emptied (place_at self.old call)) n }
         ensures place { OnSome result (HasPlace self.new call) }
     {
         match self.places.get_mut(&call) {
@@ -72,8 +75,8 @@ impl<K: Drop, V: Drop> Calls<K, V> {
     /// Puts a call back that was taken out. It takes no memory.
     pub(crate) fn put_back(&mut self, call: u64, running: Running<K, V>)
         requires { HasPlace self.old call }
-        ensures { (n : ℕ) → running_at self.new n
-            ≡ put_at (running_at self.old) call (Some running) n }
+        ensures { (n : ℕ) → place_at self.new n
+            ≡ put_at (place_at self.old) call (Some (Some running)) n }
     {
         match self.places.get_mut(&call) {
             Some(place) => *place = Some(running),
@@ -83,7 +86,7 @@ impl<K: Drop, V: Drop> Calls<K, V> {
 
     /// Gives the place of a call up that has ended.
     pub(crate) fn forget(&mut self, call: u64)
-        ensures { (n : ℕ) → running_at self.new n ≡ put_at (running_at self.old) call None n }
+        ensures { (n : ℕ) → place_at self.new n ≡ put_at (place_at self.old) call None n }
     {
         self.places.remove(&call);
     }

@@ -156,8 +156,8 @@ fn counted_step<K: Eq + Hash + Clone + Drop, V: Clone + Drop>(
     }
 }
 
-// A machine after some steps, and how many accesses these made: None where one of them made more than
-// one, or none, or memory was wanting.
+// A machine after some steps, and how many accesses these made: None where one of them made more
+// than one, or none, or memory was wanting.
 #[derive(Drop)]
 struct Driven {
     machine: Machine<u32, u32>,
@@ -232,7 +232,7 @@ fn accesses_of(alloc: Global, row: &str) -> Result<Option<u64>, AllocError> {
         return Err(AllocError);
     }
     let rules = Rules {
-        max_capacity: None,
+        max_capacity: schedule.rules.max_capacity,
         time_to_live: None,
         time_to_idle: None,
         listener: schedule.rules.listener,
@@ -265,16 +265,42 @@ fn each_step_makes_one_access_at_every_point_of_every_flow(rt: HostRuntime) -> R
         ),
         // Call 3 waits for the turn of call 2, and is dropped; call 4 posts its write.
         (
-            "cache log=1 / start insert 1 5 / poll 1 / start insert 2 6 / step 2 / step 2 / step 2 / step 2 / step 2 / start insert 3 7 / poll 3 / drop 3 / poll 2 / start get 3 / poll 4",
+            "cache log=1 / start insert 1 5 / poll 1 / start insert 2 6 / step 2 / step 2 / \
+             step 2 / step 2 / step 2 / start insert 3 7 / poll 3 / drop 3 / poll 2 / \
+             start get 3 / poll 4",
             4 + 5 + 5 + 4 + 10,
         ),
         (
-            "cache log=8 / start get_with 1 / start get_with 1 / poll 1 / poll 1 / poll 2 / tell 1 value 7 / poll 2 / poll 1 / poll 2",
+            "cache log=8 / start get_with 1 / start get_with 1 / poll 1 / poll 1 / poll 2 / \
+             tell 1 value 7 / poll 2 / poll 1 / poll 2",
             5 + 1 + 4 + 1 + 6 + 1,
         ),
         (
-            "cache log=8 / start get_with 1 / start get_with 1 / poll 1 / poll 2 / drop 1 / poll 2 / tell 2 value 9 / poll 2",
+            "cache log=8 / start get_with 1 / start get_with 1 / poll 1 / poll 2 / drop 1 / \
+             poll 2 / tell 2 value 9 / poll 2",
             5 + 4 + 4 + 6,
+        ),
+        // Removals that find their record, and nothing.
+        (
+            "cache log=8 / start insert 1 5 / poll 1 / start remove 1 / poll 2 / \
+             start invalidate 1 / poll 3",
+            4 + 4 + 4,
+        ),
+        (
+            "cache cap=1 log=8 / start insert 1 5 / poll 1 / start evict 1 2 Size / poll 2 / \
+             start evict 1 1 Explicit / poll 3 / start evict 1 1 Size / poll 4",
+            4 + 1 + 2 + 5,
+        ),
+        (
+            "cache log=8 listener / start insert 1 5 / poll 1 / start remove 1 / poll 2 / \
+             tell 2 done / poll 2 / start evict 1 1 Size / poll 3",
+            6 + 5 + 3 + 3,
+        ),
+        // A disabled cache.
+        (
+            "cache cap=0 / start insert 1 5 / poll 1 / start get_with 1 / poll 2 / \
+             tell 2 value 7 / poll 2",
+            1 + 3 + 2,
         ),
     ];
     for (row, accesses) in schedules {

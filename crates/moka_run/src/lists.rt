@@ -4,7 +4,7 @@ ghost use Rattle.moka_hist.specs.Finite.{IsExact, Lists};
 ghost use Rattle.moka_hist.specs.State.{Call, State};
 ghost use Rattle.moka_hist.specs.Visits.{number_of};
 ghost use Rattle.moka_table.specs.Map.{ListsPairs};
-ghost use Rattle.moka_run.specs.Machine.{StandsFor};
+ghost use Rattle.moka_run.specs.Machine.{MachineIs};
 ghost use Rattle.moka_run.specs.Report.{at_place, all_places, ArePlaces, Reports};
 
 use crate::machine::Machine;
@@ -21,6 +21,7 @@ pub(crate) fn number_of(write: Write) -> u64
 {
     match write {
         Write::Upsert { number, .. } => number,
+        Write::Remove { number, .. } => number,
     }
 }
 
@@ -91,7 +92,7 @@ impl<K: Eq + Hash + Clone + Drop, V: Clone + Drop> Machine<K, V> {
     pub fn entries(&self, alloc: Global) -> Result<EntryList<K, V>, AllocError>
         requires keys { IsExact K.is_clone }
         requires values { IsExact V.is_clone }
-        ensures { IfOk result (λ pairs. (s : State K V) → StandsFor K.eq self.now s
+        ensures { IfOk result (λ pairs. (s : State K V) → MachineIs K.eq self.now s
             → ListsPairs K.eq pairs s.world.table.stored) }
     {
         self.layers.table.pairs(alloc)
@@ -99,7 +100,7 @@ impl<K: Eq + Hash + Clone + Drop, V: Clone + Drop> Machine<K, V> {
 
     /// Lists each committed write by its number, with the place where it stands, ascending.
     pub fn places(&self, alloc: Global) -> Result<PlaceList, AllocError>
-        ensures { IfOk result (λ places. (s : State K V) → StandsFor K.eq self.now s
+        ensures { IfOk result (λ places. (s : State K V) → MachineIs K.eq self.now s
             → ArePlaces places s) }
     {
         let mut places = self.unsorted(alloc)?;
@@ -109,7 +110,7 @@ impl<K: Eq + Hash + Clone + Drop, V: Clone + Drop> Machine<K, V> {
 
     /// The same places in another order: held, owed, logged, applied.
     fn unsorted(&self, alloc: Global) -> Result<Vec<(u64, Place)>, AllocError>
-        ensures { IfOk result (λ places. (s : State K V) → StandsFor K.eq self.now s
+        ensures { IfOk result (λ places. (s : State K V) → MachineIs K.eq self.now s
             → (calls : List (ℕ × Call K V)) × Lists nat_eq calls s.calls
             × (places.items ≡ all_places calls s)) }
     {
@@ -138,7 +139,7 @@ pub(crate) fn list_all<K: Eq + Hash + Clone + Drop, V: Clone + Drop>(
 ) -> Result<ReportLists<K, V>, AllocError>
     requires keys { IsExact K.is_clone }
     requires values { IsExact V.is_clone }
-    ensures { IfOk result (λ lists. (s : State K V) → StandsFor K.eq machine.now s
+    ensures { IfOk result (λ lists. (s : State K V) → MachineIs K.eq machine.now s
         → Reports K.eq lists.entries lists.places lists.notices s) }
 {
     Ok(ReportLists {

@@ -5,6 +5,7 @@ ghost use Rattle.moka_hist.specs.Finite.{IsExact};
 use crate::calls::Calls;
 use crate::serving::unpolled;
 use moka_desk::Desk;
+use moka_engine::Policy;
 use moka_hist::{Event, Reply, Rules};
 use moka_init::Unfinished;
 use moka_layers::Layers;
@@ -19,12 +20,12 @@ pub(crate) type TheCall<K, V> = PlainCall<K, V>;
 
 /// A cache on one thread whose calls are driven event by event.
 ///
-/// What `run` asks of keys and values is that a clone equals its original, as contracts see the two.
-/// It holds of numbers, `bool`, `char`, `&'static str`, the `ByteStr` and `Bytes` of the crate
+/// What `run` asks of keys and values is that a clone equals its original, as contracts see the
+/// two. It holds of numbers, `bool`, `char`, `&'static str`, the `ByteStr` and `Bytes` of the crate
 /// `bytes`, and of arrays, tuples, `Option`s and derived structs and enums of these; keys have
-/// equality and hash too. It doesn't of `String`, `Vec<u8>`, `Box<T>` and `Arc<T>`: of a `String` make
-/// a `ByteStr` (`ByteStr::from_string`), of a `Vec<u8>` a `Bytes`, and for an `Arc<T>` take the
-/// `Shared<T>` of `moka_uses`, whose callers show each.
+/// equality and hash too. It doesn't of `String`, `Vec<u8>`, `Box<T>` and `Arc<T>`: of a `String`
+/// make a `ByteStr` (`ByteStr::from_string`), of a `Vec<u8>` a `Bytes`, and for an `Arc<T>` take
+/// the `Shared<T>` of `moka_uses`, whose callers show each.
 #[derive(Drop)]
 pub struct Machine<K: Eq + Hash, V> {
     pub(crate) layers: Layers<K, V, TheTable<K, V>, TheCall<K, V>>,
@@ -33,17 +34,17 @@ pub struct Machine<K: Eq + Hash, V> {
 
 impl<K: Eq + Hash + Clone + Drop, V: Clone + Drop> Machine<K, V> {
     ghost use Rattle.moka_hist.specs.State.{State, fresh};
-    ghost use Rattle.moka_text.specs.ScheduleText.{listening};
-    ghost use Rattle.moka_run.specs.Machine.{StandsFor, IsValid, Serves, Stops};
+    ghost use Rattle.moka_text.specs.ScheduleText.{rules_of};
+    ghost use Rattle.moka_run.specs.Machine.{MachineIs, IsValid, Serves, Stops};
     ghost use Rattle.moka_run.specs.Running.{MayStopIn};
 
-    /// A fresh cache of these rules, of which none is set but that a listener may be, with a log of this
-    /// many writes: 1 to 65536.
+    /// A fresh cache of these rules, of which none is set but that a capacity and a listener may be,
+    /// with a log of this many writes: 1 to 65536. One of capacity 0 is disabled: it stores nothing.
     pub fn build(alloc: Global, rules: Rules, log: usize) -> Result<Self, AllocError>
-        requires rules { rules ≡ listening rules.listener }
+        requires rules { rules ≡ rules_of rules.max_capacity rules.listener }
         requires least { 1 ≤ log }
         requires most { log ≤ 65536 }
-        ensures fresh { IfOk result (λ m. StandsFor K.eq m (fresh K V rules log)) }
+        ensures fresh { IfOk result (λ m. MachineIs K.eq m (fresh K V rules log)) }
         ensures valid { IfOk result (λ m. IsValid K.eq m) }
     {
         let desk = Desk::new(alloc, rules, log)?;
@@ -58,15 +59,24 @@ impl<K: Eq + Hash + Clone + Drop, V: Clone + Drop> Machine<K, V> {
         })
     }
 
-    /// Carries one event out, or refuses it. Want of memory tells how many steps of a poll were made;
-    /// of any other event nothing was done then.
+    /// Tells the rules that the cache was built with.
+    pub fn policy(&self) -> Policy
+        ensures { (s : State K V) → MachineIs K.eq self.now s → result.rules ≡ s.world.desk.rules }
+    {
+        Policy {
+            rules: self.layers.desk.rules(),
+        }
+    }
+
+    /// Carries one event out, or refuses it. Want of memory tells how many steps of a poll were
+    /// made; of any other event nothing was done then.
     pub fn serve(&mut self, event: &Event<K, V>) -> Result<Reply<K, V>, Unfinished>
         requires keys { IsExact K.is_clone }
         requires values { IsExact V.is_clone }
         requires valid { IsValid K.eq self.old }
         ensures serves { IfOk result (λ r. Serves K.eq self.old event.now r self.new) }
         ensures stops { IfErr result (λ u. Stops K.eq self.old event.now u.steps self.new) }
-        ensures needs { OnErr result ((s : State K V) → StandsFor K.eq self.new s
+        ensures needs { OnErr result ((s : State K V) → MachineIs K.eq self.new s
             → MayStopIn s event.now) }
     {
         match event {

@@ -7,7 +7,7 @@ ghost use Rattle.moka_hist.specs.Visits.{cause_of};
 ghost use Rattle.moka_hist.specs.declared.notices.Notice.{Notice};
 ghost use Rattle.moka_hist.specs.declared.notices.NoticeState.TheVariants as notice;
 ghost use Rattle.moka_desk.specs.StandsFor.{StandsFor as DeskStandsFor};
-ghost use Rattle.moka_run.specs.Machine.{StandsFor};
+ghost use Rattle.moka_run.specs.Machine.{MachineIs};
 ghost use Rattle.moka_run.specs.Report.{AreNotices, all_notices, waiting};
 
 use crate::machine::Machine;
@@ -18,12 +18,12 @@ use std::alloc::{AllocError, Global};
 use std::hash::Hash;
 
 impl<K: Eq + Hash + Clone + Drop, V: Clone + Drop> Machine<K, V> {
-    /// Lists each notice, ascending by number: those that were opened, and as waiting those that are
-    /// due, with the cause that they would be opened with now.
+    /// Lists each notice, ascending by number: those that were opened, and as waiting those that
+    /// are due, with the cause that they would be opened with now.
     pub fn notices(&self, alloc: Global) -> Result<NoticeList<K, V>, AllocError>
         requires keys { IsExact K.is_clone }
         requires values { IsExact V.is_clone }
-        ensures { IfOk result (λ notices. (s : State K V) → StandsFor K.eq self.now s
+        ensures { IfOk result (λ notices. (s : State K V) → MachineIs K.eq self.now s
             → AreNotices notices s) }
     {
         let mut notices = self.unsorted_notices(alloc)?;
@@ -35,7 +35,7 @@ impl<K: Eq + Hash + Clone + Drop, V: Clone + Drop> Machine<K, V> {
     fn unsorted_notices(&self, alloc: Global) -> Result<Vec<Notice<K, V>>, AllocError>
         requires keys { IsExact K.is_clone }
         requires values { IsExact V.is_clone }
-        ensures { IfOk result (λ notices. (s : State K V) → StandsFor K.eq self.now s
+        ensures { IfOk result (λ notices. (s : State K V) → MachineIs K.eq self.now s
             → (calls : List (ℕ × Call K V)) × Lists nat_eq calls s.calls
             × (notices.items ≡ all_notices calls s)) }
     {

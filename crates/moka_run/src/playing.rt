@@ -55,7 +55,8 @@ fn respond<Snk: Sink>(alloc: Global, bytes: Vec<u8>, sink: &mut Snk) -> Status
     ensures read { IsAfterReading result }
     ensures memory { result ≡ Status.Memory → 0 < length bytes.items }
     ensures unwritten { result ≢ Status.Done → result ≢ Status.WriteFault → sink.new ≡ sink.old }
-    ensures fault { result ≡ Status.WriteFault → HasRisen (Snk.faults sink.old) (Snk.faults sink.new) }
+    ensures fault { result ≡ Status.WriteFault
+        → HasRisen (Snk.faults sink.old) (Snk.faults sink.new) }
     ensures calm { result ≢ Status.WriteFault → Snk.faults sink.new ≡ Snk.faults sink.old }
 {
     let text = match answer(alloc, bytes) {
@@ -70,18 +71,20 @@ fn respond<Snk: Sink>(alloc: Global, bytes: Vec<u8>, sink: &mut Snk) -> Status
 
 /// Plays the schedule that the source gives, and writes its report to the sink.
 ///
-/// The words are those of a command line after the program's name. `play` alone reads the source to
-/// its end, runs the schedule that its bytes say on a fresh cache, and writes the report, whose text
-/// is made whole before any of it is written. The status tells how it ended:
+/// The words are those of a command line after the program's name. `play` alone reads the source
+/// to its end, runs the schedule that its bytes say on a fresh cache, and writes the report, whose
+/// text is made whole before any of it is written. The status tells how it ended:
 ///
 /// - `BadWords`: the words are not the one word `play`; nothing was read.
 /// - `BadLine`: the first line that is not in the grammar.
 /// - `TooLong`: the source gives more than 16,777,216 bytes.
-/// - `ReadFault`, `WriteFault`: a call of the source or of the sink failed. None did at any other status.
+/// - `ReadFault`, `WriteFault`: a call of the source or of the sink failed. None did at any other
+///   status.
 /// - `Memory`: memory ran out. Of an empty source it never does.
 ///
 /// Where no call fails and memory lasts, a source that tells its bytes plays to `TooLong` where
-/// they are too many, to `BadLine` at their first bad line, and to `Done` where they say a schedule.
+/// they are too many, to `BadLine` at their first bad line, and to `Done` where they say a
+/// schedule.
 ///
 /// But after `Done` and `WriteFault` the sink was not called, and after `WriteFault` it was written
 /// the beginning of the report.
@@ -107,7 +110,8 @@ pub fn play<Src: Source, Snk: Sink>(
     ensures memory { result ≡ Status.Memory → HasMoreThan 0 (Src.left source.old) }
     ensures due { IsPlay words.now → IfSome (Src.left source.old) (λ bytes. IsDue bytes result) }
     ensures broken_off { result ≡ Status.WriteFault
-        → BreaksOff (Src.left source.old) (Src.left source.new) (Snk.written sink.old) (Snk.written sink.new) }
+        → BreaksOff (Src.left source.old) (Src.left source.new)
+        (Snk.written sink.old) (Snk.written sink.new) }
     // what stays
     ensures unread { result ≡ Status.BadWords → source.new ≡ source.old }
     ensures unwritten { result ≢ Status.Done → result ≢ Status.WriteFault → sink.new ≡ sink.old }

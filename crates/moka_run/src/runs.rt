@@ -9,8 +9,11 @@ ghost use Rattle.moka_laws.specs.Answered.{AnsweredIsPosted, PostedStays, Stored
 ghost use Rattle.moka_laws.specs.Bounded.{StepEventsAreBounded, StepsAreBounded};
 ghost use Rattle.moka_laws.specs.Listening.{AsksAreOne, ReachedLocksAreHeld, ReachedNoticesAreInOrder};
 ghost use Rattle.moka_laws.specs.Readers.{NothingUnreadIsKept, ReadersAreCounted, WaitersAnswerSettled};
+ghost use Rattle.moka_laws.specs.Removals.{ChosenStands, DisabledStoresNothing, EvictedIsOut};
+ghost use Rattle.moka_laws.specs.Removals.{KeptByCause, PlacesComeBack, RemovalsAnswer};
+ghost use Rattle.moka_laws.specs.Removals.{RemoveAnswersTaken, StampsAreOne};
 ghost use Rattle.moka_laws.specs.Waiting.{WaitsByCause};
-ghost use Rattle.moka_run.specs.Machine.{StandsFor, IsValid};
+ghost use Rattle.moka_run.specs.Machine.{MachineIs, IsValid};
 ghost use Rattle.moka_run.specs.Running.{Answers, StopsAt};
 ghost use Rattle.moka_run.specs.Report.{Reports};
 
@@ -23,19 +26,23 @@ use std::hash::Hash;
 
 /// Runs the events on the machine, one after the other.
 ///
-/// On Ok the replies answer every event in order, and they are, with the state left behind, a run of
-/// the reference cache, in which no key and kind has two open initializers and each committed write
-/// stands in exactly one place, and each that replaced a record has its notice where a listener is set. The
-/// report's lists are those of the last state. `Memory` tells how far
-/// it came, with a reply for each event done; the machine stands in that state, and can be run on.
+/// On Ok the replies answer every event in order, and they are, with the state left behind, a run
+/// of the reference cache, in which no key and kind has two open initializers and each committed
+/// write stands in exactly one place, and each that replaced a record has its notice where a
+/// listener is set. The report's lists are those of the last state. `Memory` tells how far it came,
+/// with a reply for each event done; the machine stands in that state, and can be run on.
 ///
 /// A call that is stepped alone has another reply than Going after fewer steps than
-/// `64 * (4 + 128 + 3 * peak + owed + logged)`, where `peak` is the most keys that were ever stored, and
-/// the other two are the writes that are owed and logged as the first of these steps is made.
+/// `64 * (4 + 128 + 3 * peak + owed + logged)`, where `peak` is the most keys that were ever
+/// stored, and the other two are the writes that are owed and logged as the first of these steps is
+/// made.
 ///
-/// Of every state that a run reaches its last clauses say what a caller of the cache may count on: a step
-/// waits by its cause; a call that answers has its write logged or applied, for good; a waiter answers what
-/// its owner settled; and an insert and then a get, with no step of others between, give the value.
+/// Of every state that a run reaches its last clauses say what a caller of the cache may count on:
+/// a step waits by its cause; a call that answers has its write logged or applied, for good; a
+/// waiter answers what its owner settled; and an insert and then a get, with no step of others
+/// between, give the value. A removal answers the record that it took out, which then is stored no
+/// longer, or that it took none; a chosen record is kept by cause; a cache of capacity 0 stores
+/// nothing; and only a live call has places of a write.
 pub fn run<K: Eq + Hash + Clone + Drop, V: Clone + Drop>(
     alloc: Global,
     cache: &mut Machine<K, V>,
@@ -44,11 +51,13 @@ pub fn run<K: Eq + Hash + Clone + Drop, V: Clone + Drop>(
     requires keys { IsExact K.is_clone }
     requires values { IsExact V.is_clone }
     requires valid { IsValid K.eq cache.old }
-    ensures run { IfOk result (λ report. (s : State K V) → StandsFor K.eq cache.old s → IsReached K.eq s
-        → (a : Answers K.eq events.now report.replies cache.new s) × Reports K.eq report.entries report.places
-        report.notices a.final) }
+    ensures run { IfOk result (λ report. (s : State K V)
+        → MachineIs K.eq cache.old s → IsReached K.eq s
+        → (a : Answers K.eq events.now report.replies cache.new s)
+        × Reports K.eq report.entries report.places report.notices a.final) }
     ensures answered { IfOk result (λ report. length report.replies ≡ length events.now) }
-    ensures memory { IfErr result (λ m. (s : State K V) → StandsFor K.eq cache.old s → IsReached K.eq s
+    ensures memory { IfErr result (λ m. (s : State K V)
+        → MachineIs K.eq cache.old s → IsReached K.eq s
         → StopsAt K.eq events.now m.done m.steps m.replies cache.new s) }
     ensures counted { IfErr result (λ m. length m.replies ≡ m.done) }
     ensures valid { IsValid K.eq cache.new }
@@ -66,6 +75,15 @@ pub fn run<K: Eq + Hash + Clone + Drop, V: Clone + Drop>(
     ensures readers { ReadersAreCounted K V K.eq }
     ensures unread { NothingUnreadIsKept K V K.eq }
     ensures gives { InsertThenGet K V K.eq }
+    // of what calls take out, and of places
+    ensures removals { RemovalsAnswer K V K.eq }
+    ensures removed { RemoveAnswersTaken K V K.eq }
+    ensures evicted { EvictedIsOut K V K.eq }
+    ensures kept { KeptByCause K V K.eq }
+    ensures chosen { ChosenStands K V K.eq }
+    ensures stamps { StampsAreOne K V K.eq }
+    ensures disabled { DisabledStoresNothing K V K.eq }
+    ensures places { PlacesComeBack K V K.eq }
 {
     moka_laws::waits_by_cause::<K, V>();
     moka_laws::locks_are_held::<K, V>();
@@ -80,6 +98,14 @@ pub fn run<K: Eq + Hash + Clone + Drop, V: Clone + Drop>(
     moka_laws::readers_are_counted::<K, V>();
     moka_laws::nothing_unread_is_kept::<K, V>();
     moka_laws::insert_then_get::<K, V>();
+    moka_laws::removals_answer::<K, V>();
+    moka_laws::remove_answers_taken::<K, V>();
+    moka_laws::evicted_is_out::<K, V>();
+    moka_laws::kept_by_cause::<K, V>();
+    moka_laws::chosen_stands::<K, V>();
+    moka_laws::stamps_are_one::<K, V>();
+    moka_laws::disabled_stores_nothing::<K, V>();
+    moka_laws::places_come_back::<K, V>();
     let replies = run_events(alloc, cache, events)?;
     let replies = ReplyList::from_vec(replies);
     match list_all(alloc, cache) {
@@ -106,10 +132,12 @@ fn run_events<K: Eq + Hash + Clone + Drop, V: Clone + Drop>(
     requires keys { IsExact K.is_clone }
     requires values { IsExact V.is_clone }
     requires valid { IsValid K.eq cache.old }
-    ensures run { IfOk result (λ replies. (s : State K V) → StandsFor K.eq cache.old s → IsReached K.eq s
+    ensures run { IfOk result (λ replies. (s : State K V)
+        → MachineIs K.eq cache.old s → IsReached K.eq s
         → Answers K.eq events.now replies.items cache.new s) }
     ensures answered { IfOk result (λ replies. length replies.items ≡ length events.now) }
-    ensures memory { IfErr result (λ m. (s : State K V) → StandsFor K.eq cache.old s → IsReached K.eq s
+    ensures memory { IfErr result (λ m. (s : State K V)
+        → MachineIs K.eq cache.old s → IsReached K.eq s
         → StopsAt K.eq events.now m.done m.steps m.replies cache.new s) }
     ensures counted { IfErr result (λ m. length m.replies ≡ m.done) }
     ensures valid { IsValid K.eq cache.new }

@@ -21,7 +21,7 @@ impl<K: Eq + Hash + Clone + Drop, V: Clone + Drop> Machine<K, V> {
     ghost use Rattle.moka_desk.specs.StandsFor.{StandsFor as DeskStandsFor, Becomes as DeskBecomes};
     ghost use Rattle.moka_init.specs.FlowPlan.{call_of};
     ghost use Rattle.moka_run.specs.Calls.{HasPlace};
-    ghost use Rattle.moka_run.specs.Machine.{StandsFor, TakenOut, IsOut, IsValid, Serves, Keeps};
+    ghost use Rattle.moka_run.specs.Machine.{MachineIs, TakenOut, IsOut, IsValid, Serves, KeepsState};
 
     /// Moves the clock on. It takes no memory.
     pub(crate) fn at(&mut self, moment: u64) -> Reply<K, V>
@@ -40,7 +40,7 @@ impl<K: Eq + Hash + Clone + Drop, V: Clone + Drop> Machine<K, V> {
         requires values { IsExact V.is_clone }
         ensures serves { IfOk result (λ r.
             Serves K.eq self.old (Event.Start start.now) r self.new) }
-        ensures err { OnErr result (Keeps K.eq self.old self.new) }
+        ensures err { OnErr result (KeepsState K.eq self.old self.new) }
     {
         let start = cloned_start(start)?;
         self.make_room()?;
@@ -50,7 +50,7 @@ impl<K: Eq + Hash + Clone + Drop, V: Clone + Drop> Machine<K, V> {
     // Makes room for one more call.
     fn make_room(&mut self) -> Result<(), AllocError>
         ensures room { OnOk result (0 < spare self.new.calls.places) }
-        ensures same { Keeps K.eq self.old self.new }
+        ensures same { KeepsState K.eq self.old self.new }
     {
         self.calls.reserve()
     }
@@ -70,13 +70,13 @@ impl<K: Eq + Hash + Clone + Drop, V: Clone + Drop> Machine<K, V> {
         }
     }
 
-    /// Answers the open ask of a call, or of the listener by the number of its notice. Who waited for it
-    /// is let go: nobody polls calls here but events.
+    /// Answers the open ask of a call, or of the listener by the number of its notice. Who waited
+    /// for it is let go: nobody polls calls here but events.
     pub(crate) fn tell(&mut self, call: u64, answer: &Told<V>) -> Result<Reply<K, V>, AllocError>
         requires { IsExact V.is_clone }
         ensures serves { IfOk result (λ r.
             Serves K.eq self.old (Event.Tell call answer.now) r self.new) }
-        ensures err { OnErr result (Keeps K.eq self.old self.new) }
+        ensures err { OnErr result (KeepsState K.eq self.old self.new) }
         ensures err_needs { OnErr result (ToldNeedsMemory answer.now) }
     {
         let answer = cloned_told(answer)?;
@@ -118,7 +118,8 @@ impl<K: Eq + Hash + Clone + Drop, V: Clone + Drop> Machine<K, V> {
         requires is { IsOut K.eq self.old flow }
         requires taken { (s : State K V) × TakenOut K.eq self.old call flow s × MayAllLeave s }
         ensures { (s : State K V) → TakenOut K.eq self.old call flow s → MayAllLeave s
-            → (t : State K V) × Drops s call (call_of flow) flow.mode result t × StandsFor K.eq self.new t }
+            → (t : State K V) × Drops s call (call_of flow) flow.mode result t
+            × MachineIs K.eq self.new t }
     {
         match flow.mode() {
             Mode::Mid => {
@@ -136,7 +137,7 @@ impl<K: Eq + Hash + Clone + Drop, V: Clone + Drop> Machine<K, V> {
         requires taken { (s : State K V) × TakenOut K.eq self.old call flow s × MayAllLeave s }
         ensures reply { result ≡ Reply.Dropped }
         ensures leaves { (s : State K V) → TakenOut K.eq self.old call flow s → MayAllLeave s
-            → StandsFor K.eq self.new (dropped s call (call_of flow)) }
+            → MachineIs K.eq self.new (dropped s call (call_of flow)) }
     {
         let held = flow.held();
         let _ = self.layers.desk.leave(call, held);
@@ -165,6 +166,22 @@ fn cloned_start<K: Clone + Drop, V: Clone + Drop>(
         Start::GetWith { key } => {
             let key = key.clone()?;
             Ok(Start::GetWith { key })
+        }
+        Start::Invalidate { key } => {
+            let key = key.clone()?;
+            Ok(Start::Invalidate { key })
+        }
+        Start::Remove { key } => {
+            let key = key.clone()?;
+            Ok(Start::Remove { key })
+        }
+        Start::Evict { key, stamp, cause } => {
+            let key = key.clone()?;
+            Ok(Start::Evict {
+                key,
+                stamp: *stamp,
+                cause: *cause,
+            })
         }
     }
 }

@@ -18,7 +18,7 @@ impl<K: Eq + Hash + Clone + Drop, V: Clone + Drop> Machine<K, V> {
     ghost use Rattle.moka_init.specs.Grounds.{IsOn, access_at, NeedsMemory};
     ghost use Rattle.moka_layers.specs.Layers.{account_of};
     ghost use Rattle.moka_run.specs.Calls.{HasPlace};
-    ghost use Rattle.moka_run.specs.Machine.{StandsFor, Reaches, Without, TakenOut, IsOut, IsValid, Serves, Keeps};
+    ghost use Rattle.moka_run.specs.Machine.{MachineIs, Reaches, Without, TakenOut, IsOut, IsValid, Serves, KeepsState};
     ghost use Rattle.moka_run.specs.Machine.{Stops, StepOut, KeepsOut, PollOut, UnfinishedOut};
     ghost use Rattle.moka_run.specs.Running.{CallNeedsMemory};
     ghost use Rattle.moka_run.specs.TheTable.{the_table};
@@ -29,8 +29,8 @@ impl<K: Eq + Hash + Clone + Drop, V: Clone + Drop> Machine<K, V> {
         requires values { IsExact V.is_clone }
         requires valid { IsValid K.eq self.old }
         ensures serves { IfOk result (λ r. Serves K.eq self.old (Event.Step call) r self.new) }
-        ensures err { OnErr result (Keeps K.eq self.old self.new) }
-        ensures err_needs { OnErr result ((s : State K V) → StandsFor K.eq self.new s
+        ensures err { OnErr result (KeepsState K.eq self.old self.new) }
+        ensures err_needs { OnErr result ((s : State K V) → MachineIs K.eq self.new s
             → CallNeedsMemory s call) }
     {
         moka_laws::calls_are_safe::<K, V>();
@@ -41,8 +41,8 @@ impl<K: Eq + Hash + Clone + Drop, V: Clone + Drop> Machine<K, V> {
         }
     }
 
-    /// Makes steps of a call up to the first whose reply is not Going. After want of memory the steps
-    /// made so far stand.
+    /// Makes steps of a call up to the first whose reply is not Going. After want of memory the
+    /// steps made so far stand.
     pub(crate) fn poll(&mut self, call: u64) -> Result<Reply<K, V>, Unfinished>
         requires keys { IsExact K.is_clone }
         requires values { IsExact V.is_clone }
@@ -50,7 +50,7 @@ impl<K: Eq + Hash + Clone + Drop, V: Clone + Drop> Machine<K, V> {
         ensures serves { IfOk result (λ r. Serves K.eq self.old (Event.Poll call) r self.new) }
         ensures stops { IfErr result (λ u.
             Stops K.eq self.old (Event.Poll call) u.steps self.new) }
-        ensures needs { OnErr result ((s : State K V) → StandsFor K.eq self.new s
+        ensures needs { OnErr result ((s : State K V) → MachineIs K.eq self.new s
             → CallNeedsMemory s call) }
     {
         moka_laws::calls_are_safe::<K, V>();
@@ -65,10 +65,10 @@ impl<K: Eq + Hash + Clone + Drop, V: Clone + Drop> Machine<K, V> {
 
     // Takes a live call out, with the table operation that it has begun.
     pub(crate) fn take_out(&mut self, call: u64) -> Option<Flow<K, V>>
-        ensures none { IfNone result ((s : State K V) → StandsFor K.eq self.old s
+        ensures none { IfNone result ((s : State K V) → MachineIs K.eq self.old s
             → (s.calls call ≡ None)) }
-        ensures same { IfNone result (Keeps K.eq self.old self.new) }
-        ensures some { IfSome result (λ flow. (s : State K V) → StandsFor K.eq self.old s
+        ensures same { IfNone result (KeepsState K.eq self.old self.new) }
+        ensures some { IfSome result (λ flow. (s : State K V) → MachineIs K.eq self.old s
             → TakenOut K.eq self.new call flow s × IsOut K.eq self.new flow) }
         ensures place { OnSome result (HasPlace self.new.calls call) }
     {
@@ -96,7 +96,7 @@ impl<K: Eq + Hash + Clone + Drop, V: Clone + Drop> Machine<K, V> {
         requires place { HasPlace self.old.calls call }
         ensures { (others : ℕ → Option (Call K V)) (w : World K V)
             → Without K.eq self.old call others w → IsOut K.eq self.old flow
-            → StandsFor K.eq self.new
+            → MachineIs K.eq self.new
             (record { world = w; calls = put_at others call (Some (call_of flow)) }) }
     {
         let begun = self.layers.begun.take();
@@ -107,7 +107,7 @@ impl<K: Eq + Hash + Clone + Drop, V: Clone + Drop> Machine<K, V> {
     pub(crate) fn end(&mut self, call: u64)
         ensures stands { (others : ℕ → Option (Call K V)) (w : World K V)
             → Without K.eq self.old call others w
-            → StandsFor K.eq self.new (record { world = w; calls = put_at others call None }) }
+            → MachineIs K.eq self.new (record { world = w; calls = put_at others call None }) }
         ensures begun { self.new.layers.begun ≡ None }
     {
         self.layers.begun = None;
@@ -126,7 +126,7 @@ impl<K: Eq + Hash + Clone + Drop, V: Clone + Drop> Machine<K, V> {
         ensures stands { (others : ℕ → Option (Call K V)) (w : World K V)
             → Without K.eq self.old call others w
             → IsOn (account_of (the_table K.eq) self.old.layers) flow → Leaves turn flow
-            → StandsFor K.eq self.new
+            → MachineIs K.eq self.new
             (record { world = w; calls = put_at others call (left_in turn flow) }) }
     {
         match turn {

@@ -1,5 +1,5 @@
 -- The plain table: a hash map from each key to its stored pair.
-use Rattle.std.specs.Prelude.{◌≢◌, ℕ, Bool, None}
+use Rattle.std.specs.Prelude.{◌≢◌, ℕ, max, Bool, None}
 use Rattle.std.specs.HashMap.{get, hash_map_len}
 use Rattle.moka_table.specs.Map.{Pairs}
 use Rattle.moka_table.specs.declared.plain.PlainTable.{PlainTable}
@@ -9,6 +9,10 @@ use Rattle.moka_table.specs.declared.table.Table as Table
 -- the stored pair of each key
 abbrev pub map_of : {K V : Type 0} → (K → K → Bool) → PlainTable K V → Pairs K V
 map_of eq t q = get eq t.pairs q
+
+-- the most keys that there were at once: before its latest removal, or now
+abbrev pub peak_of : {K V : Type 0} → PlainTable K V → ℕ
+peak_of t = max t.most (hash_map_len t.pairs)
 
 -- it has no arrays: the least that a first array may be
 abbrev pub plain_first : ℕ
@@ -24,7 +28,7 @@ plain_table eq =
     record {
       map = map_of eq;
       count = λ t. hash_map_len t.pairs;
-      peak = λ t. hash_map_len t.pairs;
+      peak = peak_of;
       first = λ t. plain_first;
       operation_of = λ c. c.operation;
       fits = λ t c. c.operation ≢ None;

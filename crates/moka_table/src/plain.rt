@@ -1,18 +1,20 @@
 //! The plain table: one hash map, whose operations decide at their first step.
-ghost use Rattle.std.specs.Prelude.{◌≡◌, ◌≢◌, ℕ, ◌<◌, ◌≤◌, max, OnErr, OnOk, IfOk, Some, None};
+ghost use Rattle.std.specs.Prelude.{◌≡◌, ◌≢◌, ℕ, ◌<◌, ◌≤◌, ◌-◌, max, OnErr, OnOk, IfOk, IsOk};
+ghost use Rattle.std.specs.Prelude.{Option, Some, None, IsSome, is_some};
 ghost use Rattle.std.proofs.Common.{arith};
 ghost use Rattle.std.specs.HashMap.{hash_map_len, spare};
 ghost use Rattle.moka_hist.specs.Finite.{IsExact, put_key};
-ghost use Rattle.moka_hist.specs.Tables.{answer_of};
+ghost use Rattle.moka_hist.specs.Tables.{answer_of, taken_by};
 ghost use Rattle.moka_hist.specs.declared.tables.TableOp.{TableOp};
 ghost use Rattle.moka_table.specs.declared.plain.PlainCall.{PlainCall};
 ghost use Rattle.moka_table.specs.Empty.{IsEmptyTable};
 ghost use Rattle.moka_table.specs.Map.{SameMap, Moves, keys_after, most_steps};
-ghost use Rattle.moka_table.specs.Plain.{map_of, plain_first, plain_left, plain_table};
+ghost use Rattle.moka_table.specs.Plain.{map_of, peak_of, plain_first, plain_left, plain_table};
 
 use crate::{EntryList, Table};
 use moka_hist::{Stored, TableAnswer, TableOp, TableTurn};
 use std::alloc::{AllocError, Global};
+use std::cmp;
 use std::collections::HashMap;
 use std::hash::Hash;
 
@@ -20,6 +22,8 @@ use std::hash::Hash;
 #[derive(Drop)]
 pub struct PlainTable<K: Eq + Hash, V> {
     pairs: HashMap<K, (K, Stored<V>)>,
+    // The most pairs that there were at once before the latest removal.
+    most: usize,
 }
 
 /// An operation on a plain table: what it is, until it has decided.
@@ -35,6 +39,7 @@ impl<K: Eq + Hash + Clone + Drop, V: Clone + Drop> PlainTable<K, V> {
     {
         PlainTable {
             pairs: HashMap::new(alloc),
+            most: 0,
         }
     }
 
@@ -55,6 +60,7 @@ impl<K: Eq + Hash + Clone + Drop, V: Clone + Drop> PlainTable<K, V> {
         ensures ok { OnOk result (0 < spare self.new.pairs) }
         ensures same { SameMap (map_of K.eq self.old) (map_of K.eq self.new) }
         ensures count { hash_map_len self.new.pairs ≡ hash_map_len self.old.pairs }
+        ensures most { self.new.most ≡ self.old.most }
     {
         self.pairs.reserve(1)
     }
@@ -68,11 +74,52 @@ impl<K: Eq + Hash + Clone + Drop, V: Clone + Drop> PlainTable<K, V> {
             ≡ put_key K.eq (map_of K.eq self.old) key (Some (key, stored)) q }
         ensures count { hash_map_len self.new.pairs ≡ keys_after (map_of K.eq self.old)
             (hash_map_len self.old.pairs) (TableOp.InsertOrModify key stored) }
+        ensures most { self.new.most ≡ self.old.most }
     {
         match self.pairs.insert(place, (key, stored)) {
             Ok(None) => TableAnswer::None,
             Ok(Some((key, stored))) => TableAnswer::Some { key, stored },
             Err(_) => unreachable!(),
+        }
+    }
+
+    // A clone of the key, and room for it.
+    fn place_for(&mut self, key: &K) -> Result<K, AllocError>
+        requires keys { IsExact K.is_clone }
+        ensures place { IfOk result (λ place. place ≡ key.now) }
+        ensures room { OnOk result (0 < spare self.new.pairs) }
+        ensures map { SameMap (map_of K.eq self.old) (map_of K.eq self.new) }
+        ensures count { hash_map_len self.new.pairs ≡ hash_map_len self.old.pairs }
+        ensures most { self.new.most ≡ self.old.most }
+    {
+        self.make_room()?;
+        key.clone()
+    }
+
+    // Whether there is a record at the key that has the stamp, if one is asked for.
+    fn has(&self, key: &K, stamp: Option<u64>) -> bool
+        ensures { result ≡ is_some (taken_by stamp (map_of K.eq self.now key.now)) }
+    {
+        match (self.pairs.get(key), stamp) {
+            (None, _) => false,
+            (Some(_), None) => true,
+            (Some(pair), Some(stamp)) => pair.1.stamp == stamp,
+        }
+    }
+
+    // Takes out the pair at the key, whatever its stamp.
+    fn take_out(&mut self, key: &K) -> TableAnswer<K, V>
+        ensures answer { result ≡ answer_of (map_of K.eq self.old key.now) }
+        ensures map { (q : K) → map_of K.eq self.new q
+            ≡ put_key K.eq (map_of K.eq self.old) key.now None q }
+        ensures count { IsSome (map_of K.eq self.old key.now)
+            → hash_map_len self.new.pairs ≡ hash_map_len self.old.pairs - 1 }
+        ensures peak { peak_of self.new ≡ peak_of self.old }
+    {
+        self.most = cmp::max(self.most, self.pairs.len());
+        match self.pairs.remove(key) {
+            None => TableAnswer::None,
+            Some((key, stored)) => TableAnswer::Some { key, stored },
         }
     }
 }
@@ -107,7 +154,7 @@ impl<K: Eq + Hash + Clone + Drop, V: Clone + Drop> PlainTable<K, V> {
             (map_of K.eq self.old) (hash_map_len self.old.pairs) turn
             (map_of K.eq self.new) (hash_map_len self.new.pairs)) }
         ensures decided { IfOk result (λ turn. turn ≢ TableTurn.Going) }
-        ensures peak { hash_map_len self.old.pairs ≤ hash_map_len self.new.pairs }
+        ensures peak { peak_of self.new ≡ max (peak_of self.old) (hash_map_len self.new.pairs) }
         ensures err { OnErr result (call.new.operation ≡ Some (TableOp.InsertOrModify key stored)) }
         ensures err_map { OnErr result (SameMap (map_of K.eq self.old) (map_of K.eq self.new)) }
         ensures err_count { OnErr result
@@ -122,16 +169,77 @@ impl<K: Eq + Hash + Clone + Drop, V: Clone + Drop> PlainTable<K, V> {
         }
     }
 
-    // A clone of the key, and room for it.
-    fn place_for(&mut self, key: &K) -> Result<K, AllocError>
+    // The one step of a write where the key is to be absent. Without memory table and call are as
+    // before.
+    fn step_absent(
+        &mut self,
+        call: &mut PlainCall<K, V>,
+        key: K,
+        stored: Stored<V>,
+    ) -> Result<TableTurn<K, V>, AllocError>
         requires keys { IsExact K.is_clone }
-        ensures place { IfOk result (λ place. place ≡ key.now) }
-        ensures room { OnOk result (0 < spare self.new.pairs) }
-        ensures map { SameMap (map_of K.eq self.old) (map_of K.eq self.new) }
-        ensures count { hash_map_len self.new.pairs ≡ hash_map_len self.old.pairs }
+        requires values { IsExact V.is_clone }
+        ensures moves { IfOk result (λ turn. Moves K.eq (TableOp.InsertIfAbsent key stored)
+            (map_of K.eq self.old) (hash_map_len self.old.pairs) turn
+            (map_of K.eq self.new) (hash_map_len self.new.pairs)) }
+        ensures decided { IfOk result (λ turn. turn ≢ TableTurn.Going) }
+        ensures peak { peak_of self.new ≡ max (peak_of self.old) (hash_map_len self.new.pairs) }
+        ensures err { OnErr result (call.new.operation ≡ Some (TableOp.InsertIfAbsent key stored)) }
+        ensures err_map { OnErr result (SameMap (map_of K.eq self.old) (map_of K.eq self.new)) }
+        ensures err_count { OnErr result
+            (hash_map_len self.new.pairs ≡ hash_map_len self.old.pairs) }
     {
-        self.make_room()?;
-        key.clone()
+        match self.look(&key) {
+            Ok(TableAnswer::None) => self.step_first(call, key, stored),
+            Ok(there) => Ok(TableTurn::Decided(there)),
+            Err(e) => {
+                call.operation = Some(TableOp::InsertIfAbsent { key, stored });
+                Err(e)
+            }
+        }
+    }
+
+    // The one step of a write at a key that is absent. Without memory table and call are as before.
+    fn step_first(
+        &mut self,
+        call: &mut PlainCall<K, V>,
+        key: K,
+        stored: Stored<V>,
+    ) -> Result<TableTurn<K, V>, AllocError>
+        requires keys { IsExact K.is_clone }
+        requires absent { map_of K.eq self.old key ≡ None }
+        ensures moves { IfOk result (λ turn. Moves K.eq (TableOp.InsertIfAbsent key stored)
+            (map_of K.eq self.old) (hash_map_len self.old.pairs) turn
+            (map_of K.eq self.new) (hash_map_len self.new.pairs)) }
+        ensures decided { IfOk result (λ turn. turn ≢ TableTurn.Going) }
+        ensures peak { peak_of self.new ≡ max (peak_of self.old) (hash_map_len self.new.pairs) }
+        ensures err { OnErr result (call.new.operation ≡ Some (TableOp.InsertIfAbsent key stored)) }
+        ensures err_map { OnErr result (SameMap (map_of K.eq self.old) (map_of K.eq self.new)) }
+        ensures err_count { OnErr result
+            (hash_map_len self.new.pairs ≡ hash_map_len self.old.pairs) }
+    {
+        match self.place_for(&key) {
+            Ok(place) => Ok(TableTurn::Decided(self.put(place, key, stored))),
+            Err(e) => {
+                call.operation = Some(TableOp::InsertIfAbsent { key, stored });
+                Err(e)
+            }
+        }
+    }
+
+    // The one step of a removal. It takes no memory.
+    fn step_out(&mut self, key: &K, stamp: Option<u64>) -> TableTurn<K, V>
+        ensures moves { Moves K.eq (TableOp.RemoveIf key.now stamp)
+            (map_of K.eq self.old) (hash_map_len self.old.pairs) result
+            (map_of K.eq self.new) (hash_map_len self.new.pairs) }
+        ensures decided { result ≢ TableTurn.Going }
+        ensures peak { peak_of self.new ≡ max (peak_of self.old) (hash_map_len self.new.pairs) }
+    {
+        if self.has(key, stamp) {
+            TableTurn::Decided(self.take_out(key))
+        } else {
+            TableTurn::Decided(TableAnswer::None)
+        }
     }
 }
 
@@ -142,7 +250,7 @@ impl<K: Eq + Hash + Clone + Drop, V: Clone + Drop> Table<K, V> for PlainTable<K,
 
     ghost count = { λ t. hash_map_len t.pairs };
 
-    ghost peak = { λ t. hash_map_len t.pairs };
+    ghost peak = { λ t. peak_of t };
 
     ghost first = { λ t. plain_first };
 
@@ -166,7 +274,7 @@ impl<K: Eq + Hash + Clone + Drop, V: Clone + Drop> Table<K, V> for PlainTable<K,
     fn begin(&self, operation: TableOp<K, V>) -> PlainCall<K, V>
         ensures operation { result.operation ≡ Some operation }
         ensures fits { result.operation ≢ None }
-        ensures left { plain_left ≤ most_steps plain_first (hash_map_len self.now.pairs) }
+        ensures left { plain_left ≤ most_steps plain_first (peak_of self.now) }
     {
         PlainCall {
             operation: Some(operation),
@@ -181,9 +289,11 @@ impl<K: Eq + Hash + Clone + Drop, V: Clone + Drop> Table<K, V> for PlainTable<K,
         ensures moves { IfOk result (λ turn. (o : TableOp K V) → call.old.operation ≡ Some o
             → Moves K.eq o (map_of K.eq self.old) (hash_map_len self.old.pairs) turn
             (map_of K.eq self.new) (hash_map_len self.new.pairs)) }
-        ensures peak { hash_map_len self.new.pairs
-            ≡ max (hash_map_len self.old.pairs) (hash_map_len self.new.pairs) }
+        ensures peak { peak_of self.new ≡ max (peak_of self.old) (hash_map_len self.new.pairs) }
         ensures first { plain_first ≡ plain_first }
+        // A removal takes no memory.
+        ensures removal { (key : K) (stamp : Option ℕ)
+            → call.old.operation ≡ Some (TableOp.RemoveIf key stamp) → IsOk result }
         // An undecided call is still begun, and nearer to its end.
         ensures undecided { IfOk result (λ turn. turn ≡ TableTurn.Going
             → (call.new.operation ≡ call.old.operation) × (call.new.operation ≢ None)) }
@@ -192,7 +302,7 @@ impl<K: Eq + Hash + Clone + Drop, V: Clone + Drop> Table<K, V> for PlainTable<K,
         ensures others { (other : PlainCall K V) → other.operation ≢ None
             → other.operation ≢ None }
         ensures others_left { (other : PlainCall K V) → other.operation ≢ None
-            → plain_left ≤ most_steps plain_first (hash_map_len self.new.pairs) }
+            → plain_left ≤ most_steps plain_first (peak_of self.new) }
         // Without memory nothing has changed, for this call and for the others.
         ensures err_map { OnErr result (SameMap (map_of K.eq self.old) (map_of K.eq self.new)) }
         ensures err_count { OnErr result
@@ -205,6 +315,8 @@ impl<K: Eq + Hash + Clone + Drop, V: Clone + Drop> Table<K, V> for PlainTable<K,
         match call.operation.take() {
             Some(TableOp::Get { key }) => self.step_look(call, key),
             Some(TableOp::InsertOrModify { key, stored }) => self.step_put(call, key, stored),
+            Some(TableOp::InsertIfAbsent { key, stored }) => self.step_absent(call, key, stored),
+            Some(TableOp::RemoveIf { key, stamp }) => Ok(self.step_out(&key, stamp)),
             None => unreachable!(),
         }
     }

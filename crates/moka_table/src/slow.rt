@@ -6,9 +6,11 @@ ghost use Rattle.std.proofs.Common.{arith};
 ghost use Rattle.moka_hist.specs.Finite.{IsExact};
 ghost use Rattle.moka_hist.specs.declared.tables.TableOp.{TableOp};
 ghost use Rattle.moka_table.specs.Map.{SameMap, Moves, ListsPairs, most_steps};
-ghost use Rattle.moka_table.specs.Plain.{map_of, plain_first};
+ghost use Rattle.moka_table.specs.Plain.{map_of, peak_of, plain_first};
 
 use crate::{EntryList, PlainCall, PlainTable, Table};
+#[cfg(test)]
+use moka_hist::Stored;
 use moka_hist::{TableOp, TableTurn};
 use std::alloc::{AllocError, Global};
 use std::hash::Hash;
@@ -30,7 +32,7 @@ impl<K: Eq + Hash + Clone + Drop, V: Clone + Drop> Table<K, V> for Slow<K, V> {
 
     ghost count = { λ t. hash_map_len t.plain.pairs };
 
-    ghost peak = { λ t. hash_map_len t.plain.pairs };
+    ghost peak = { λ t. peak_of t.plain };
 
     ghost first = { λ t. plain_first };
 
@@ -53,8 +55,7 @@ impl<K: Eq + Hash + Clone + Drop, V: Clone + Drop> Table<K, V> for Slow<K, V> {
     fn begin(&self, operation: TableOp<K, V>) -> PlainCall<K, V>
         ensures operation { result.operation ≡ Some operation }
         ensures fits { result.operation ≢ None }
-        ensures left { self.now.pieces + 1
-            ≤ most_steps plain_first (hash_map_len self.now.plain.pairs) }
+        ensures left { self.now.pieces + 1 ≤ most_steps plain_first (peak_of self.now.plain) }
     {
         self.plain.begin(operation)
     }
@@ -66,8 +67,8 @@ impl<K: Eq + Hash + Clone + Drop, V: Clone + Drop> Table<K, V> for Slow<K, V> {
         ensures moves { IfOk result (λ turn. (o : TableOp K V) → call.old.operation ≡ Some o
             → Moves K.eq o (map_of K.eq self.old.plain) (hash_map_len self.old.plain.pairs) turn
             (map_of K.eq self.new.plain) (hash_map_len self.new.plain.pairs)) }
-        ensures peak { hash_map_len self.new.plain.pairs
-            ≡ max (hash_map_len self.old.plain.pairs) (hash_map_len self.new.plain.pairs) }
+        ensures peak { peak_of self.new.plain
+            ≡ max (peak_of self.old.plain) (hash_map_len self.new.plain.pairs) }
         ensures first { plain_first ≡ plain_first }
         ensures undecided { IfOk result (λ turn. turn ≡ TableTurn.Going
             → (call.new.operation ≡ call.old.operation) × (call.new.operation ≢ None)) }
@@ -76,8 +77,7 @@ impl<K: Eq + Hash + Clone + Drop, V: Clone + Drop> Table<K, V> for Slow<K, V> {
         ensures others { (other : PlainCall K V) → other.operation ≢ None
             → other.operation ≢ None }
         ensures others_left { (other : PlainCall K V) → other.operation ≢ None
-            → self.new.pieces + 1
-            ≤ most_steps plain_first (hash_map_len self.new.plain.pairs) }
+            → self.new.pieces + 1 ≤ most_steps plain_first (peak_of self.new.plain) }
         ensures err_map { OnErr result
             (SameMap (map_of K.eq self.old.plain) (map_of K.eq self.new.plain)) }
         ensures err_count { OnErr result
@@ -122,5 +122,29 @@ fn an_operation_decides_once_the_pieces_are_done(rt: HostRuntime) -> Result<(), 
     assert!(rt; table.step(&mut second)?.is_going());
     assert!(rt; !table.step(&mut first)?.is_going());
     assert!(rt; !table.step(&mut second)?.is_going());
+    Ok(())
+}
+
+#[test]
+fn a_removal_finds_what_is_there_when_it_decides(rt: HostRuntime) -> Result<(), Fail> {
+    let mut table: Slow<u32, u32> = Slow {
+        plain: PlainTable::new(rt.alloc()),
+        pieces: 1,
+    };
+    let mut removal = table.begin(TableOp::RemoveIf {
+        key: 3,
+        stamp: Some(1),
+    });
+    assert!(rt; table.step(&mut removal)?.is_going());
+    let stored = Stored {
+        value: 7,
+        stamp: 1,
+        modified: 0,
+    };
+    let mut insert = table.begin(TableOp::InsertIfAbsent { key: 3, stored });
+    assert!(rt; !table.step(&mut insert)?.is_going());
+    assert_eq!(rt; table.len(), 1);
+    assert!(rt; !table.step(&mut removal)?.is_going());
+    assert_eq!(rt; table.len(), 0);
     Ok(())
 }

@@ -14,6 +14,21 @@ fn insert(key: u32, stamp: u64) -> TableOp<u32, u32> {
     }
 }
 
+fn insert_if_absent(key: u32, stamp: u64) -> TableOp<u32, u32> {
+    TableOp::InsertIfAbsent {
+        key,
+        stored: Stored {
+            value: key,
+            stamp,
+            modified: 5,
+        },
+    }
+}
+
+fn remove(key: u32, stamp: Option<u64>) -> TableOp<u32, u32> {
+    TableOp::RemoveIf { key, stamp }
+}
+
 // The stamp that was decided on.
 fn stamp_in(turn: &TableTurn<u32, u32>) -> Option<u64> {
     match turn {
@@ -32,6 +47,14 @@ fn each_operation_succeeds_with_ample_memory(rt: HostRuntime) -> Result<(), Fail
         (insert(3, 2), Some(1), 1),
         (insert(4, 3), None, 2),
         (TableOp::Get { key: 3 }, Some(2), 2),
+        (insert_if_absent(3, 4), Some(2), 2),
+        (insert_if_absent(5, 5), None, 3),
+        (remove(3, Some(4)), None, 3),
+        (remove(3, Some(2)), Some(2), 2),
+        (remove(3, None), None, 2),
+        (remove(4, None), Some(3), 1),
+        (TableOp::Get { key: 4 }, None, 1),
+        (insert_if_absent(4, 6), None, 2),
     ];
     for (operation, stamp, len) in cases {
         let mut call = table.begin(operation);

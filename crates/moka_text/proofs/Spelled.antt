@@ -19,14 +19,16 @@ use Rattle.moka_hist.specs.declared.events.Told.{Told}
 use Rattle.moka_hist.specs.declared.events.Told.TheVariants as told
 use Rattle.moka_hist.specs.declared.events.Event.{Event}
 use Rattle.moka_hist.specs.declared.events.Event.TheVariants as event
-use Rattle.moka_text.specs.Words.{number_in, call_in, key_in, after, before_byte, after_byte}
-use Rattle.moka_text.specs.ScheduleText.{start_words, told_words, event_line, StartFits, ToldFits, EventFits, SpellsNone}
-use Rattle.moka_text.specs.ScheduleReading.{pair_of, start_by, start_of, told_of, tell_of, event_by, event_of}
+use Rattle.moka_hist.specs.declared.rules.Cause.{Cause}
+use Rattle.moka_hist.specs.declared.rules.Cause.TheVariants as cause
+use Rattle.moka_text.specs.Words.{number_in, call_in, key_in, cause_word, after, before_byte, after_byte}
+use Rattle.moka_text.specs.ScheduleText.{chosen_words, start_words, told_words, event_line, StartFits, ToldFits, EventFits, SpellsNone}
+use Rattle.moka_text.specs.ScheduleReading.{pair_of, cause_of, chosen_of, evict_of, start_by, start_of, told_of, tell_of, event_by, event_of}
 use Rattle.moka_text.proofs.Numbers.{own, number_some, number_found}
 use Rattle.moka_text.proofs.Splitting.{before_here, before_later, after_here, after_later}
 
 -- what holds of the value of each part holds of the value of the whole
-mapped : {X Y : Type 0} (P : Y → Type 0) (f : X → Y) (o : Option X) → IfSome o (λ x. P (f x)) → IfSome (option_map f o) P
+pub mapped : {X Y : Type 0} (P : Y → Type 0) (f : X → Y) (o : Option X) → IfSome o (λ x. P (f x)) → IfSome (option_map f o) P
 mapped P f (Some x) h = h
 mapped P f None h = h
 
@@ -80,11 +82,29 @@ pair_read : (k v : ℕ) → k < 2 ^ 32 → v < 2 ^ 32 → pair_of (decimal k ++ 
 unfolding pair_of
 pair_read k v h j = let cut = spaced k (decimal v) (omega arith) in rw (cut.0, cut.1, key_some k h, key_some v j) refl
 
+cause_read : (c : Cause) → cause_of (cause_word c) ≡ Some c
+unfolding cause_of
+cause_read cause.Expired = refl
+cause_read cause.Explicit = refl
+cause_read cause.Replaced = refl
+cause_read cause.Size = refl
+
+chosen_read : (s : ℕ) (c : Cause) → s < 2 ^ 64 → chosen_of (chosen_words s c) ≡ Some (s, c)
+unfolding chosen_of
+chosen_read s c h = let cut = spaced s (cause_word c) h in rw (cut.0, cut.1, call_some s h, cause_read c) refl
+
+evict_read : (k s : ℕ) (c : Cause) → k < 2 ^ 32 → s < 2 ^ 64 → evict_of (decimal k ++ 32 ∷ chosen_words s c) ≡ Some (k, (s, c))
+unfolding evict_of
+evict_read k s c h j = let cut = spaced k (chosen_words s c) (omega arith) in rw (cut.0, cut.1, key_some k h, chosen_read s c j) refl
+
 start_read : (s : Start ℕ ℕ) → StartFits s → start_of (start_words s) ≡ Some s
 unfolding start_by
 start_read (start.Get key) h = rw (key_some key h) refl
 start_read (start.Insert key value) h = rw (pair_read key value h.0 h.1) refl
 start_read (start.GetWith key) h = rw (key_some key h) refl
+start_read (start.Invalidate key) h = rw (key_some key h) refl
+start_read (start.Remove key) h = rw (key_some key h) refl
+start_read (start.Evict key stamp cause) h = rw (evict_read key stamp cause h.0 h.1) refl
 
 told_read : (t : Told ℕ) → ToldFits t → told_of (told_words t) ≡ Some t
 unfolding told_of
@@ -130,6 +150,35 @@ pub chosen : {X : Type 0} (P : X → Type 0) (b : Bool) (x y : Option X) → (b 
 chosen P true x y h k = h refl
 chosen P false x y h k = k
 
+cause_is : (word : List ℕ) → IfSome (cause_of word) (λ c. word ≡ cause_word c)
+unfolding cause_of
+cause_is word =
+    let P : Cause → Type 0 = λ c. word ≡ cause_word c in
+    chosen P (bytes_eq word (codes "Expired")) _ _ (λ h. (bytes_eq-Decides word (codes "Expired")).0 h)
+    (chosen P (bytes_eq word (codes "Explicit")) _ _ (λ h. (bytes_eq-Decides word (codes "Explicit")).0 h)
+    (chosen P (bytes_eq word (codes "Replaced")) _ _ (λ h. (bytes_eq-Decides word (codes "Replaced")).0 h)
+    (chosen P (bytes_eq word (codes "Size")) _ _ (λ h. (bytes_eq-Decides word (codes "Size")).0 h) tt)))
+
+some_cause : (c : Cause) → 0 < length (cause_word c)
+some_cause cause.Expired = omega arith
+some_cause cause.Explicit = omega arith
+some_cause cause.Replaced = omega arith
+some_cause cause.Size = omega arith
+
+chosen_is : (bytes : List ℕ) → IfSome (chosen_of bytes) (λ t. (bytes ≡ chosen_words t.0 t.1) × (t.0 < 2 ^ 64))
+unfolding chosen_of
+chosen_is bytes =
+    bound _ _ (λ stamp. option_and_then (λ cause. Some (stamp, cause)) (cause_of (after_byte 32 bytes))) (call_in (before_byte 32 bytes)) (number_is (2 ^ 64) (before_byte 32 bytes)) (λ stamp h.
+    bound _ _ (λ cause. Some (stamp, cause)) (cause_of (after_byte 32 bytes)) (cause_is (after_byte 32 bytes)) (λ cause j.
+    (rejoined bytes (decimal stamp) (cause_word cause) h.0 j (some_cause cause), h.1)))
+
+evict_is : (bytes : List ℕ) → IfSome (evict_of bytes) (λ e. (bytes ≡ decimal e.0 ++ 32 ∷ chosen_words e.1.0 e.1.1) × ((e.0 < 2 ^ 32) × (e.1.0 < 2 ^ 64)))
+unfolding evict_of
+evict_is bytes =
+    bound _ _ (λ key. option_and_then (λ chosen. Some (key, chosen)) (chosen_of (after_byte 32 bytes))) (key_in (before_byte 32 bytes)) (number_is (2 ^ 32) (before_byte 32 bytes)) (λ key h.
+    bound _ _ (λ chosen. Some (key, chosen)) (chosen_of (after_byte 32 bytes)) (chosen_is (after_byte 32 bytes)) (λ chosen j.
+    (rejoined bytes (decimal key) (chosen_words chosen.0 chosen.1) h.0 j.0 (some_spaced (decimal chosen.0) (cause_word chosen.1)), (h.1, j.1))))
+
 -- where what follows a line's first word is spelled so, so is the line
 after_word : {X Y : Type 0} (words : X → List ℕ) (Fits : X → Type 0) (P : Y → Type 0) (f : X → Y) (name bytes : List ℕ) (o : Option X) → ((x : X) → Fits x → 0 < length (words x)) → IfSome o (λ x. (after_byte 32 bytes ≡ words x) × Fits x) → ((x : X) → bytes ≡ name ++ 32 ∷ words x → Fits x → P (f x)) → bytes_eq (before_byte 32 bytes) name ≡ true → IfSome (option_map f o) P
 after_word words Fits P f name bytes o some is so word =
@@ -146,7 +195,10 @@ start_is bytes =
     let word : List ℕ = before_byte 32 bytes in
     chosen P (bytes_eq word (codes "get")) _ _ (number_after (2 ^ 32) P start.Get (codes "get") bytes (omega arith) (λ n e h. (e, h)))
     (chosen P (bytes_eq word (codes "insert")) _ _ (after_word (λ p. decimal p.0 ++ 32 ∷ decimal p.1) (λ p. (p.0 < 2 ^ 32) × (p.1 < 2 ^ 32)) P (λ p. start.Insert p.0 p.1) (codes "insert") bytes (pair_of (after_byte 32 bytes)) (λ p h. some_spaced (decimal p.0) (decimal p.1)) (pair_is (after_byte 32 bytes)) (λ p e h. (e, h)))
-    (chosen P (bytes_eq word (codes "get_with")) _ _ (number_after (2 ^ 32) P start.GetWith (codes "get_with") bytes (omega arith) (λ n e h. (e, h))) tt))
+    (chosen P (bytes_eq word (codes "get_with")) _ _ (number_after (2 ^ 32) P start.GetWith (codes "get_with") bytes (omega arith) (λ n e h. (e, h)))
+    (chosen P (bytes_eq word (codes "invalidate")) _ _ (number_after (2 ^ 32) P start.Invalidate (codes "invalidate") bytes (omega arith) (λ n e h. (e, h)))
+    (chosen P (bytes_eq word (codes "remove")) _ _ (number_after (2 ^ 32) P start.Remove (codes "remove") bytes (omega arith) (λ n e h. (e, h)))
+    (chosen P (bytes_eq word (codes "evict")) _ _ (after_word (λ t. decimal t.0 ++ 32 ∷ chosen_words t.1.0 t.1.1) (λ t. (t.0 < 2 ^ 32) × (t.1.0 < 2 ^ 64)) P (λ t. start.Evict t.0 t.1.0 t.1.1) (codes "evict") bytes (evict_of (after_byte 32 bytes)) (λ t h. some_spaced (decimal t.0) (chosen_words t.1.0 t.1.1)) (evict_is (after_byte 32 bytes)) (λ t e h. (e, h))) tt)))))
 
 told_is : (bytes : List ℕ) → IfSome (told_of bytes) (λ t. (bytes ≡ told_words t) × ToldFits t)
 unfolding told_of
@@ -166,6 +218,9 @@ some_start : (s : Start ℕ ℕ) → 0 < length (start_words s)
 some_start (start.Get key) = omega arith
 some_start (start.Insert key value) = omega arith
 some_start (start.GetWith key) = omega arith
+some_start (start.Invalidate key) = omega arith
+some_start (start.Remove key) = omega arith
+some_start (start.Evict key stamp cause) = omega arith
 
 tell_is : (bytes : List ℕ) → IfSome (tell_of bytes) (λ t. (bytes ≡ decimal t.0 ++ 32 ∷ told_words t.1) × ((t.0 < 2 ^ 64) × ToldFits t.1))
 unfolding tell_of

@@ -12,10 +12,10 @@ use Rattle.moka_hist.specs.declared.records.Stored.{Stored}
 use Rattle.moka_hist.specs.declared.writes.Place.{Place}
 use Rattle.moka_hist.specs.declared.writes.Place.TheVariants as place
 use Rattle.moka_hist.specs.declared.rules.Cause.{Cause}
-use Rattle.moka_hist.specs.declared.rules.Cause.TheVariants as cause
 use Rattle.moka_hist.specs.declared.notices.Notice.{Notice}
 use Rattle.moka_hist.specs.declared.notices.NoticeState.{NoticeState}
 use Rattle.moka_hist.specs.declared.notices.NoticeState.TheVariants as state
+use Rattle.moka_text.specs.Words.{cause_word}
 
 -- a line's words and its end
 abbrev pub ended : List ℕ → List ℕ
@@ -28,6 +28,8 @@ answer_words (answer.Found None) = codes "none"
 answer_words (answer.Loaded value true) = codes "value " ++ decimal value ++ codes " fresh"
 answer_words (answer.Loaded value false) = codes "value " ++ decimal value
 answer_words answer.RetriesExhausted = codes "exhausted"
+answer_words answer.Evicted = codes "evicted"
+answer_words answer.Kept = codes "kept"
 
 abbrev pub refusal_words : Refusal → List ℕ
 refusal_words refusal.UnknownCall = codes "UnknownCall"
@@ -35,13 +37,6 @@ refusal_words refusal.NotParked = codes "NotParked"
 refusal_words refusal.NotAsked = codes "NotAsked"
 refusal_words refusal.ClockBack = codes "ClockBack"
 refusal_words refusal.CallsSpent = codes "CallsSpent"
-
--- why a record left
-abbrev pub cause_word : Cause → List ℕ
-cause_word cause.Expired = codes "Expired"
-cause_word cause.Explicit = codes "Explicit"
-cause_word cause.Replaced = codes "Replaced"
-cause_word cause.Size = codes "Size"
 
 -- a key, the value that stood under it, and why it left
 abbrev pub left_words : ℕ → ℕ → Cause → List ℕ

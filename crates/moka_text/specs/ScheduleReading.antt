@@ -7,12 +7,14 @@ use Rattle.moka_hist.specs.declared.events.Told.{Told}
 use Rattle.moka_hist.specs.declared.events.Told.TheVariants as told
 use Rattle.moka_hist.specs.declared.events.Event.{Event}
 use Rattle.moka_hist.specs.declared.events.Event.TheVariants as event
+use Rattle.moka_hist.specs.declared.rules.Cause.{Cause}
+use Rattle.moka_hist.specs.declared.rules.Cause.TheVariants as cause
 use Rattle.moka_hist.specs.declared.rules.Rules.{Rules}
 use Rattle.moka_text.specs.declared.schedules.Schedule.{Schedule}
 use Rattle.moka_text.specs.declared.schedules.ScheduleError.{ScheduleError}
 use Rattle.moka_text.specs.declared.schedules.ScheduleError.TheVariants as errors
 use Rattle.moka_text.specs.Words.{call_in, key_in, after, before_byte, after_byte, from_byte}
-use Rattle.moka_text.specs.ScheduleText.{event_line, EventFits, listening, lines, Says, IsFirstBad}
+use Rattle.moka_text.specs.ScheduleText.{event_line, EventFits, rules_of, lines, Says, IsFirstBad}
 
 infixl 10 ◌>>=◌
 abbrev pub ◌>>=◌ : {A B : Type 0} → Option A → (A → Option B) → Option B
@@ -25,6 +27,29 @@ pair_of bytes = do
   value ← key_in (after_byte 32 bytes)
   Some (key, value)
 
+-- why a record that was chosen has to leave
+unfoldable pub cause_of : List ℕ → Option Cause
+cause_of word =
+    if bytes_eq word (codes "Expired") then Some cause.Expired
+    else if bytes_eq word (codes "Explicit") then Some cause.Explicit
+    else if bytes_eq word (codes "Replaced") then Some cause.Replaced
+    else if bytes_eq word (codes "Size") then Some cause.Size
+    else None
+
+-- a stamp and a cause with a space between them
+unfoldable pub chosen_of : List ℕ → Option (ℕ × Cause)
+chosen_of bytes = do
+  stamp ← call_in (before_byte 32 bytes)
+  cause ← cause_of (after_byte 32 bytes)
+  Some (stamp, cause)
+
+-- a key, and after a space the record that was chosen
+unfoldable pub evict_of : List ℕ → Option (ℕ × (ℕ × Cause))
+evict_of bytes = do
+  key ← key_in (before_byte 32 bytes)
+  chosen ← chosen_of (after_byte 32 bytes)
+  Some (key, chosen)
+
 -- what a call is started for, by a word and what stands after its space
 unfoldable pub start_by : List ℕ → List ℕ → Option (Start ℕ ℕ)
 start_by word rest =
@@ -32,6 +57,10 @@ start_by word rest =
     else if bytes_eq word (codes "insert") then
     option_map (λ p. start.Insert p.0 p.1) (pair_of rest)
     else if bytes_eq word (codes "get_with") then option_map start.GetWith (key_in rest)
+    else if bytes_eq word (codes "invalidate") then option_map start.Invalidate (key_in rest)
+    else if bytes_eq word (codes "remove") then option_map start.Remove (key_in rest)
+    else if bytes_eq word (codes "evict") then
+    option_map (λ e. start.Evict e.0 e.1.0 e.1.1) (evict_of rest)
     else None
 
 abbrev pub start_of : List ℕ → Option (Start ℕ ℕ)
@@ -79,6 +108,11 @@ cut_option name bytes = said_in bytes (after name bytes)
 abbrev pub within : ℕ → ℕ → ℕ → Option ℕ
 within least greatest n = if nat_le least n && nat_le n greatest then Some n else None
 
+-- the capacity, where one is said
+unfoldable pub cap_of : Option (List ℕ) → Option (Option ℕ)
+cap_of None = Some None
+cap_of (Some said) = option_map Some (call_in said)
+
 -- the size of the write log
 unfoldable pub log_of : Option (List ℕ) → Option ℕ
 log_of None = Some 384
@@ -96,18 +130,21 @@ unless_left [] value = value
 unless_left (b ∷ bytes) value = None
 
 -- the size of the write log and the rules, from what is said of each option
-unfoldable pub made_of : Option (List ℕ) → Option (List ℕ) → Option (ℕ × Rules)
-made_of log listener = do
+unfoldable pub made_of :
+    Option (List ℕ) → Option (List ℕ) → Option (List ℕ) → Option (ℕ × Rules)
+made_of cap log listener = do
+  capacity ← cap_of cap
   size ← log_of log
   set ← switch_of listener
-  Some (size, listening set)
+  Some (size, rules_of capacity set)
 
 -- the size of the write log and the rules that the options say, one after the other
 abbrev pub options_of : List ℕ → Option (ℕ × Rules)
 options_of bytes =
-    let log : Option (List ℕ) × List ℕ = cut_option (codes " log=") bytes in
+    let cap : Option (List ℕ) × List ℕ = cut_option (codes " cap=") bytes in
+    let log : Option (List ℕ) × List ℕ = cut_option (codes " log=") cap.1 in
     let listener : Option (List ℕ) × List ℕ = cut_option (codes " listener") log.1 in
-    unless_left listener.1 (made_of log.0 listener.0)
+    unless_left listener.1 (made_of cap.0 log.0 listener.0)
 
 -- the size of the write log and the rules that the first line says
 abbrev pub cache_of : List ℕ → Option (ℕ × Rules)

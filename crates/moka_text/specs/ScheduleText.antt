@@ -1,5 +1,5 @@
 -- The text of a schedule: how its lines are spelled, and what a whole text says.
-use Rattle.std.specs.Prelude.{◌≡◌, ℕ, ◌+◌, ◌^◌, ◌<◌, ◌≤◌, ◌==◌, ◌⊎◌, Bool, false, List, [], ◌∷◌, ◌++◌, map, length, Option, Some, None, codes, decimal, if◌then◌else◌}
+use Rattle.std.specs.Prelude.{◌≡◌, ℕ, ◌+◌, ◌^◌, ◌<◌, ◌≤◌, ◌==◌, ◌⊎◌, Bool, false, List, [], ◌∷◌, ◌++◌, map, length, Option, Some, None, IfSome, codes, decimal, if◌then◌else◌}
 use Rattle.std.specs.Option.{option_map, unwrap_or}
 use Rattle.std.specs.List.{AllByRecursion, onto_first}
 use Rattle.moka_hist.specs.declared.events.Start.{Start}
@@ -8,13 +8,23 @@ use Rattle.moka_hist.specs.declared.events.Told.{Told}
 use Rattle.moka_hist.specs.declared.events.Told.TheVariants as told
 use Rattle.moka_hist.specs.declared.events.Event.{Event}
 use Rattle.moka_hist.specs.declared.events.Event.TheVariants as event
+use Rattle.moka_hist.specs.declared.rules.Cause.{Cause}
 use Rattle.moka_hist.specs.declared.rules.Rules.{Rules}
+use Rattle.moka_text.specs.Words.{cause_word}
+
+-- the stamp of a record that was chosen to leave, and the cause
+abbrev pub chosen_words : ℕ → Cause → List ℕ
+chosen_words stamp cause = decimal stamp ++ 32 ∷ cause_word cause
 
 -- what a call is started for
 abbrev pub start_words : Start ℕ ℕ → List ℕ
 start_words (start.Get key) = codes "get " ++ decimal key
 start_words (start.Insert key value) = codes "insert " ++ (decimal key ++ 32 ∷ decimal value)
 start_words (start.GetWith key) = codes "get_with " ++ decimal key
+start_words (start.Invalidate key) = codes "invalidate " ++ decimal key
+start_words (start.Remove key) = codes "remove " ++ decimal key
+start_words (start.Evict key stamp cause) =
+    codes "evict " ++ (decimal key ++ 32 ∷ chosen_words stamp cause)
 
 -- what an ask is told
 abbrev pub told_words : Told ℕ → List ℕ
@@ -31,11 +41,14 @@ event_line (event.Poll call) = codes "poll " ++ decimal call
 event_line (event.Tell call answer) = codes "tell " ++ (decimal call ++ 32 ∷ told_words answer)
 event_line (event.Drop call) = codes "drop " ++ decimal call
 
--- keys and values are of 32 bits
+-- keys and values are of 32 bits, and stamps of 64
 abbrev pub StartFits : Start ℕ ℕ → Type 0
 StartFits (start.Get key) = key < 2 ^ 32
 StartFits (start.Insert key value) = (key < 2 ^ 32) × (value < 2 ^ 32)
 StartFits (start.GetWith key) = key < 2 ^ 32
+StartFits (start.Invalidate key) = key < 2 ^ 32
+StartFits (start.Remove key) = key < 2 ^ 32
+StartFits (start.Evict key stamp cause) = (key < 2 ^ 32) × (stamp < 2 ^ 64)
 
 abbrev pub ToldFits : Told ℕ → Type 0
 ToldFits (told.Value value) = value < 2 ^ 32
@@ -64,14 +77,16 @@ switch set = if set then Some [] else None
 abbrev pub cache_line : Option ℕ → Rules → List ℕ
 cache_line log rules =
     codes "cache"
-    ++ option_words (codes "log=") (option_map decimal log)
-    ++ option_words (codes "listener") (switch rules.listener)
+    ++ (option_words (codes "cap=") (option_map decimal rules.max_capacity)
+    ++ (option_words (codes "log=") (option_map decimal log)
+    ++ option_words (codes "listener") (switch rules.listener)))
 
--- the rules of a cache with a listener or without one, and no other rule
-abbrev pub listening : Bool → Rules
-listening set =
+-- the rules of a cache of this capacity, where one is set, with a listener or without one, and no
+-- other rule
+abbrev pub rules_of : Option ℕ → Bool → Rules
+rules_of capacity set =
     record {
-      max_capacity = None;
+      max_capacity = capacity;
       time_to_live = None;
       time_to_idle = None;
       listener = set;
@@ -84,7 +99,8 @@ pub record IsCacheLine (line : List ℕ) (log : ℕ) (rules : Rules) : Type 0 wh
   pub spelled : line ≡ cache_line said rules
   pub size : log ≡ unwrap_or said 384
   pub range : (1 ≤ log) × (log ≤ 65536)
-  pub others : rules ≡ listening rules.listener
+  pub capacity : IfSome rules.max_capacity (λ most. most < 2 ^ 64)
+  pub others : rules ≡ rules_of rules.max_capacity rules.listener
 
 -- Each line ends with byte 10, and the last may lack it: what stands after the last byte 10 is a
 -- line only where it isn't empty.

@@ -1,7 +1,9 @@
--- The parts of a line: numbers, what follows a word, and the two sides of a space.
-use Rattle.std.specs.Prelude.{ℕ, ◌^◌, ◌==◌, ◌&&◌, List, Option, Some, None, length, take, drop, nat_lt, decimal, bytes_eq, if◌then◌else◌}
+-- The parts of a line: numbers, causes, what follows a word, and the two sides of a space.
+use Rattle.std.specs.Prelude.{ℕ, ◌^◌, ◌==◌, ◌&&◌, List, Option, Some, None, length, take, drop, nat_lt, codes, decimal, bytes_eq, if◌then◌else◌}
 use Rattle.std.specs.List.{before_first, after_first, position_or_len}
 use Rattle.std.specs.Str.Parse.{digits_value}
+use Rattle.moka_hist.specs.declared.rules.Cause.{Cause}
+use Rattle.moka_hist.specs.declared.rules.Cause.TheVariants as cause
 
 -- the number below the limit of which these bytes are the decimal form
 unfoldable pub number_in : ℕ → List ℕ → Option ℕ
@@ -16,6 +18,13 @@ call_in = number_in (2 ^ 64)
 -- a key or a value
 abbrev pub key_in : List ℕ → Option ℕ
 key_in = number_in (2 ^ 32)
+
+-- why a record left
+abbrev pub cause_word : Cause → List ℕ
+cause_word cause.Expired = codes "Expired"
+cause_word cause.Explicit = codes "Explicit"
+cause_word cause.Replaced = codes "Replaced"
+cause_word cause.Size = codes "Size"
 
 -- what follows these bytes at the front of the line
 abbrev pub after : List ℕ → List ℕ → Option (List ℕ)

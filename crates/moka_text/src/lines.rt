@@ -3,6 +3,9 @@
 ghost use Rattle.std.specs.Prelude.{◌≡◌};
 ghost use Rattle.moka_text.specs.ScheduleReading.{
   pair_of,
+  cause_of,
+  chosen_of,
+  evict_of,
   start_by,
   start_of,
   told_of,
@@ -12,7 +15,7 @@ ghost use Rattle.moka_text.specs.ScheduleReading.{
 };
 
 use crate::words::{after, call_in, cut, key_in};
-use moka_hist::{Event, Start, Told};
+use moka_hist::{Cause, Event, Start, Told};
 
 /// A key and a value, with one space between them.
 #[tactic(auto, unfolding(crate::specs::ScheduleReading::pair_of))]
@@ -25,6 +28,42 @@ fn pair_of(bytes: &[u8]) -> Option<(u32, u32)>
     Some((key, value))
 }
 
+/// Why a record that was chosen has to leave.
+#[tactic(auto, unfolding(crate::specs::ScheduleReading::cause_of))]
+fn cause_of(word: &[u8]) -> Option<Cause>
+    ensures { result ≡ cause_of word.now }
+{
+    match word {
+        b"Expired" => Some(Cause::Expired),
+        b"Explicit" => Some(Cause::Explicit),
+        b"Replaced" => Some(Cause::Replaced),
+        b"Size" => Some(Cause::Size),
+        _ => None,
+    }
+}
+
+/// A stamp and a cause, with one space between them.
+#[tactic(auto, unfolding(crate::specs::ScheduleReading::chosen_of))]
+fn chosen_of(bytes: &[u8]) -> Option<(u64, Cause)>
+    ensures { result ≡ chosen_of bytes.now }
+{
+    let (stamp, cause) = cut(bytes, b' ');
+    let stamp = call_in(stamp)?;
+    let cause = cause_of(cause)?;
+    Some((stamp, cause))
+}
+
+/// A key, and after a space the record that was chosen.
+#[tactic(auto, unfolding(crate::specs::ScheduleReading::evict_of))]
+fn evict_of(bytes: &[u8]) -> Option<(u32, (u64, Cause))>
+    ensures { result ≡ evict_of bytes.now }
+{
+    let (key, chosen) = cut(bytes, b' ');
+    let key = key_in(key)?;
+    let chosen = chosen_of(chosen)?;
+    Some((key, chosen))
+}
+
 /// What a call is started for, by a word and what stands after its space.
 #[tactic(auto, unfolding(crate::specs::ScheduleReading::start_by))]
 fn start_by(word: &[u8], rest: &[u8]) -> Option<Start<u32, u32>>
@@ -34,6 +73,9 @@ fn start_by(word: &[u8], rest: &[u8]) -> Option<Start<u32, u32>>
         b"get" => key_in(rest).map(|key| Start::Get { key }),
         b"insert" => pair_of(rest).map(|(key, value)| Start::Insert { key, value }),
         b"get_with" => key_in(rest).map(|key| Start::GetWith { key }),
+        b"invalidate" => key_in(rest).map(|key| Start::Invalidate { key }),
+        b"remove" => key_in(rest).map(|key| Start::Remove { key }),
+        b"evict" => evict_of(rest).map(|(key, (stamp, cause))| Start::Evict { key, stamp, cause }),
         _ => None,
     }
 }

@@ -2,8 +2,15 @@
 
 ghost use Rattle.std.specs.Prelude.{◌≡◌};
 ghost use Rattle.std.specs.Option.{option_copied};
-ghost use Rattle.moka_text.specs.ScheduleText.{listening};
-ghost use Rattle.moka_text.specs.ScheduleReading.{cut_option, log_of, switch_of, made_of, cache_of};
+ghost use Rattle.moka_text.specs.ScheduleText.{rules_of};
+ghost use Rattle.moka_text.specs.ScheduleReading.{
+  cut_option,
+  cap_of,
+  log_of,
+  switch_of,
+  made_of,
+  cache_of,
+};
 
 use crate::words::{after, call_in, cut};
 use moka_hist::Rules;
@@ -26,6 +33,17 @@ fn cut_option<'a>(bytes: &'a [u8], name: &[u8]) -> (Option<&'a [u8]>, &'a [u8])
             let (said, _) = cut(rest, b' ');
             (Some(said), &rest[said.len()..])
         }
+    }
+}
+
+/// How many records the cache keeps, where that is said.
+#[tactic(auto, unfolding(crate::specs::ScheduleReading::cap_of))]
+fn cap_of(said: Option<&[u8]>) -> Option<Option<u64>>
+    ensures { result ≡ cap_of (option_copied said.entry) }
+{
+    match said {
+        None => Some(None),
+        Some(said) => call_in(said).map(Some),
     }
 }
 
@@ -56,12 +74,13 @@ fn switch_of(said: Option<&[u8]>) -> Option<bool>
     }
 }
 
-/// The rules of a cache with a listener or without one, and no other rule.
-fn listening(set: bool) -> Rules
-    ensures { result ≡ listening set }
+/// The rules of a cache of this capacity, where one is set, with a listener or without one, and no
+/// other rule.
+fn rules_of(capacity: Option<u64>, set: bool) -> Rules
+    ensures { result ≡ rules_of capacity set }
 {
     Rules {
-        max_capacity: None,
+        max_capacity: capacity,
         time_to_live: None,
         time_to_idle: None,
         listener: set,
@@ -71,12 +90,18 @@ fn listening(set: bool) -> Rules
 
 /// How many writes the write log has room for, and the rules, from what is said of each option.
 #[tactic(auto, unfolding(crate::specs::ScheduleReading::made_of))]
-fn made_of(log: Option<&[u8]>, listener: Option<&[u8]>) -> Option<(usize, Rules)>
-    ensures { result ≡ made_of (option_copied log.entry) (option_copied listener.entry) }
+fn made_of(
+    cap: Option<&[u8]>,
+    log: Option<&[u8]>,
+    listener: Option<&[u8]>,
+) -> Option<(usize, Rules)>
+    ensures { result ≡ made_of (option_copied cap.entry) (option_copied log.entry)
+        (option_copied listener.entry) }
 {
+    let capacity = cap_of(cap)?;
     let log = log_of(log)?;
     let listener = switch_of(listener)?;
-    Some((log, listening(listener)))
+    Some((log, rules_of(capacity, listener)))
 }
 
 /// How many writes the write log has room for, and the rules, as a schedule's first line says.
@@ -84,10 +109,11 @@ pub(crate) fn cache_of(line: &[u8]) -> Option<(usize, Rules)>
     ensures { result ≡ cache_of line.now }
 {
     let bytes = after(line, b"cache")?;
+    let (cap, bytes) = cut_option(bytes, b" cap=");
     let (log, bytes) = cut_option(bytes, b" log=");
     let (listener, bytes) = cut_option(bytes, b" listener");
     match bytes {
-        [] => made_of(log, listener),
+        [] => made_of(cap, log, listener),
         [_, ..] => None,
     }
 }

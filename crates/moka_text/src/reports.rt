@@ -2,11 +2,11 @@
 
 ghost use Rattle.std.specs.Prelude.{◌≡◌, ◌++◌, flat_map, IfOk, OnOk};
 ghost use Rattle.std.specs.String.{string_bytes};
+ghost use Rattle.moka_text.specs.Words.{cause_word};
 ghost use Rattle.moka_text.specs.ReportText.{
   reply_line,
   entry_line,
   write_line,
-  cause_word,
   state_word,
   notice_line,
   report_text,
@@ -49,6 +49,8 @@ fn push_answer(text: &mut String, answer: &Answer<u32>) -> Result<(), AllocError
         Answer::Found(found) => push_found(text, found),
         Answer::Loaded { value, fresh } => push_loaded(text, *value, *fresh),
         Answer::RetriesExhausted => text.push_str("answer exhausted\n"),
+        Answer::Evicted => text.push_str("answer evicted\n"),
+        Answer::Kept => text.push_str("answer kept\n"),
     }
 }
 

@@ -49,7 +49,12 @@ fn a_bad_first_line_is_line_1(rt: HostRuntime) {
         "cache log=8listener\n",
         "cache closures\n",
         "cache listener closures\n",
-        "cache cap=8\n",
+        "cache log=8 cap=1\n",
+        "cache listener cap=1\n",
+        "cache cap=\n",
+        "cache cap=01\n",
+        "cache cap=18446744073709551616\n",
+        "cache cap=1 cap=1\n",
     ];
     for text in texts {
         assert_eq!(rt; bad_line(rt.alloc(), text.as_bytes()), Some(1), "at {text}");
@@ -83,6 +88,14 @@ fn the_first_bad_line_is_numbered(rt: HostRuntime) {
         ("cache\ntell 1 off \n", 2),
         ("cache\ntell 1 off 2\n", 2),
         ("cache listener\ntell 1 offer\n", 2),
+        ("cache\nstart invalidate_all\n", 2),
+        ("cache\nstart invalidate\n", 2),
+        ("cache\nstart remove 4294967296\n", 2),
+        ("cache\nstart evict 1\n", 2),
+        ("cache\nstart evict 1 1\n", 2),
+        ("cache\nstart evict 1 1 size\n", 2),
+        ("cache\nstart evict 1 1 Size \n", 2),
+        ("cache\nstart evict 1 18446744073709551616 Size\n", 2),
     ];
     for (text, line) in cases {
         assert_eq!(rt;
@@ -111,15 +124,24 @@ fn the_last_line_may_lack_its_end(rt: HostRuntime) -> Result<(), Fail> {
 #[test]
 fn each_option_stands_or_not(rt: HostRuntime) -> Result<(), Fail> {
     let cases = [
-        ("cache", 384, false),
-        ("cache log=65536", 65536, false),
-        ("cache listener", 384, true),
-        ("cache log=1 listener", 1, true),
+        ("cache", None, 384, false),
+        ("cache log=65536", None, 65536, false),
+        ("cache listener", None, 384, true),
+        ("cache log=1 listener", None, 1, true),
+        ("cache cap=0", Some(0), 384, false),
+        (
+            "cache cap=18446744073709551615 log=8",
+            Some(u64::MAX),
+            8,
+            false,
+        ),
+        ("cache cap=1 listener", Some(1), 384, true),
+        ("cache cap=1 log=8 listener", Some(1), 8, true),
     ];
-    for (text, size, listener) in cases {
+    for (text, max_capacity, size, listener) in cases {
         let Schedule { log, rules, .. } = read_schedule(rt.alloc(), text.as_bytes())?;
         let want = Rules {
-            max_capacity: None,
+            max_capacity,
             time_to_live: None,
             time_to_idle: None,
             listener,
@@ -172,6 +194,35 @@ fn every_form_of_line_is_read(rt: HostRuntime) -> Result<(), Fail> {
     Ok(())
 }
 
+#[test]
+fn every_form_of_removal_is_read(rt: HostRuntime) -> Result<(), Fail> {
+    let cases = [
+        ("start invalidate 0", Start::Invalidate { key: 0 }),
+        ("start remove 4294967295", Start::Remove { key: u32::MAX }),
+        (
+            "start evict 3 18446744073709551615 Expired",
+            evict(3, u64::MAX, Cause::Expired),
+        ),
+        ("start evict 3 0 Explicit", evict(3, 0, Cause::Explicit)),
+        ("start evict 3 1 Replaced", evict(3, 1, Cause::Replaced)),
+        ("start evict 3 2 Size", evict(3, 2, Cause::Size)),
+    ];
+    for (line, start) in cases {
+        let text = format!(in rt.alloc(); "cache\n{line}")?;
+        let Schedule { events, .. } = read_schedule(rt.alloc(), text.as_bytes())?;
+        assert_eq!(rt;
+            events.as_slice(),
+            [Event::Start { start }].as_slice(),
+            "at {line}"
+        );
+    }
+    Ok(())
+}
+
+fn evict(key: u32, stamp: u64, cause: Cause) -> Start<u32, u32> {
+    Start::Evict { key, stamp, cause }
+}
+
 /// A notice of the value 9 under the key 3.
 fn notice(number: u64, cause: Cause, state: NoticeState) -> Notice<u32, u32> {
     Notice {
@@ -220,6 +271,8 @@ fn every_form_of_line_is_written(rt: HostRuntime) -> Result<(), Fail> {
             fresh: false,
         }),
         Reply::Answer(Answer::RetriesExhausted),
+        Reply::Answer(Answer::Evicted),
+        Reply::Answer(Answer::Kept),
     ];
     let entries = [(
         7,
@@ -246,8 +299,9 @@ fn every_form_of_line_is_written(rt: HostRuntime) -> Result<(), Fail> {
         ask listener 1 2 Expired\nask listener 4294967295 0 Explicit\ntold\ndropped\n\
         refused UnknownCall\nrefused NotParked\nrefused NotAsked\nrefused ClockBack\n\
         refused CallsSpent\nanswer done\nanswer some 0\nanswer none\nanswer value 5 fresh\n\
-        answer value 6\nanswer exhausted\nentry 7 8 stamp 9 at 10\nwrite 1 held\nwrite 2 owed\n\
-        write 3 logged\nwrite 4 applied\nnotice 5 3 9 Replaced waiting\nnotice 6 3 9 Size running\n\
+        answer value 6\nanswer exhausted\nanswer evicted\nanswer kept\n\
+        entry 7 8 stamp 9 at 10\nwrite 1 held\nwrite 2 owed\nwrite 3 logged\n\
+        write 4 applied\nnotice 5 3 9 Replaced waiting\nnotice 6 3 9 Size running\n\
         notice 7 3 9 Replaced ended\nnotice 18446744073709551615 3 9 Replaced skipped\n";
     assert_eq!(rt; text.as_str(), want);
     Ok(())

@@ -8,7 +8,7 @@ use Rattle.moka_hist.specs.Run.{Run, IsReached}
 use Rattle.moka_hist.specs.declared.events.Event.{Event}
 use Rattle.moka_hist.specs.declared.replies.Reply.{Reply}
 use Rattle.moka_laws.specs.OwnKeys.{ReachedByLawfulRun}
-use Rattle.moka_run.specs.Machine.{StandsFor}
+use Rattle.moka_run.specs.Machine.{MachineIs}
 use Rattle.moka_run.specs.Running.{Answers}
 use Rattle.moka_run.specs.declared.machine.Machine.{Machine}
 use Rattle.moka_uses.specs.ReadBack.{IsReadBack, found_in, log_size, no_rules, looking, storing}
@@ -16,10 +16,10 @@ use Rattle.moka_uses.specs.ReadBack.{IsReadBack, found_in, log_size, no_rules, l
 module _ {K V : Type 0} {same : PartialEq.Ghosts K} {hash : Hash.Ghosts K} where
   -- what a run of these events answers, from whatever reached state the machine stood for
   abbrev pub Ran : (K → K → Bool) → Machine K V same hash → List (Event K V) → List (Reply K V) → Machine K V same hash → Type 0
-  Ran eq old events replies new = (s : State K V) → StandsFor eq old s → IsReached eq s → Answers eq events replies new s
+  Ran eq old events replies new = (s : State K V) → MachineIs eq old s → IsReached eq s → Answers eq events replies new s
 
   pub read_back_of : (eq : K → K → Bool) (m₀ m₁ m₂ : Machine K V same hash) (key : K) (value : V) (stores looks : List (Event K V)) (first second : List (Reply K V)) (call last : Reply K V) (found : Option V)
-      → ReachedByLawfulRun K V eq → StandsFor eq m₀ (fresh K V no_rules log_size)
+      → ReachedByLawfulRun K V eq → MachineIs eq m₀ (fresh K V no_rules log_size)
       → stores ≡ storing key value → Ran eq m₀ stores first m₁
       → looks ≡ looking key → Ran eq m₁ looks second m₂
       → second ≡ call ∷ last ∷ [] → found ≡ found_in last → IsReadBack eq key value found

@@ -4,7 +4,7 @@ ghost use Rattle.moka_hist.specs.Finite.{IsExact};
 ghost use Rattle.moka_hist.specs.State.{State};
 ghost use Rattle.moka_hist.specs.Run.{IsReached};
 ghost use Rattle.moka_hist.specs.declared.replies.Reply.{Reply};
-ghost use Rattle.moka_run.specs.Machine.{StandsFor, IsValid};
+ghost use Rattle.moka_run.specs.Machine.{MachineIs, IsValid};
 ghost use Rattle.moka_run.specs.Running.{Answers};
 ghost use Rattle.moka_uses.specs.ReadBack.{IsReadBack, found_in, looking, storing};
 
@@ -34,7 +34,7 @@ fn run_all<K: Eq + Hash + Clone + Drop, V: Clone + Drop>(
     requires keys { IsExact K.is_clone }
     requires values { IsExact V.is_clone }
     requires valid { IsValid K.eq cache.old }
-    ensures run { IfOk result (λ report. (s : State K V) → StandsFor K.eq cache.old s
+    ensures run { IfOk result (λ report. (s : State K V) → MachineIs K.eq cache.old s
         → IsReached K.eq s → Answers K.eq events.now report.replies cache.new s) }
     ensures answered { IfOk result (λ report. length report.replies ≡ length events.now) }
     ensures valid { IsValid K.eq cache.new }

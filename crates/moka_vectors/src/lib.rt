@@ -6,6 +6,8 @@ mod in_memory;
 #[cfg(test)]
 mod listener;
 #[cfg(test)]
+mod removals;
+#[cfg(test)]
 mod rows;
 
 pub use in_memory::{Played, first_misreported, play_bytes, play_pieces, text_of, words_of};

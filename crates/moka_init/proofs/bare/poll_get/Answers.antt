@@ -14,7 +14,7 @@ poll-requires-clause-safe g c =
     let w : World g.row.K.Denot g.row.V.Denot = (fresh g.row.K.Denot g.row.V.Denot no_rules 1).world in
     let bare : IsBare c.args.ground.now.undecided w =
     record { owed = refl; holding = λ n. refl; log = refl; size = refl; stored = λ q. refl; patient = omega (arith, c.args.ground.now.few) } in
-    (w, bare, get_is_safe g.K.PartialEq.eq c.args.ground.now.undecided c.new-flow.result.call c.args.key no_rules (call_of c.new-flow.result) w c.new-flow.ensures.call bare, omega arith)
+    (w, bare, get_is_safe g.K.PartialEq.eq c.args.ground.now.undecided c.new-flow.result.call c.args.key no_rules (call_of c.new-flow.result) w c.new-flow.ensures.call refl bare, omega arith)
 
 pub returns : goal.returns
 returns g c =

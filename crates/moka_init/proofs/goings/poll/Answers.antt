@@ -1,9 +1,10 @@
 -- What the steps so far did, and one more.
-use Rattle.std.proofs.Common.{◌≡◌, ◌+◌, true, refl, sym, subst, ◌∙◌, ◌++◌, arith}
-use Rattle.moka_init.specs.declared.flow.Flow.{Flow}
-use Rattle.moka_init.specs.FlowPlan.{call_of, IsLive}
-use Rattle.moka_init.specs.Steps.{MayLack}
+use Rattle.std.proofs.Common.{◌≡◌, ◌+◌, true, refl, sym, subst, ◌∙◌, ◌++◌, ◌⊎◌, arith}
+use Rattle.moka_hist.specs.Step.{Access}
+use Rattle.moka_init.specs.FlowPlan.{call_of}
+use Rattle.moka_init.specs.Grounds.{Account, IsOn, TakesCopies}
 use Rattle.moka_init.proofs.Going.{moves_none, live_going, may_fit, safe_next, flow_more, flow_last, has_log_still}
+use Rattle.moka_init.proofs.Still.{access_still, live_still, on_still}
 use Rattle.moka_init.proofs.Told.{told_none, told_more, told_last}
 use Rattle.moka_init.proofs.goings.poll.Goals as goal
 
@@ -79,23 +80,34 @@ loop-turn-smaller g c =
 
 pub returns-in-Err-clause-live : goal.returns-in-Err-clause-live
 returns-in-Err-clause-live g c =
-    subst (λ (f : Flow g.row.K.Denot g.row.V.Denot). IsLive f) (sym c.in-Err.ensures.err) c.loop-turn.invariant.1.live
+    live_still c.loop-turn.flow c.step.new.flow c.in-Err.ensures.err c.loop-turn.invariant.1.live
+
+pub returns-in-Err-clause-on : goal.returns-in-Err-clause-on
+returns-in-Err-clause-on g c =
+    subst (λ (a : Account g.row.K.Denot g.row.V.Denot). IsOn a c.step.new.flow)
+    (sym c.in-Err.ensures.err_account)
+    (on_still (g.G.Ground.account c.loop-turn.ground) c.loop-turn.flow c.step.new.flow
+    c.in-Err.ensures.err c.loop-turn.invariant.1.on)
 
 pub returns-in-Err-clause-unfinished : goal.returns-in-Err-clause-unfinished
 returns-in-Err-clause-unfinished g c =
-    let so_far = c.loop-turn.invariant in (
+    let so_far = c.loop-turn.invariant in
+    let still = c.in-Err.ensures.err in
+    let here = access_still c.loop-turn.flow c.step.new.flow still in (
       so_far.0,
       so_far.1.so_many,
       (λ w h safe.
           let m = so_far.1.moved w h safe in
-          let may = safe_next g.K.PartialEq.eq so_far.0 c.args.flow.now c.loop-turn.flow w m.0 so_far.1.number m.1 safe in (
+          let may = safe_next g.K.PartialEq.eq so_far.0 c.args.flow.now c.loop-turn.flow w m.0
+          so_far.1.number m.1 safe in (
             m.0,
-            rw c.in-Err.ensures.err m.1,
+            rw still.call m.1,
             c.in-Err.ensures.err_stands m.0 m.2,
-            subst (λ (f : Flow g.row.K.Denot g.row.V.Denot). MayLack g.G.Ground.needs m.0 f) (sym c.in-Err.ensures.err)
+            subst (λ (a : Access g.row.K.Denot g.row.V.Denot).
+                TakesCopies a ⊎ g.G.Ground.needs m.0 a) (sym here)
                 (c.in-Err.ensures.err_needs m.0 m.2 may),
           )),
-      (λ before e. rw (c.in-Err.ensures.err, c.in-Err.ensures.err_account) (so_far.1.told before e)),
+      (λ before e. rw (still.call, c.in-Err.ensures.err_account) (so_far.1.told before e)),
     )
 
 pub returns-in-Err-clause-keeps : goal.returns-in-Err-clause-keeps

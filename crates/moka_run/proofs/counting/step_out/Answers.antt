@@ -1,13 +1,12 @@
 -- The step leaves a reached state, and without memory the call is back as it was.
 use Rattle.std.proofs.Common.{◌≡◌, ℕ, Some, sym, ap, subst, ◌∙◌}
 use Rattle.moka_hist.specs.Step.{Moves, state_after}
-use Rattle.moka_hist.specs.State.{State}
+use Rattle.moka_hist.specs.State.{Call, State}
 use Rattle.moka_hist.specs.Finite.{put_at}
-use Rattle.moka_init.specs.declared.flow.Flow.{Flow}
 use Rattle.moka_init.specs.FlowPlan.{call_of, next_in}
 use Rattle.moka_init.proofs.Going.{may_want}
 use Rattle.moka_laws.proofs.Outcomes.{put_same}
-use Rattle.moka_run.specs.Machine.{StandsFor}
+use Rattle.moka_run.specs.Machine.{MachineIs}
 use Rattle.moka_run.proofs.Stepping.{still_without, still_out}
 use Rattle.moka_run.proofs.counting.step_out.Goals as goal
 
@@ -44,16 +43,16 @@ returns-in-Err g c =
     let s = k.0 in
     let h = k.1.rest in
     let n = c.args.call in
-    let same : c.step-stepped.new.flow ≡ c.args.flow = c.in-Err.ensures.err in
+    let still = c.in-Err.ensures.err in
     let new = c.step-stepped.new.ground.machine in
-    let out = still_out eq c.args.machine new c.args.flow c.step-stepped.new.flow same c.in-Err.ensures.err_account c.requires.out in
-    let back : StandsFor eq c.put_in.new.self (record { world = s.world; calls = put_at s.calls n (Some (call_of c.args.flow)) }) =
-    subst (λ (f : Flow g.row.K.Denot g.row.V.Denot). StandsFor eq c.put_in.new.self (record { world = s.world; calls = put_at s.calls n (Some (call_of f)) })) same
+    let out = still_out eq c.args.machine new c.args.flow c.step-stepped.new.flow still c.in-Err.ensures.err_account c.requires.out in
+    let back : MachineIs eq c.put_in.new.self (record { world = s.world; calls = put_at s.calls n (Some (call_of c.args.flow)) }) =
+    subst (λ (d : Call g.row.K.Denot g.row.V.Denot). MachineIs eq c.put_in.new.self (record { world = s.world; calls = put_at s.calls n (Some d) })) still.call
     (c.put_in.ensures s.calls s.world
-    (still_without eq c.args.machine new n c.args.flow c.step-stepped.new.flow s.calls s.world s.world c.requires.out.on out.on (ap (λ f. f.call) same) c.in-Err.ensures.keeps (c.in-Err.ensures.err_stands s.world h.reaches) h) out) in
+    (still_without eq c.args.machine new n c.args.flow c.step-stepped.new.flow s.calls s.world s.world c.requires.out.on out.on still.number c.in-Err.ensures.keeps (c.in-Err.ensures.err_stands s.world h.reaches) h) out) in
     record {
       state = s;
-      stands = subst (λ (u : State g.row.K.Denot g.row.V.Denot). StandsFor eq c.put_in.new.self u)
+      stands = subst (λ (u : State g.row.K.Denot g.row.V.Denot). MachineIs eq c.put_in.new.self u)
           (ap (λ f. record s { calls = f }) (put_same s.calls n (Some (call_of c.args.flow)) k.1.live)) back;
       reached = k.2;
     }

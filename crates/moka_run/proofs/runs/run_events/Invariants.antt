@@ -4,7 +4,7 @@ use Rattle.std.specs.Vec.{vec_capacity}
 use Rattle.moka_hist.specs.State.{State}
 use Rattle.moka_hist.specs.Places.{IsLawful}
 use Rattle.moka_hist.specs.Run.{Run, IsReached}
-use Rattle.moka_run.specs.Machine.{StandsFor, IsValid}
+use Rattle.moka_run.specs.Machine.{MachineIs, IsValid}
 use Rattle.moka_run.proofs.runs.run_events.Given as goal
 
 abbrev pub invariant-loop-event : goal.invariant-loop-event
@@ -13,7 +13,7 @@ invariant-loop-event g l =
       told : vec_len l.replies ≡ l.event-index;
       room : length l.events ≤ vec_capacity l.replies;
       valid : IsValid g.K.PartialEq.eq l.cache;
-      ran : (s : State _ _) → StandsFor g.K.PartialEq.eq l.fn.cache s → IsReached g.K.PartialEq.eq s
+      ran : (s : State _ _) → MachineIs g.K.PartialEq.eq l.fn.cache s → IsReached g.K.PartialEq.eq s
           → (m : State _ _) × Run g.K.PartialEq.eq (IsLawful g.K.PartialEq.eq) s (take l.event-index l.events) l.replies.items m
-          × StandsFor g.K.PartialEq.eq l.cache m × IsReached g.K.PartialEq.eq m;
+          × MachineIs g.K.PartialEq.eq l.cache m × IsReached g.K.PartialEq.eq m;
     }

@@ -15,3 +15,15 @@ unfolding start_by
 returns-in-103 c =
     let word : c.args.word.now ≡ codes "get_with" = text_from_reads _ (codes "get_with") (omega arith) (omega arith, (omega arith, (omega arith, (omega arith, (omega arith, (omega arith, (omega arith, (omega arith, tt)))))))) in
     rw word (search rules)
+
+pub returns-in-invalidate : goal.returns-in-invalidate
+unfolding start_by
+returns-in-invalidate c =
+    let word : c.args.word.now ≡ codes "invalidate" = text_from_reads _ (codes "invalidate") (omega arith) (omega arith, (omega arith, (omega arith, (omega arith, (omega arith, (omega arith, (omega arith, (omega arith, (omega arith, (omega arith, tt)))))))))) in
+    rw word (search rules)
+
+pub returns-in-remove : goal.returns-in-remove
+unfolding start_by
+returns-in-remove c =
+    let word : c.args.word.now ≡ codes "remove" = text_from_reads _ (codes "remove") (omega arith) (omega arith, (omega arith, (omega arith, (omega arith, (omega arith, (omega arith, tt)))))) in
+    rw word (search rules)

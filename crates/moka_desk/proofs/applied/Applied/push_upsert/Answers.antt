@@ -25,7 +25,7 @@ invariant_of-self-clause-left c =
     let seen : c.contains-stands.result ≡ after =
     c.contains-stands.ensures ∙ c.mark.ensures.marked c.args.number
     ∙ rw (s.marked c.args.number) (sym (gone_then s.writes.items (Upsert c.args.number c.args.old) c.args.number)) in
-    let one : c.from.result ≡ cond after 0 1 = c.from.ensures ∙ ap (λ b. bool_byte (not b)) seen ∙ byte_not after in
+    let one : c.from.result ≡ cond (not after) 1 0 = c.from.ensures ∙ ap (λ b. bool_byte (not b)) seen ∙ byte_not after in
     let falls = fallen_le s.writes.items c.args.old in
     let sum = standing_then s.writes.items (Upsert c.args.number c.args.old) in
     let total : (s.standing - c.fallen_by-fallen.result) + c.from.result ≡ standing (s.writes.items ++ Upsert c.args.number c.args.old ∷ []) = omega arith in

@@ -2,7 +2,7 @@ use Rattle.std.proofs.Common.{◌==◌, Some, None, cond, ap, sym, ◌≡◌, �
 use Rattle.std.specs.HashMap.{get}
 use Rattle.moka_hist.specs.Finite.{load_eq}
 use Rattle.moka_desk.proofs.SameLoads.{load_same, get_same, get_alike}
-use Rattle.moka_desk.proofs.Owners.{owns_fewer, owned_fewer, but_none, but_one}
+use Rattle.moka_hist.proofs.Owners.{owns_fewer, owned_fewer, but_none, but_one}
 use Rattle.moka_desk.proofs.loads.Loads.disown.Goals as goal
 
 pub returns-in-Some-clause-makes : goal.returns-in-Some-clause-makes

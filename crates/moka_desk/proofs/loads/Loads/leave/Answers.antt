@@ -9,7 +9,7 @@ returns g c = λ w held h.
     let call = c.args.call in
     let alone = record w { joined = put_at w.joined call None; readers = readers_without w call; settled = settled_without w call } in
     let last = c.end.ensures alone (c.stop_waiting.ensures w h) in
-    let number : c.readers_of-awaited.result ≡ w.readers call = c.readers_of-awaited.ensures ∙ h.readers call in
+    let number : c.readers_of-awaited.result ≡ w.readers call = c.readers_of-awaited.ensures.value ∙ h.readers call in
     record {
       owners = last.owners;
       owning = last.owning;

@@ -2,7 +2,7 @@ use Rattle.std.proofs.Common.{◌==◌, Some, None, cond, ap, sym, ◌≡◌, �
 use Rattle.std.specs.HashMap.{get}
 use Rattle.moka_hist.specs.Finite.{load_eq}
 use Rattle.moka_desk.proofs.SameLoads.{derived, load_same, get_same, get_alike, load_laws}
-use Rattle.moka_desk.proofs.Owners.{owns_more, owned_more}
+use Rattle.moka_hist.proofs.Owners.{owns_more, owned_more}
 use Rattle.moka_desk.proofs.loads.Loads.own.Goals as goal
 
 pub returns-clause-ok : goal.returns-clause-ok

@@ -1,6 +1,6 @@
 use Rattle.std.proofs.Common.{◌==◌, Some, None, cond, ap, sym, ◌≡◌, ◌∙◌}
 use Rattle.moka_desk.proofs.Keys.{same_at}
-use Rattle.moka_desk.proofs.Owners.{owns_fewer, owned_fewer, but_none, but_one}
+use Rattle.moka_hist.proofs.Owners.{owns_fewer, owned_fewer, but_none, but_one}
 use Rattle.moka_desk.proofs.locks.Locks.free.Goals as goal
 
 pub returns-in-Some : goal.returns-in-Some

@@ -1,7 +1,7 @@
 use Rattle.std.proofs.Common.{nat_eq, ◌==◌, Some, cond, ap, sym, ◌≡◌, ◌∙◌}
 use Rattle.std.specs.HashMap.{get}
 use Rattle.moka_desk.proofs.Keys.{same_at}
-use Rattle.moka_desk.proofs.Owners.{owns_more, owned_more}
+use Rattle.moka_hist.proofs.Owners.{owns_more, owned_more}
 use Rattle.moka_desk.proofs.locks.Locks.lock.Goals as goal
 
 pub returns-clause-ok : goal.returns-clause-ok

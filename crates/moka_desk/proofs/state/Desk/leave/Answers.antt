@@ -34,7 +34,7 @@ returns-clause-makes g c = λ w h may.
       loads = c.leave-2.ensures w c.args.held h.loads;
       locks = c.free.ensures (lock_part w) h.locks;
       notices = h.notices;
-      asks = c.leave-3.ensures (ask_part w) h.asks;
+      asks = c.leave-3.ensures.makes (ask_part w) h.asks;
     }
 
 pub returns-clause-misses : goal.returns-clause-misses
@@ -52,7 +52,7 @@ returns-clause-misses g c = λ w h m.
                 (none_still (is_reader_of w call n && w.readers n == 1) (w.settled n) is.2),
           ))
           (left_listed (settlement_line self) others _ _ call (λ n. refl) (λ n k other is. (other, is.0, is.1)) m.settlements);
-      answers = answers_miss c.leave-3.new.self.open_asks (put_at w.asks call None) (c.leave-3.ensures (ask_part w) h.asks).open_asks;
+      answers = answers_miss c.leave-3.new.self.open_asks (put_at w.asks call None) (c.leave-3.ensures.makes (ask_part w) h.asks).open_asks;
       locks = come_listed lockers _ _ _ call c.leave-4.ensures.locks
           (λ n k away is. (ap is_some (ap (λ b. cond b None (w.locked n)) away) ∙ is.0, is.1))
           (left_listed (lock_line self) lockers _ _ call (λ n. refl) (λ n k other is. is) m.locks);

@@ -59,14 +59,14 @@ returns-clause-misses g c = λ w h may m.
       turns = m.turns;
       settlements = m.settlements;
       answers = m.answers;
-      locks = left_listed _ _ _ _ call c.leave.ensures (λ n k other is. (some_still (call == n) key (w.locked n) is.0, is.1)) m.locks;
+      locks = left_listed _ _ _ _ call c.leave.ensures.off (λ n k other is. (some_still (call == n) key (w.locked n) is.0, is.1)) m.locks;
       notices = m.notices;
     })
     (record {
       turns = m.turns;
       settlements = m.settlements;
       answers = m.answers;
-      locks = left_listed _ _ _ _ call c.leave.ensures (λ n k other is. is) m.locks;
+      locks = left_listed _ _ _ _ call c.leave.ensures.off (λ n k other is. is) m.locks;
       notices = m.notices;
     })
     (is_unlocked_for w call key)

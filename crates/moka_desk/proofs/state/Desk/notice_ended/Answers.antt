@@ -26,5 +26,5 @@ returns-clause-misses g c = λ w h may m. record {
   settlements = m.settlements;
   answers = m.answers;
   locks = m.locks;
-  notices = left_listed _ _ _ _ c.args.call c.leave.ensures (λ n k other is. is) m.notices;
+  notices = left_listed _ _ _ _ c.args.call c.leave.ensures.off (λ n k other is. is) m.notices;
 }

@@ -1,7 +1,7 @@
 use Rattle.moka_desk.specs.Notices.{notice_part}
 use Rattle.moka_desk.specs.Writes.{write_part}
 use Rattle.moka_desk.proofs.Outcomes.{on_err}
-use Rattle.moka_desk.proofs.Owners.{is_none_of}
+use Rattle.moka_hist.proofs.Owners.{is_none_of}
 use Rattle.moka_desk.proofs.state.Desk.open_notice.Goals as goal
 
 pub returns-in_err-asked-clause-err : goal.returns-in_err-asked-clause-err

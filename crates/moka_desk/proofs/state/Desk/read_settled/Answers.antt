@@ -34,7 +34,7 @@ returns-clause-misses g c = λ w h may m.
     by_cases (λ b. ListedMiss after (cond b left w))
     (record {
       turns = m.turns;
-      settlements = left_listed _ _ _ _ call c.leave.ensures
+      settlements = left_listed _ _ _ _ call c.leave.ensures.off
           (λ n k other is. (ap (λ b. cond b None (w.joined k)) other ∙ is.0, none_still (is_reader_of w call n && w.readers n == 1) (w.settled n) is.1)) m.settlements;
       answers = m.answers;
       locks = m.locks;
@@ -42,7 +42,7 @@ returns-clause-misses g c = λ w h may m.
     })
     (record {
       turns = m.turns;
-      settlements = left_listed _ _ _ _ call c.leave.ensures (λ n k other is. is) m.settlements;
+      settlements = left_listed _ _ _ _ call c.leave.ensures.off (λ n k other is. is) m.settlements;
       answers = m.answers;
       locks = m.locks;
       notices = m.notices;

@@ -16,7 +16,7 @@ returns-in-Some-clause-misses g c = λ w h may m.
 
 pub returns-clause-misses : goal.returns-clause-misses
 returns-clause-misses g c = λ w h may m. record {
-  turns = left_listed _ _ _ _ c.args.call c.leave.ensures (λ n k other is. (kept_turn w.turn n c.args.call is.0, is.1)) m.turns;
+  turns = left_listed _ _ _ _ c.args.call c.leave.ensures.off (λ n k other is. (kept_turn w.turn n c.args.call is.0, is.1)) m.turns;
   settlements = m.settlements;
   answers = m.answers;
   locks = m.locks;

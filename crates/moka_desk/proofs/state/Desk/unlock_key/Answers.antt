@@ -1,5 +1,6 @@
 use Rattle.moka_desk.specs.Locks.{lock_part}
 use Rattle.moka_desk.specs.Writes.{write_part}
+use Rattle.moka_desk.proofs.Allowed.{leaves_none}
 use Rattle.moka_desk.proofs.state.Desk.unlock_key.Goals as goal
 
 pub returns-clause-makes : goal.returns-clause-makes
@@ -10,7 +11,8 @@ returns-clause-makes g c = λ w h may. record {
   turn = h.turn;
   published = h.published;
   last = h.last;
-  writes = c.decide.ensures (write_part w) h.writes;
+  writes = c.conclude.ensures (write_part w) h.writes
+      (λ none. leaves_none (w.holding c.args.call) c.args.call (may.1 none));
   loads = h.loads;
   locks = c.free.ensures (lock_part w) h.locks;
   notices = h.notices;

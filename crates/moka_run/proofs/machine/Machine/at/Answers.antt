@@ -19,5 +19,6 @@ returns-then-at g c = λ s h reached.
         };
         calls = h.calls;
         each = h.each;
+        used = h.used;
       },
     )

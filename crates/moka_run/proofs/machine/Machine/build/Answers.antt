@@ -1,8 +1,10 @@
 -- A machine that was just built stands for the fresh state, which is reached.
-use Rattle.std.proofs.Common.{◌≡◌, Some, None, [], refl, sym, ap, ◌∙◌, arith}
+use Rattle.std.proofs.Common.{◌≡◌, Option, Some, None, [], refl, sym, ap, subst, ◌∙◌, arith}
 use Rattle.std.specs.Option.{option_map}
 use Rattle.moka_hist.specs.State.{fresh}
+use Rattle.moka_run.specs.Calls.{IsUsed, runs_in}
 use Rattle.moka_run.specs.Machine.{call_in}
+use Rattle.moka_run.specs.declared.calls.Running.{Running}
 use Rattle.moka_run.proofs.machine.Machine.build.Goals as goal
 
 pub returns-clause-fresh : goal.returns-clause-fresh
@@ -15,8 +17,9 @@ returns-clause-fresh g c =
         desk = c.in_ok-desk.ensures;
         stay = omega arith;
       };
-      calls = λ n. ap (option_map call_in) (c.new-3.ensures n);
-      each = λ n r e. let f : None ≡ Some r = sym (c.new-3.ensures n) ∙ e in absurd (cc);
+      calls = λ n. ap (λ p. option_map call_in (runs_in p)) (c.new-3.ensures n);
+      each = λ n r e. let f : None ≡ Some r = sym (ap runs_in (c.new-3.ensures n)) ∙ e in absurd (cc);
+      used = λ n. subst (λ (p : Option (Option (Running g.row.K.Denot g.row.V.Denot))). IsUsed p) (sym (c.new-3.ensures n)) (λ e. e);
     }
 
 pub returns-clause-valid : goal.returns-clause-valid

@@ -8,10 +8,10 @@ use Rattle.moka_hist.specs.declared.replies.Reply.TheVariants as reply
 use Rattle.moka_init.specs.Grounds.{HasBegun, wanted, access_at}
 use Rattle.moka_init.proofs.Begun.{not_begun}
 use Rattle.moka_run.specs.declared.calls.Running.{Running}
-use Rattle.moka_run.specs.Calls.{running_at}
-use Rattle.moka_run.specs.Machine.{StandsFor, IsOf}
+use Rattle.moka_run.specs.Calls.{place_at, running_at}
+use Rattle.moka_run.specs.Machine.{MachineIs, IsOf}
 use Rattle.moka_run.proofs.Happening.{match_false, given_out}
-use Rattle.moka_run.proofs.Places.{set_calls, set_each}
+use Rattle.moka_run.proofs.Places.{runs_at, set_calls, set_each, set_used}
 use Rattle.moka_run.proofs.Running.{starts, given_before}
 use Rattle.moka_run.proofs.machine.Machine.enter.Goals as goal
 
@@ -37,16 +37,18 @@ returns-in-Some g c = λ s h reached.
       begun = starts eq c.args.self.now.layers.table s.world.table s.world.stay w.last n h.world.table called later;
       given = omega arith;
     } in
+    let puts = runs_at (place_at c.args.self.now.calls) (place_at c.add.new.self) n (Some (Some runs)) c.add.ensures in
     let numbered : ℕ → State g.row.K.Denot g.row.V.Denot = λ m. record { world = record s.world { desk = record w { last = m } }; calls = put_at s.calls m (Some (fresh_call w.rules c.args.start)) } in (
       started s c.args.start,
       match_false _ _ _ next.0 (record { reply = ap reply.Call next.1; after = refl }),
-      subst (λ (m : ℕ). StandsFor eq (record { layers = record c.args.self.now.layers { desk = c.enter.new.self }; calls = c.add.new.self }) (numbered m)) next.1
+      subst (λ (m : ℕ). MachineIs eq (record { layers = record c.args.self.now.layers { desk = c.enter.new.self }; calls = c.add.new.self }) (numbered m)) next.1
           (record {
             world = record { table = h.world.table; desk = c.in-Some.ensures.makes w h.world.desk; stay = omega (arith, called, before) };
             calls = set_calls (running_at c.args.self.now.calls) (running_at c.add.new.self) s.calls n (Some runs) (Some (fresh_call w.rules c.args.start))
-                (ap Some (c.new-flow.ensures.call ∙ ap (λ r. fresh_call r c.args.start) ruled)) c.add.ensures (λ k ne. h.calls k);
+                (ap Some (c.new-flow.ensures.call ∙ ap (λ r. fresh_call r c.args.start) ruled)) puts (λ k ne. h.calls k);
             each = set_each (IsOf eq c.args.self.now.layers.table s.world.table s.world.stay n) (running_at c.args.self.now.calls) (running_at c.add.new.self) n (Some runs)
-                (λ x e. let f : runs ≡ x = cc in subst (λ (r : Running g.row.K.Denot g.row.V.Denot). IsOf eq c.args.self.now.layers.table s.world.table s.world.stay n n r) f is) c.add.ensures
+                (λ x e. let f : runs ≡ x = cc in subst (λ (r : Running g.row.K.Denot g.row.V.Denot). IsOf eq c.args.self.now.layers.table s.world.table s.world.stay n n r) f is) puts
                 (λ k x e. given_before eq c.args.self.now.layers.table s.world.table s.world.stay w.last n k x before (h.each k x e));
+            used = set_used (place_at c.args.self.now.calls) (place_at c.add.new.self) n (Some (Some runs)) c.add.ensures (λ e. e) (λ k ne. h.used k);
           }),
     )

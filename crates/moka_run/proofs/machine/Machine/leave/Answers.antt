@@ -34,6 +34,7 @@ returns-clause-leaves g c = λ s t all.
         };
         out = t.rest.reaches.out;
         each = t.rest.reaches.each;
+        used = t.rest.reaches.used;
       };
       number = t.rest.number;
       calls = t.rest.calls;

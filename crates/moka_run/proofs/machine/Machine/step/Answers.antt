@@ -7,7 +7,7 @@ use Rattle.moka_init.specs.FlowPlan.{call_of}
 use Rattle.moka_init.specs.Grounds.{access_at, NeedsMemory}
 use Rattle.moka_init.proofs.Going.{moves_none}
 use Rattle.moka_laws.proofs.Outcomes.{put_same}
-use Rattle.moka_run.specs.Machine.{StandsFor}
+use Rattle.moka_run.specs.Machine.{MachineIs}
 use Rattle.moka_run.proofs.Happening.{happens_step, on_err_both}
 use Rattle.moka_run.proofs.Needing.{call_needs}
 use Rattle.moka_run.proofs.machine.Machine.step.Goals as goal
@@ -44,7 +44,7 @@ returns-in-Some-clause-serves g c = IfOk-weaker c.step_out.result _ _ (λ r step
 pub returns-in-Some-clause-err : goal.returns-in-Some-clause-err
 returns-in-Some-clause-err g c = on_err_weaker c.step_out.result (λ keeps s stands.
     let t = c.in-Some.ensures.some s stands in
-    subst (λ (u : State g.row.K.Denot g.row.V.Denot). StandsFor g.K.PartialEq.eq c.step_out.new.self u)
+    subst (λ (u : State g.row.K.Denot g.row.V.Denot). MachineIs g.K.PartialEq.eq c.step_out.new.self u)
     (ap (λ f. record s { calls = f }) (put_same s.calls c.args.call (Some (call_of c.in-Some.flow)) t.0.live))
     (keeps s.calls s.world t.0.rest))
     c.step_out.ensures.err

@@ -1,10 +1,10 @@
 -- The step is the call's, and the call is put back or has ended.
-use Rattle.std.proofs.Common.{◌≡◌, ℕ, Some, sym, ap, subst, ◌∙◌}
+use Rattle.std.proofs.Common.{◌≡◌, ℕ, Some, sym, subst, ◌∙◌}
 use Rattle.moka_hist.specs.Finite.{put_at}
+use Rattle.moka_hist.specs.State.{Call}
 use Rattle.moka_hist.specs.Step.{Moves}
-use Rattle.moka_init.specs.declared.flow.Flow.{Flow}
 use Rattle.moka_init.specs.FlowPlan.{call_of, next_in}
-use Rattle.moka_run.specs.Machine.{StandsFor}
+use Rattle.moka_run.specs.Machine.{MachineIs}
 use Rattle.moka_run.proofs.Needing.{either_needs}
 use Rattle.moka_run.proofs.Stepping.{still_without, still_out}
 use Rattle.moka_run.proofs.machine.Machine.step_out.Goals as goal
@@ -27,11 +27,11 @@ returns-in-Ok-clause-steps g c = λ others w h may.
 pub returns-in-Err-clause-err : goal.returns-in-Err-clause-err
 returns-in-Err-clause-err g c = λ others w h.
     let eq = g.K.PartialEq.eq in
-    let same : c.step.new.flow ≡ c.args.flow = c.in-Err.ensures.err in
-    let out = still_out eq c.args.self.now c.step.new.ground c.args.flow c.step.new.flow same c.in-Err.ensures.err_account c.requires.out in
-    subst (λ (f : Flow g.row.K.Denot g.row.V.Denot). StandsFor eq c.put_in.new.self (record { world = w; calls = put_at others c.args.call (Some (call_of f)) })) same
+    let still = c.in-Err.ensures.err in
+    let out = still_out eq c.args.self.now c.step.new.ground c.args.flow c.step.new.flow still c.in-Err.ensures.err_account c.requires.out in
+    subst (λ (d : Call g.row.K.Denot g.row.V.Denot). MachineIs eq c.put_in.new.self (record { world = w; calls = put_at others c.args.call (Some d) })) still.call
     (c.put_in.ensures others w
-    (still_without eq c.args.self.now c.step.new.ground c.args.call c.args.flow c.step.new.flow others w w c.requires.out.on out.on (ap (λ f. f.call) same) c.in-Err.ensures.keeps
+    (still_without eq c.args.self.now c.step.new.ground c.args.call c.args.flow c.step.new.flow others w w c.requires.out.on out.on still.number c.in-Err.ensures.keeps
     (c.in-Err.ensures.err_stands w h.reaches) h) out)
 
 pub returns-in-Err-clause-err_needs : goal.returns-in-Err-clause-err_needs

@@ -4,7 +4,7 @@ use Rattle.moka_hist.specs.Run.{with_desk}
 use Rattle.moka_hist.specs.Telling.{is_asked, told}
 use Rattle.moka_hist.specs.declared.events.Told.{Told}
 use Rattle.moka_desk.specs.StandsFor as desk
-use Rattle.moka_run.specs.Machine.{StandsFor}
+use Rattle.moka_run.specs.Machine.{MachineIs}
 use Rattle.moka_run.specs.declared.machine.Machine.{Machine}
 use Rattle.moka_run.proofs.Happening.{match_true, match_false}
 use Rattle.moka_run.proofs.Telling.{told_stands, still_stands}
@@ -24,7 +24,7 @@ returns-then-tell_desk-clause-serves g c = λ s h reached.
     let stands : desk.StandsFor eq d (told w n c.args.answer.now) = subst (λ (a : Told g.row.V.Denot). desk.StandsFor eq d (told w n a)) same made in (
       with_desk s (told w n c.args.answer.now),
       match_true _ _ _ e (record { reply = refl; after = refl }),
-      subst (λ (m : Machine g.row.K.Denot g.row.V.Denot g.K.PartialEq g.K.Hash). StandsFor eq m (with_desk s (told w n c.args.answer.now))) (sym c.tell_desk.ensures.rest)
+      subst (λ (m : Machine g.row.K.Denot g.row.V.Denot g.K.PartialEq g.K.Hash). MachineIs eq m (with_desk s (told w n c.args.answer.now))) (sym c.tell_desk.ensures.rest)
           (told_stands eq c.args.self.now d s n c.args.answer.now h stands),
     )
 
@@ -41,6 +41,6 @@ returns-else-tell_desk-clause-serves g c = λ s h reached.
     subst (λ (b : Bool). desk.StandsFor eq d (cond b (told w n c.in_ok-answer.answer) w)) c.if-tell_desk.false (c.tell_desk.ensures.makes w h.world.desk) in (
       s,
       match_false _ _ _ e (record { reply = refl; same = refl }),
-      subst (λ (m : Machine g.row.K.Denot g.row.V.Denot g.K.PartialEq g.K.Hash). StandsFor eq m s) (sym c.tell_desk.ensures.rest)
+      subst (λ (m : Machine g.row.K.Denot g.row.V.Denot g.K.PartialEq g.K.Hash). MachineIs eq m s) (sym c.tell_desk.ensures.rest)
           (still_stands eq c.args.self.now d s h stands),
     )

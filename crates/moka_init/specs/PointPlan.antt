@@ -1,0 +1,186 @@
+-- What a call has still to do, by where it stands.
+use Rattle.std.specs.Prelude.{Bool, true, false, cond, List, [], ◌∷◌, Some, None}
+use Rattle.moka_hist.specs.Plan.{Item, Aim}
+use Rattle.moka_hist.specs.Plan as plan
+use Rattle.moka_hist.specs.Writing.{nothing_answer}
+use Rattle.moka_hist.specs.declared.replies.Answer.TheVariants as answer
+use Rattle.moka_hist.specs.declared.visits.Settled.TheVariants as settled
+use Rattle.moka_init.specs.declared.points.Look as looks
+use Rattle.moka_init.specs.declared.points.Look.TheVariants as look
+use Rattle.moka_init.specs.declared.points.Chosen.{Chosen}
+use Rattle.moka_init.specs.declared.points.Put.{Put}
+use Rattle.moka_init.specs.declared.points.Removal.{Removal}
+use Rattle.moka_init.specs.declared.points.Removal.TheVariants as removal
+use Rattle.moka_init.specs.declared.points.TakeOut.{TakeOut}
+use Rattle.moka_init.specs.declared.points.Locked.{Locked}
+use Rattle.moka_init.specs.declared.points.Locked.TheVariants as locked
+use Rattle.moka_init.specs.declared.points.Drained.{Drained}
+use Rattle.moka_init.specs.declared.points.Drained.TheVariants as drained
+use Rattle.moka_init.specs.declared.points.Posted.{Posted}
+use Rattle.moka_init.specs.declared.points.Posted.TheVariants as posted
+use Rattle.moka_init.specs.declared.points.Posting.{Posting}
+use Rattle.moka_init.specs.declared.points.Posting.TheVariants as posting
+use Rattle.moka_init.specs.declared.points.Looking.{Looking}
+use Rattle.moka_init.specs.declared.points.Looking.TheVariants as looking
+use Rattle.moka_init.specs.declared.points.Loading.{Loading}
+use Rattle.moka_init.specs.declared.points.Loading.TheVariants as loading
+use Rattle.moka_init.specs.declared.points.Writing.{Writing}
+use Rattle.moka_init.specs.declared.points.Writing.TheVariants as writing
+use Rattle.moka_init.specs.declared.points.Removing.{Removing}
+use Rattle.moka_init.specs.declared.points.Removing.TheVariants as removing
+use Rattle.moka_init.specs.declared.points.Listening.{Listening}
+use Rattle.moka_init.specs.declared.points.Listening.TheVariants as listening
+use Rattle.moka_init.specs.declared.points.Point.{Point}
+use Rattle.moka_init.specs.declared.points.Point.TheVariants as point
+
+module _ {K : Type 0} where
+  abbrev pub aim_of : looks.Look K → Aim K
+  aim_of (look.Answer key) = plan.To_answer
+  aim_of (look.Load load) = plan.To_load load
+  aim_of (look.Own load) = plan.To_own load
+
+  -- the key that is looked up
+  abbrev pub key_sought : looks.Look K → K
+  key_sought (look.Answer key) = key
+  key_sought (look.Load load) = load.key
+  key_sought (look.Own load) = load.key
+
+  abbrev pub aim_at : Chosen K → Aim K
+  aim_at c = plan.To_evict c.key c.stamp c.cause
+
+abbrev pub removal_of : Removal → plan.Removal
+removal_of removal.Invalidate = plan.To_invalidate
+removal_of removal.Remove = plan.To_remove
+removal_of (removal.Evict stamp cause) = plan.To_evict_chosen stamp cause
+
+module _ {K V : Type 0} where
+  -- a told value is settled, and then answered
+  abbrev pub settles : V → Bool → List (Item K V)
+  settles value fresh =
+      plan.Settle (settled.Ready value) ∷ plan.Reply (answer.Loaded value fresh) ∷ []
+
+  -- what follows once the value is stored and the write posted
+  abbrev pub put_rest : Put K V → List (Item K V)
+  put_rest p = cond p.loads (settles p.value true) (plan.Reply answer.Done ∷ [])
+
+  -- a write at its moment
+  abbrev pub stores : Put K V → List (Item K V)
+  stores p = plan.Moment (plan.To_store p.key p.value) ∷ put_rest p
+
+  -- a removal at its moment
+  abbrev pub takes_out : TakeOut K → List (Item K V)
+  takes_out t = plan.Moment (plan.To_take_out (removal_of t.removal) t.key) ∷ []
+
+  -- nothing was found, which is answered
+  abbrev pub answers_nothing : Removal → List (Item K V)
+  answers_nothing r = plan.Reply (nothing_answer (removal_of r)) ∷ []
+
+  -- the chosen record is looked up
+  abbrev pub finds : Chosen K → List (Item K V)
+  finds c = plan.Get (aim_at c) c.key ∷ []
+
+  -- the key whose lock is taken, and what is done under it
+  abbrev pub key_locked : Locked K V → K
+  key_locked (locked.Put p) = p.key
+  key_locked (locked.TakeOut t) = t.key
+  key_locked (locked.Find c) = c.key
+
+  abbrev pub locked_rest : Locked K V → List (Item K V)
+  locked_rest (locked.Put p) = stores p
+  locked_rest (locked.TakeOut t) = takes_out t
+  locked_rest (locked.Find c) = finds c
+
+  abbrev pub drained_rest : Drained K V → List (Item K V)
+  drained_rest (drained.Look l) = plan.Get (aim_of l) (key_sought l) ∷ []
+  drained_rest (drained.Own load) = plan.Own load ∷ []
+  drained_rest (drained.Put p) = stores p
+  drained_rest (drained.TakeOut t) = takes_out t
+  drained_rest (drained.Lock l) = plan.Lock (key_locked l) ∷ locked_rest l
+
+  abbrev pub posted_rest : Posted K V → List (Item K V)
+  posted_rest (posted.Drain then) = plan.Drain ∷ drained_rest then
+  posted_rest posted.Done = plan.Reply answer.Done ∷ []
+  posted_rest (posted.Settle value) = settles value true
+  posted_rest (posted.Found value) = plan.Reply (answer.Found (Some value)) ∷ []
+  posted_rest posted.Evicted = plan.Reply answer.Evicted ∷ []
+
+  -- ---- what a call that stands there has still to do, by what it is about
+
+  abbrev pub posting_plan : Posting K V → List (Item K V)
+  posting_plan (posting.Drain then) = plan.Drain ∷ drained_rest then
+  posting_plan (posting.Post write then) = plan.Post write ∷ posted_rest then
+  posting_plan (posting.Turn write then) =
+      plan.Turn ∷ plan.Apply ∷ plan.End ∷ plan.Post write ∷ posted_rest then
+  posting_plan (posting.Apply write then) =
+      plan.Apply ∷ plan.End ∷ plan.Post write ∷ posted_rest then
+  posting_plan (posting.End write then) = plan.End ∷ plan.Post write ∷ posted_rest then
+
+  abbrev pub looking_plan : Looking K V → List (Item K V)
+  looking_plan (looking.Get l) = plan.Get (aim_of l) (key_sought l) ∷ []
+  looking_plan (looking.Judge l key stored) = plan.Judge (aim_of l) key stored ∷ []
+
+  abbrev pub loading_plan : Loading K V → List (Item K V)
+  loading_plan (loading.Own load) = plan.Own load ∷ []
+  loading_plan (loading.Read load) = plan.Read load ∷ []
+  loading_plan (loading.Settle value fresh) = settles value fresh
+  loading_plan (loading.Ask load) = plan.Ask load ∷ []
+  loading_plan (loading.Told load) = plan.Told load ∷ []
+
+  abbrev pub writing_plan : Writing K V → List (Item K V)
+  writing_plan (writing.Moment p) = stores p
+  writing_plan (writing.Write p moment) = plan.Write p.key p.value moment ∷ put_rest p
+
+  abbrev pub removing_plan : Removing K V → List (Item K V)
+  removing_plan (removing.Find c) = finds c
+  removing_plan (removing.Holds c key stored) =
+      plan.Holds c.key c.stamp c.cause key stored ∷ []
+  removing_plan (removing.Moment t) = takes_out t
+  removing_plan (removing.Out t) = plan.Out (removal_of t.removal) t.key ∷ []
+  removing_plan (removing.Idle r) = plan.Idle ∷ answers_nothing r
+
+  abbrev pub listening_plan : Listening K V → List (Item K V)
+  listening_plan (listening.Ended number write then) =
+      plan.Ended number ∷ plan.Post write ∷ plan.Drain ∷ drained_rest then
+  listening_plan (listening.Lock l) = plan.Lock (key_locked l) ∷ locked_rest l
+  listening_plan (listening.Notice key old cause upsert write then) =
+      plan.Notice key old cause upsert ∷ plan.Unlock true ∷ plan.Post write ∷ posted_rest then
+  listening_plan (listening.Uncopied key old write) =
+      plan.Notice key old None false ∷ plan.Unlock true ∷ plan.Post write ∷
+      plan.Reply (answer.Found (Some old.value)) ∷ []
+  listening_plan (listening.Heard write then) =
+      plan.Heard ∷ plan.Unlock true ∷ plan.Post write ∷ posted_rest then
+  listening_plan (listening.Unlock write then) =
+      plan.Unlock true ∷ plan.Post write ∷ posted_rest then
+  listening_plan (listening.Release r) = plan.Unlock false ∷ answers_nothing r
+
+  -- what a call that stands there has still to do
+  abbrev pub plan_at : Point K V → List (Item K V)
+  plan_at (point.Posting p) = posting_plan p
+  plan_at (point.Looking p) = looking_plan p
+  plan_at (point.Loading p) = loading_plan p
+  plan_at (point.Writing p) = writing_plan p
+  plan_at (point.Removing p) = removing_plan p
+  plan_at (point.Listening p) = listening_plan p
+  plan_at (point.Answering answer) = plan.Reply answer ∷ []
+  plan_at point.Spent = []
+
+  -- ---- whether the value that is needed twice was copied
+
+  abbrev pub is_copied_in : Listening K V → Bool
+  is_copied_in (listening.Ended number write then) = true
+  is_copied_in (listening.Lock l) = true
+  is_copied_in (listening.Notice key old cause upsert write then) = true
+  is_copied_in (listening.Uncopied key old write) = false
+  is_copied_in (listening.Heard write then) = true
+  is_copied_in (listening.Unlock write then) = true
+  is_copied_in (listening.Release r) = true
+
+  abbrev pub is_copied : Point K V → Bool
+  is_copied (point.Posting p) = true
+  is_copied (point.Looking p) = true
+  is_copied (point.Loading p) = true
+  is_copied (point.Writing p) = true
+  is_copied (point.Removing p) = true
+  is_copied (point.Listening p) = is_copied_in p
+  is_copied (point.Answering answer) = true
+  is_copied point.Spent = true

@@ -1,0 +1,251 @@
+//! Taking a record out.
+ghost use Rattle.std.specs.Prelude.{◌≡◌, ◌==◌, true, [], ◌∷◌};
+ghost use Rattle.moka_hist.specs.Plan as plan;
+ghost use Rattle.moka_hist.specs.Looking.{after_get, after_holds, chosen_or_not, keeps};
+ghost use Rattle.moka_hist.specs.Step.{next_of, access_of};
+ghost use Rattle.moka_hist.specs.Writing.{after_moment, after_out, after_idle};
+ghost use Rattle.moka_hist.specs.Writing.{nothing_rest, removed_rest, removed_answer};
+ghost use Rattle.moka_init.specs.PointPlan.{aim_at, answers_nothing, finds, plan_at, posted_rest};
+ghost use Rattle.moka_init.specs.PointPlan.{removal_of, removing_plan, takes_out};
+ghost use Rattle.moka_init.specs.FlowPlan.{standing, mid, GoesOn};
+ghost use Rattle.moka_init.specs.Forms.{HasForm, IsFoundBy};
+
+use crate::flow::Flow;
+use crate::points::{Chosen, Listening, Point, Posted, Posting, Removal, Removing, TakeOut};
+use moka_hist::{Answer, Found, Got, Stored, TableAnswer, TableTurn, Turn, Visit, Write};
+
+impl<K: Drop, V: Drop> Flow<K, V> {
+    pub(crate) fn after_removing(&mut self, removing: Removing<K, V>, found: Found<V>) -> Turn<K, V>
+        requires form { HasForm
+            (access_of self.old.call (standing self.old (removing_plan removing)))
+            (Got.Desk found) }
+        ensures { GoesOn self.old
+            (next_of self.old.call (standing self.old (removing_plan removing)) (Got.Desk found))
+            result self.new }
+    {
+        match removing {
+            Removing::Holds {
+                chosen,
+                key,
+                stored,
+            } => self.after_holds(chosen, key, stored, found),
+            Removing::Moment(out) => self.after_taken_moment(out, found),
+            Removing::Idle(removal) => self.after_idle(removal, found),
+            Removing::Find(_) => unreachable!(),
+            Removing::Out(_) => unreachable!(),
+        }
+    }
+
+    // After a step of the look for a chosen record: one that is another by now stays.
+    pub(crate) fn after_find(&mut self, chosen: Chosen<K>, turn: TableTurn<K, V>) -> Turn<K, V>
+        ensures { GoesOn self.old
+            (after_get (standing self.old (finds chosen)) (aim_at chosen) turn)
+            result self.new }
+    {
+        match turn {
+            TableTurn::Going => self.goes(Point::Removing(Removing::Find(chosen))),
+            TableTurn::Decided(TableAnswer::None) => self.keeps(chosen),
+            TableTurn::Decided(TableAnswer::Some { key, stored }) => {
+                self.finds(chosen, key, stored)
+            }
+        }
+    }
+
+    fn finds(&mut self, chosen: Chosen<K>, key: K, stored: Stored<V>) -> Turn<K, V>
+        ensures { GoesOn self.old
+            (chosen_or_not (standing self.old (plan_at self.old.point))
+            (stored.stamp == chosen.stamp) chosen.key chosen.stamp chosen.cause key stored)
+            result self.new }
+    {
+        if stored.stamp == chosen.stamp {
+            self.goes(Point::Removing(Removing::Holds {
+                chosen,
+                key,
+                stored,
+            }))
+        } else {
+            self.keeps(chosen)
+        }
+    }
+
+    // The chosen record stays. The lock is freed where one is held.
+    fn keeps(&mut self, chosen: Chosen<K>) -> Turn<K, V>
+        ensures { GoesOn self.old
+            (keeps (standing self.old (plan_at self.old.point))) result self.new }
+    {
+        if self.rules.listener {
+            self.goes(Point::Listening(Listening::Release(chosen.removal())))
+        } else {
+            self.answers(Answer::Kept)
+        }
+    }
+
+    fn after_holds(
+        &mut self,
+        chosen: Chosen<K>,
+        key: K,
+        stored: Stored<V>,
+        found: Found<V>,
+    ) -> Turn<K, V>
+        requires form { IsFoundBy (Visit.Holds key stored chosen.cause) found }
+        ensures { GoesOn self.old
+            (after_holds
+            (standing self.old (removing_plan (Removing.Holds chosen key stored)))
+            chosen.key chosen.stamp chosen.cause found) result self.new }
+    {
+        match found {
+            Found::Holds(true) => self.goes(Point::Removing(Removing::Moment(chosen.take_out()))),
+            Found::Holds(false) => self.keeps(chosen),
+            _ => unreachable!(),
+        }
+    }
+
+    fn after_taken_moment(&mut self, out: TakeOut<K>, found: Found<V>) -> Turn<K, V>
+        requires form { IsFoundBy {K = K} (Visit.StampMoment self.old.call) found }
+        ensures { GoesOn self.old
+            (after_moment (standing self.old (takes_out out))
+            (plan.To_take_out (removal_of out.removal) out.key) [] found) result self.new }
+    {
+        match found {
+            Found::StampMoment(_) => self.goes(Point::Removing(Removing::Out(out))),
+            _ => unreachable!(),
+        }
+    }
+
+    pub(crate) fn after_out(&mut self, out: TakeOut<K>, turn: TableTurn<K, V>) -> Turn<K, V>
+        ensures { GoesOn self.old
+            (after_out self.old.call
+            (standing self.old (plan.Out (removal_of out.removal) out.key ∷ []))
+            (removal_of out.removal) out.key turn) result self.new }
+    {
+        match turn {
+            TableTurn::Going => self.goes(Point::Removing(Removing::Out(out))),
+            TableTurn::Decided(TableAnswer::None) => self.finds_nothing(out.removal),
+            TableTurn::Decided(TableAnswer::Some { stored, .. }) => self.removes(out, stored),
+        }
+    }
+
+    // Nothing was taken out: the lock is freed, or without a listener the clock read.
+    fn finds_nothing(&mut self, removal: Removal) -> Turn<K, V>
+        ensures { GoesOn self.old
+            (mid self.old (nothing_rest self.old.rules.listener (removal_of removal)))
+            result self.new }
+    {
+        if self.rules.listener {
+            self.goes(Point::Listening(Listening::Release(removal)))
+        } else {
+            self.goes(Point::Removing(Removing::Idle(removal)))
+        }
+    }
+
+    // The removal is committed, and to be posted, once the listener has heard of the record.
+    fn removes(&mut self, out: TakeOut<K>, old: Stored<V>) -> Turn<K, V>
+        ensures { GoesOn self.old
+            (mid self.old (removed_rest self.old.rules.listener self.old.call
+            (removal_of out.removal) out.key old)) result self.new }
+    {
+        let write = Write::Remove {
+            number: self.call,
+            old: old.stamp,
+        };
+        if self.rules.listener {
+            self.tells_removed(out, old, write)
+        } else {
+            self.goes(Point::Posting(Posting::Post {
+                write,
+                then: out.removal.posted(old.value),
+            }))
+        }
+    }
+
+    // The notice of the record that was taken out is due.
+    fn tells_removed(&mut self, out: TakeOut<K>, old: Stored<V>, write: Write) -> Turn<K, V>
+        requires write { write ≡ Write.Remove self.old.call old.stamp }
+        ensures { GoesOn self.old
+            (mid self.old (removed_rest true self.old.call
+            (removal_of out.removal) out.key old)) result self.new }
+    {
+        let TakeOut { key, removal } = out;
+        match removal {
+            Removal::Invalidate => self.goes(Point::Listening(Listening::Notice {
+                key,
+                old,
+                cause: None,
+                upsert: false,
+                write,
+                then: Posted::Done,
+            })),
+            Removal::Remove => self.goes(Point::Listening(Listening::Uncopied { key, old, write })),
+            Removal::Evict { cause, .. } => self.goes(Point::Listening(Listening::Notice {
+                key,
+                old,
+                cause: Some(cause),
+                upsert: false,
+                write,
+                then: Posted::Evicted,
+            })),
+        }
+    }
+
+    fn after_idle(&mut self, removal: Removal, found: Found<V>) -> Turn<K, V>
+        requires form { IsFoundBy {K = K} (Visit.Clock self.old.call) found }
+        ensures { GoesOn self.old
+            (after_idle (standing self.old (plan.Idle ∷ answers_nothing removal))
+            (answers_nothing removal) found) result self.new }
+    {
+        match found {
+            Found::Clock(_) => self.answers(removal.nothing()),
+            _ => unreachable!(),
+        }
+    }
+}
+
+impl<K> Chosen<K> {
+    // What the chosen record is taken out for.
+    fn removal(&self) -> Removal
+        ensures { result ≡ Removal.Evict self.now.stamp self.now.cause }
+    {
+        Removal::Evict {
+            stamp: self.stamp,
+            cause: self.cause,
+        }
+    }
+
+    // The chosen record is to be taken out.
+    fn take_out(self) -> TakeOut<K>
+        ensures { result
+            ≡ record { key = self.key; removal = Removal.Evict self.stamp self.cause } }
+    {
+        TakeOut {
+            removal: self.removal(),
+            key: self.key,
+        }
+    }
+}
+
+impl Removal {
+    ghost use Rattle.moka_hist.specs.Writing.{nothing_answer};
+
+    // What follows once the removal is posted that took out a record of this value.
+    fn posted<K, V: Drop>(self, value: V) -> Posted<K, V>
+        ensures { posted_rest result
+            ≡ plan.Reply (removed_answer (removal_of self) value) ∷ [] }
+    {
+        match self {
+            Removal::Invalidate => Posted::Done,
+            Removal::Remove => Posted::Found(value),
+            Removal::Evict { .. } => Posted::Evicted,
+        }
+    }
+
+    // What is answered where nothing was found.
+    pub(crate) fn nothing<V>(self) -> Answer<V>
+        ensures { result ≡ nothing_answer (removal_of self) }
+    {
+        match self {
+            Removal::Invalidate => Answer::Done,
+            Removal::Remove => Answer::Found(None),
+            Removal::Evict { .. } => Answer::Kept,
+        }
+    }
+}
