@@ -30,11 +30,12 @@ module _ {K V : Type 0} where
     pub raises : new.most ≤ old.most + raised access given
     pub going : given ≡ got.Table table.Going → new.left < old.left
 
--- A step that leaves the call going leaves it live, and lowers how many steps it may still make, where the log has room
--- for a write at all.
+-- A step that leaves the call going leaves it live, and lowers how many steps it may still make,
+-- where the log has room for a write at all.
 abbrev pub GoingFalls : (K V : Type 0) → (K → K → Bool) → Type 0
 GoingFalls K V eq =
     (n : ℕ) (c : Call K V) (w new : World K V) (given : Got K V) (before after : Work) →
     c.aborts < retries → 0 < before.size → Gets eq n w (access_of n c) given new →
-    Counts w before → Counts new after → Shortens before after (access_of n c) given → (next_of n c given).turn ≡ turns.Going →
+    Counts w before → Counts new after → Shortens before after (access_of n c) given →
+    (next_of n c given).turn ≡ turns.Going →
     (d : Call K V) × (next_of n c given ≡ going_as d) × (ahead after d < ahead before c)

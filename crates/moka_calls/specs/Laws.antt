@@ -18,13 +18,18 @@ AreShort m = (place a : ℕ) → array_at m place ≡ Some a → length (m.words
 -- what an access sees that leads from one sound segment to another is what a call may take
 abbrev pub SeenIsTaken : Type 0
 SeenIsTaken =
-    (hash : ℕ → ℕ) (same : ℕ → ℕ → Bool) (mine own : ℕ → Bool) (access : Access) (saw : Seen) (old new : Memory) →
-    IsSound hash same mine old → IsSound hash same mine new → AreShort old → AreShort new → Effect hash own access saw old new →
+    (hash : ℕ → ℕ) (same : ℕ → ℕ → Bool) (mine own : ℕ → Bool) (access : Access) (saw : Seen)
+    (old new : Memory) →
+    IsSound hash same mine old → IsSound hash same mine new → AreShort old → AreShort new →
+    Effect hash own access saw old new →
     MaySee access saw
 
--- a fitting call that takes what its access saw fits the memory left, with the map as it was, or has ended by the map
+-- a fitting call that takes what its access saw fits the memory left, with the map as it was, or
+-- has ended by the map
 abbrev pub TakenIsMaps : Type 0
 TakenIsMaps =
-    (hash : ℕ → ℕ) (same : ℕ → ℕ → Bool) (mine own : ℕ → Bool) (c : Call) (saw : Seen) (old new : Memory) →
+    (hash : ℕ → ℕ) (same : ℕ → ℕ → Bool) (mine own : ℕ → Bool) (c : Call) (saw : Seen)
+    (old new : Memory) →
     Makes hash same mine own c saw old new →
-    Leads (next_of c saw) (λ d. Fits hash own new d × KeepsMap old new) (λ e. Ends own c.point e old new)
+    Leads (next_of c saw) (λ d. Fits hash own new d × KeepsMap old new)
+    (λ e. Ends own c.point e old new)

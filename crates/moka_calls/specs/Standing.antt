@@ -21,18 +21,27 @@ use Rattle.moka_calls.specs.declared.course.Course.{Course}
 abbrev pub point_of : (nodes : List ℕ) (kept : List (ℕ × ℕ)) (laid : List Word) → Point → call.Point
 point_of nodes kept laid (point.Root met) = call.Root met
 point_of nodes kept laid (point.Probe spot) = call.Probe spot.array spot.size spot.passed
-point_of nodes kept laid (point.Choose spot found) = call.Choose spot.array spot.size spot.passed found
-point_of nodes kept laid (point.Change spot from to) = call.Change spot.array spot.size spot.passed from to
+point_of nodes kept laid (point.Choose spot found) =
+    call.Choose spot.array spot.size spot.passed found
+point_of nodes kept laid (point.Change spot from to) =
+    call.Change spot.array spot.size spot.passed from to
 point_of nodes kept laid (point.Walk spot) = call.Walk spot.array spot.size spot.passed nodes
 point_of nodes kept laid (point.Seal spot) = call.Seal spot.array spot.size spot.passed kept
-point_of nodes kept laid (point.Close spot word hash) = call.Close spot.array spot.size spot.passed word hash kept
+point_of nodes kept laid (point.Close spot word hash) =
+    call.Close spot.array spot.size spot.passed word hash kept
 point_of nodes kept laid (point.Next array size) = call.Next array size kept
 point_of nodes kept laid (point.Link array size) = call.Link array size kept
 point_of nodes kept laid (point.Copy from array index) = call.Copy from array index laid
 point_of nodes kept laid (point.Swing from array) = call.Swing from array
 
 abbrev pub call_of : Course → Call
-call_of c = record { kind = c.kind; hash = c.hash; spent = c.spent; point = point_of c.nodes.items c.kept.items c.laid.items c.point }
+call_of c =
+    record {
+      kind = c.kind;
+      hash = c.hash;
+      spent = c.spent;
+      point = point_of c.nodes.items c.kept.items c.laid.items c.point;
+    }
 
 abbrev pub ending_of : Decision → Ending
 ending_of (decision.Kept found) = call.Kept found
@@ -66,7 +75,8 @@ pub record IsIn (spot : Spot) : Type 0 where
   pub within : spot.passed < spot.size
 
 -- what was laid out for the array that is to be linked
-pub record IsReady (array : Option ℕ) (size : ℕ) (kept : List (ℕ × ℕ)) (laid : List Word) : Type 0 where
+pub record IsReady (array : Option ℕ) (size : ℕ) (kept : List (ℕ × ℕ)) (laid : List Word)
+    : Type 0 where
   pub size_is : IsSizeOf array size
   pub laid_is : laid ≡ laid_out kept (next_size array size (length kept))
   pub long : length laid ≡ next_size array size (length kept)
@@ -100,7 +110,8 @@ MaySee (access.Copy array index to) seen.Copied = Unit {0}
 MaySee (access.Swing from to) seen.Swung = Unit {0}
 MaySee access saw = ⊥
 
--- memory may be wanted after a word was loaded, or the next array, or where an array was linked of another length than the call asked for
+-- memory may be wanted after a word was loaded, or the next array, or where an array was linked of
+-- another length than the call asked for
 abbrev pub MayWant : Access → Seen → Type 0
 MayWant (access.LoadWord array index) saw = Unit {0}
 MayWant (access.LoadNext array) saw = Unit {0}

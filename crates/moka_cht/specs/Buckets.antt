@@ -23,7 +23,8 @@ first_of f (x ∷ xs) = option_or (f x) (first_of f xs)
 
 module _ {K V : Type 0} where
   -- what f gives of the node, where it has the key
-  abbrev pub at_key : {A : Type 0} → (K → K → Bool) → List (Node K V) → K → (Node K V → Option A) → Option ℕ → Option A
+  abbrev pub at_key : {A : Type 0} → (K → K → Bool) → List (Node K V) → K → (Node K V → Option A) →
+      Option ℕ → Option A
   at_key eq nodes q f None = None
   at_key eq nodes q f (Some n) = cond (own_key eq nodes q n) (f (node_at nodes n)) None
 
@@ -67,7 +68,8 @@ module _ {K V : Type 0} where
   HasNoEmpty b = (i : ℕ) → i < length b.words → word_at b.words i ≢ Empty
 
   -- What holds of words and nodes at any time: each key has one bucket, to which its probe comes.
-  pub record IsTable (eq : K → K → Bool) (words : List Word) (nodes : List (Node K V)) : Type 0 where
+  pub record IsTable (eq : K → K → Bool) (words : List Word) (nodes : List (Node K V))
+      : Type 0 where
     pub power : IsPowerOfTwo (length words)
     pub small : length words ≤ 2 ^ 60
     pub kept : AllKept nodes words
@@ -75,13 +77,15 @@ module _ {K V : Type 0} where
 
   -- each node but the unused ones is named
   abbrev pub AllNamed : List Word → List (Node K V) → Type 0
-  AllNamed words nodes = (n : ℕ) → node_at nodes n ≢ Unused → (i : ℕ) × (node_of (word_at words i) ≡ Some n)
+  AllNamed words nodes =
+      (n : ℕ) → node_at nodes n ≢ Unused → (i : ℕ) × (node_of (word_at words i) ≡ Some n)
 
   -- the node is one that nothing names
   abbrev pub IsSpare : List (Node K V) → Option ℕ → Type 0
   IsSpare nodes spare = IfSome spare (λ n. (n < length nodes) × (node_at nodes n ≡ Unused))
 
-  pub record IsSound (eq : K → K → Bool) (words : List Word) (nodes : List (Node K V)) (spare : Option ℕ) : Type 0 where
+  pub record IsSound (eq : K → K → Bool) (words : List Word) (nodes : List (Node K V))
+      (spare : Option ℕ) : Type 0 where
     pub table : IsTable eq words nodes
     pub named : AllNamed words nodes
     pub is_spare : IsSpare nodes spare

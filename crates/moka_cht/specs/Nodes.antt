@@ -50,13 +50,15 @@ module _ {K V : Type 0} where
 
   -- the same by their numbers
   abbrev pub same_key : (K → K → Bool) → List (Node K V) → ℕ → ℕ → Bool
-  same_key eq nodes n m = same_keys eq (n == m) (key_in (node_at nodes n)) (key_in (node_at nodes m))
+  same_key eq nodes n m =
+      same_keys eq (n == m) (key_in (node_at nodes n)) (key_in (node_at nodes m))
 
   -- The word is one of an array that is in use, and its node holds what it says.
   abbrev pub IsKept : List (Node K V) → Word → Type 0
   IsKept nodes Empty = Unit {0}
   IsKept nodes (Live n) = (n < length nodes) × IsSome (pair_in (node_at nodes n))
-  IsKept nodes (Tomb n) = (n < length nodes) × IsSome (key_in (node_at nodes n)) × (pair_in (node_at nodes n) ≡ None)
+  IsKept nodes (Tomb n) =
+      (n < length nodes) × IsSome (key_in (node_at nodes n)) × (pair_in (node_at nodes n) ≡ None)
   IsKept nodes Unset = ⊥
   IsKept nodes SealedEmpty = ⊥
   IsKept nodes (SealedLive n) = ⊥

@@ -45,8 +45,10 @@ bucket_of p = bucket_at p.length p.hash p.passed
 abbrev pub access_at : (array index : ℕ) → Point → Access
 access_at array index point.Load = access.LoadWord array index
 access_at array index (point.Choose at) = access.Choose (present_of at)
-access_at array index (point.Put at node) = access.Exchange array index (word_of at) (word.Live node)
-access_at array index (point.Remove node) = access.Exchange array index (word.Live node) (word.Tomb node)
+access_at array index (point.Put at node) =
+    access.Exchange array index (word_of at) (word.Live node)
+access_at array index (point.Remove node) =
+    access.Exchange array index (word.Live node) (word.Tomb node)
 
 -- its next access
 abbrev pub access_of : Probe → Access
@@ -77,8 +79,8 @@ IsOwnPoint own (point.Choose at) = IsOwnPlace own at
 IsOwnPoint own (point.Put at node) = IsOwnPlace own at
 IsOwnPoint own (point.Remove node) = own node ≡ true
 
--- What it keeps from access to access; all of it lasts, whoever exchanges words: the buckets that it
--- passed have other keys, and the node that it found has its own.
+-- What it keeps from access to access; all of it lasts, whoever exchanges words: the buckets that
+-- it passed have other keys, and the node that it found has its own.
 pub record Stands (own : ℕ → Bool) (words : List Word) (p : Probe) : Type 0 where
   pub long : length words ≡ p.length
   pub passed : HasPassed own words p.hash p.passed
@@ -133,16 +135,19 @@ Fits aim point seen = ⊥
 abbrev pub Tells : (ℕ → Bool) → List Word → Aim → ℕ → Ending → Type 0
 Tells own words a hash (ending.Kept present) =
     (a ≢ aim.Insert)
-    × (((n : ℕ) × (at : Place) × EndsAt own words hash n at × (present ≡ present_of at) × ¬ Chooses a at)
+    × (((n : ℕ) × (at : Place) × EndsAt own words hash n at × (present ≡ present_of at) ×
+    ¬ Chooses a at)
     ⊎ (PassesAll own words hash × (present ≡ None)))
 Tells own words a hash (ending.Changed at) = ⊥
 Tells own words a hash ending.NoFree = (a ≡ aim.Insert) × PassesAll own words hash
-Tells own words a hash ending.Closed = (i : ℕ) × (i < length words) × (is_open (word_at words i) ≡ false)
+Tells own words a hash ending.Closed =
+    (i : ℕ) × (i < length words) × (is_open (word_at words i) ≡ false)
 
 -- after a load it is further on, or it chooses at the bucket that it has loaded
 abbrev pub IsNearer : List Word → Probe → Probe → Point → Type 0
 IsNearer words p q point.Load = p.passed < q.passed
-IsNearer words p q (point.Choose at) = (q.passed ≡ p.passed) × (word_at words (bucket_of q) ≡ word_of at) × Chooses q.aim at
+IsNearer words p q (point.Choose at) =
+    (q.passed ≡ p.passed) × (word_at words (bucket_of q) ≡ word_of at) × Chooses q.aim at
 IsNearer words p q (point.Put at node) = ⊥
 IsNearer words p q (point.Remove node) = ⊥
 
@@ -166,11 +171,13 @@ IsChoice words p (point.Remove node) = ⊥
 
 -- what comes of all loads: the probe asks what to do, or the call has ended
 abbrev pub AfterLoads : (ℕ → Bool) → List Word → Probe → Step → Type 0
-AfterLoads own words p (step.On q) = Follows p q × IsOn q × Stands own words q × IsChoice words q q.point
+AfterLoads own words p (step.On q) =
+    Follows p q × IsOn q × Stands own words q × IsChoice words q q.point
 AfterLoads own words p (step.Ended e) = Tells own words p.aim p.hash e
 
 -- a call of this aim asks what to do, with all that it knows
-pub record AtPlace (own : ℕ → Bool) (words : List Word) (aim : Aim) (hash : ℕ) (p : Probe) : Type 0 where
+pub record AtPlace (own : ℕ → Bool) (words : List Word) (aim : Aim) (hash : ℕ) (p : Probe)
+    : Type 0 where
   pub aim_is : p.aim ≡ aim
   pub array_is : p.array ≡ 0
   pub hash_is : p.hash ≡ hash
@@ -198,10 +205,14 @@ Takes p point.Load (seen.Word w hash same) r =
     (own : ℕ → Bool) (words : List Word) → Stands own words p → w ≡ word_at words (bucket_of p)
     → same ≡ option_map_or own (node_of w) false → AfterLoad own words p r
 Takes p (point.Choose at) (seen.Chosen choice.Keep) r = r ≡ step.Ended (ending.Kept (present_of at))
-Takes p (point.Choose at) (seen.Chosen (choice.Put n)) r = r ≡ step.On (record p { point = point.Put at n })
-Takes p (point.Choose (place.Stored n)) (seen.Chosen choice.Remove) r = r ≡ step.On (record p { point = point.Remove n })
+Takes p (point.Choose at) (seen.Chosen (choice.Put n)) r =
+    r ≡ step.On (record p { point = point.Put at n })
+Takes p (point.Choose (place.Stored n)) (seen.Chosen choice.Remove) r =
+    r ≡ step.On (record p { point = point.Remove n })
 Takes p (point.Put at n) (seen.Exchanged None) r = r ≡ step.Ended (ending.Changed at)
-Takes p (point.Put at n) (seen.Exchanged (Some met)) r = r ≡ step.On (record p { point = point.Load })
+Takes p (point.Put at n) (seen.Exchanged (Some met)) r =
+    r ≡ step.On (record p { point = point.Load })
 Takes p (point.Remove n) (seen.Exchanged None) r = r ≡ step.Ended (ending.Changed (place.Stored n))
-Takes p (point.Remove n) (seen.Exchanged (Some met)) r = r ≡ step.On (record p { point = point.Load })
+Takes p (point.Remove n) (seen.Exchanged (Some met)) r =
+    r ≡ step.On (record p { point = point.Load })
 Takes p point seen r = ⊥

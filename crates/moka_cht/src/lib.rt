@@ -12,8 +12,6 @@ mod look;
 mod node;
 mod probe;
 mod store;
-#[cfg(test)]
-mod tests;
 
 pub use bucket_array::BucketArray;
 pub use insertion::Insertion;

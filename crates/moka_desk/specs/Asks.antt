@@ -32,7 +32,8 @@ is_open asks number = is_some (get nat_eq asks number)
 
 -- the call, where it waits for the answer to its own ask
 abbrev pub asker_at : {S : Type 0} → HashMap ℕ OpenAsk S → ℕ → List ℕ
-asker_at asks number = option_map_or (λ a. cond a.place (number ∷ []) []) (get nat_eq asks number) []
+asker_at asks number =
+    option_map_or (λ a. cond a.place (number ∷ []) []) (get nat_eq asks number) []
 
 -- who waits for the answer to the ask of this number, once the call waits for its own where it asks
 abbrev pub asks_if : Bool → ℕ → ℕ → List ℕ → List ℕ

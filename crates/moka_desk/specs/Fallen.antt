@@ -8,7 +8,8 @@ use Rattle.moka_hist.specs.declared.writes.Write.{Write}
 abbrev pub count_of : ℕ → List Write → ℕ
 count_of n writes = count_by (λ w. is_upsert w && number_of w == n) writes
 
--- how many records stand after the writes that one more write with this old stamp replaces or removes
+-- how many records stand after the writes that one more write with this old stamp replaces or
+-- removes
 abbrev pub fallen : List Write → Option ℕ → ℕ
 fallen writes old =
     option_map_or (λ stamp. cond (is_replaced writes stamp) 0 (count_of stamp writes)) old 0

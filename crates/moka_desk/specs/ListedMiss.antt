@@ -15,21 +15,27 @@ use Rattle.moka_desk.specs.declared.state.Desk.{Desk}
 abbrev pub EachListed : (ℕ → List ℕ) → (ℕ → ℕ → Type 0) → Type 0
 EachListed line Is = (number call : ℕ) → waits call (line number) ≡ true → Is number call
 
--- Each call that is listed misses that thing: another has the turn; it waits for an owner that has not settled; its
--- ask is open; another holds a lock; the notice runs.
-pub record ListedMiss {K V : Type 0} {same : PartialEq.Ghosts K} {hash : Hash.Ghosts K} (desk : Desk K V same hash) (w : DeskPart K V) : Type 0 where
+-- Each call that is listed misses that thing: another has the turn; it waits for an owner that has
+-- not settled; its ask is open; another holds a lock; the notice runs.
+pub record ListedMiss {K V : Type 0} {same : PartialEq.Ghosts K} {hash : Hash.Ghosts K}
+    (desk : Desk K V same hash) (w : DeskPart K V) : Type 0 where
   pub turns : EachListed (turn_line desk) (λ n call. (w.turn ≡ Some n) × (n ≢ call))
-  pub settlements : EachListed (settlement_line desk) (λ n call. (w.joined call ≡ Some n) × IsNone (w.settled n))
+  pub settlements : EachListed (settlement_line desk)
+      (λ n call. (w.joined call ≡ Some n) × IsNone (w.settled n))
   pub answers : EachListed (answer_line desk) (λ n call. (n ≡ call) × IsSome (w.asks n))
   pub locks : EachListed (lock_line desk) (λ n call. IsSome (w.locked n) × (n ≢ call))
   pub notices : EachListed (notice_line desk) (λ n call. is_running w n ≡ true)
 
 module _ {K V : Type 0} {same : PartialEq.Ghosts K} {hash : Hash.Ghosts K} (eq : K → K → Bool) where
-  -- where those that were listed missed their things, they do so once the state has changed like this
-  abbrev pub MissWith : Desk K V same hash → (DeskPart K V → DeskPart K V) → Desk K V same hash → Type 0
-  MissWith old change new = (w : DeskPart K V) → StandsFor eq old w → ListedMiss old w → ListedMiss new (change w)
+  -- where those that were listed missed their things, they do so once the state has changed like
+  -- this
+  abbrev pub MissWith : Desk K V same hash → (DeskPart K V → DeskPart K V) → Desk K V same hash →
+      Type 0
+  MissWith old change new =
+      (w : DeskPart K V) → StandsFor eq old w → ListedMiss old w → ListedMiss new (change w)
 
   -- and once the visit was made, in each state that allows it
   abbrev pub MissAfter : Desk K V same hash → Visit K V → Desk K V same hash → Type 0
   MissAfter old visit new =
-      (w : DeskPart K V) → StandsFor eq old w → MayVisit w visit → ListedMiss old w → ListedMiss new (makes eq w visit)
+      (w : DeskPart K V) → StandsFor eq old w → MayVisit w visit → ListedMiss old w →
+      ListedMiss new (makes eq w visit)

@@ -20,26 +20,37 @@ pub record LoadPart (K V : Type 0) : Type 0 where
 module _ {K V : Type 0} where
   -- that part of it
   abbrev pub load_part : DeskPart K V → LoadPart K V
-  load_part w = record { owners = w.owners; owning = w.owning; joined = w.joined; readers = w.readers; settled = w.settled }
+  load_part w =
+      record {
+        owners = w.owners;
+        owning = w.owning;
+        joined = w.joined;
+        readers = w.readers;
+        settled = w.settled;
+      }
 
 -- the owner, where how it ended isn't kept
 abbrev pub unsettled : {A : Type 0} → Option ℕ → (ℕ → Option A) → Option ℕ
 unsettled None settled = None
 unsettled (Some owner) settled = cond (is_some (settled owner)) None (Some owner)
 
--- The maps are those that are kept, and each call owns the load that it is the owner of, and no other.
-pub record LoadsAre {K V : Type 0} {same : PartialEq.Ghosts K} {hash : Hash.Ghosts K} (eq : K → K → Bool) (loads : Loads K V same hash) (p : LoadPart K V) : Type 0 where
+-- The maps are those that are kept, and each call owns the load that it is the owner of, and no
+-- other.
+pub record LoadsAre {K V : Type 0} {same : PartialEq.Ghosts K} {hash : Hash.Ghosts K}
+    (eq : K → K → Bool) (loads : Loads K V same hash) (p : LoadPart K V) : Type 0 where
   pub owners : (l : Load K) → get (load_eq eq) loads.owners l ≡ p.owners l
   pub owning : (n : ℕ) → get nat_eq loads.owning n ≡ p.owning n
   pub joined : (n : ℕ) → get nat_eq loads.joined n ≡ p.joined n
   pub readers : (n : ℕ) → unwrap_or (get nat_eq loads.readers n) 0 ≡ p.readers n
   pub settled : (n : ℕ) → get nat_eq loads.settled n ≡ p.settled n
-  pub owns : (l : Load K) (n : ℕ) → p.owners l ≡ Some n → IsSomeAnd (p.owning n) (λ own. load_eq eq own l ≡ true)
+  pub owns : (l : Load K) (n : ℕ) → p.owners l ≡ Some n →
+      IsSomeAnd (p.owning n) (λ own. load_eq eq own l ≡ true)
   pub owned : (l : Load K) (n : ℕ) → p.owning n ≡ Some l → p.owners l ≡ Some n
 
 module _ {K V : Type 0} {same : PartialEq.Ghosts K} {hash : Hash.Ghosts K} (eq : K → K → Bool) where
   -- the loads change as the part does, whatever they stand for
-  abbrev pub LoadsBecome : Loads K V same hash → (LoadPart K V → LoadPart K V) → Loads K V same hash → Type 0
+  abbrev pub LoadsBecome : Loads K V same hash → (LoadPart K V → LoadPart K V) →
+      Loads K V same hash → Type 0
   LoadsBecome old change new = (p : LoadPart K V) → LoadsAre eq old p → LoadsAre eq new (change p)
 
   -- nothing has changed of what they stand for
@@ -47,5 +58,7 @@ module _ {K V : Type 0} {same : PartialEq.Ghosts K} {hash : Hash.Ghosts K} (eq :
   LoadsStay old new = LoadsBecome old (λ p. p) new
 
   -- the loads change as those of the reference's desk do
-  abbrev pub LoadsMake : Loads K V same hash → (DeskPart K V → LoadPart K V) → Loads K V same hash → Type 0
-  LoadsMake old change new = (w : DeskPart K V) → LoadsAre eq old (load_part w) → LoadsAre eq new (change w)
+  abbrev pub LoadsMake : Loads K V same hash → (DeskPart K V → LoadPart K V) → Loads K V same hash →
+      Type 0
+  LoadsMake old change new =
+      (w : DeskPart K V) → LoadsAre eq old (load_part w) → LoadsAre eq new (change w)

@@ -23,7 +23,13 @@ module _ {K V : Type 0} where
   -- the running notice of this number by which the listener hears this
   abbrev pub running : ℕ → Heard K V → Notice K V
   running number heard =
-      record { number = number; key = heard.key; value = heard.value; cause = heard.cause; state = state.Running }
+      record {
+        number = number;
+        key = heard.key;
+        value = heard.value;
+        cause = heard.cause;
+        state = state.Running;
+      }
 
   -- the notice, where it runs, and where it doesn't
   abbrev pub if_running : Option (Notice K V) → Option (Notice K V)
@@ -39,11 +45,14 @@ either None other = other
 
 -- The notices that run stand in one map, the others in the other.
 pub record NoticesAre {K V : Type 0} (notices : Notices K V) (p : NoticePart K V) : Type 0 where
-  pub running : (n : ℕ) → option_map (running n) (get nat_eq notices.running n) ≡ if_running (p.notices n)
+  pub running : (n : ℕ) → option_map (running n) (get nat_eq notices.running n) ≡
+      if_running (p.notices n)
   pub past : (n : ℕ) → get nat_eq notices.past n ≡ if_past (p.notices n)
   pub opened : notices.opened.items ≡ p.opened
   pub off : notices.off ≡ p.off
 
 -- the notices change as the part does, whatever they stand for
-abbrev pub NoticesBecome : {K V : Type 0} → Notices K V → (NoticePart K V → NoticePart K V) → Notices K V → Type 0
-NoticesBecome {K} {V} old change new = (p : NoticePart K V) → NoticesAre old p → NoticesAre new (change p)
+abbrev pub NoticesBecome : {K V : Type 0} → Notices K V → (NoticePart K V → NoticePart K V) →
+    Notices K V → Type 0
+NoticesBecome {K} {V} old change new =
+    (p : NoticePart K V) → NoticesAre old p → NoticesAre new (change p)

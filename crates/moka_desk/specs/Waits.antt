@@ -11,8 +11,8 @@ use Rattle.moka_desk.specs.Loads.{unsettled}
 use Rattle.moka_desk.specs.Lines.{line_at, is_at, with_call}
 use Rattle.moka_desk.specs.declared.state.Desk.{Desk}
 
--- A list of those that wait, by the number that it has: nobody comes or goes; the call leaves each; it waits on
--- that of this place, if there is one, and on no other; and all of one leave.
+-- A list of those that wait, by the number that it has: nobody comes or goes; the call leaves each;
+-- it waits on that of this place, if there is one, and on no other; and all of one leave.
 abbrev pub stays : ℕ → List ℕ → List ℕ
 stays n calls = calls
 
@@ -26,7 +26,8 @@ abbrev pub comes : ℕ → ℕ → List ℕ → List ℕ
 comes number n calls = cond (number == n) [] calls
 
 module _ {K V : Type 0} {same : PartialEq.Ghosts K} {hash : Hash.Ghosts K} where
-  -- those that wait for the turn of this call, for how it settles, for its lock, for the end of its notice
+  -- those that wait for the turn of this call, for how it settles, for its lock, for the end of its
+  -- notice
   abbrev pub turn_line : Desk K V same hash → ℕ → List ℕ
   turn_line desk number = line_at desk.waits.turns.lists number
 
@@ -41,7 +42,8 @@ module _ {K V : Type 0} {same : PartialEq.Ghosts K} {hash : Hash.Ghosts K} where
 
   -- the owner that the call waits for, where it has not settled
   abbrev pub awaited : Desk K V same hash → ℕ → Option ℕ
-  awaited desk call = unsettled (get nat_eq desk.loads.joined call) (λ owner. get nat_eq desk.loads.settled owner)
+  awaited desk call =
+      unsettled (get nat_eq desk.loads.joined call) (λ owner. get nat_eq desk.loads.settled owner)
 
   -- the call, where it waits for the answer to its own ask
   abbrev pub answer_line : Desk K V same hash → ℕ → List ℕ
@@ -59,21 +61,32 @@ module _ {K V : Type 0} {same : PartialEq.Ghosts K} {hash : Hash.Ghosts K} where
 
   -- the lists of one kind change so, and no other
   abbrev pub TurnsMove : Desk K V same hash → (ℕ → List ℕ → List ℕ) → Desk K V same hash → Type 0
-  TurnsMove old change new = ((n : ℕ) → turn_line new n ≡ change n (turn_line old n)) × (new.waits ≡ record old.waits { turns = new.waits.turns }) × (new.asks ≡ old.asks)
+  TurnsMove old change new =
+      ((n : ℕ) → turn_line new n ≡ change n (turn_line old n)) ×
+      (new.waits ≡ record old.waits { turns = new.waits.turns }) × (new.asks ≡ old.asks)
 
-  abbrev pub SettlementsMove : Desk K V same hash → (ℕ → List ℕ → List ℕ) → Desk K V same hash → Type 0
-  SettlementsMove old change new = ((n : ℕ) → settlement_line new n ≡ change n (settlement_line old n)) × (new.waits ≡ record old.waits { settlements = new.waits.settlements }) × (new.asks ≡ old.asks)
+  abbrev pub SettlementsMove : Desk K V same hash → (ℕ → List ℕ → List ℕ) → Desk K V same hash →
+      Type 0
+  SettlementsMove old change new =
+      ((n : ℕ) → settlement_line new n ≡ change n (settlement_line old n)) ×
+      (new.waits ≡ record old.waits { settlements = new.waits.settlements }) × (new.asks ≡ old.asks)
 
   abbrev pub LocksMove : Desk K V same hash → (ℕ → List ℕ → List ℕ) → Desk K V same hash → Type 0
-  LocksMove old change new = ((n : ℕ) → lock_line new n ≡ change n (lock_line old n)) × (new.waits ≡ record old.waits { locks = new.waits.locks }) × (new.asks ≡ old.asks)
+  LocksMove old change new =
+      ((n : ℕ) → lock_line new n ≡ change n (lock_line old n)) ×
+      (new.waits ≡ record old.waits { locks = new.waits.locks }) × (new.asks ≡ old.asks)
 
   abbrev pub NoticesMove : Desk K V same hash → (ℕ → List ℕ → List ℕ) → Desk K V same hash → Type 0
-  NoticesMove old change new = ((n : ℕ) → notice_line new n ≡ change n (notice_line old n)) × (new.waits ≡ record old.waits { notices = new.waits.notices }) × (new.asks ≡ old.asks)
+  NoticesMove old change new =
+      ((n : ℕ) → notice_line new n ≡ change n (notice_line old n)) ×
+      (new.waits ≡ record old.waits { notices = new.waits.notices }) × (new.asks ≡ old.asks)
 
   abbrev pub AnswersMove : Desk K V same hash → (ℕ → List ℕ → List ℕ) → Desk K V same hash → Type 0
-  AnswersMove old change new = ((n : ℕ) → answer_line new n ≡ change n (answer_line old n)) × (new.waits ≡ old.waits)
+  AnswersMove old change new =
+      ((n : ℕ) → answer_line new n ≡ change n (answer_line old n)) × (new.waits ≡ old.waits)
 
-  -- all that wait for such an answer to the ask of this number leave its list, and no other list changes
+  -- all that wait for such an answer to the ask of this number leave its list, and no other list
+  -- changes
   abbrev pub ToldMove : Desk K V same hash → ℕ → Told V → Desk K V same hash → Type 0
   ToldMove old number (answer.Value value) new = AnswersMove old (comes number) new
   ToldMove old number answer.Done new = NoticesMove old (comes number) new

@@ -20,7 +20,8 @@ pub record WakeList : Type 0 where
 
 -- the call is on it, whatever it waited for
 abbrev pub is_on : WakeList → ℕ → Bool
-is_on l call = (l.turns call || l.settlements call || l.locks call || l.notices call) || l.answers call
+is_on l call =
+    (l.turns call || l.settlements call || l.locks call || l.notices call) || l.answers call
 
 -- the same calls are on both, for the same things
 pub record HaveSame (l m : WakeList) : Type 0 where
@@ -58,7 +59,8 @@ module _ {K V : Type 0} {same : PartialEq.Ghosts K} {hash : Hash.Ghosts K} where
   -- nobody who is listed is on it, for things of the same kind
   pub record ListedAreUnwoken (desk : Desk K V same hash) : Type 0 where
     pub turns : EachListed (turn_line desk) (λ n c. is_out desk.waits.turns c ≡ false)
-    pub settlements : EachListed (settlement_line desk) (λ n c. is_out desk.waits.settlements c ≡ false)
+    pub settlements : EachListed (settlement_line desk)
+        (λ n c. is_out desk.waits.settlements c ≡ false)
     pub answers : EachListed (answer_line desk) (λ n c. is_told desk.asks c ≡ false)
     pub locks : EachListed (lock_line desk) (λ n c. is_out desk.waits.locks c ≡ false)
     pub notices : EachListed (notice_line desk) (λ n c. is_out desk.waits.notices c ≡ false)
@@ -76,7 +78,8 @@ module _ {K V : Type 0} {same : PartialEq.Ghosts K} {hash : Hash.Ghosts K} where
   TurnsWake old change new = Wake old (λ l. record l { turns = change l.turns }) new
 
   abbrev pub SettlementsWake : Desk K V same hash → Change → Desk K V same hash → Type 0
-  SettlementsWake old change new = Wake old (λ l. record l { settlements = change l.settlements }) new
+  SettlementsWake old change new =
+      Wake old (λ l. record l { settlements = change l.settlements }) new
 
   abbrev pub AnswersWake : Desk K V same hash → Change → Desk K V same hash → Type 0
   AnswersWake old change new = Wake old (λ l. record l { answers = change l.answers }) new

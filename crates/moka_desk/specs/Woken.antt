@@ -10,7 +10,8 @@ use Rattle.moka_desk.specs.declared.lines.Lines.{Lines}
 -- the call has a place among those that wait for things of one kind, and is on no list of it
 abbrev pub is_out : Lines → ℕ → Bool
 is_out lines call =
-    option_map_or (λ n. not (waits call (line_at lines.lists n))) (get nat_eq lines.places call) false
+    option_map_or (λ n. not (waits call (line_at lines.lists n)))
+    (get nat_eq lines.places call) false
 
 -- the call waited for the answer to its own ask, was told it, and has not taken it up
 abbrev pub is_told : {V : Type 0} → Asks V → ℕ → Bool

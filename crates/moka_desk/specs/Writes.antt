@@ -18,7 +18,8 @@ pub record WritePart : Type 0 where
 
 -- that part of it
 abbrev pub write_part : {K V : Type 0} → DeskPart K V → WritePart
-write_part w = record { holding = w.holding; owed = w.owed; log = w.log; applied = w.applied; size = w.size }
+write_part w =
+    record { holding = w.holding; owed = w.owed; log = w.log; applied = w.applied; size = w.size }
 
 -- Each call holds what is kept of it, and the lists are those that are kept.
 pub record WritesAre (writes : Writes) (p : WritePart) : Type 0 where
@@ -33,5 +34,6 @@ abbrev pub WritesBecome : Writes → (WritePart → WritePart) → Writes → Ty
 WritesBecome old change new = (p : WritePart) → WritesAre old p → WritesAre new (change p)
 
 -- the same, of each part that meets the condition
-abbrev pub WritesBecomeIf : Writes → (WritePart → Type 0) → (WritePart → WritePart) → Writes → Type 0
+abbrev pub WritesBecomeIf : Writes → (WritePart → Type 0) → (WritePart → WritePart) → Writes →
+    Type 0
 WritesBecomeIf old P change new = (p : WritePart) → WritesAre old p → P p → WritesAre new (change p)

@@ -44,7 +44,8 @@ impl Applied {
         }
     }
 
-    /// How many of the records that the applied writes made were replaced or removed by none of them.
+    /// How many of the records that the applied writes made were replaced or removed by none of
+    /// them.
     pub(crate) fn standing(&self) -> u64
         ensures { result ≡ standing_of self.now.writes.items }
     {
@@ -88,7 +89,8 @@ impl Applied {
 
     fn push_upsert(&mut self, number: u64, old: Option<u64>)
         requires { 0 < self.old.room }
-        ensures items { self.new.writes.items ≡ self.old.writes.items ++ write_of.Upsert number old ∷ [] }
+        ensures items { self.new.writes.items ≡ self.old.writes.items ++
+            write_of.Upsert number old ∷ [] }
         ensures room { self.new.room + 1 ≡ self.old.room }
     {
         let fallen = self.fallen_by(old);
@@ -102,7 +104,8 @@ impl Applied {
 
     fn push_removal(&mut self, number: u64, old: u64)
         requires { 0 < self.old.room }
-        ensures items { self.new.writes.items ≡ self.old.writes.items ++ write_of.Remove number old ∷ [] }
+        ensures items { self.new.writes.items ≡ self.old.writes.items ++
+            write_of.Remove number old ∷ [] }
         ensures room { self.new.room + 1 ≡ self.old.room }
     {
         let fallen = self.fallen_by(Some(old));
@@ -150,7 +153,8 @@ fn made_by(made: &HashMap<u64, u64>, number: u64) -> u64
 fn count(made: &mut HashMap<u64, u64>, number: u64)
     requires room { 0 < spare made.old }
     requires fits { unwrap_or (get nat_eq made.old number) 0 + 1 < 2 ^ 64 }
-    ensures counted { (n : ℕ) → unwrap_or (get nat_eq made.new n) 0 ≡ unwrap_or (get nat_eq made.old n) 0 + cond
+    ensures counted { (n : ℕ) →
+        unwrap_or (get nat_eq made.new n) 0 ≡ unwrap_or (get nat_eq made.old n) 0 + cond
         (number == n) 1 0 }
     ensures spare { spare made.old ≤ spare made.new + 1 }
 {

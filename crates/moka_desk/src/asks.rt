@@ -25,8 +25,8 @@ pub(crate) struct Answer<V> {
     pub(crate) woken: bool,
 }
 
-/// The open asks, and what was told to those that are closed and not taken yet. Each open ask has the
-/// place of its answer, and that of its call on the list of those that wait for it.
+/// The open asks, and what was told to those that are closed and not taken yet. Each open ask has
+/// the place of its answer, and that of its call on the list of those that wait for it.
 #[derive(Drop)]
 pub(crate) struct Asks<V> {
     alloc: Global,
@@ -62,7 +62,8 @@ impl<V: Drop> Asks<V> {
               told = put_at p.told call None;
             }) self.new) }
         ensures err { OnErr result (AsksBecome self.old (λ p. p) self.new) }
-        ensures back { OnOk result ((n : ℕ) → is_told self.new n ≡ all_but call (is_told self.old) n) }
+        ensures back { OnOk result ((n : ℕ) →
+            is_told self.new n ≡ all_but call (is_told self.old) n) }
         ensures still { OnErr result ((n : ℕ) → is_told self.new n ≡ is_told self.old n) }
     {
         let place = WaitPlace::new(self.alloc)?;
@@ -72,8 +73,8 @@ impl<V: Drop> Asks<V> {
         Ok(())
     }
 
-    /// Closes the call's ask by an answer that it takes, and hands the call out, if it waits. Answers
-    /// None where none is open that takes it; nothing has changed then.
+    /// Closes the call's ask by an answer that it takes, and hands the call out, if it waits.
+    /// Answers None where none is open that takes it; nothing has changed then.
     pub(crate) fn tell(&mut self, call: u64, answer: Told<V>) -> Option<CallList>
         ensures finds { is_some result ≡ option_map_or
             (λ a. takes_answer a.takes answer) (get nat_eq self.old.open_asks call) false }
@@ -98,7 +99,8 @@ impl<V: Drop> Asks<V> {
     /// Takes what the call was told, if anything was. Where its ask is open, the call waits.
     pub(crate) fn take(&mut self, call: u64) -> Option<Told<V>>
         ensures finds { result ≡ option_map (λ a. a.told) (get nat_eq self.old.told call) }
-        ensures makes { AsksBecome self.old (λ p. record p { told = put_at p.told call None }) self.new }
+        ensures makes { AsksBecome self.old
+            (λ p. record p { told = put_at p.told call None }) self.new }
         ensures waits { (n : ℕ) → asker_at self.new.open_asks n
             ≡ asks_if (is_open self.old.open_asks call) call n (asker_at self.old.open_asks n) }
         ensures back { (n : ℕ) → is_told self.new n ≡ all_but call (is_told self.old) n }

@@ -48,7 +48,8 @@ impl Held {
     pub(crate) fn stamp(&mut self, call: u64, moment: u64)
         requires { 0 < spare self.old.places }
         ensures holds { (n : ℕ) → get nat_eq self.new.places n ≡ cond (call == n)
-            (Some (record { holder = Some call; pending = Some moment })) (get nat_eq self.old.places n) }
+            (Some (record { holder = Some call; pending = Some moment }))
+            (get nat_eq self.old.places n) }
         ensures count { hash_map_len self.new.places ≤ hash_map_len self.old.places + 1 }
     {
         let place = HeldPlace {
@@ -88,7 +89,8 @@ impl Held {
         ensures holds { (n : ℕ) → get nat_eq self.new.places n
             ≡ cond (number == n) None (get nat_eq self.old.places n) }
         ensures count { hash_map_len self.new.places
-            + (if is_some (get nat_eq self.old.places number) then 1 else 0) ≡ hash_map_len self.old.places }
+            + (if is_some (get nat_eq self.old.places number) then 1 else 0) ≡
+            hash_map_len self.old.places }
     {
         let _ = self.places.remove(&number);
     }

@@ -41,10 +41,12 @@ impl Lines {
     /// nothing has changed.
     pub(crate) fn wait(&mut self, number: u64, call: u64) -> Result<(), AllocError>
         ensures ok { OnOk result ((n : ℕ) → line_at self.new.lists n
-            ≡ cond (number == n) (with_call call (line_at self.old.lists n)) (without call (line_at self.old.lists n))) }
+            ≡ cond (number == n) (with_call call (line_at self.old.lists n))
+            (without call (line_at self.old.lists n))) }
         ensures err { OnErr result ((n : ℕ) → line_at self.new.lists n ≡ line_at self.old.lists n) }
         // who is woken
-        ensures back { OnOk result ((c : ℕ) → is_out self.new c ≡ all_but call (is_out self.old) c) }
+        ensures back { OnOk result ((c : ℕ) →
+            is_out self.new c ≡ all_but call (is_out self.old) c) }
         ensures still { OnErr result ((c : ℕ) → is_out self.new c ≡ is_out self.old c) }
     {
         self.places.reserve(1)?;
@@ -69,7 +71,8 @@ impl Lines {
     /// Takes the list of those that wait for the thing of this number, which has come.
     pub(crate) fn take(&mut self, number: u64) -> WaitList
         ensures all { result.calls ≡ line_at self.old.lists number }
-        ensures none { (n : ℕ) → line_at self.new.lists n ≡ cond (number == n) [] (line_at self.old.lists n) }
+        ensures none { (n : ℕ) → line_at self.new.lists n ≡
+            cond (number == n) [] (line_at self.old.lists n) }
         ensures woken { (c : ℕ) → is_out self.new c
             ≡ and_calls (line_at self.old.lists number) (is_out self.old) c }
     {

@@ -26,8 +26,8 @@ impl<K: Eq + Hash + Clone + Drop, V: Drop> Desk<K, V> {
     ghost use Rattle.moka_desk.specs.StandsFor.{StandsFor, Can, Finds, Makes, Stays};
     ghost use Rattle.moka_desk.specs.ListedMiss.{MissAfter, MissWith};
 
-    /// Takes the key's lock for the call, which holds none. Answers false where another call holds it; the
-    /// call waits for it then.
+    /// Takes the key's lock for the call, which holds none. Answers false where another call holds
+    /// it; the call waits for it then.
     pub fn lock_key(&mut self, call: u64, key: &K) -> Result<bool, AllocError>
         requires keys { IsExact K.is_clone }
         requires free { Can K.eq self.old (visit.LockKey call key.now) }
@@ -36,7 +36,8 @@ impl<K: Eq + Hash + Clone + Drop, V: Drop> Desk<K, V> {
         ensures makes { OnOk result (Makes K.eq self.old (visit.LockKey call key.now) self.new) }
         ensures err { OnErr result (Stays K.eq self.old self.new) }
         // who waits
-        ensures locked { IfOk result (λ locked. OnTrue locked (LocksMove self.old (leaves call) self.new)) }
+        ensures locked { IfOk result (λ locked. OnTrue locked
+            (LocksMove self.old (leaves call) self.new)) }
         ensures waits { IfOk result (λ locked. OnFalse locked (LocksMove self.old
             (waits_at (get K.eq self.old.locks.holders key.now) call) self.new)) }
         ensures unlisted { OnErr result (LocksMove self.old stays self.new) }
@@ -56,9 +57,9 @@ impl<K: Eq + Hash + Clone + Drop, V: Drop> Desk<K, V> {
         Ok(true)
     }
 
-    /// Frees the lock that the call holds, and hands out all that wait for it. A pending moment of the
-    /// call ends. Where nothing was written under the lock (`wrote` is false) the places that the call
-    /// has for a write are given back; it took none up then.
+    /// Frees the lock that the call holds, and hands out all that wait for it. A pending moment of
+    /// the call ends. Where nothing was written under the lock (`wrote` is false) the places that
+    /// the call has for a write are given back; it took none up then.
     pub fn unlock_key(&mut self, call: u64, wrote: bool) -> CallList
         requires { Can K.eq self.old (visit.UnlockKey call wrote) }
         ensures makes { Makes K.eq self.old (visit.UnlockKey call wrote) self.new }
@@ -72,10 +73,11 @@ impl<K: Eq + Hash + Clone + Drop, V: Drop> Desk<K, V> {
         self.waits.locks.take(call).take_all()
     }
 
-    /// Opens the notice of the call's number, which has none yet, for a record that its write took out:
-    /// the record of this stamp, last written at the moment `modified`, in nanoseconds. Answers why it
-    /// left: for the cause handed in, or else as `upsert` says whether a write took its place. Where the
-    /// listener is off the notice is skipped, and the answer None. A pending moment of the call ends.
+    /// Opens the notice of the call's number, which has none yet, for a record that its write took
+    /// out: the record of this stamp, last written at the moment `modified`, in nanoseconds.
+    /// Answers why it left: for the cause handed in, or else as `upsert` says whether a write took
+    /// its place. Where the listener is off the notice is skipped, and the answer None. A pending
+    /// moment of the call ends.
     pub fn open_notice(
         &mut self,
         call: u64,
@@ -104,15 +106,16 @@ impl<K: Eq + Hash + Clone + Drop, V: Drop> Desk<K, V> {
         Ok(asked.then_some(cause))
     }
 
-    /// Whether the notice of this number runs no longer. Where it runs the call waits for its end, and
-    /// only there memory may be wanting.
+    /// Whether the notice of this number runs no longer. Where it runs the call waits for its end,
+    /// and only there memory may be wanting.
     pub fn notice_ended(&mut self, call: u64, notice: u64) -> Result<bool, AllocError>
         ensures finds { IfOk result (λ ended. Finds K.eq self.old (visit.NoticeEnded call notice)
             (found.NoticeEnded ended)) }
         ensures makes { OnOk result (Makes K.eq self.old (visit.NoticeEnded call notice) self.new) }
         ensures err { OnErr result (Stays K.eq self.old self.new) }
         // who waits
-        ensures ended { IfOk result (λ ended. OnTrue ended (NoticesMove self.old (leaves call) self.new)) }
+        ensures ended { IfOk result (λ ended. OnTrue ended
+            (NoticesMove self.old (leaves call) self.new)) }
         ensures waits { IfOk result
             (λ ended. OnFalse ended (NoticesMove self.old (waits_at (Some notice) call) self.new)) }
         ensures back { OnOk result (NoticesWake self.old (all_but call) self.new) }
@@ -149,8 +152,8 @@ impl<K: Eq + Hash + Clone + Drop, V: Drop> Desk<K, V> {
         self.waits.notices.take(notice).take_all()
     }
 
-    /// Why the record of this stamp, last written at the moment `modified`, leaves now: for the cause
-    /// handed in, or else as `upsert` says whether a write takes its place.
+    /// Why the record of this stamp, last written at the moment `modified`, leaves now: for the
+    /// cause handed in, or else as `upsert` says whether a write takes its place.
     pub fn cause_of(&self, stamp: u64, modified: u64, cause: Option<Cause>, upsert: bool) -> Cause
         ensures { (w : DeskPart K V) → StandsFor K.eq self.now w
             → result ≡ cause_of w stamp modified cause upsert }
@@ -162,10 +165,10 @@ impl<K: Eq + Hash + Clone + Drop, V: Drop> Desk<K, V> {
         }
     }
 
-    /// Judges whether the record of this stamp, last written at the moment `modified`, in nanoseconds,
-    /// that was chosen to leave for `cause` has still to, by the clock: `Size` holds where a capacity is
-    /// set, `Expired` past its time to live or to idle, `Replaced` never, and `Explicit` not yet, since
-    /// no record is hidden or hit by an invalidation.
+    /// Judges whether the record of this stamp, last written at the moment `modified`, in
+    /// nanoseconds, that was chosen to leave for `cause` has still to, by the clock: `Size` holds
+    /// where a capacity is set, `Expired` past its time to live or to idle, `Replaced` never, and
+    /// `Explicit` not yet, since no record is hidden or hit by an invalidation.
     pub fn holds(&self, stamp: u64, modified: u64, cause: Cause) -> bool
         ensures { (w : DeskPart K V) → StandsFor K.eq self.now w
             → result ≡ chosen_holds w.rules (times_at w stamp modified) false cause }
@@ -175,7 +178,8 @@ impl<K: Eq + Hash + Clone + Drop, V: Drop> Desk<K, V> {
 
     // The times of the record of this stamp, last written at the moment.
     fn times(&self, stamp: u64, modified: u64) -> Times
-        ensures { (w : DeskPart K V) → StandsFor K.eq self.now w → result ≡ times_at w stamp modified }
+        ensures { (w : DeskPart K V) → StandsFor K.eq self.now w →
+            result ≡ times_at w stamp modified }
     {
         Times {
             clock: self.clock,

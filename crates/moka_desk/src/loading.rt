@@ -31,9 +31,11 @@ impl<K: Eq + Hash + Clone + Drop, V: Drop> Desk<K, V> {
     pub fn wait_or_own(&mut self, call: u64, load: Load<K>) -> Result<Claim, AllocError>
         requires keys { IsExact K.is_clone }
         requires free { Can K.eq self.old (visit.WaitOrOwn call load.key load.kind) }
-        ensures finds { IfOk result (λ claim. Finds K.eq self.old (visit.WaitOrOwn call load.key load.kind)
+        ensures finds { IfOk result (λ claim. Finds K.eq self.old
+            (visit.WaitOrOwn call load.key load.kind)
             (found.WaitOrOwn claim)) }
-        ensures makes { OnOk result (Makes K.eq self.old (visit.WaitOrOwn call load.key load.kind) self.new) }
+        ensures makes { OnOk result (Makes K.eq self.old
+            (visit.WaitOrOwn call load.key load.kind) self.new) }
         ensures err { OnErr result (Stays K.eq self.old self.new) }
         ensures quiet { NobodyMoves self.old self.new }
         ensures wakes { NobodyWakes self.old self.new }
@@ -44,8 +46,8 @@ impl<K: Eq + Hash + Clone + Drop, V: Drop> Desk<K, V> {
         self.loads.claim(call, load)
     }
 
-    /// Reads how the owner ended that the call waits for. Answers NotYet where it has not ended. A call
-    /// that has read it waits no longer, and the last one takes it away.
+    /// Reads how the owner ended that the call waits for. Answers NotYet where it has not ended. A
+    /// call that has read it waits no longer, and the last one takes it away.
     pub fn read_settled(&mut self, call: u64) -> Result<Settled<V>, AllocError>
     where
         V: Clone,
@@ -76,8 +78,8 @@ impl<K: Eq + Hash + Clone + Drop, V: Drop> Desk<K, V> {
         Ok(settlement)
     }
 
-    /// Ends the call's ownership of a load, keeps how it ended for those that wait for it, and hands
-    /// these out.
+    /// Ends the call's ownership of a load, keeps how it ended for those that wait for it, and
+    /// hands these out.
     pub fn settle(&mut self, call: u64, with: Settled<V>) -> CallList
         requires { Can K.eq self.old (visit.Settle call with) }
         ensures makes { Makes K.eq self.old (visit.Settle call with) self.new }
@@ -102,11 +104,12 @@ impl<K: Eq + Hash + Clone + Drop, V: Drop> Desk<K, V> {
         self.asks.open(call, takes)
     }
 
-    /// Closes the ask of this number by an answer that it takes: a value is kept for the call, and a
-    /// listener's answer ends the notice of that number. Hands out all that wait for it. Answers None
-    /// where no such ask is open; nothing has changed then.
+    /// Closes the ask of this number by an answer that it takes: a value is kept for the call, and
+    /// a listener's answer ends the notice of that number. Hands out all that wait for it. Answers
+    /// None where no such ask is open; nothing has changed then.
     pub fn tell(&mut self, number: u64, answer: Told<V>) -> Option<CallList>
-        ensures finds { (w : DeskPart K V) → StandsFor K.eq self.old w → is_some result ≡ is_asked w number answer }
+        ensures finds { (w : DeskPart K V) → StandsFor K.eq self.old w →
+            is_some result ≡ is_asked w number answer }
         ensures makes { Becomes K.eq self.old
             (λ w. if is_some result then with_told w number answer else w) self.new }
         ensures woken { IfSome result (λ woken. woken ≡ told_line self.old number answer) }
@@ -126,8 +129,10 @@ impl<K: Eq + Hash + Clone + Drop, V: Drop> Desk<K, V> {
 
     // Ends the notice of this number, where it runs, and turns the listener off, if `off`.
     fn hear(&mut self, number: u64, off: bool) -> Option<CallList>
-        ensures finds { (w : DeskPart K V) → StandsFor K.eq self.old w → is_some result ≡ is_running w number }
-        ensures makes { Becomes K.eq self.old (λ w. if is_some result then heard w number off else w) self.new }
+        ensures finds { (w : DeskPart K V) → StandsFor K.eq self.old w →
+            is_some result ≡ is_running w number }
+        ensures makes { Becomes K.eq self.old
+            (λ w. if is_some result then heard w number off else w) self.new }
         ensures woken { IfSome result (λ woken. woken ≡ notice_line self.old number) }
         ensures waits { OnSome result (NoticesMove self.old (comes number) self.new) }
         ensures quiet { IfNone result (NobodyMoves self.old self.new) }
@@ -156,16 +161,18 @@ impl<K: Eq + Hash + Clone + Drop, V: Drop> Desk<K, V> {
         self.asks.take(call)
     }
 
-    /// Lets a dropped call leave: the write that it held, and hands in, is owed, with its notice where
-    /// that still runs; its ask is closed, and its lock free; it waits for nobody; and those that wait
-    /// for it read that it was dropped. A listener that it asked is still asked. Hands out those that
-    /// wait for its load, and then those that wait for its lock.
+    /// Lets a dropped call leave: the write that it held, and hands in, is owed, with its notice
+    /// where that still runs; its ask is closed, and its lock free; it waits for nobody; and those
+    /// that wait for it read that it was dropped. A listener that it asked is still asked. Hands
+    /// out those that wait for its load, and then those that wait for its lock.
     pub fn leave(&mut self, call: u64, held: Option<Owed>) -> CallList
         requires { CanLeave K.eq self.old call (option_map (λ o. o.write) held) }
         ensures makes { (w : DeskPart K V) → StandsFor K.eq self.old w
-            → MayLeave w call (option_map (λ o. o.write) held) → StandsFor K.eq self.new (left w call held) }
+            → MayLeave w call (option_map (λ o. o.write) held) →
+            StandsFor K.eq self.new (left w call held) }
         ensures woken { result
-            ≡ without call (settlement_line self.old call) ++ without call (lock_line self.old call) }
+            ≡ without call (settlement_line self.old call) ++
+            without call (lock_line self.old call) }
         ensures wakes { Wake self.old
             (after_leaving call (settlement_line self.old call) (lock_line self.old call)) self.new }
         ensures misses { MissWith K.eq self.old (λ w. left w call held) self.new }
@@ -181,7 +188,8 @@ impl<K: Eq + Hash + Clone + Drop, V: Drop> Desk<K, V> {
     // The write that is handed in, with its notice where that still runs.
     fn still_heard(&self, held: Option<Owed>) -> Option<Owed>
         ensures same { option_map (λ o. o.write) result ≡ option_map (λ o. o.write) held }
-        ensures notice { (w : DeskPart K V) → StandsFor K.eq self.now w → result ≡ option_map (owed_with w) held }
+        ensures notice { (w : DeskPart K V) → StandsFor K.eq self.now w →
+            result ≡ option_map (owed_with w) held }
     {
         let Owed { write, notice } = held?;
         let notice = notice.filter(|number| self.notices.is_running(*number));

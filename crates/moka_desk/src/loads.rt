@@ -57,13 +57,14 @@ impl<K: Eq + Hash + Clone + Drop, V: Drop> Loads<K, V> {
         }
     }
 
-    /// Makes the call, which owns nothing and waits for nobody, the owner of a load that nobody owns, or
-    /// lets it wait for the owner.
+    /// Makes the call, which owns nothing and waits for nobody, the owner of a load that nobody
+    /// owns, or lets it wait for the owner.
     pub(crate) fn claim(&mut self, call: u64, load: Load<K>) -> Result<Claim, AllocError>
         requires exact { IsExact K.is_clone }
         requires idle { get nat_eq self.old.owning call ≡ None }
         requires apart { get nat_eq self.old.joined call ≡ None }
-        ensures finds { IfOk result (λ claim. (w : DeskPart K V) → LoadsAre K.eq self.old (load_part w)
+        ensures finds { IfOk result (λ claim. (w : DeskPart K V) →
+            LoadsAre K.eq self.old (load_part w)
             → claim ≡ claim_of (w.owners load)) }
         ensures ok { OnOk result (LoadsMake K.eq self.old
             (λ w. load_part (claimed K.eq w call load (w.owners load))) self.new) }
@@ -132,14 +133,15 @@ impl<K: Eq + Hash + Clone + Drop, V: Drop> Loads<K, V> {
         self.owning.reserve(1)
     }
 
-    /// Reads how the owner ended that the call waits for: NotYet where it has not, or the call waits
-    /// for nobody. A call that has read it waits no longer, and the last one takes it away. For want
-    /// of memory nothing was read.
+    /// Reads how the owner ended that the call waits for: NotYet where it has not, or the call
+    /// waits for nobody. A call that has read it waits no longer, and the last one takes it away.
+    /// For want of memory nothing was read.
     pub(crate) fn read(&mut self, call: u64) -> Result<Settled<V>, AllocError>
     where
         V: Clone,
         requires { IsExact V.is_clone }
-        ensures finds { IfOk result (λ found. (w : DeskPart K V) → LoadsAre K.eq self.old (load_part w)
+        ensures finds { IfOk result (λ found. (w : DeskPart K V) →
+            LoadsAre K.eq self.old (load_part w)
             → found ≡ unwrap_or (settlement_for w call) settled.NotYet) }
         ensures ok { OnOk result (LoadsMake K.eq self.old (λ w. load_part (read w call)) self.new) }
         ensures err { OnErr result (self.new ≡ self.old) }
@@ -234,8 +236,8 @@ impl<K: Eq + Hash + Clone + Drop, V: Drop> Loads<K, V> {
         }
     }
 
-    // The call owns nothing from then on. Answers whether it owned a load, whose settlement then has
-    // a place.
+    // The call owns nothing from then on. Answers whether it owned a load, whose settlement then
+    // has a place.
     fn disown(&mut self, call: u64) -> bool
         ensures owned { result ≡ is_some (get nat_eq self.old.owning call) }
         ensures room { OnTrue result (hash_map_len self.new.owning < spare self.new.settled) }

@@ -10,8 +10,8 @@ use std::alloc::{AllocError, Global};
 use std::collections::HashMap;
 use std::hash::Hash;
 
-/// The call that holds each key's lock, and the key that each call has locked. A call holds one lock
-/// at most.
+/// The call that holds each key's lock, and the key that each call has locked. A call holds one
+/// lock at most.
 #[derive(Drop)]
 pub(crate) struct Locks<K: Eq + Hash> {
     pub(crate) holders: HashMap<K, u64>,
@@ -42,7 +42,8 @@ impl<K: Eq + Hash + Clone + Drop> Locks<K> {
     /// Gives the lock of a key that nobody has locked to the call, which holds none.
     pub(crate) fn lock(&mut self, call: u64, key: &K) -> Result<(), AllocError>
         requires exact { IsExact K.is_clone }
-        ensures ok { OnOk result ((p : LockPart K) → LocksAre K.eq self.old p → p.locks key.now ≡ None
+        ensures ok { OnOk result ((p : LockPart K) → LocksAre K.eq self.old p →
+            p.locks key.now ≡ None
             → p.locked call ≡ None → LocksAre K.eq self.new (record {
               locks = put_key K.eq p.locks key.now (Some call);
               locked = put_at p.locked call (Some key.now);

@@ -24,7 +24,8 @@ pub(crate) fn put<Q: Eq + Hash + Drop, T: Drop>(map: &mut HashMap<Q, T>, key: Q,
 /// Puts the value at a number that has one.
 pub(crate) fn replace<T: Drop>(map: &mut HashMap<u64, T>, key: u64, value: T)
     requires { IsSome (get nat_eq map.old key) }
-    ensures updates { (n : ℕ) → get nat_eq map.new n ≡ cond (key == n) (Some value) (get nat_eq map.old n) }
+    ensures updates { (n : ℕ) →
+        get nat_eq map.new n ≡ cond (key == n) (Some value) (get nat_eq map.old n) }
     ensures len { hash_map_len map.new ≡ hash_map_len map.old }
 {
     match map.insert(key, value) {

@@ -9,8 +9,8 @@ use moka_hist::{Cause, Notice, NoticeState};
 use std::alloc::{AllocError, Global};
 use std::collections::HashMap;
 
-/// What the listener hears by a running notice: the key and the value of a record that has left, and
-/// why.
+/// What the listener hears by a running notice: the key and the value of a record that has left,
+/// and why.
 #[derive(Drop)]
 pub(crate) struct Heard<K, V> {
     pub(crate) key: K,
@@ -76,11 +76,12 @@ impl<K: Drop, V: Drop> Notices<K, V> {
         }
     }
 
-    /// Opens a notice of a number that has none, and answers whether the listener is to be asked. Where
-    /// it is off the notice is skipped.
+    /// Opens a notice of a number that has none, and answers whether the listener is to be asked.
+    /// Where it is off the notice is skipped.
     pub(crate) fn open(&mut self, number: u64, heard: Heard<K, V>) -> Result<bool, AllocError>
         ensures asked { IfOk result (λ asked. asked ≡ not self.old.off) }
-        ensures ok { OnOk result ((p : NoticePart K V) → NoticesAre self.old p → p.notices number ≡ None
+        ensures ok { OnOk result ((p : NoticePart K V) → NoticesAre self.old p →
+            p.notices number ≡ None
             → NoticesAre self.new (record p {
               notices = put_at p.notices number (Some (record {
                 number = number;

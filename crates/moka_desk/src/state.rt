@@ -14,9 +14,9 @@ use std::collections::{HashMap, VecDeque};
 use std::hash::Hash;
 
 /// What calls leave for one another: the clock, the writes that aren't applied yet, the owners of
-/// loads and those that wait for them, and open asks. Moments are nanoseconds, and calls go by their
-/// numbers. A call that takes a moment, owns a load or opens an ask gets the places of what follows,
-/// so that a later visit never fails for want of memory where its signature has no error.
+/// loads and those that wait for them, and open asks. Moments are nanoseconds, and calls go by
+/// their numbers. A call that takes a moment, owns a load or opens an ask gets the places of what
+/// follows, so that a later visit never fails for want of memory where its signature has no error.
 #[derive(Drop)]
 pub struct Desk<K: Eq + Hash, V> {
     pub(crate) rules: Rules,
@@ -100,7 +100,8 @@ impl<K: Eq + Hash + Clone + Drop, V: Drop> Desk<K, V> {
     /// Moves the clock on to the moment. Answers false where that is before the clock; nothing has
     /// changed then.
     pub fn at(&mut self, moment: u64) -> bool
-        ensures finds { (w : DeskPart K V) → StandsFor K.eq self.old w → result ≡ not (nat_lt moment w.clock) }
+        ensures finds { (w : DeskPart K V) → StandsFor K.eq self.old w →
+            result ≡ not (nat_lt moment w.clock) }
         ensures makes { Becomes K.eq self.old
             (λ w. if nat_lt moment w.clock then w else record w { clock = moment }) self.new }
         ensures misses { MissWith K.eq self.old
@@ -114,8 +115,8 @@ impl<K: Eq + Hash + Clone + Drop, V: Drop> Desk<K, V> {
         true
     }
 
-    /// Gives the next call number out. Answers None where the greatest one was given out; nothing has
-    /// changed then.
+    /// Gives the next call number out. Answers None where the greatest one was given out; nothing
+    /// has changed then.
     pub fn enter(&mut self) -> Option<u64>
         ensures finds { (w : DeskPart K V) → StandsFor K.eq self.old w
             → result ≡ (if w.last == last_call then None else Some (w.last + 1)) }
@@ -186,8 +187,8 @@ impl<K: Eq + Hash + Clone + Drop, V: Drop> Desk<K, V> {
         self.notices.off
     }
 
-    /// Whether the call was handed out, and has since neither come back to the visit that it waited at
-    /// nor left.
+    /// Whether the call was handed out, and has since neither come back to the visit that it waited
+    /// at nor left.
     pub fn is_woken(&self, call: u64) -> bool
         ensures woken { result ≡ is_on (wake_list self.now) call }
         ensures once { ListedAreUnwoken self.now }

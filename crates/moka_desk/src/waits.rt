@@ -9,8 +9,8 @@ use crate::lines::Lines;
 use moka_sync::CallList;
 use std::alloc::Global;
 
-/// Those that wait, by the number of the call that they wait for: for the turn or the lock that it has,
-/// for how it settles its load, and for the end of the notice of its number.
+/// Those that wait, by the number of the call that they wait for: for the turn or the lock that it
+/// has, for how it settles its load, and for the end of the notice of its number.
 #[derive(Drop)]
 pub(crate) struct Waits {
     pub(crate) turns: Lines,
@@ -37,8 +37,8 @@ impl Waits {
         }
     }
 
-    /// A call leaves: it waits for nothing any more; those that wait for how it settles its load, and
-    /// then those that wait for its lock, are handed out.
+    /// A call leaves: it waits for nothing any more; those that wait for how it settles its load,
+    /// and then those that wait for its lock, are handed out.
     pub(crate) fn leave(&mut self, call: u64) -> CallList
         ensures woken { result ≡ without call (line_at self.old.settlements.lists call)
             ++ without call (line_at self.old.locks.lists call) }

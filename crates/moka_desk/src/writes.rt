@@ -53,14 +53,15 @@ impl Writes {
         })
     }
 
-    /// Gives the call the places of a write of its own, with the moment: held, owed, logged where the
-    /// log has room, and applied. Nothing of its number is owed.
+    /// Gives the call the places of a write of its own, with the moment: held, owed, logged where
+    /// the log has room, and applied. Nothing of its number is owed.
     pub(crate) fn stamp(&mut self, call: u64, moment: u64) -> Result<(), AllocError>
         requires { times call (owed_numbers self.old.owed.items) ≡ 0 }
         ensures ok { OnOk result (WritesBecomeIf self.old
             (λ p. IsNone (p.holding call)
             × ((n : ℕ) (h : Holding) → p.holding n ≡ Some h → held_number n h ≢ call))
-            (λ p. record p { holding = put_at p.holding call (Some (holding.Own (Some moment))) }) self.new) }
+            (λ p. record p { holding = put_at p.holding call (Some (holding.Own (Some moment))) })
+            self.new) }
         ensures err { OnErr result (WritesBecome self.old (λ p. p) self.new) }
     {
         let room = self.applied.room.checked_add(1).ok_or(AllocError)?;
@@ -83,7 +84,8 @@ impl Writes {
     /// Ends the pending moment of the call. Where it wrote nothing its places of a write are given
     /// back.
     pub(crate) fn conclude(&mut self, call: u64, wrote: bool)
-        ensures { WritesBecomeIf self.old (λ p. wrote ≡ false → MayLeaveWith (p.holding call) call None)
+        ensures { WritesBecomeIf self.old (λ p. wrote ≡ false →
+            MayLeaveWith (p.holding call) call None)
             (λ p. record p {
               holding = put_at p.holding call (once_freed (p.holding call) wrote);
             }) self.new }
@@ -107,8 +109,8 @@ impl Writes {
         Some(owed)
     }
 
-    /// Appends the write, which the call holds, to the log, where that has room. A pending moment of
-    /// the call ends in either case.
+    /// Appends the write, which the call holds, to the log, where that has room. A pending moment
+    /// of the call ends in either case.
     pub(crate) fn post(&mut self, call: u64, write: Write) -> bool
         requires { is_holder (get nat_eq self.old.held.places (number_of write)) call ≡ true }
         ensures room { result ≡ nat_lt (length self.old.log.items) self.old.size }
@@ -142,8 +144,8 @@ impl Writes {
         true
     }
 
-    /// A call leaves: the write that it held is owed from then on. Where it hands none in, the place
-    /// that it has for one is given up.
+    /// A call leaves: the write that it held is owed from then on. Where it hands none in, the
+    /// place that it has for one is given up.
     pub(crate) fn leave(&mut self, call: u64, held: Option<Owed>)
         requires { IfSome held
             (λ o. is_holder (get nat_eq self.old.held.places (number_of o.write)) call ≡ true) }

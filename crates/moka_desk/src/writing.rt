@@ -21,8 +21,8 @@ impl<K: Eq + Hash + Clone + Drop, V: Drop> Desk<K, V> {
     ghost use Rattle.moka_desk.specs.WakeList.{NobodyWakes, TurnsWake};
     ghost use Rattle.moka_desk.specs.Woken.{all_but, and_calls};
 
-    /// Gives the clock's moment, in nanoseconds. Places that the call has for a write, and doesn't need,
-    /// are given back: it took no write up.
+    /// Gives the clock's moment, in nanoseconds. Places that the call has for a write, and doesn't
+    /// need, are given back: it took no write up.
     pub fn read_clock(&mut self, call: u64) -> u64
         requires { Can K.eq self.old (visit.Clock call) }
         ensures finds { Finds K.eq self.old (visit.Clock call) (found.Clock result) }
@@ -35,8 +35,8 @@ impl<K: Eq + Hash + Clone + Drop, V: Drop> Desk<K, V> {
         self.clock
     }
 
-    /// Takes the oldest owed write up, if there is one, for a call that holds none. Its notice is that of
-    /// which the listener was still hearing when its call left.
+    /// Takes the oldest owed write up, if there is one, for a call that holds none. Its notice is
+    /// that of which the listener was still hearing when its call left.
     pub fn take_owed(&mut self, call: u64) -> Option<Owed>
         requires { Can K.eq self.old (visit.TakeOwed call) }
         ensures finds { Finds K.eq self.old (visit.TakeOwed call) (found.TakeOwed result) }
@@ -48,8 +48,8 @@ impl<K: Eq + Hash + Clone + Drop, V: Drop> Desk<K, V> {
         self.writes.take_owed(call)
     }
 
-    /// Takes the clock's moment for a write that follows, together with the places of that write. The
-    /// call holds no write, and none of its number stands anywhere.
+    /// Takes the clock's moment for a write that follows, together with the places of that write.
+    /// The call holds no write, and none of its number stands anywhere.
     pub fn stamp_moment(&mut self, call: u64) -> Result<u64, AllocError>
         requires { Can K.eq self.old (visit.StampMoment call) }
         ensures finds { IfOk result (λ moment. Finds K.eq self.old (visit.StampMoment call)
@@ -92,8 +92,8 @@ impl<K: Eq + Hash + Clone + Drop, V: Drop> Desk<K, V> {
         Ok(true)
     }
 
-    /// Appends the write, which the call holds, to the log. Answers false where the log is full; the
-    /// call goes on holding it then. A pending moment of the call ends in either case.
+    /// Appends the write, which the call holds, to the log. Answers false where the log is full;
+    /// the call goes on holding it then. A pending moment of the call ends in either case.
     pub fn post_write(&mut self, call: u64, write: Write) -> bool
         requires { Can K.eq self.old (visit.PostWrite call write) }
         ensures finds { Finds K.eq self.old (visit.PostWrite call write) (found.PostWrite result) }
@@ -105,15 +105,17 @@ impl<K: Eq + Hash + Clone + Drop, V: Drop> Desk<K, V> {
         self.writes.post(call, write)
     }
 
-    /// Takes the maintenance turn for the call, which has it not. Answers false where another call has
-    /// it; the call waits for it then, and only there memory may be wanting.
+    /// Takes the maintenance turn for the call, which has it not. Answers false where another call
+    /// has it; the call waits for it then, and only there memory may be wanting.
     pub fn take_turn(&mut self, call: u64) -> Result<bool, AllocError>
         requires { Can K.eq self.old (visit.TakeTurn call) }
-        ensures finds { IfOk result (λ taken. Finds K.eq self.old (visit.TakeTurn call) (found.TakeTurn taken)) }
+        ensures finds { IfOk result (λ taken. Finds K.eq self.old (visit.TakeTurn call)
+            (found.TakeTurn taken)) }
         ensures makes { OnOk result (Makes K.eq self.old (visit.TakeTurn call) self.new) }
         ensures err { OnErr result (Stays K.eq self.old self.new) }
         // who waits
-        ensures taken { IfOk result (λ taken. OnTrue taken (TurnsMove self.old (leaves call) self.new)) }
+        ensures taken { IfOk result (λ taken. OnTrue taken
+            (TurnsMove self.old (leaves call) self.new)) }
         ensures waits { IfOk result
             (λ taken. OnFalse taken (TurnsMove self.old (waits_at self.old.turn call) self.new)) }
         ensures back { OnOk result (TurnsWake self.old (all_but call) self.new) }
@@ -142,8 +144,8 @@ impl<K: Eq + Hash + Clone + Drop, V: Drop> Desk<K, V> {
         self.turn.filter(|holder| *holder != call)
     }
 
-    /// Applies the oldest write of the log, for the call that has the turn. Answers whether there was
-    /// one.
+    /// Applies the oldest write of the log, for the call that has the turn. Answers whether there
+    /// was one.
     pub fn apply_one(&mut self, call: u64) -> bool
         requires { Can K.eq self.old (visit.ApplyOne call) }
         ensures finds { Finds K.eq self.old (visit.ApplyOne call) (found.ApplyOne result) }
@@ -155,8 +157,8 @@ impl<K: Eq + Hash + Clone + Drop, V: Drop> Desk<K, V> {
         self.writes.apply_one()
     }
 
-    /// Publishes how many applied upserts stand unreplaced, and gives up the turn, which the call has.
-    /// Hands out all that wait for it.
+    /// Publishes how many applied upserts stand unreplaced, and gives up the turn, which the call
+    /// has. Hands out all that wait for it.
     pub fn end_turn(&mut self, call: u64) -> CallList
         requires { Can K.eq self.old (visit.EndTurn call) }
         ensures makes { Makes K.eq self.old (visit.EndTurn call) self.new }

@@ -1,5 +1,5 @@
-//! Runs that are run on wherever memory was wanting. `tools/fail-alloc` makes each allocation of the
-//! test fail in turn, and reads on standard error in which row. ` / ` parts lines.
+//! Runs that are run on wherever memory was wanting. `tools/fail-alloc` makes each allocation of
+//! the test fail in turn, and reads on standard error in which row. ` / ` parts lines.
 //!
 //! One allocation fails at most, so what the test takes beside the run is tried twice.
 ghost use Rattle.std.specs.Prelude.{nat_eq, IfOk};

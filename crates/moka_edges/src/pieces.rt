@@ -1,4 +1,5 @@
-//! The length of the pieces that a source gives and a sink takes changes nothing. ` / ` parts lines.
+//! The length of the pieces that a source gives and a sink takes changes nothing. ` / ` parts
+//! lines.
 
 use moka_ends::{PlainSink, PlainSource};
 use moka_run::{Status, play};

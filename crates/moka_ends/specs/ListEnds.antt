@@ -2,9 +2,8 @@
 use Rattle.std.specs.Prelude.{◌≡◌, ℕ, Bool, ◌==◌, ◌+◌, ◌-◌, ◌^◌, List, min}
 use Rattle.std.specs.List.{list_any}
 
--- the bytes that are left or were written, the most of them that a call moves, the numbers of the calls
--- that are to fail,
--- the number of the next call, and how many calls failed
+-- the bytes that are left or were written, the most of them that a call moves, the numbers of the
+-- calls that are to fail, the number of the next call, and how many calls failed
 pub record ListEnd : Type 0 where
   pub bytes : List ℕ
   pub piece : ℕ

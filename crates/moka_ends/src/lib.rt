@@ -18,6 +18,3 @@ pub use reads::{ReadError, read_all};
 pub use sink::Sink;
 pub use source::Source;
 pub use writes::write_all;
-
-#[cfg(test)]
-mod tests;

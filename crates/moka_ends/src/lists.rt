@@ -50,8 +50,8 @@ impl Model for ListSource {
 }
 
 impl ListSource {
-    /// Makes a source of all the bytes, which gives at most `piece` a call. The calls of the numbers
-    /// in `failing` fail, where the first call is number 0.
+    /// Makes a source of all the bytes, which gives at most `piece` a call. The calls of the
+    /// numbers in `failing` fail, where the first call is number 0.
     pub fn new(bytes: Vec<u8>, piece: usize, failing: Vec<u64>) -> ListSource
         requires { 0 < piece }
         ensures bytes { ⟦<ListSource as Source>⟧.left result ≡ Some bytes.items }

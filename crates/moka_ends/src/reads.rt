@@ -41,9 +41,9 @@ impl From<AllocError> for ReadError {
 
 /// Reads all that the source has left, and takes at most `most` bytes.
 ///
-/// `TooLong` comes where the source gives more, `Fault` where a read fails, `Memory` where the bytes
-/// find no memory, so never of an empty source. What was read before an error is lost, and the rest
-/// is still left.
+/// `TooLong` comes where the source gives more, `Fault` where a read fails, `Memory` where the
+/// bytes find no memory, so never of an empty source. What was read before an error is lost, and
+/// the rest is still left.
 pub fn read_all<S: Source>(alloc: Global, source: &mut S, most: usize) -> Result<Vec<u8>, ReadError>
     ensures all { IfOk result
         (λ bytes. GivesAll (S.left source.old) bytes.items (S.left source.new)) }

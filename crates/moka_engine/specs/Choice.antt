@@ -55,9 +55,10 @@ module _ {K : Type 0} where
     pub sorted : IsSortedByKey age_of age_cmp order
     pub stable : IsStableByKey age_of age_cmp records order
 
-  -- these are the records that leave on sight, and then the oldest of the others, as many as are more than
-  -- the capacity
-  pub record IsChoice (rules : Rules) (known : List (Known K)) (names : List (Named K)) : Type 0 where
+  -- these are the records that leave on sight, and then the oldest of the others, as many as are
+  -- more than the capacity
+  pub record IsChoice (rules : Rules) (known : List (Known K)) (names : List (Named K))
+      : Type 0 where
     pub order : List (Known K)
     pub oldest_first : IsOldestFirst (staying rules known) order
     pub chosen : names ≡ named_on_sight rules known

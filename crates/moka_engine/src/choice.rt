@@ -8,10 +8,10 @@ use crate::{Known, Named, NamedList};
 use moka_hist::{Cause, Rules};
 use std::alloc::{AllocError, Global};
 
-/// Names the records that are to leave: in their order each that is past its time to live or to idle
-/// as `Expired`, and of the others each that an invalidation hides or hits as `Explicit`. Where more
-/// than the capacity remain, it then names the surplus as `Size`: those of the earliest access first,
-/// then those of the least stamp, and of equal ones the earlier in the list.
+/// Names the records that are to leave: in their order each that is past its time to live or to
+/// idle as `Expired`, and of the others each that an invalidation hides or hits as `Explicit`.
+/// Where more than the capacity remain, it then names the surplus as `Size`: those of the earliest
+/// access first, then those of the least stamp, and of equal ones the earlier in the list.
 pub fn choose<K: Clone + Drop>(
     alloc: Global,
     rules: &Rules,

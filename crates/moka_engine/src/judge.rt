@@ -36,8 +36,8 @@ pub fn upsert_cause(rules: &Rules, times: &Times) -> Cause
     }
 }
 
-/// Answers why a record leaves that a call removes: `Expired` past its time to live or to idle, else
-/// `Explicit`. Invalidations do not count.
+/// Answers why a record leaves that a call removes: `Expired` past its time to live or to idle,
+/// else `Explicit`. Invalidations do not count.
 pub fn remove_cause(rules: &Rules, times: &Times) -> Cause
     ensures { result ≡ remove_cause rules.now times.now }
 {

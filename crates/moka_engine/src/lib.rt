@@ -11,6 +11,3 @@ pub use choice::choose;
 pub use judge::{chosen_holds, remove_cause, upsert_cause, visible};
 pub use known::{Known, Named, NamedList};
 pub use policy::Policy;
-
-#[cfg(test)]
-mod tests;

@@ -18,8 +18,9 @@ use Rattle.moka_growth.specs.declared.kinds.CallKind.{CallKind}
 use Rattle.moka_growth.specs.declared.kinds.CallKind.TheVariants as kind
 use Rattle.moka_growth.specs.Growing.{seal_of, next_size, laid_out}
 
--- Where a call stands. `met` is the array in which it just met a sealed word; `passed` counts the buckets that its probe has passed; `kept`
--- are the nodes found in sealed words so far, with their hashes.
+-- Where a call stands. `met` is the array in which it just met a sealed word; `passed` counts the
+-- buckets that its probe has passed; `kept` are the nodes found in sealed words so far, with their
+-- hashes.
 pub data Point : Type 0 where
   Root : (met : Option ℕ) → Point
   Probe : (array size passed : ℕ) → Point
@@ -44,7 +45,8 @@ pub record Call : Type 0 where
   pub spent : Bool
   pub point : Point
 
--- how a call ends: by what it found under its key, as it found it or changed by its own exchange, or with the nodes of the segment
+-- how a call ends: by what it found under its key, as it found it or changed by its own exchange,
+-- or with the nodes of the segment
 pub data Ending : Type 0 where
   Kept : (present : Option ℕ) → Ending
   Changed : (present : Option ℕ) → Ending
@@ -60,7 +62,8 @@ abbrev pub wanted : (hash : ℕ) → Point → Access
 wanted hash (Root met) = access.LoadRoot
 wanted hash (Probe array size passed) = access.LoadWord array (bucket_at size hash passed)
 wanted hash (Choose array size passed found) = access.Choose (stored_in found)
-wanted hash (Change array size passed from to) = access.Exchange array (bucket_at size hash passed) from to
+wanted hash (Change array size passed from to) =
+    access.Exchange array (bucket_at size hash passed) from to
 wanted hash (Walk array size index nodes) = access.LoadWord array index
 wanted hash (Seal array size index kept) = access.LoadWord array index
 wanted hash (Close array size index word own kept) = access.Exchange array index word (seal_of word)
@@ -112,7 +115,8 @@ without_root kind.Keys c = Decided (Nodes [])
 abbrev pub in_root : Call → (met : Option ℕ) → (array size tombstones len : ℕ) → Step
 in_root c met array size tombstones len =
     if option_eq nat_eq met (Some array) then goes c (Seal array size 0 [])
-    else (if is_due c.kind c.spent size tombstones len then Going (record c { spent = true; point = Seal array size 0 [] })
+    else (if is_due c.kind c.spent size tombstones len then Going
+    (record c { spent = true; point = Seal array size 0 [] })
     else goes c (start_of c.kind array size))
 
 -- no bucket is left: an insert grows the array
@@ -125,7 +129,8 @@ past_all kind.Keys c array size = Decided (Kept None)
 -- the bucket has another key
 abbrev pub past : Call → (array size passed : ℕ) → Step
 past c array size passed =
-    if nat_lt (suc passed) size then goes c (Probe array size (suc passed)) else past_all c.kind c array size
+    if nat_lt (suc passed) size then goes c
+    (Probe array size (suc passed)) else past_all c.kind c array size
 
 -- the key is absent; an insert chooses
 abbrev pub absent : CallKind → Call → (array size passed : ℕ) → (found : Word) → Step
@@ -165,7 +170,8 @@ removed c array size passed (SealedTomb n) = Decided (Kept None)
 
 abbrev pub chosen : Call → (array size passed : ℕ) → (found : Word) → Choice → Step
 chosen c array size passed found choice.Keep = Decided (Kept (stored_in found))
-chosen c array size passed found (choice.Put node) = goes c (Change array size passed found (Live node))
+chosen c array size passed found (choice.Put node) =
+    goes c (Change array size passed found (Live node))
 chosen c array size passed found choice.Remove = removed c array size passed found
 
 -- a change that met another word
@@ -175,38 +181,52 @@ missed c array size passed met =
 
 abbrev pub walked : Call → (array size index : ℕ) → (nodes : List ℕ) → Step
 walked c array size index nodes =
-    if nat_lt (suc index) size then goes c (Walk array size (suc index) nodes) else Decided (Nodes nodes)
+    if nat_lt (suc index) size then goes c (Walk array size (suc index) nodes) else Decided
+    (Nodes nodes)
 
 -- a sealed word: its node is kept
 abbrev pub sealed : Call → (array size index : ℕ) → Word → (hash : ℕ) → (kept : List (ℕ × ℕ)) → Step
 sealed c array size index word hash kept =
-    let more : List (ℕ × ℕ) = kept ++ option_to_list (option_map (λ n. (n, hash)) (stored_in word)) in
-    if nat_lt (suc index) size then goes c (Seal array size (suc index) more) else goes c (Next (Some array) size more)
+    let more : List (ℕ × ℕ) =
+    kept ++ option_to_list (option_map (λ n. (n, hash)) (stored_in word)) in
+    if nat_lt (suc index) size then goes c (Seal array size (suc index) more) else goes c
+    (Next (Some array) size more)
 
 -- the array to copy into, and how long it is
 abbrev pub copies : Call → (from : Option ℕ) → (array size : ℕ) → (kept : List (ℕ × ℕ)) → Step
 copies c from array size kept =
-    if nat_lt 0 size then goes c (Copy from array 0 (laid_out kept size)) else goes c (Swing from array)
+    if nat_lt 0 size then goes c (Copy from array 0 (laid_out kept size)) else goes c
+    (Swing from array)
 
 -- how the call goes on at a point, from what its access saw
 abbrev pub next_at : Call → Point → Seen → Step
 next_at c (Root met) (seen.Root None size tombstones len) = without_root c.kind c
-next_at c (Root met) (seen.Root (Some array) size tombstones len) = in_root c met array size tombstones len
-next_at c (Probe array size passed) (seen.Word word hash same) = probed c array size passed word same
-next_at c (Choose array size passed found) (seen.Chosen choice) = chosen c array size passed found choice
-next_at c (Change array size passed from to) (seen.Exchanged None) = Decided (Changed (stored_in from))
-next_at c (Change array size passed from to) (seen.Exchanged (Some met)) = missed c array size passed met
+next_at c (Root met) (seen.Root (Some array) size tombstones len) =
+    in_root c met array size tombstones len
+next_at c (Probe array size passed) (seen.Word word hash same) =
+    probed c array size passed word same
+next_at c (Choose array size passed found) (seen.Chosen choice) =
+    chosen c array size passed found choice
+next_at c (Change array size passed from to) (seen.Exchanged None) =
+    Decided (Changed (stored_in from))
+next_at c (Change array size passed from to) (seen.Exchanged (Some met)) =
+    missed c array size passed met
 next_at c (Walk array size index nodes) (seen.Word word hash same) =
-    if is_sealed word then goes c (Root (Some array)) else walked c array size index (nodes ++ option_to_list (stored_in word))
+    if is_sealed word then goes c (Root (Some array)) else walked c array size index
+    (nodes ++ option_to_list (stored_in word))
 next_at c (Seal array size index kept) (seen.Word word hash same) =
-    if is_sealed word then sealed c array size index word hash kept else goes c (Close array size index word hash kept)
-next_at c (Close array size index word hash kept) (seen.Exchanged None) = sealed c array size index (seal_of word) hash kept
-next_at c (Close array size index word hash kept) (seen.Exchanged (Some met)) = goes c (Seal array size index kept)
+    if is_sealed word then sealed c array size index word hash kept else goes c
+    (Close array size index word hash kept)
+next_at c (Close array size index word hash kept) (seen.Exchanged None) =
+    sealed c array size index (seal_of word) hash kept
+next_at c (Close array size index word hash kept) (seen.Exchanged (Some met)) =
+    goes c (Seal array size index kept)
 next_at c (Next array size kept) (seen.Next None length) = goes c (Link array size kept)
 next_at c (Next array size kept) (seen.Next (Some next) length) = copies c array next length kept
 next_at c (Link array size kept) (seen.Linked next length) = copies c array next length kept
 next_at c (Copy from array index laid) seen.Copied =
-    if nat_lt (suc index) (length laid) then goes c (Copy from array (suc index) laid) else goes c (Swing from array)
+    if nat_lt (suc index) (length laid) then goes c (Copy from array (suc index) laid) else goes c
+    (Swing from array)
 next_at c (Swing from array) seen.Swung = goes c (Root None)
 next_at c p seen = Going c
 

@@ -21,12 +21,14 @@ tombstones_in SealedEmpty = 0
 tombstones_in (SealedLive n) = 0
 tombstones_in (SealedTomb n) = 0
 
--- what an access makes of the counts: an exchange counts the key that it stores or removes, and the tombstone that it makes; nothing takes
--- a tombstone away
+-- what an access makes of the counts: an exchange counts the key that it stores or removes, and the
+-- tombstone that it makes; nothing takes a tombstone away
 abbrev pub Recounts : Access → Seen → (old new : Memory) → Type 0
 Recounts (access.Exchange array index from to) (seen.Exchanged None) old new =
-    (new.len + length (option_to_list (stored_in from)) ≡ old.len + length (option_to_list (stored_in to)))
-    × ((a : ℕ) → new.tombstones a ≡ old.tombstones a + (if nat_eq a array then tombstones_in to else 0))
+    (new.len + length (option_to_list (stored_in from)) ≡
+    old.len + length (option_to_list (stored_in to)))
+    × ((a : ℕ) → new.tombstones a ≡
+    old.tombstones a + (if nat_eq a array then tombstones_in to else 0))
 Recounts (access.Link array asked) (seen.Linked next size) old new =
     (new.len ≡ old.len) × ((a : ℕ) → a < old.fresh → new.tombstones a ≡ old.tombstones a)
     × (new.fresh ≡ old.fresh + 1 → new.tombstones old.fresh ≡ 0)

@@ -12,7 +12,8 @@ use Rattle.moka_growth.specs.Growing.{IsSealed, with_hashes}
 use Rattle.moka_growth.specs.Calls.{Point, Call}
 use Rattle.moka_growth.specs.Calls as call
 
--- `own` says which nodes have the call's key: each was filled under the call's hash, and is one of the segment
+-- `own` says which nodes have the call's key: each was filled under the call's hash, and is one of
+-- the segment
 pub record IsKey (hash : ℕ → ℕ) (same : ℕ → ℕ → Bool) (mine own : ℕ → Bool) (h : ℕ) : Type 0 where
   pub one : IsOwn same own
   pub hashed : (n : ℕ) → own n ≡ true → hash n ≡ h
@@ -56,7 +57,8 @@ IsOpen own (SealedLive n) = ⊥
 IsOpen own (SealedTomb n) = ⊥
 
 -- the words before the index are sealed, and their nodes are kept
-pub record IsSealing (hash : ℕ → ℕ) (m : Memory) (array size index : ℕ) (kept : List (ℕ × ℕ)) : Type 0 where
+pub record IsSealing (hash : ℕ → ℕ) (m : Memory) (array size index : ℕ) (kept : List (ℕ × ℕ))
+    : Type 0 where
   pub rooted : HasBeenRoot m array
   pub size_is : size ≡ length (m.words array)
   pub more : index < size
@@ -70,14 +72,16 @@ pub record IsLeft (m : Memory) (place : ℕ) (array : Option ℕ) : Type 0 where
   pub sealed : IsSealed (words_of m array)
 
 -- its stored nodes are kept
-pub record IsKept (hash : ℕ → ℕ) (m : Memory) (array : Option ℕ) (size : ℕ) (kept : List (ℕ × ℕ)) : Type 0 where
+pub record IsKept (hash : ℕ → ℕ) (m : Memory) (array : Option ℕ) (size : ℕ) (kept : List (ℕ × ℕ))
+    : Type 0 where
   pub place : ℕ
   pub left : IsLeft m place array
   pub size_is : size ≡ length (words_of m array)
   pub kept_are : kept ≡ with_hashes hash (stored_nodes (words_of m array))
 
 -- the words of the array after it are set before the index, and this is how it is laid out
-pub record IsCopying (hash : ℕ → ℕ) (m : Memory) (from : Option ℕ) (array index : ℕ) (laid : List Word) : Type 0 where
+pub record IsCopying (hash : ℕ → ℕ) (m : Memory) (from : Option ℕ) (array index : ℕ)
+    (laid : List Word) : Type 0 where
   pub place : ℕ
   pub left : IsLeft m place from
   pub there : array_at m place ≡ Some array
@@ -98,14 +102,16 @@ FitsAt hash own h m (call.Root None) = Unit {0}
 FitsAt hash own h m (call.Root (Some array)) = HasMet m array
 FitsAt hash own h m (call.Probe array size passed) = IsProbing own h m array size passed
 FitsAt hash own h m (call.Choose array size passed found) =
-    IsProbing own h m array size passed × IsOpen own found × (word_at (m.words array) (bucket_at size h passed) ≡ found)
+    IsProbing own h m array size passed × IsOpen own found ×
+    (word_at (m.words array) (bucket_at size h passed) ≡ found)
 FitsAt hash own h m (call.Change array size passed from to) =
     IsProbing own h m array size passed × IsChange own from to
 FitsAt hash own h m (call.Walk array size index nodes) =
     HasBeenRoot m array × (size ≡ length (m.words array)) × (index < size)
 FitsAt hash own h m (call.Seal array size index kept) = IsSealing hash m array size index kept
 FitsAt hash own h m (call.Close array size index word own_hash kept) =
-    IsSealing hash m array size index kept × (is_sealed word ≡ false) × (own_hash ≡ option_map_or hash (node_of word) 0)
+    IsSealing hash m array size index kept × (is_sealed word ≡ false) ×
+    (own_hash ≡ option_map_or hash (node_of word) 0)
 FitsAt hash own h m (call.Next array size kept) = IsKept hash m array size kept
 FitsAt hash own h m (call.Link array size kept) = IsKept hash m array size kept
 FitsAt hash own h m (call.Copy from array index laid) = IsCopying hash m from array index laid
@@ -114,8 +120,8 @@ FitsAt hash own h m (call.Swing from array) = IsFilled m from array
 abbrev pub Fits : (hash : ℕ → ℕ) (own : ℕ → Bool) → Memory → Call → Type 0
 Fits hash own m c = FitsAt hash own c.hash m c.point
 
--- A call rests everywhere but where it asks what is to be done: that belongs to the load before, and what the call knows there is of the
--- moment.
+-- A call rests everywhere but where it asks what is to be done: that belongs to the load before,
+-- and what the call knows there is of the moment.
 abbrev pub Rests : Point → Type 0
 Rests (call.Root met) = Unit {0}
 Rests (call.Probe array size passed) = Unit {0}

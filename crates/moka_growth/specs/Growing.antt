@@ -19,7 +19,8 @@ seal_of (SealedTomb n) = SealedTomb n
 abbrev pub IsSealed : List Word → Type 0
 IsSealed words = (i : ℕ) → i < length words → is_sealed (word_at words i) ≡ true
 
--- how long the array is that follows one of this size with so many stored nodes; 128 where none came before
+-- how long the array is that follows one of this size with so many stored nodes; 128 where none
+-- came before
 abbrev pub next_size : (before : Option ℕ) (size stored : ℕ) → ℕ
 next_size None size stored = 128
 next_size (Some a) size stored = if nat_lt (7 * size) (10 * stored) then 2 * size else size

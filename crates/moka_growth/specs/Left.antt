@@ -17,7 +17,8 @@ use Rattle.moka_growth.specs.Maps.{present_nodes}
 abbrev pub longest : (first peak : ℕ) → ℕ
 longest first peak = max first (3 * peak)
 
--- no array is longer, and no more keys are present; `first` is at least the length of the first array that is linked
+-- no array is longer, and no more keys are present; `first` is at least the length of the first
+-- array that is linked
 pub record IsShort (first peak : ℕ) (m : Memory) : Type 0 where
   pub least : 128 ≤ first
   pub lengths : (place a : ℕ) → array_at m place ≡ Some a → length (m.words a) ≤ longest first peak
@@ -56,7 +57,8 @@ hints kind.Insert spent = if spent then 0 else 1
 hints kind.Remove spent = if spent then 0 else 1
 hints kind.Keys spent = 0
 
--- steps to grow an array of at most so many words; steps of a call from the load of the root on, which grows it so often
+-- steps to grow an array of at most so many words; steps of a call from the load of the root on,
+-- which grows it so often
 abbrev pub to_grow : (most : ℕ) → ℕ
 to_grow most = 3 * most + 3
 
@@ -67,39 +69,51 @@ to_end most times = most + 2 + times * (4 * most + 6)
 abbrev pub from_root : (most times : ℕ) → (behind : Bool) → ℕ
 from_root most times behind = if behind then to_end most (times + 1) else to_end most times
 
--- what remains once the array after this one is root: nothing of that growth if this one is the root now
+-- what remains once the array after this one is root: nothing of that growth if this one is the
+-- root now
 abbrev pub once_grown : (most times : ℕ) → (behind : Bool) → (root array : Option ℕ) → ℕ
-once_grown most times behind r array = if option_eq nat_eq array r then to_end most times else from_root most times behind
+once_grown most times behind r array =
+    if option_eq nat_eq array r then to_end most times else from_root most times behind
 
 -- what remains after a probe, or a walk, that meets a sealed word
 abbrev pub once_met : (most times : ℕ) → (behind : Bool) → (root : Option ℕ) → (array : ℕ) → ℕ
 once_met most times behind r array =
-    if option_eq nat_eq (Some array) r then (if behind then 1 + to_grow most + to_end most times else 0)
+    if option_eq nat_eq (Some array) r then
+    (if behind then 1 + to_grow most + to_end most times else 0)
     else from_root most times behind
 
 -- what a call has left at a point
-abbrev pub left_at : (most times : ℕ) → (behind : Bool) → (root : Option ℕ) → (words : ℕ → List Word) → (hash : ℕ) → Point → ℕ
+abbrev pub left_at : (most times : ℕ) → (behind : Bool) → (root : Option ℕ) →
+    (words : ℕ → List Word) → (hash : ℕ) → Point → ℕ
 left_at most times behind r words hash (call.Root None) = from_root most times behind
 left_at most times behind r words hash (call.Root (Some array)) =
-    if option_eq nat_eq (Some array) r then 1 + to_grow most + to_end most times else from_root most times behind
-left_at most times behind r words hash (call.Probe array size passed) = (size - passed) + 1 + once_met most times behind r array
+    if option_eq nat_eq (Some array) r then 1 + to_grow most +
+    to_end most times else from_root most times behind
+left_at most times behind r words hash (call.Probe array size passed) =
+    (size - passed) + 1 + once_met most times behind r array
 left_at most times behind r words hash (call.Choose array size passed found) = 1
 left_at most times behind r words hash (call.Change array size passed from to) =
     if word_eq (word_at (words array) (bucket_at size hash passed)) from then 1
     else (size - passed) + 2 + once_met most times behind r array
-left_at most times behind r words hash (call.Walk array size index nodes) = (size - index) + 1 + once_met most times behind r array
+left_at most times behind r words hash (call.Walk array size index nodes) =
+    (size - index) + 1 + once_met most times behind r array
 left_at most times behind r words hash (call.Seal array size index kept) =
     2 * (size - index) + 3 + most + once_grown most times behind r (Some array)
 left_at most times behind r words hash (call.Close array size index word own kept) =
-    (if word_eq (word_at (words array) index) word then 2 * (size - index) + 2 else 2 * (size - index) + 4)
+    (if word_eq (word_at (words array) index) word then 2 * (size - index) +
+    2 else 2 * (size - index) + 4)
     + most + once_grown most times behind r (Some array)
-left_at most times behind r words hash (call.Next array size kept) = 3 + most + once_grown most times behind r array
-left_at most times behind r words hash (call.Link array size kept) = 2 + most + once_grown most times behind r array
+left_at most times behind r words hash (call.Next array size kept) =
+    3 + most + once_grown most times behind r array
+left_at most times behind r words hash (call.Link array size kept) =
+    2 + most + once_grown most times behind r array
 left_at most times behind r words hash (call.Copy from array index laid) =
     (length laid - index) + 1 + once_grown most times behind r from
-left_at most times behind r words hash (call.Swing from array) = 1 + once_grown most times behind r from
+left_at most times behind r words hash (call.Swing from array) =
+    1 + once_grown most times behind r from
 
 -- how many steps the call makes at most, if no other makes one
 abbrev pub left : (first peak : ℕ) → Memory → Call → ℕ
 left first peak m c =
-    left_at (longest first peak) (hints c.kind c.spent) (is_behind c.kind (root m) (words_of m (root m))) (root m) m.words c.hash c.point
+    left_at (longest first peak) (hints c.kind c.spent)
+    (is_behind c.kind (root m) (words_of m (root m))) (root m) m.words c.hash c.point

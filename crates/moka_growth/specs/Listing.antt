@@ -15,7 +15,9 @@ listed p = []
 
 -- no two of them have one key
 abbrev pub Differ : (ℕ → ℕ → Bool) → List ℕ → Type 0
-Differ same nodes = (x y n k : ℕ) → slice_get nodes x ≡ Some n → slice_get nodes y ≡ Some k → same n k ≡ true → x ≡ y
+Differ same nodes =
+    (x y n k : ℕ) → slice_get nodes x ≡ Some n → slice_get nodes y ≡ Some k → same n k ≡ true →
+    x ≡ y
 
 -- the node's key is that of a bucket before the index
 pub record IsBefore (same : ℕ → ℕ → Bool) (words : List Word) (index n : ℕ) : Type 0 where
@@ -28,7 +30,8 @@ pub record IsBefore (same : ℕ → ℕ → Bool) (words : List Word) (index n :
 -- a call has listed no key twice, and none but those of the buckets that it passed
 abbrev pub Lists : (ℕ → ℕ → Bool) → Memory → Point → Type 0
 Lists same m (call.Walk array size index nodes) =
-    Differ same nodes × ((x n : ℕ) → slice_get nodes x ≡ Some n → IsBefore same (m.words array) index n)
+    Differ same nodes × ((x n : ℕ) → slice_get nodes x ≡ Some n →
+    IsBefore same (m.words array) index n)
 Lists same m p = Unit {0}
 
 -- some node with the key is listed
@@ -38,7 +41,8 @@ HasListed key nodes = (x n : ℕ) × (slice_get nodes x ≡ Some n) × (key n �
 -- a call has listed the key, if it has passed the key's bucket
 abbrev pub ListsKey : (key : ℕ → Bool) → Memory → Point → Type 0
 ListsKey key m (call.Walk array size index nodes) =
-    (j n : ℕ) → j < index → node_of (word_at (m.words array) j) ≡ Some n → key n ≡ true → HasListed key nodes
+    (j n : ℕ) → j < index → node_of (word_at (m.words array) j) ≡ Some n → key n ≡ true →
+    HasListed key nodes
 ListsKey key m p = Unit {0}
 
 -- a node with the key is present
@@ -47,4 +51,6 @@ HasKey key m = (n : ℕ) × IsPresent m n × (key n ≡ true)
 
 -- each of these nodes was listed before, or is present
 abbrev pub ArePresent : (before after : List ℕ) → Memory → Type 0
-ArePresent before after m = (x n : ℕ) → slice_get after x ≡ Some n → ((y : ℕ) × (slice_get before y ≡ Some n)) ⊎ IsPresent m n
+ArePresent before after m =
+    (x n : ℕ) → slice_get after x ≡ Some n →
+    ((y : ℕ) × (slice_get before y ≡ Some n)) ⊎ IsPresent m n

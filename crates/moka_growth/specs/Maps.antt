@@ -31,17 +31,20 @@ Finds own m (Some n) = IsPresent m n × (own n ≡ true)
 pub record ChangesMap (own : ℕ → Bool) (before after : Option ℕ) (old new : Memory) : Type 0 where
   pub others : (n : ℕ) → own n ≡ false → IsPresent old n ↔ IsPresent new n
   pub key : (n : ℕ) → own n ≡ true → IsPresent new n ↔ (after ≡ Some n)
-  pub count : length (present_nodes new) + length (option_to_list before) ≡ length (present_nodes old) + length (option_to_list after)
+  pub count : length (present_nodes new) + length (option_to_list before) ≡
+      length (present_nodes old) + length (option_to_list after)
 
 -- the node that a change stores
 abbrev pub stores : Point → Option ℕ
 stores (call.Change array size passed from to) = stored_in to
 stores p = None
 
--- what a call's ending says of the memory before its last access and after it; what it lists is said elsewhere
+-- what a call's ending says of the memory before its last access and after it; what it lists is
+-- said elsewhere
 abbrev pub Ends : (own : ℕ → Bool) → Point → Ending → (old new : Memory) → Type 0
 Ends own p (call.Kept found) old new = Finds own old found × KeepsMap old new
-Ends own p (call.Changed found) old new = Finds own old found × ChangesMap own found (stores p) old new
+Ends own p (call.Changed found) old new =
+    Finds own old found × ChangesMap own found (stores p) old new
 Ends own p (call.Nodes nodes) old new = KeepsMap old new
 
 -- the node that is to be stored has the call's key

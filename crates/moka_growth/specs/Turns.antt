@@ -22,14 +22,17 @@ IsRested (Going d) = Rests d.point
 IsRested (Decided e) = Unit {0}
 
 -- an access that leads to this step, and to no question
-pub record Plainly (hash : ℕ → ℕ) (own : ℕ → Bool) (c : Call) (old : Memory) (step : Step) (new : Memory) : Type 0 where
+pub record Plainly (hash : ℕ → ℕ) (own : ℕ → Bool) (c : Call) (old : Memory) (step : Step)
+    (new : Memory) : Type 0 where
   pub saw : Seen
   pub effect : Effect hash own (access_of c) saw old new
   pub leads : next_of c saw ≡ step
   pub rested : IsRested step
 
--- a load after which the call asks what is to be done, and the answer; a node to be stored has the call's key
-pub record Asking (hash : ℕ → ℕ) (own : ℕ → Bool) (c : Call) (old : Memory) (step : Step) (new : Memory) : Type 0 where
+-- a load after which the call asks what is to be done, and the answer; a node to be stored has the
+-- call's key
+pub record Asking (hash : ℕ → ℕ) (own : ℕ → Bool) (c : Call) (old : Memory) (step : Step)
+    (new : Memory) : Type 0 where
   pub saw : Seen
   pub mid : Memory
   pub effect : Effect hash own (access_of c) saw old mid
@@ -44,10 +47,12 @@ pub record Asking (hash : ℕ → ℕ) (own : ℕ → Bool) (c : Call) (old : Me
   pub leads : chosen c array size passed found answer ≡ step
 
 -- one step of a call
-abbrev pub Turn : (hash : ℕ → ℕ) (own : ℕ → Bool) → Call → (old : Memory) → Step → (new : Memory) → Type 0
+abbrev pub Turn : (hash : ℕ → ℕ) (own : ℕ → Bool) → Call → (old : Memory) → Step → (new : Memory) →
+    Type 0
 Turn hash own c old step new = Plainly hash own c old step new ⊎ Asking hash own c old step new
 
--- the memory of a segment, and the calls under way there, by number; `keys` says which nodes have each one's key
+-- the memory of a segment, and the calls under way there, by number; `keys` says which nodes have
+-- each one's key
 pub record Scene : Type 0 where
   pub memory : Memory
   pub calls : ℕ → Option Call
@@ -66,7 +71,8 @@ pub record KeepsOthers (n : ℕ) (old new : Scene) : Type 0 where
   pub keys : (k : ℕ) → k ≢ n → new.keys k ≡ old.keys k
 
 -- a call begins
-pub record Begins (hash : ℕ → ℕ) (same : ℕ → ℕ → Bool) (mine : ℕ → Bool) (n : ℕ) (old new : Scene) : Type 0 where
+pub record Begins (hash : ℕ → ℕ) (same : ℕ → ℕ → Bool) (mine : ℕ → Bool) (n : ℕ) (old new : Scene)
+    : Type 0 where
   pub kind : CallKind
   pub h : ℕ
   pub memory : new.memory ≡ old.memory
@@ -96,15 +102,18 @@ pub record Aside (old new : Scene) : Type 0 where
   pub keys : (k : ℕ) → new.keys k ≡ old.keys k
 
 -- one thing happens
-pub data Happens (hash : ℕ → ℕ) (same : ℕ → ℕ → Bool) (mine : ℕ → Bool) (old new : Scene) : Type 0 where
+pub data Happens (hash : ℕ → ℕ) (same : ℕ → ℕ → Bool) (mine : ℕ → Bool) (old new : Scene)
+    : Type 0 where
   Begun : (n : ℕ) → Begins hash same mine n old new → Happens hash same mine old new
   Moved : (n : ℕ) → Moves hash n old new → Happens hash same mine old new
   Passed : Aside old new → Happens hash same mine old new
 
 -- one after the other, in any order
-abbrev pub Happen : (hash : ℕ → ℕ) (same : ℕ → ℕ → Bool) (mine : ℕ → Bool) → Scene → List Scene → Type 0
+abbrev pub Happen : (hash : ℕ → ℕ) (same : ℕ → ℕ → Bool) (mine : ℕ → Bool) → Scene → List Scene →
+    Type 0
 Happen hash same mine old [] = Unit {0}
-Happen hash same mine old (new ∷ more) = Happens hash same mine old new × Happen hash same mine new more
+Happen hash same mine old (new ∷ more) =
+    Happens hash same mine old new × Happen hash same mine new more
 
 abbrev pub AreGood : (hash : ℕ → ℕ) (same : ℕ → ℕ → Bool) (mine : ℕ → Bool) → List Scene → Type 0
 AreGood hash same mine [] = Unit {0}

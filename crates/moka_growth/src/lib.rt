@@ -1,9 +1,9 @@
 //! How the arrays of a segment grow, word by word, while calls run, and what holds of it.
 //!
 //! The definitions stand in `specs/`: the course of a call, one access a step (`Calls`), what a
-//! segment keeps (`Sound`), what a call knows (`Fits`), what becomes of the map that the words stand
-//! for (`Maps`), what a call lists (`Listing`), and how long arrays and calls get (`Left`). Each law
-//! is the contract of a function that does nothing. To call it is to cite the law.
+//! segment keeps (`Sound`), what a call knows (`Fits`), what becomes of the map that the words
+//! stand for (`Maps`), what a call lists (`Listing`), and how long arrays and calls get (`Left`).
+//! Each law is the contract of a function that does nothing. To call it is to cite the law.
 #![tactic(auto)]
 
 mod beginning;

@@ -2,7 +2,8 @@
 use Rattle.std.specs.Prelude.{ℕ, ◌+◌, ◌-◌, ◌*◌, ◌^◌, ◌==◌, min, cond, length}
 use Rattle.moka_hist.specs.State.{State, Stay, TablePart}
 
--- how many steps in a row the operation of this call has stayed undecided, where no other call stepped on the table since
+-- how many steps in a row the operation of this call has stayed undecided, where no other call
+-- stepped on the table since
 abbrev pub times_of : Stay → ℕ → ℕ
 times_of stay n = cond (stay.call == n) stay.times 0
 
@@ -14,19 +15,23 @@ stayed stay n = record { call = n; times = times_of stay n + 1 }
 abbrev pub decided_by : ℕ → Stay
 decided_by n = record { call = n; times = 0 }
 
--- a number of steps as it is told: 64 bits hold it, and the greatest such number stands for all that are greater
+-- a number of steps as it is told: 64 bits hold it, and the greatest such number stands for all
+-- that are greater
 abbrev pub as_told : ℕ → ℕ
 as_told steps = min steps (2 ^ 64 - 1)
 
 module _ {K V : Type 0} where
-  -- how long an array of the table may be: 128 words, and three for each of the most keys that were ever stored
+  -- how long an array of the table may be: 128 words, and three for each of the most keys that were
+  -- ever stored
   abbrev pub array_bound : TablePart K V → ℕ
   array_bound t = 128 + 3 * t.peak
 
-  -- how many steps in a row an operation may stay undecided, as long as no other call steps on the table
+  -- how many steps in a row an operation may stay undecided, as long as no other call steps on the
+  -- table
   abbrev pub most_undecided : TablePart K V → ℕ
   most_undecided t = 16 * array_bound t + 32
 
   -- fewer steps than these a call makes by itself from this state on, each of which leaves it going
   abbrev pub step_bound : State K V → ℕ
-  step_bound s = 64 * (4 + array_bound s.world.table + length s.world.desk.owed + length s.world.desk.log)
+  step_bound s =
+      64 * (4 + array_bound s.world.table + length s.world.desk.owed + length s.world.desk.log)

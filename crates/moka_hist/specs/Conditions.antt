@@ -24,8 +24,8 @@ IsPlaceOf None call write = ⊥
 IsPlaceOf (Some (holding.Own pending)) call write = number_of write ≡ call
 IsPlaceOf (Some (holding.TookUp held)) call write = write ≡ held
 
--- a call that holds this may leave this write to others, if any: it holds it; and where it leaves none, it
--- took none up
+-- a call that holds this may leave this write to others, if any: it holds it; and where it leaves
+-- none, it took none up
 abbrev pub MayLeaveWith : Option Holding → ℕ → Option Write → Type 0
 MayLeaveWith held call (Some write) = IsPlaceOf held call write
 MayLeaveWith None call None = Unit {0}
@@ -57,8 +57,8 @@ module _ {K V : Type 0} where
     pub held : (n : ℕ) (h : Holding) → w.holding n ≡ Some h → held_number n h ≢ number
 
   -- The desk allows the visit. A call holds one write at a time, and owns or awaits one load at a
-  -- time; it settles what it owns, posts what it holds, frees the lock that it holds,
-  -- opens one notice, and applies the log while it has the turn. Places that it gives back are those of no
+  -- time; it settles what it owns, posts what it holds, frees the lock that it holds, opens one
+  -- notice, and applies the log while it has the turn. Places that it gives back are those of no
   -- write that it took up.
   abbrev pub MayVisit : DeskPart K V → Visit K V → Type 0
   MayVisit w (visit.Clock call) = HoldsNoWrite w call

@@ -18,9 +18,9 @@ module _ {K V : Type 0} where
   abbrev pub owed_with : DeskPart K V → Owed → Owed
   owed_with w held = record held { notice = running_of w held.notice }
 
-  -- The call leaves the desk: its ask is closed; those that wait for it read that it was dropped; it
-  -- waits for nobody; its lock is free; and a write that it held is owed from then on. A listener that
-  -- was asked is still asked.
+  -- The call leaves the desk: its ask is closed; those that wait for it read that it was dropped;
+  -- it waits for nobody; its lock is free; and a write that it held is owed from then on. A
+  -- listener that was asked is still asked.
   abbrev pub left : DeskPart K V → ℕ → Option Owed → DeskPart K V
   left w call held = record w {
     holding = put_at w.holding call None;
@@ -38,7 +38,8 @@ module _ {K V : Type 0} where
 
   -- what the call holds, with the notice that it hears
   abbrev pub owed_by : ℕ → Call K V → Option Owed
-  owed_by n c = option_map (λ write. record { write = write; notice = hearing n c.plan }) (held_by c.plan)
+  owed_by n c =
+      option_map (λ write. record { write = write; notice = hearing n c.plan }) (held_by c.plan)
 
   abbrev pub dropped : State K V → ℕ → Call K V → State K V
   dropped s n c = record {

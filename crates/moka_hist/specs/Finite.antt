@@ -28,7 +28,8 @@ times n [] = 0
 times n (x ∷ xs) = cond (n == x) (times n xs + 1) (times n xs)
 
 -- the pairs list the map: each key of the map once, and no other
-pub record Lists {K A : Type 0} (eq : K → K → Bool) (pairs : List (K × A)) (f : K → Option A) : Type 0 where
+pub record Lists {K A : Type 0} (eq : K → K → Bool) (pairs : List (K × A)) (f : K → Option A)
+    : Type 0 where
   pub distinct : IsDistinct eq (keys_of pairs)
   pub same : (q : K) → lookup (eq q) pairs ≡ f q
 

@@ -36,7 +36,8 @@ module _ {K V : Type 0} where
       (goes (record c { aborts = c.aborts + 1 }) (plan.Own load ∷ []))
 
   abbrev pub after_read : Call K V → Load K → Found V → Next K V
-  after_read c load (found.ReadSettled (settled.Ready value)) = goes c (plan.Reply (answer.Loaded value false) ∷ [])
+  after_read c load (found.ReadSettled (settled.Ready value)) =
+      goes c (plan.Reply (answer.Loaded value false) ∷ [])
   after_read c load (found.ReadSettled settled.Aborted) = after_abort c load
   after_read c load _ = waits c
 

@@ -38,16 +38,19 @@ module _ {K V : Type 0} where
       goes c (plan.Settle (settled.Ready value) ∷ plan.Reply (answer.Loaded value false) ∷ [])
   hits c (plan.To_evict key stamp cause) value = waits c
 
-  -- what is to be done with the pair that was found: it is judged whether it may be seen, or, where it was
-  -- chosen to leave and is the record that was chosen, whether it has still to
+  -- what is to be done with the pair that was found: it is judged whether it may be seen, or, where
+  -- it was chosen to leave and is the record that was chosen, whether it has still to
   abbrev pub chosen_or_not : Call K V → Bool → K → ℕ → Cause → K → Stored V → Next K V
   chosen_or_not c false key stamp cause there found = keeps c
-  chosen_or_not c true key stamp cause there found = goes c (plan.Holds key stamp cause there found ∷ [])
+  chosen_or_not c true key stamp cause there found =
+      goes c (plan.Holds key stamp cause there found ∷ [])
 
   abbrev pub finds_pair : Call K V → Aim K → K → Stored V → Next K V
   finds_pair c plan.To_answer there found = goes c (plan.Judge plan.To_answer there found ∷ [])
-  finds_pair c (plan.To_load load) there found = goes c (plan.Judge (plan.To_load load) there found ∷ [])
-  finds_pair c (plan.To_own load) there found = goes c (plan.Judge (plan.To_own load) there found ∷ [])
+  finds_pair c (plan.To_load load) there found =
+      goes c (plan.Judge (plan.To_load load) there found ∷ [])
+  finds_pair c (plan.To_own load) there found =
+      goes c (plan.Judge (plan.To_own load) there found ∷ [])
   finds_pair c (plan.To_evict key stamp cause) there found =
       chosen_or_not c (found.stamp == stamp) key stamp cause there found
 

@@ -18,10 +18,12 @@ module _ {K V : Type 0} where
   abbrev pub answers : Answer V → Next K V
   answers answer = record { left = None; turn = turn.Answer answer }
 
-  -- the call goes on with the rest of its plan; where that is an answer alone, it answers with this step
+  -- the call goes on with the rest of its plan; where that is an answer alone, it answers with this
+  -- step
   abbrev pub goes : Call K V → List (Item K V) → Next K V
   goes c (plan.Reply answer ∷ []) = answers answer
-  goes c rest = record { left = Some (record c { mode = mode.Mid; plan = rest }); turn = turn.Going }
+  goes c rest =
+      record { left = Some (record c { mode = mode.Mid; plan = rest }); turn = turn.Going }
 
   -- the item isn't done yet
   abbrev pub stays : Call K V → Next K V
@@ -33,4 +35,5 @@ module _ {K V : Type 0} where
 
   -- the call asks its caller, and is parked
   abbrev pub asks : Call K V → reply.Ask K V → List (Item K V) → Next K V
-  asks c ask rest = record { left = Some (record c { mode = mode.Parked; plan = rest }); turn = turn.Ask ask }
+  asks c ask rest =
+      record { left = Some (record c { mode = mode.Parked; plan = rest }); turn = turn.Ask ask }

@@ -14,12 +14,14 @@ use Rattle.moka_hist.specs.declared.writes.Write.{Write}
 
 -- the first number stands before the second in the list
 abbrev pub IsBefore : List ℕ → ℕ → ℕ → Type 0
-IsBefore xs a b = (front : List ℕ) × (mid : List ℕ) × (back : List ℕ) × (xs ≡ front ++ a ∷ mid ++ b ∷ back)
+IsBefore xs a b =
+    (front : List ℕ) × (mid : List ℕ) × (back : List ℕ) × (xs ≡ front ++ a ∷ mid ++ b ∷ back)
 
 module _ {K V : Type 0} where
   -- this very write stands there
   abbrev pub WriteAt : State K V → Place → Write → Type 0
-  WriteAt s place.Held write = (n : ℕ) × (c : Call K V) × (s.calls n ≡ Some c) × (held_by c.plan ≡ Some write)
+  WriteAt s place.Held write =
+      (n : ℕ) × (c : Call K V) × (s.calls n ≡ Some c) × (held_by c.plan ≡ Some write)
   WriteAt s place.Owed write = Contains (map (λ o. o.write) s.world.desk.owed) write
   WriteAt s place.Logged write = Contains s.world.desk.log write
   WriteAt s place.Applied write = Contains s.world.desk.applied write
@@ -29,8 +31,8 @@ module _ {K V : Type 0} where
   OpensNotice (plan.Notice key old cause upsert ∷ rest) = Unit {0}
   OpensNotice _ = ⊥
 
-  -- The notice of this number is due: its live call has committed, and opens it with its next step. The
-  -- call is between two steps, where it can't be dropped.
+  -- The notice of this number is due: its live call has committed, and opens it with its next step.
+  -- The call is between two steps, where it can't be dropped.
   pub record IsDue (s : State K V) (number : ℕ) : Type 0 where
     pub call : Call K V
     pub live : s.calls number ≡ Some call
@@ -50,15 +52,19 @@ module _ {K V : Type 0} where
     pub stands : WriteAt s where_ write
 
   -- Where a listener is set each committed write that replaced a record has one notice, under its
-  -- number: it is due, or it was opened. There is no other notice; none was skipped before the listener
-  -- was off; and a write is logged only once its notice has ended or was skipped.
+  -- number: it is due, or it was opened. There is no other notice; none was skipped before the
+  -- listener was off; and a write is logged only once its notice has ended or was skipped.
   pub record NoticesAreSettled (s : State K V) : Type 0 where
-    pub each : (n : ℕ) → s.world.desk.rules.listener ≡ true → HasReplaced s n → IsDue s n ⊎ IsOpened s n
+    pub each : (n : ℕ) → s.world.desk.rules.listener ≡ true → HasReplaced s n →
+        IsDue s n ⊎ IsOpened s n
     pub one : (n : ℕ) → IsDue s n → IsNone (s.world.desk.notices n)
-    pub no_other : (n : ℕ) → IsDue s n ⊎ IsOpened s n → (s.world.desk.rules.listener ≡ true) × HasReplaced s n
+    pub no_other : (n : ℕ) → IsDue s n ⊎ IsOpened s n →
+        (s.world.desk.rules.listener ≡ true) × HasReplaced s n
     pub numbered : (n : ℕ) (x : Notice K V) → s.world.desk.notices n ≡ Some x → x.number ≡ n
-    pub opened_once : (n : ℕ) → times n s.world.desk.opened ≡ cond (is_some (s.world.desk.notices n)) 1 0
-    pub skipped : (n : ℕ) (x : Notice K V) → s.world.desk.notices n ≡ Some x → x.state ≡ notice.Skipped →
+    pub opened_once : (n : ℕ) →
+        times n s.world.desk.opened ≡ cond (is_some (s.world.desk.notices n)) 1 0
+    pub skipped : (n : ℕ) (x : Notice K V) → s.world.desk.notices n ≡ Some x →
+        x.state ≡ notice.Skipped →
         s.world.desk.off ≡ true
     pub logged : (w : Write) → WriteAt s place.Logged w ⊎ WriteAt s place.Applied w →
         is_running s.world.desk (number_of w) ≢ true
@@ -81,14 +87,15 @@ module _ {K V : Type 0} where
     pub live : s.calls n ≡ Some call
     pub under : IsUnderLock call.plan
 
-  -- where a listener is set, a call holds a lock exactly where it is live and between its locking and its
-  -- freeing; without one nobody does
+  -- where a listener is set, a call holds a lock exactly where it is live and between its locking
+  -- and its freeing; without one nobody does
   pub record LocksAreHeld (s : State K V) : Type 0 where
-    pub held : (n : ℕ) → s.world.desk.rules.listener ≡ true → IsSome (s.world.desk.locked n) ↔ HoldsLock s n
+    pub held : (n : ℕ) → s.world.desk.rules.listener ≡ true →
+        IsSome (s.world.desk.locked n) ↔ HoldsLock s n
     pub none : (n : ℕ) → IsSome (s.world.desk.locked n) → s.world.desk.rules.listener ≡ true
 
-  -- Of two notices of one key that which was opened first was committed first; and where both still run the
-  -- call of the first was dropped.
+  -- Of two notices of one key that which was opened first was committed first; and where both still
+  -- run the call of the first was dropped.
   pub record NoticesAreInOrder (eq : K → K → Bool) (s : State K V) : Type 0 where
     pub order : (a b : ℕ) (x y : Notice K V) → IsBefore s.world.desk.opened a b →
         s.world.desk.notices a ≡ Some x → s.world.desk.notices b ≡ Some y → eq x.key y.key ≡ true →

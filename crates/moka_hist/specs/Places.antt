@@ -52,11 +52,13 @@ module _ {K V : Type 0} where
       HoldsWrite s.world.desk n write
 
   -- What holds in every state of a run: no number commits twice, each committed write stands in
-  -- exactly one place, no other write stands anywhere, each replaced record has its notice, and no key and
-  -- kind has two open initializers.
+  -- exactly one place, no other write stands anywhere, each replaced record has its notice, and no
+  -- key and kind has two open initializers.
   pub record IsLawful (eq : K → K → Bool) (s : State K V) : Type 0 where
     pub commits_once : (number : ℕ) → times number s.world.table.committed ≤ 1
     pub one_place : (number : ℕ) → Contains s.world.table.committed number → StandsOnce s number
-    pub committed : (number : ℕ) (place : Place) → StandsAt s place number → Contains s.world.table.committed number
+    pub committed : (number : ℕ) (place : Place) → StandsAt s place number →
+        Contains s.world.table.committed number
     pub notices : NoticesAreSettled s
-    pub one_initializer : (n m : ℕ) (a b : Load K) → Initializes s n a → Initializes s m b → load_eq eq a b ≡ true → n ≡ m
+    pub one_initializer : (n m : ℕ) (a b : Load K) → Initializes s n a → Initializes s m b →
+        load_eq eq a b ≡ true → n ≡ m

@@ -56,11 +56,12 @@ pub data Item (K V : Type 0) : Type 0 where
   Told : (load : Load K) → Item K V
   -- judge whether a chosen record has still to leave
   Holds : (key : K) → (stamp : ℕ) → (cause : Cause) → (there : K) → (found : Stored V) → Item K V
-  -- hold the key's lock around a write and its notice; `wrote` says whether something was written under it
+  -- hold the key's lock around a write and its notice; `wrote` says whether something was written
+  -- under it
   Lock : (key : K) → Item K V
   Unlock : (wrote : Bool) → Item K V
-  -- tell the listener of the record that left, by a write in its place (`upsert`) or a removal, and hear
-  -- its answer
+  -- tell the listener of the record that left, by a write in its place (`upsert`) or a removal, and
+  -- hear its answer
   Notice : (key : K) → (old : Stored V) → (cause : Option Cause) → (upsert : Bool) → Item K V
   Heard : Item K V
   -- take the moment of a change; write, or take out
@@ -83,11 +84,13 @@ under_lock true key rest = Lock key ∷ rest
 
 -- store a value, and then go on
 abbrev pub put : {K V : Type 0} → Rules → K → V → List (Item K V) → List (Item K V)
-put rules key value rest = Drain ∷ under_lock rules.listener key (Moment (To_store key value) ∷ rest)
+put rules key value rest =
+    Drain ∷ under_lock rules.listener key (Moment (To_store key value) ∷ rest)
 
 -- take out what stands under the key, and answer
 abbrev pub take_out : {K V : Type 0} → Rules → Removal → K → List (Item K V)
-take_out rules removal key = Drain ∷ under_lock rules.listener key (Moment (To_take_out removal key) ∷ [])
+take_out rules removal key =
+    Drain ∷ under_lock rules.listener key (Moment (To_take_out removal key) ∷ [])
 
 -- a cache of capacity 0 is disabled: it stores nothing
 abbrev pub is_disabled : Rules → Bool
@@ -122,10 +125,12 @@ load_plan false load = Drain ∷ look (To_load load) load.key
 abbrev pub plan_of : {K V : Type 0} → Rules → event.Start K V → List (Item K V)
 plan_of rules (start.Get key) = get_plan (is_disabled rules) key
 plan_of rules (start.Insert key value) = insert_plan (is_disabled rules) rules key value
-plan_of rules (start.GetWith key) = load_plan (is_disabled rules) (record { key = key; kind = kind.GetWith })
+plan_of rules (start.GetWith key) =
+    load_plan (is_disabled rules) (record { key = key; kind = kind.GetWith })
 plan_of rules (start.Invalidate key) = take_out rules To_invalidate key
 plan_of rules (start.Remove key) = take_out rules To_remove key
-plan_of rules (start.Evict key stamp cause) = under_lock rules.listener key (look (To_evict key stamp cause) key)
+plan_of rules (start.Evict key stamp cause) =
+    under_lock rules.listener key (look (To_evict key stamp cause) key)
 
 -- the write that a call holds
 abbrev pub held_by : {K V : Type 0} → List (Item K V) → Option write.Write

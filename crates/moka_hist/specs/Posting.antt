@@ -14,8 +14,8 @@ module _ {K V : Type 0} where
   once_ended None rest = rest
   once_ended (Some notice) rest = plan.Ended notice ∷ rest
 
-  -- an owed write is taken up and posted, once its notice has ended, and the next one after it; the part
-  -- ends where none is owed
+  -- an owed write is taken up and posted, once its notice has ended, and the next one after it; the
+  -- part ends where none is owed
   abbrev pub after_drain : Call K V → List (Item K V) → Found V → Next K V
   after_drain c rest (found.TakeOwed None) = goes c rest
   after_drain c rest (found.TakeOwed (Some owed)) =
@@ -25,7 +25,8 @@ module _ {K V : Type 0} where
   -- a full log is applied first, by this call
   abbrev pub after_post : Call K V → Write → List (Item K V) → Found V → Next K V
   after_post c write rest (found.PostWrite true) = goes c rest
-  after_post c write rest (found.PostWrite false) = goes c (plan.Turn ∷ plan.Apply ∷ plan.End ∷ plan.Post write ∷ rest)
+  after_post c write rest (found.PostWrite false) =
+      goes c (plan.Turn ∷ plan.Apply ∷ plan.End ∷ plan.Post write ∷ rest)
   after_post c write rest _ = waits c
 
   -- the turn is waited for while another call has it

@@ -33,7 +33,8 @@ module _ {K V : Type 0} where
 
 module _ {K V : Type 0} where
   abbrev pub fresh_call : Rules → Start K V → Call K V
-  fresh_call rules start = record { rules = rules; mode = mode.Fresh; plan = plan_of rules start; aborts = 0 }
+  fresh_call rules start =
+      record { rules = rules; mode = mode.Fresh; plan = plan_of rules start; aborts = 0 }
 
   -- the state with this desk
   abbrev pub with_desk : State K V → DeskPart K V → State K V
@@ -53,29 +54,34 @@ module _ {K V : Type 0} where
       }
 
   -- refused for this reason, and nothing has changed
-  pub record Refuses (s : State K V) (why : Refusal) (r : Reply K V) (new : State K V) : Type 0 where
+  pub record Refuses (s : State K V) (why : Refusal) (r : Reply K V) (new : State K V)
+      : Type 0 where
     pub reply : r ≡ reply.Refused why
     pub same : new ≡ s
 
   -- carried out with this reply, and this is the state then
-  pub record Becomes (next : State K V) (answer : Reply K V) (r : Reply K V) (new : State K V) : Type 0 where
+  pub record Becomes (next : State K V) (answer : Reply K V) (r : Reply K V) (new : State K V)
+      : Type 0 where
     pub reply : r ≡ answer
     pub after : new ≡ next
 
   -- k steps of the call, each of which leaves it going, through states that meet P
-  unfoldable pub Goings : (K → K → Bool) → (State K V → Type 0) → ℕ → State K V → ℕ → State K V → Type 0
+  unfoldable pub Goings : (K → K → Bool) → (State K V → Type 0) → ℕ → State K V → ℕ → State K V →
+      Type 0
   Goings eq P zero s n new = new ≡ s
   Goings eq P (suc k) s n new =
       (mid : State K V) × Goings eq P k s n mid × Step eq mid n turn.Going new × P new
 
   -- one step of the live call, with its reply
-  pub record Steps (eq : K → K → Bool) (s : State K V) (n : ℕ) (r : Reply K V) (new : State K V) : Type 0 where
+  pub record Steps (eq : K → K → Bool) (s : State K V) (n : ℕ) (r : Reply K V) (new : State K V)
+      : Type 0 where
     pub turn : Turn K V
     pub step : Step eq s n turn new
     pub reply : r ≡ reply_of turn
 
   -- steps of the live call, all Going but the last, whose reply is the event's
-  pub record Polls (eq : K → K → Bool) (P : State K V → Type 0) (s : State K V) (n : ℕ) (r : Reply K V) (new : State K V) : Type 0 where
+  pub record Polls (eq : K → K → Bool) (P : State K V → Type 0) (s : State K V) (n : ℕ)
+      (r : Reply K V) (new : State K V) : Type 0 where
     pub going : ℕ
     pub mid : State K V
     pub goes : Goings eq P going s n mid
@@ -89,7 +95,8 @@ module _ {K V : Type 0} where
   Drops s n c mode.Parked r new = Becomes (dropped s n c) reply.Dropped r new
 
   -- what an event may reply, and the state then
-  abbrev pub Happens : (K → K → Bool) → (State K V → Type 0) → State K V → Event K V → Reply K V → State K V → Type 0
+  abbrev pub Happens : (K → K → Bool) → (State K V → Type 0) → State K V → Event K V → Reply K V →
+      State K V → Type 0
   Happens eq P s (event.At moment) r new =
       MatchBool (nat_lt moment s.world.desk.clock)
       (Refuses s refusal.ClockBack r new)
@@ -110,7 +117,8 @@ module _ {K V : Type 0} where
       MatchOption (s.calls n) (Refuses s refusal.UnknownCall r new) (λ c. Drops s n c c.mode r new)
 
   -- the events one after the other, each with its reply, through states that meet P
-  abbrev pub Run : (K → K → Bool) → (State K V → Type 0) → State K V → List (Event K V) → List (Reply K V) → State K V → Type 0
+  abbrev pub Run : (K → K → Bool) → (State K V → Type 0) → State K V → List (Event K V) →
+      List (Reply K V) → State K V → Type 0
   Run eq P s [] [] new = new ≡ s
   Run eq P s (e ∷ es) (r ∷ rs) new =
       (mid : State K V) × Happens eq P s e r mid × P mid × Run eq P mid es rs new
@@ -121,8 +129,8 @@ module _ {K V : Type 0} where
   abbrev pub Any : State K V → Type 0
   Any s = Unit {0}
 
-  -- the state comes after some events on a fresh cache of some rules with a log of some size, at least of
-  -- one write
+  -- the state comes after some events on a fresh cache of some rules with a log of some size, at
+  -- least of one write
   pub record IsReached (eq : K → K → Bool) (s : State K V) : Type 0 where
     pub rules : Rules
     pub size : ℕ

@@ -32,7 +32,8 @@ pub record DeskPart (K V : Type 0) : Type 0 where
   pub accessed : ℕ → Option ℕ
   -- what a call holds: the place of a write of its own, or an owed write that it took up
   pub holding : ℕ → Option Holding
-  -- the writes that dropped calls left, with the notices that ran then; the log; and what was applied; oldest first
+  -- the writes that dropped calls left, with the notices that ran then; the log; and what was
+  -- applied; oldest first
   pub owed : List Owed
   pub log : List Write
   pub applied : List Write

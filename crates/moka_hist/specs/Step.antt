@@ -70,7 +70,8 @@ module _ {K V : Type 0} where
   access_for n plan.Idle = On_desk (visit.Clock n)
   access_for n (plan.Reply answer) = On_desk (visit.Clock n)
 
-  -- the access of a call's next step: that of its first item. Where nothing is left but an answer, it reads the clock
+  -- the access of a call's next step: that of its first item. Where nothing is left but an answer,
+  -- it reads the clock
   abbrev pub access_of : ℕ → Call K V → Access K V
   access_of n c = by_plan c.plan
     where
@@ -126,15 +127,17 @@ module _ {K V : Type 0} where
       by_plan (item ∷ rest) (got.Table turn) = after_table n c item rest turn
       by_plan (item ∷ rest) (got.Desk f) = after_visit c item rest f
 
-  -- What the world may give the call of this number for an access, and become by it. A table operation may stay
-  -- undecided, which leaves the map, but not for more steps in a row than its table may need.
+  -- What the world may give the call of this number for an access, and become by it. A table
+  -- operation may stay undecided, which leaves the map, but not for more steps in a row than its
+  -- table may need.
   abbrev pub Gets : (K → K → Bool) → ℕ → World K V → Access K V → Got K V → World K V → Type 0
   Gets eq n w (On_table operation) (got.Table table.Going) new =
       (times_of w.stay n < most_undecided w.table) × (new ≡ record w { stay = stayed w.stay n })
   Gets eq n w (On_table operation) (got.Table (table.Decided answer)) new =
       (t : TablePart K V) × Operates eq n w.table operation answer t
       × (new ≡ record w { table = t; stay = decided_by n })
-  Gets eq n w (On_desk made) (got.Desk f) new = (f ≡ finds w.desk made) × (new ≡ record w { desk = makes eq w.desk made })
+  Gets eq n w (On_desk made) (got.Desk f) new =
+      (f ≡ finds w.desk made) × (new ≡ record w { desk = makes eq w.desk made })
   Gets eq n w (On_table operation) (got.Desk f) new = ⊥
   Gets eq n w (On_desk made) (got.Table turn) new = ⊥
 
@@ -143,7 +146,8 @@ module _ {K V : Type 0} where
   state_after s n w next = record { world = w; calls = put_at s.calls n next.left }
 
   -- one step of the live call of this number
-  pub record Step (eq : K → K → Bool) (s : State K V) (n : ℕ) (turn : Turn K V) (new : State K V) : Type 0 where
+  pub record Step (eq : K → K → Bool) (s : State K V) (n : ℕ) (turn : Turn K V) (new : State K V)
+      : Type 0 where
     pub call : Call K V
     pub live : s.calls n ≡ Some call
     pub given : Got K V
@@ -159,7 +163,8 @@ module _ {K V : Type 0} where
   May w (On_table operation) = Unit {0}
 
   -- one step of a call by itself: how it goes on, and the world then
-  pub record Moves (eq : K → K → Bool) (n : ℕ) (c : Call K V) (w : World K V) (next : Next K V) (new : World K V) : Type 0 where
+  pub record Moves (eq : K → K → Bool) (n : ℕ) (c : Call K V) (w : World K V) (next : Next K V)
+      (new : World K V) : Type 0 where
     pub given : Got K V
     pub gets : Gets eq n w (access_of n c) given new
     pub goes : next ≡ next_of n c given
@@ -169,13 +174,16 @@ module _ {K V : Type 0} where
   going_as d = record { left = Some d; turn = turns.Going }
 
   -- k steps of a call by itself, each of which leaves it going
-  unfoldable pub MovesOn : (K → K → Bool) → ℕ → ℕ → Call K V → World K V → Call K V → World K V → Type 0
+  unfoldable pub MovesOn : (K → K → Bool) → ℕ → ℕ → Call K V → World K V → Call K V → World K V →
+      Type 0
   MovesOn eq zero n c w d new = (d ≡ c) × (new ≡ w)
   MovesOn eq (suc k) n c w d new =
-      (b : Call K V) × (mid : World K V) × MovesOn eq k n c w b mid × Moves eq n b mid (going_as d) new
+      (b : Call K V) × (mid : World K V) × MovesOn eq k n c w b mid ×
+      Moves eq n b mid (going_as d) new
 
   -- steps of a call by itself, all of which leave it going but the last, which doesn't
-  pub record Polled (eq : K → K → Bool) (n : ℕ) (c : Call K V) (w : World K V) (next : Next K V) (new : World K V) : Type 0 where
+  pub record Polled (eq : K → K → Bool) (n : ℕ) (c : Call K V) (w : World K V) (next : Next K V)
+      (new : World K V) : Type 0 where
     pub going : ℕ
     pub call : Call K V
     pub mid : World K V
@@ -185,10 +193,12 @@ module _ {K V : Type 0} where
 
   -- the world has what each step of the call needs, as long as it goes on by itself
   abbrev pub IsSafe : (K → K → Bool) → ℕ → Call K V → World K V → Type 0
-  IsSafe eq n c w = (k : ℕ) (d : Call K V) (mid : World K V) → MovesOn eq k n c w d mid → May mid (access_of n d)
+  IsSafe eq n c w =
+      (k : ℕ) (d : Call K V) (mid : World K V) → MovesOn eq k n c w d mid → May mid (access_of n d)
 
   -- accesses with what they gave, by which the call goes on from c to d, always going
   abbrev pub Leads : ℕ → Call K V → List (Access K V × Got K V) → Call K V → Type 0
   Leads n c [] d = d ≡ c
   Leads n c (made ∷ more) d =
-      (mid : Call K V) × (made.0 ≡ access_of n c) × (next_of n c made.1 ≡ going_as mid) × Leads n mid more d
+      (mid : Call K V) × (made.0 ≡ access_of n c) × (next_of n c made.1 ≡ going_as mid) ×
+      Leads n mid more d

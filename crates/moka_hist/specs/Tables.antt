@@ -26,11 +26,14 @@ module _ {K V : Type 0} where
   taken_by (Some stamp) (Some pair) = cond (pair.1.stamp == stamp) (Some pair) None
 
   -- the map after an operation
-  abbrev pub stored_with : (K → K → Bool) → (K → Option (K × Stored V)) → TableOp K V → K → Option (K × Stored V)
+  abbrev pub stored_with : (K → K → Bool) → (K → Option (K × Stored V)) → TableOp K V → K →
+      Option (K × Stored V)
   stored_with eq f (op.Get key) = f
   stored_with eq f (op.InsertOrModify key stored) = put_key eq f key (Some (key, stored))
-  stored_with eq f (op.InsertIfAbsent key stored) = cond (is_some (f key)) f (put_key eq f key (Some (key, stored)))
-  stored_with eq f (op.RemoveIf key stamp) = cond (is_some (taken_by stamp (f key))) (put_key eq f key None) f
+  stored_with eq f (op.InsertIfAbsent key stored) =
+      cond (is_some (f key)) f (put_key eq f key (Some (key, stored)))
+  stored_with eq f (op.RemoveIf key stamp) =
+      cond (is_some (taken_by stamp (f key))) (put_key eq f key None) f
 
   -- a write of the call of this number puts the pair in the place of the one that was there
   abbrev pub written : (K → K → Bool) → ℕ → TablePart K V → K → Stored V → TablePart K V
@@ -58,9 +61,10 @@ module _ {K V : Type 0} where
   by_pair (Some pair) there absent = there
 
   -- What an operation of the call of this number answers, and what it leaves. A look answers the
-  -- pair at its key and changes nothing; a write answers the pair that it takes the place of, and is
-  -- committed; a removal answers the pair that it takes out, if any, and is committed with it; and one
-  -- that stores only where the key is absent answers the pair that is there, and then changes nothing.
+  -- pair at its key and changes nothing; a write answers the pair that it takes the place of, and
+  -- is committed; a removal answers the pair that it takes out, if any, and is committed with it;
+  -- and one that stores only where the key is absent answers the pair that is there, and then
+  -- changes nothing.
   abbrev pub Operates : (K → K → Bool) → ℕ → TablePart K V → TableOp K V → TableAnswer K V →
       TablePart K V → Type 0
   Operates eq n t (op.Get key) answer new = (answer ≡ answer_of (t.stored key)) × (new ≡ t)

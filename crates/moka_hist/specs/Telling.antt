@@ -27,10 +27,11 @@ was_asked notice.Ended = true
 was_asked notice.Skipped = false
 
 module _ {K V : Type 0} where
-  -- The number has an open ask that takes the answer: a value is for a call's initializer, Done and Off
-  -- are for the listener, which is asked as long as the notice runs.
+  -- The number has an open ask that takes the answer: a value is for a call's initializer, Done and
+  -- Off are for the listener, which is asked as long as the notice runs.
   abbrev pub is_asked : DeskPart K V → ℕ → Told V → Bool
-  is_asked w number (answer.Value value) = option_map_or (λ t. does_take t (answer.Value value)) (w.asks number) false
+  is_asked w number (answer.Value value) =
+      option_map_or (λ t. does_take t (answer.Value value)) (w.asks number) false
   is_asked w number answer.Done = is_running w number
   is_asked w number answer.Off = is_running w number
 
@@ -52,10 +53,13 @@ module _ {K V : Type 0} where
   abbrev pub heard : DeskPart K V → ℕ → Bool → DeskPart K V
   heard w number off = record (ended w number) { off = w.off || off }
 
-  -- The ask is closed. A value is there to be taken by the call; a listener's answer ends its notice, and Off
-  -- turns the listener off.
+  -- The ask is closed. A value is there to be taken by the call; a listener's answer ends its
+  -- notice, and Off turns the listener off.
   abbrev pub told : DeskPart K V → ℕ → Told V → DeskPart K V
   told w number (answer.Value value) =
-      record w { asks = put_at w.asks number None; told = put_at w.told number (Some (answer.Value value)) }
+      record w {
+        asks = put_at w.asks number None;
+        told = put_at w.told number (Some (answer.Value value));
+      }
   told w number answer.Done = heard w number false
   told w number answer.Off = heard w number true

@@ -33,7 +33,8 @@ is_invalid moment (Some valid_after) = nat_lt moment valid_after
 
 -- an invalidation hides the record: its last write or its last access is earlier
 abbrev pub is_hidden : Times → Bool
-is_hidden times = is_invalid times.modified times.valid_after || is_invalid times.accessed times.valid_after
+is_hidden times =
+    is_invalid times.modified times.valid_after || is_invalid times.accessed times.valid_after
 
 -- the record may be seen: it is neither expired nor hidden, and no invalidation by a test hits it
 abbrev pub is_visible : Rules → Times → Bool → Bool

@@ -42,7 +42,8 @@ is_upsert (Remove number old) = false
 
 -- some of the writes replaced or removed the record of this stamp
 abbrev pub is_replaced : List Write → ℕ → Bool
-is_replaced writes stamp = list_any (λ w. option_map_or (λ old. old == stamp) (old_of w) false) writes
+is_replaced writes stamp =
+    list_any (λ w. option_map_or (λ old. old == stamp) (old_of w) false) writes
 
 -- how many of the writes made records that none of them replaced or removed
 abbrev pub standing : List Write → ℕ
@@ -105,7 +106,8 @@ module _ {K V : Type 0} where
 
   -- the keys that are locked but for that whose lock the call holds
   abbrev pub locks_without : DeskPart K V → ℕ → K → Option ℕ
-  locks_without w call key = cond (option_map_or (λ h. h == call) (w.locks key) false) None (w.locks key)
+  locks_without w call key =
+      cond (option_map_or (λ h. h == call) (w.locks key) false) None (w.locks key)
 
   -- the notice of this number runs
   abbrev pub is_running : DeskPart K V → ℕ → Bool
@@ -114,9 +116,15 @@ module _ {K V : Type 0} where
   -- the times of a record of this stamp, last written at the moment
   abbrev pub times_at : DeskPart K V → ℕ → ℕ → Times
   times_at w stamp modified =
-      record { clock = w.clock; valid_after = None; modified = modified; accessed = access_of w stamp modified }
+      record {
+        clock = w.clock;
+        valid_after = None;
+        modified = modified;
+        accessed = access_of w stamp modified;
+      }
 
-  -- why a record leaves: for the cause handed in, or else since a write took its place or a call removed it
+  -- why a record leaves: for the cause handed in, or else since a write took its place or a call
+  -- removed it
   abbrev pub cause_of : DeskPart K V → ℕ → ℕ → Option Cause → Bool → Cause
   cause_of w stamp modified (Some cause) upsert = cause
   cause_of w stamp modified None true = upsert_cause w.rules (times_at w stamp modified)
@@ -136,19 +144,25 @@ module _ {K V : Type 0} where
 
   -- how many wait for each owner once the call has left
   abbrev pub readers_without : DeskPart K V → ℕ → ℕ → ℕ
-  readers_without w call owner = cond (is_reader_of w call owner) (w.readers owner - 1) (w.readers owner)
+  readers_without w call owner =
+      cond (is_reader_of w call owner) (w.readers owner - 1) (w.readers owner)
 
   -- what is kept of each owner once the call has left: nothing where it was the last to read it
   abbrev pub settled_without : DeskPart K V → ℕ → ℕ → Option (Settled V)
-  settled_without w call owner = cond (is_reader_of w call owner && w.readers owner == 1) None (w.settled owner)
+  settled_without w call owner =
+      cond (is_reader_of w call owner && w.readers owner == 1) None (w.settled owner)
 
   -- the owners but for this call
   abbrev pub owners_without : DeskPart K V → ℕ → Load K → Option ℕ
-  owners_without w call load = cond (option_map_or (λ o. o == call) (w.owners load) false) None (w.owners load)
+  owners_without w call load =
+      cond (option_map_or (λ o. o == call) (w.owners load) false) None (w.owners load)
 
   -- what is kept once the call has ended so: nothing where it owns nothing, or nobody waits for it
-  abbrev pub settled_with : DeskPart K V → ℕ → Settled V → (ℕ → Option (Settled V)) → ℕ → Option (Settled V)
-  settled_with w call with kept owner = cond (is_some (w.owning call) && nat_lt 0 (w.readers call) && call == owner) (Some with) (kept owner)
+  abbrev pub settled_with : DeskPart K V → ℕ → Settled V → (ℕ → Option (Settled V)) → ℕ →
+      Option (Settled V)
+  settled_with w call with kept owner =
+      cond (is_some (w.owning call) && nat_lt 0 (w.readers call) && call == owner) (Some with)
+      (kept owner)
 
   -- ---- what each visit changes
 
@@ -168,7 +182,11 @@ module _ {K V : Type 0} where
       record w { holding = put_at w.holding call (option_map without_moment (w.holding call)) }
 
   abbrev pub judged : DeskPart K V → ℕ → ℕ → DeskPart K V
-  judged w stamp modified = record w { accessed = put_at w.accessed stamp (Some (max (access_of w stamp modified) w.clock)) }
+  judged w stamp modified =
+      record w {
+        accessed = put_at w.accessed stamp
+            (Some (max (access_of w stamp modified) w.clock));
+      }
 
   -- where the log has room the call holds the write no longer. The visit that posts is the first
   -- after the write, so the pending moment ends too
@@ -190,21 +208,26 @@ module _ {K V : Type 0} where
   abbrev pub gave_back : DeskPart K V → ℕ → DeskPart K V
   gave_back w call = record w { holding = put_at w.holding call None }
 
-  -- The visit is the first after the change where no notice was opened: the pending moment ends, and where
-  -- nothing was written the places of a write are given back.
+  -- The visit is the first after the change where no notice was opened: the pending moment ends,
+  -- and where nothing was written the places of a write are given back.
   abbrev pub once_decided : DeskPart K V → ℕ → Bool → DeskPart K V
   once_decided w call wrote =
       record w { holding = put_at w.holding call (once_freed (w.holding call) wrote) }
 
   abbrev pub unlocked : DeskPart K V → ℕ → Bool → DeskPart K V
-  unlocked w call wrote = record (once_decided w call wrote) { locks = locks_without w call; locked = put_at w.locked call None }
+  unlocked w call wrote =
+      record (once_decided w call wrote) {
+        locks = locks_without w call;
+        locked = put_at w.locked call None;
+      }
 
   -- a notice of this number was opened, in this state
   abbrev pub with_notice : DeskPart K V → ℕ → Notice K V → DeskPart K V
-  with_notice w call told = record w { notices = put_at w.notices call (Some told); opened = w.opened ++ call ∷ [] }
+  with_notice w call told =
+      record w { notices = put_at w.notices call (Some told); opened = w.opened ++ call ∷ [] }
 
-  -- The notice is opened, or skipped where the listener is off. The visit is the first after the write,
-  -- so the pending moment ends.
+  -- The notice is opened, or skipped where the listener is off. The visit is the first after the
+  -- write, so the pending moment ends.
   abbrev pub opened_notice : DeskPart K V → ℕ → K → V → Cause → DeskPart K V
   opened_notice w call key value cause =
       with_notice (decided w call) call (record {
@@ -253,7 +276,8 @@ module _ {K V : Type 0} where
   }
 
   abbrev pub opened : DeskPart K V → ℕ → Takes → DeskPart K V
-  opened w call takes = record w { asks = put_at w.asks call (Some takes); told = put_at w.told call None }
+  opened w call takes =
+      record w { asks = put_at w.asks call (Some takes); told = put_at w.told call None }
 
   abbrev pub took_told : DeskPart K V → ℕ → DeskPart K V
   took_told w call = record w { told = put_at w.told call None }
@@ -273,8 +297,10 @@ module _ {K V : Type 0} where
   finds w (visit.Judge key stored) = found.Judge true
   finds w (visit.Holds key stored cause) =
       found.Holds (chosen_holds w.rules (times_at w stored.stamp stored.modified) false cause)
-  finds w (visit.WaitOrOwn call key kind) = found.WaitOrOwn (claim_of (w.owners (record { key = key; kind = kind })))
-  finds w (visit.ReadSettled call) = found.ReadSettled (unwrap_or (settlement_for w call) settled.NotYet)
+  finds w (visit.WaitOrOwn call key kind) =
+      found.WaitOrOwn (claim_of (w.owners (record { key = key; kind = kind })))
+  finds w (visit.ReadSettled call) =
+      found.ReadSettled (unwrap_or (settlement_for w call) settled.NotYet)
   finds w (visit.Settle call with) = found.Settle
   finds w (visit.OpenAsk call takes) = found.OpenAsk
   finds w (visit.TakeTold call) = found.TakeTold (w.told call)
@@ -296,7 +322,8 @@ module _ {K V : Type 0} where
   makes eq w (visit.Judge key stored) = judged w stored.stamp stored.modified
   makes eq w (visit.Holds key stored cause) = w
   makes eq w (visit.WaitOrOwn call key kind) =
-      let load : Load K = record { key = key; kind = kind } in claimed eq w call load (w.owners load)
+      let load : Load K =
+      record { key = key; kind = kind } in claimed eq w call load (w.owners load)
   makes eq w (visit.ReadSettled call) = read w call
   makes eq w (visit.Settle call with) = settled_as w call with
   makes eq w (visit.OpenAsk call takes) = opened w call takes

@@ -54,12 +54,13 @@ module _ {K V : Type 0} where
   old_stamp table.None = None
   old_stamp (table.Some key stored) = Some stored.stamp
 
-  -- what comes between a write and its posting: nothing without a listener; with one it hears first of
-  -- the record that was replaced, and the key's lock is freed
+  -- what comes between a write and its posting: nothing without a listener; with one it hears first
+  -- of the record that was replaced, and the key's lock is freed
   abbrev pub once_told : Bool → K → TableAnswer K V → List (Item K V) → List (Item K V)
   once_told false key was rest = rest
   once_told true key table.None rest = plan.Unlock true ∷ rest
-  once_told true key (table.Some there old) rest = plan.Notice key old None true ∷ plan.Unlock true ∷ rest
+  once_told true key (table.Some there old) rest =
+      plan.Notice key old None true ∷ plan.Unlock true ∷ rest
 
   -- the write is committed, and to be posted
   abbrev pub after_write : ℕ → Call K V → K → List (Item K V) → TableTurn K V → Next K V
@@ -82,7 +83,8 @@ module _ {K V : Type 0} where
 
   abbrev pub after_out : ℕ → Call K V → Removal → K → TableTurn K V → Next K V
   after_out n c removal key turn.Going = stays c
-  after_out n c removal key (turn.Decided table.None) = goes c (nothing_rest c.rules.listener removal)
+  after_out n c removal key (turn.Decided table.None) =
+      goes c (nothing_rest c.rules.listener removal)
   after_out n c removal key (turn.Decided (table.Some there old)) =
       goes c (removed_rest c.rules.listener n removal key old)
 

@@ -10,12 +10,13 @@ pub enum Start<K, V> {
     GetWith { key: K },
     Invalidate { key: K },
     Remove { key: K },
-    /// The record of this stamp is taken out, where it still stands under the key and the cause holds.
+    /// The record of this stamp is taken out, where it still stands under the key and the cause
+    /// holds.
     Evict { key: K, stamp: u64, cause: Cause },
 }
 
-/// What an open ask is told: a value, by an initializer; `Done` by a listener, or `Off`, after which it
-/// hears of no further record.
+/// What an open ask is told: a value, by an initializer; `Done` by a listener, or `Off`, after
+/// which it hears of no further record.
 #[derive(Clone, PartialEq, Debug, Drop)]
 pub enum Told<V> {
     Value(V),

@@ -1,5 +1,5 @@
-//! The reference cache, after whose history (`hist`) the crate is named: the plain types of the cache,
-//! and the definitions that all contracts speak of.
+//! The reference cache, after whose history (`hist`) the crate is named: the plain types of the
+//! cache, and the definitions that all contracts speak of.
 //!
 //! The definitions stand in `specs/`: the state by layer (`State`), what a call has still to do
 //! (`Plan`), the visits of the desk (`Visits`), one step (`Step`), runs on events (`Run`), and what

@@ -7,8 +7,8 @@ ghost use Rattle.std.specs.Slice.Iter.{iter_rest};
 use std::marker::Model;
 use std::slice::Iter;
 
-/// Items in order. Contracts see the list of them. It is made of a vector and gives it back; neither
-/// takes memory.
+/// Items in order. Contracts see the list of them. It is made of a vector and gives it back;
+/// neither takes memory.
 #[derive(Debug, Drop)]
 pub struct Listing<T> {
     items: Vec<T>,

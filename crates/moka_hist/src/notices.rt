@@ -15,8 +15,8 @@ pub enum NoticeState {
     Skipped,
 }
 
-/// What a listener hears of one record that has left: the number of the call whose write took it out,
-/// under which key it stood, its value, and why it left.
+/// What a listener hears of one record that has left: the number of the call whose write took it
+/// out, under which key it stood, its value, and why it left.
 #[derive(Clone, PartialEq, Debug, Drop)]
 pub struct Notice<K, V> {
     pub number: u64,

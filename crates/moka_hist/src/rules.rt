@@ -33,8 +33,9 @@ pub struct Rules {
     pub closures: bool,
 }
 
-/// The moments that a record is judged by, in nanoseconds: the cache's clock, the moment since which
-/// records are valid, where all earlier ones were invalidated, and the record's last write and access.
+/// The moments that a record is judged by, in nanoseconds: the cache's clock, the moment since
+/// which records are valid, where all earlier ones were invalidated, and the record's last write
+/// and access.
 #[derive(Clone, Copy, PartialEq, Eq, Debug)]
 pub struct Times {
     pub clock: u64,

@@ -45,8 +45,8 @@ pub enum Visit<K, V> {
         call: u64,
         key: K,
     },
-    /// Frees the lock that the call holds. Where nothing was written under it (`wrote` is false) the
-    /// places of its write are given back.
+    /// Frees the lock that the call holds. Where nothing was written under it (`wrote` is false)
+    /// the places of its write are given back.
     UnlockKey {
         call: u64,
         wrote: bool,
@@ -81,9 +81,9 @@ pub enum Visit<K, V> {
         call: u64,
         with: Settled<V>,
     },
-    /// Opens the notice of the record that the call's write took out: the record of this stamp, last
-    /// written at the moment `modified`. Its cause is the one handed in, or else that of a record
-    /// whose place a write takes (`upsert`) or that a call removes.
+    /// Opens the notice of the record that the call's write took out: the record of this stamp,
+    /// last written at the moment `modified`. Its cause is the one handed in, or else that of a
+    /// record whose place a write takes (`upsert`) or that a call removes.
     OpenNotice {
         call: u64,
         key: K,

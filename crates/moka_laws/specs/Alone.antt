@@ -10,7 +10,8 @@ use Rattle.moka_hist.specs.declared.replies.Answer.{Answer}
 use Rattle.moka_hist.specs.declared.replies.Answer.TheVariants as answer
 
 -- The call makes steps, one after the other, by the last of which it answers.
-pub record AnswersAlone {K V : Type 0} (eq : K → K → Bool) (s : State K V) (n : ℕ) (a : Answer V) (t : State K V) : Type 0 where
+pub record AnswersAlone {K V : Type 0} (eq : K → K → Bool) (s : State K V) (n : ℕ) (a : Answer V)
+    (t : State K V) : Type 0 where
   pub going : ℕ
   pub mid : State K V
   pub goes : Goings eq Any going s n mid

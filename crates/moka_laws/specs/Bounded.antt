@@ -11,12 +11,16 @@ use Rattle.moka_hist.specs.declared.replies.Reply.TheVariants as reply
 abbrev pub LogsHaveRoom : (K V : Type 0) → (K → K → Bool) → Type 0
 LogsHaveRoom K V eq = (s : State K V) → IsReached eq s → 0 < s.world.desk.size
 
--- from a reached state on, the steps of one call that leave it going, one after the other, are fewer than the bound
+-- from a reached state on, the steps of one call that leave it going, one after the other, are
+-- fewer than the bound
 abbrev pub StepsAreBounded : (K V : Type 0) → (K → K → Bool) → Type 0
-StepsAreBounded K V eq = (k : ℕ) (s t : State K V) (n : ℕ) → IsReached eq s → Goings eq Any k s n t → k < step_bound s
+StepsAreBounded K V eq =
+    (k : ℕ) (s t : State K V) (n : ℕ) → IsReached eq s → Goings eq Any k s n t → k < step_bound s
 
--- so are they as events: of as many steps of one call as the bound says, one has another reply than Going
+-- so are they as events: of as many steps of one call as the bound says, one has another reply than
+-- Going
 abbrev pub StepEventsAreBounded : (K V : Type 0) → (K → K → Bool) → Type 0
 StepEventsAreBounded K V eq =
     (k : ℕ) (s t : State K V) (n : ℕ) → IsReached eq s →
-    Run eq (IsLawful eq) s (replicate k (event.Step n)) (replicate k reply.Going) t → k < step_bound s
+    Run eq (IsLawful eq) s (replicate k (event.Step n)) (replicate k reply.Going) t →
+    k < step_bound s

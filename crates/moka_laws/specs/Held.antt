@@ -12,7 +12,8 @@ DeskKnowsHeld K V eq = (s : State K V) → IsReached eq s → HeldAreKnown s
 
 -- each live call may leave the write that it holds, if any
 abbrev pub MayAllLeave : {K V : Type 0} → State K V → Type 0
-MayAllLeave {K} {V} s = (n : ℕ) (c : Call K V) → s.calls n ≡ Some c → MayLeave s.world.desk n (held_by c.plan)
+MayAllLeave {K} {V} s =
+    (n : ℕ) (c : Call K V) → s.calls n ≡ Some c → MayLeave s.world.desk n (held_by c.plan)
 
 -- in every reached state they may
 abbrev pub CallsMayLeave : (K V : Type 0) → (K → K → Bool) → Type 0

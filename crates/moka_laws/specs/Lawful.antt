@@ -13,20 +13,25 @@ ReachedIsLawful K V eq = (s : State K V) → IsReached eq s → IsLawful eq s
 -- the steps of one call on a reached state go through lawful states
 abbrev pub StepsAreLawful : (K V : Type 0) → (K → K → Bool) → Type 0
 StepsAreLawful K V eq =
-    (k : ℕ) (s t : State K V) (n : ℕ) → IsReached eq s → Goings eq Any k s n t ↔ Goings eq (IsLawful eq) k s n t
+    (k : ℕ) (s t : State K V) (n : ℕ) → IsReached eq s →
+    Goings eq Any k s n t ↔ Goings eq (IsLawful eq) k s n t
 
 -- an event on a reached state goes through lawful states
 abbrev pub EventIsLawful : (K V : Type 0) → (K → K → Bool) → Type 0
 EventIsLawful K V eq =
-    (s t : State K V) (e : Event K V) (r : Reply K V) → IsReached eq s → Happens eq Any s e r t ↔ Happens eq (IsLawful eq) s e r t
+    (s t : State K V) (e : Event K V) (r : Reply K V) → IsReached eq s →
+    Happens eq Any s e r t ↔ Happens eq (IsLawful eq) s e r t
 
 -- a run from a reached state goes through lawful states
 abbrev pub RunIsLawful : (K V : Type 0) → (K → K → Bool) → Type 0
 RunIsLawful K V eq =
-    (s t : State K V) (es : List (Event K V)) (rs : List (Reply K V)) → IsReached eq s → Run eq Any s es rs t ↔ Run eq (IsLawful eq) s es rs t
+    (s t : State K V) (es : List (Event K V)) (rs : List (Reply K V)) → IsReached eq s →
+    Run eq Any s es rs t ↔ Run eq (IsLawful eq) s es rs t
 
 -- a run through lawful states goes on by one event at its end, through lawful states
 abbrev pub LawfulRunGoesOn : (K V : Type 0) → (K → K → Bool) → Type 0
 LawfulRunGoesOn K V eq =
-    (s m t : State K V) (es : List (Event K V)) (rs : List (Reply K V)) (e : Event K V) (r : Reply K V) →
-    Run eq (IsLawful eq) s es rs m → Happens eq (IsLawful eq) m e r t → IsLawful eq t → Run eq (IsLawful eq) s (es ++ e ∷ []) (rs ++ r ∷ []) t
+    (s m t : State K V) (es : List (Event K V)) (rs : List (Reply K V)) (e : Event K V)
+    (r : Reply K V) →
+    Run eq (IsLawful eq) s es rs m → Happens eq (IsLawful eq) m e r t → IsLawful eq t →
+    Run eq (IsLawful eq) s (es ++ e ∷ []) (rs ++ r ∷ []) t

@@ -43,21 +43,24 @@ module _ {K V : Type 0} where
     pub served : OwnsAlike eq s owner load ⊎ IsSome (s.world.desk.settled owner)
 
   -- What the item may miss can still come: from the call that has the turn, which applies the log;
-  -- from the owner, which owns an equal load; from the call that holds the key's lock, which is live and
-  -- frees it; as the answer to the own ask, which is open; or as the listener's answer to the own notice or
-  -- to that of an owed write, which it would take.
+  -- from the owner, which owns an equal load; from the call that holds the key's lock, which is
+  -- live and frees it; as the answer to the own ask, which is open; or as the listener's answer to
+  -- the own notice or to that of an owed write, which it would take.
   abbrev pub CanCome : (K → K → Bool) → State K V → ℕ → Item K V → Type 0
   CanCome eq s n plan.Turn = (holder : ℕ) × (s.world.desk.turn ≡ Some holder) × AppliesLog s holder
-  CanCome eq s n (plan.Read load) = (owner : ℕ) × (s.world.desk.joined n ≡ Some owner) × OwnsAlike eq s owner load
+  CanCome eq s n (plan.Read load) =
+      (owner : ℕ) × (s.world.desk.joined n ≡ Some owner) × OwnsAlike eq s owner load
   CanCome eq s n (plan.Told load) = IsSome (s.world.desk.asks n)
-  CanCome eq s n (plan.Lock key) = (holder : ℕ) × (s.world.desk.locks key ≡ Some holder) × HoldsLock s holder
+  CanCome eq s n (plan.Lock key) =
+      (holder : ℕ) × (s.world.desk.locks key ≡ Some holder) × HoldsLock s holder
   CanCome eq s n plan.Heard = is_asked s.world.desk n told.Done ≡ true
   CanCome eq s n (plan.Ended number) = is_asked s.world.desk number told.Done ≡ true
   CanCome eq s n _ = ⊥
 
 -- in every reached state a call has the turn exactly where it applies the log
 abbrev pub TurnIsHeld : (K V : Type 0) → (K → K → Bool) → Type 0
-TurnIsHeld K V eq = (s : State K V) (n : ℕ) → IsReached eq s → (s.world.desk.turn ≡ Some n) ↔ AppliesLog s n
+TurnIsHeld K V eq =
+    (s : State K V) (n : ℕ) → IsReached eq s → (s.world.desk.turn ≡ Some n) ↔ AppliesLog s n
 
 -- in every reached state each call that waits for the owner of a load has one
 abbrev pub WaitersHaveOwners : (K V : Type 0) → (K → K → Bool) → Type 0
@@ -69,4 +72,5 @@ WaitersHaveOwners K V eq =
 abbrev pub MissingCanCome : (K V : Type 0) → (K → K → Bool) → Type 0
 MissingCanCome K V eq =
     (s : State K V) (n : ℕ) (c : Call K V) (item : Item K V) (rest : List (Item K V)) →
-    IsReached eq s → s.calls n ≡ Some c → c.plan ≡ item ∷ rest → IsMissing s.world.desk n item → CanCome eq s n item
+    IsReached eq s → s.calls n ≡ Some c → c.plan ≡ item ∷ rest → IsMissing s.world.desk n item →
+    CanCome eq s n item

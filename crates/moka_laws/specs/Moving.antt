@@ -16,7 +16,8 @@ module _ {K V : Type 0} where
 abbrev pub MoveIsStep : (K V : Type 0) → (K → K → Bool) → Type 0
 MoveIsStep K V eq =
     (s : State K V) (n : ℕ) (c : Call K V) (next : Next K V) (new : World K V) →
-    s.calls n ≡ Some c → Moves eq n c s.world next new → Step eq s n next.turn (state_after s n new next)
+    s.calls n ≡ Some c → Moves eq n c s.world next new →
+    Step eq s n next.turn (state_after s n new next)
 
 -- steps of a live call by itself that leave it going are steps of the state that do
 abbrev pub MovesAreSteps : (K V : Type 0) → (K → K → Bool) → Type 0
@@ -28,8 +29,11 @@ MovesAreSteps K V eq =
 abbrev pub PolledIsPoll : (K V : Type 0) → (K → K → Bool) → Type 0
 PolledIsPoll K V eq =
     (s : State K V) (n : ℕ) (c : Call K V) (next : Next K V) (new : World K V) →
-    s.calls n ≡ Some c → Polled eq n c s.world next new → Happens eq Any s (event.Poll n) (reply_of next.turn) (state_after s n new next)
+    s.calls n ≡ Some c → Polled eq n c s.world next new →
+    Happens eq Any s (event.Poll n) (reply_of next.turn) (state_after s n new next)
 
 -- on a reached state the world has what a live call needs, however far it goes on by itself
 abbrev pub CallsAreSafe : (K V : Type 0) → (K → K → Bool) → Type 0
-CallsAreSafe K V eq = (s : State K V) (n : ℕ) (c : Call K V) → IsReached eq s → s.calls n ≡ Some c → IsSafe eq n c s.world
+CallsAreSafe K V eq =
+    (s : State K V) (n : ℕ) (c : Call K V) → IsReached eq s → s.calls n ≡ Some c →
+    IsSafe eq n c s.world

@@ -9,7 +9,8 @@ use Rattle.moka_hist.specs.declared.replies.Reply.{Reply}
 
 -- each stored pair stands under its own key
 abbrev pub UnderOwnKeys : {K V : Type 0} → (K → K → Bool) → State K V → Type 0
-UnderOwnKeys {K} {V} eq s = (q : K) (p : K × Stored V) → s.world.table.stored q ≡ Some p → eq p.0 q ≡ true
+UnderOwnKeys {K} {V} eq s =
+    (q : K) (p : K × Stored V) → s.world.table.stored q ≡ Some p → eq p.0 q ≡ true
 
 -- in every reached state each stored pair stands under its own key
 abbrev pub ReachedIsUnderOwnKeys : (K V : Type 0) → (K → K → Bool) → Type 0

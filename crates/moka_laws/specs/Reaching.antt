@@ -17,12 +17,14 @@ FreshIsReached K V eq = (rules : Rules) (size : ℕ) → 0 < size → IsReached 
 -- what an event leaves of a reached state is reached
 abbrev pub ReachedByEvent : (K V : Type 0) → (K → K → Bool) → Type 0
 ReachedByEvent K V eq =
-    (s t : State K V) (e : Event K V) (r : Reply K V) → IsReached eq s → Happens eq Any s e r t → IsReached eq t
+    (s t : State K V) (e : Event K V) (r : Reply K V) → IsReached eq s → Happens eq Any s e r t →
+    IsReached eq t
 
 -- what a step leaves of a reached state is reached
 abbrev pub ReachedByStep : (K V : Type 0) → (K → K → Bool) → Type 0
 ReachedByStep K V eq =
-    (s t : State K V) (n : ℕ) (turn : Turn K V) → IsReached eq s → Step eq s n turn t → IsReached eq t
+    (s t : State K V) (n : ℕ) (turn : Turn K V) → IsReached eq s → Step eq s n turn t →
+    IsReached eq t
 
 -- what steps of one call leave of a reached state is reached
 abbrev pub ReachedBySteps : (K V : Type 0) → (K → K → Bool) → Type 0
@@ -44,5 +46,6 @@ LiveWasStarted K V eq =
 -- a run goes on by one event at its end
 abbrev pub RunGoesOn : (K V : Type 0) → (K → K → Bool) → Type 0
 RunGoesOn K V eq =
-    (s m t : State K V) (es : List (Event K V)) (rs : List (Reply K V)) (e : Event K V) (r : Reply K V) →
+    (s m t : State K V) (es : List (Event K V)) (rs : List (Reply K V)) (e : Event K V)
+    (r : Reply K V) →
     Run eq Any s es rs m → Happens eq Any m e r t → Run eq Any s (es ++ e ∷ []) (rs ++ r ∷ []) t

@@ -19,8 +19,8 @@ abbrev pub how_many : ℕ → (ℕ → Bool) → ℕ
 how_many zero test = cond (test 0) 1 0
 how_many (suc k) test = how_many k test + cond (test (suc k)) 1 0
 
--- `readers` counts the calls that wait for the owner, each of which is live and has a number that was
--- given out.
+-- `readers` counts the calls that wait for the owner, each of which is live and has a number that
+-- was given out.
 pub record AreCounted {K V : Type 0} (s : State K V) (owner : ℕ) : Type 0 where
   pub count :
       s.world.desk.readers owner
@@ -39,7 +39,8 @@ NothingUnreadIsKept K V eq =
     (n : ℕ) × (s.world.desk.joined n ≡ Some owner)
 
 -- the step by which a live call ends its load with this value
-pub record Settles {K V : Type 0} (eq : K → K → Bool) (s : State K V) (owner : ℕ) (value : V) (t : State K V) : Type 0 where
+pub record Settles {K V : Type 0} (eq : K → K → Bool) (s : State K V) (owner : ℕ) (value : V)
+    (t : State K V) : Type 0 where
   pub call : Call K V
   pub rest : List (Item K V)
   pub live : s.calls owner ≡ Some call
@@ -47,11 +48,12 @@ pub record Settles {K V : Type 0} (eq : K → K → Bool) (s : State K V) (owner
   pub turn : Turn K V
   pub step : Step eq s owner turn t
 
--- a call that waits for an owner as that ends its load with a value answers that value with its next
--- step, whatever other calls do before
+-- a call that waits for an owner as that ends its load with a value answers that value with its
+-- next step, whatever other calls do before
 abbrev pub WaitersAnswerSettled : (K V : Type 0) → (K → K → Bool) → Type 0
 WaitersAnswerSettled K V eq =
-    (s t u v : State K V) (es : List (Event K V)) (rs : List (Reply K V)) (owner n : ℕ) (value : V) (reply : Turn K V) →
+    (s t u v : State K V) (es : List (Event K V)) (rs : List (Reply K V)) (owner n : ℕ) (value : V)
+    (reply : Turn K V) →
     IsReached eq s → s.world.desk.joined n ≡ Some owner → Settles eq s owner value t →
     Run eq (IsLawful eq) t es rs u → u.world.desk.joined n ≡ Some owner →
     Step eq u n reply v → reply ≡ turn.Answer (answer.Loaded value false)

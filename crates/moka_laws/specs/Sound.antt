@@ -27,7 +27,8 @@ VisitsKeepSound K V eq =
 abbrev pub LeavingKeepsSound : (K V : Type 0) → (K → K → Bool) → Type 0
 LeavingKeepsSound K V eq =
     (w : DeskPart K V) (call : ℕ) (held : Option Owed) →
-    SoundDesk eq w → MayLeave w call (option_map (λ o. o.write) held) → SoundDesk eq (left w call held)
+    SoundDesk eq w → MayLeave w call (option_map (λ o. o.write) held) →
+    SoundDesk eq (left w call held)
 
 -- so does a write that is decided, an answer that is told, a number that is given out, and a clock
 -- that moves on

@@ -12,7 +12,8 @@ use Rattle.moka_hist.specs.declared.accesses.Turn.TheVariants as turn
 
 -- in every reached state each live call has still something to do
 abbrev pub LiveCallsGoOn : (K V : Type 0) → (K → K → Bool) → Type 0
-LiveCallsGoOn K V eq = (s : State K V) (n : ℕ) (c : Call K V) → IsReached eq s → s.calls n ≡ Some c → c.plan ≢ []
+LiveCallsGoOn K V eq =
+    (s : State K V) (n : ℕ) (c : Call K V) → IsReached eq s → s.calls n ≡ Some c → c.plan ≢ []
 
 module _ {K V : Type 0} where
   -- the state with the call parked
@@ -21,12 +22,16 @@ module _ {K V : Type 0} where
 
   -- The step waits exactly where what the item needs is missing, and then nothing changes but that
   -- the call is parked.
-  pub record WaitsFor (s : State K V) (n : ℕ) (c : Call K V) (item : Item K V) (reply : Turn K V) (new : State K V) : Type 0 where
+  pub record WaitsFor (s : State K V) (n : ℕ) (c : Call K V) (item : Item K V) (reply : Turn K V)
+      (new : State K V) : Type 0 where
     pub cause : (reply ≡ turn.Wait) ↔ IsMissing s.world.desk n item
     pub parks : reply ≡ turn.Wait → new ≡ parked s n c
 
--- on a reached state each step of a live call waits for what its first item needs, and for nothing else
+-- on a reached state each step of a live call waits for what its first item needs, and for nothing
+-- else
 abbrev pub WaitsByCause : (K V : Type 0) → (K → K → Bool) → Type 0
 WaitsByCause K V eq =
-    (s t : State K V) (n : ℕ) (c : Call K V) (item : Item K V) (rest : List (Item K V)) (reply : Turn K V) →
-    IsReached eq s → s.calls n ≡ Some c → c.plan ≡ item ∷ rest → Step eq s n reply t → WaitsFor s n c item reply t
+    (s t : State K V) (n : ℕ) (c : Call K V) (item : Item K V) (rest : List (Item K V))
+    (reply : Turn K V) →
+    IsReached eq s → s.calls n ≡ Some c → c.plan ≡ item ∷ rest → Step eq s n reply t →
+    WaitsFor s n c item reply t

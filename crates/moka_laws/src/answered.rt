@@ -3,8 +3,8 @@
 ghost use Rattle.moka_laws.specs.Answered.{AnsweredIsPosted, PostedStays, StoredIsCommitted};
 
 /// Cites the law that a call whose answer says that it has stored a value has committed its write:
-/// an insert that is done, and a load that its own initializer gave a value. A disabled cache stores
-/// none.
+/// an insert that is done, and a load that its own initializer gave a value. A disabled cache
+/// stores none.
 pub fn stored_is_committed<K: Eq, V>()
     ensures committed { StoredIsCommitted K V K.eq }
 {}

@@ -7,8 +7,8 @@ pub fn logs_have_room<K: Eq, V>()
     ensures room { LogsHaveRoom K V K.eq }
 {}
 
-/// Cites the law that from a reached state on fewer steps of one call, one after the other, leave it
-/// going than the bound says.
+/// Cites the law that from a reached state on fewer steps of one call, one after the other, leave
+/// it going than the bound says.
 pub fn steps_are_bounded<K: Eq, V>()
     ensures bounded { StepsAreBounded K V K.eq }
 {}

@@ -7,8 +7,8 @@ pub fn held_are_known<K: Eq, V>()
     ensures known { DeskKnowsHeld K V K.eq }
 {}
 
-/// Cites the law that in every reached state each live call may leave the write that its plan holds,
-/// and where that holds none has taken none up.
+/// Cites the law that in every reached state each live call may leave the write that its plan
+/// holds, and where that holds none has taken none up.
 pub fn calls_may_leave<K: Eq, V>()
     ensures leaves { CallsMayLeave K V K.eq }
 {}

@@ -15,9 +15,9 @@ pub fn locks_are_held<K: Eq, V>()
     ensures held { ReachedLocksAreHeld K V K.eq }
 {}
 
-/// Cites the law that in every reached state, where a listener is set, the key that a live call is to
-/// write or to take out, to look up for that, or to tell the listener of, is the one whose lock it
-/// holds.
+/// Cites the law that in every reached state, where a listener is set, the key that a live call is
+/// to write or to take out, to look up for that, or to tell the listener of, is the one whose lock
+/// it holds.
 pub fn keys_are_locked<K: Eq, V>()
     ensures locked { KeysAreLocked K V K.eq }
 {}
@@ -28,7 +28,8 @@ pub fn locks_are_one<K: Eq, V>()
 {}
 
 /// Cites the law that in every reached state the notices of a key were opened in the order in which
-/// their writes were committed, and one runs beside an earlier one only once that one's call is gone.
+/// their writes were committed, and one runs beside an earlier one only once that one's call is
+/// gone.
 pub fn notices_are_in_order<K: Eq, V>()
     ensures ordered { ReachedNoticesAreInOrder K V K.eq }
 {}

@@ -27,8 +27,8 @@ pub fn reached_by_run<K: Eq, V>()
     ensures reached { ReachedByRun K V K.eq }
 {}
 
-/// Cites the law that every live call of a reached state was started on a reached state, from which some
-/// events led here.
+/// Cites the law that every live call of a reached state was started on a reached state, from which
+/// some events led here.
 pub fn live_was_started<K: Eq, V>()
     ensures started { LiveWasStarted K V K.eq }
 {}

@@ -14,9 +14,9 @@ pub fn nothing_unread_is_kept<K: Eq, V>()
     ensures kept { NothingUnreadIsKept K V K.eq }
 {}
 
-/// Cites the law that a waiter answers what its owner settled: a call that waits for an owner as that
-/// ends its load with a value, and still waits for it after any events, answers that value with its
-/// next step.
+/// Cites the law that a waiter answers what its owner settled: a call that waits for an owner as
+/// that ends its load with a value, and still waits for it after any events, answers that value
+/// with its next step.
 pub fn waiters_answer_settled<K: Eq, V>()
     ensures answers { WaitersAnswerSettled K V K.eq }
 {}

@@ -2,8 +2,8 @@
 
 ghost use Rattle.moka_laws.specs.Removals.{ChosenStands, DisabledStoresNothing, EvictedIsOut, KeptByCause, PlacesComeBack, RemovalsAnswer, RemoveAnswersTaken, StampsAreOne};
 
-/// Cites the law that in every reached state of a cache of capacity 0 no record is stored, none ever
-/// was, and no write or notice stands anywhere.
+/// Cites the law that in every reached state of a cache of capacity 0 no record is stored, none
+/// ever was, and no write or notice stands anywhere.
 pub fn disabled_stores_nothing<K: Eq, V>()
     ensures nothing { DisabledStoresNothing K V K.eq }
 {}
@@ -21,8 +21,8 @@ pub fn removals_answer<K: Eq, V>()
     ensures answers { RemovalsAnswer K V K.eq }
 {}
 
-/// Cites the law that a call that was started to remove what a key has answers a value exactly where
-/// it has committed a removal.
+/// Cites the law that a call that was started to remove what a key has answers a value exactly
+/// where it has committed a removal.
 pub fn remove_answers_taken<K: Eq, V>()
     ensures taken { RemoveAnswersTaken K V K.eq }
 {}
@@ -39,8 +39,8 @@ pub fn kept_by_cause<K: Eq, V>()
     ensures kept { KeptByCause K V K.eq }
 {}
 
-/// Cites the law that in every reached state, where a listener is set, the chosen record that a call
-/// is about to take out stands under its key.
+/// Cites the law that in every reached state, where a listener is set, the chosen record that a
+/// call is about to take out stands under its key.
 pub fn chosen_stands<K: Eq, V>()
     ensures stands { ChosenStands K V K.eq }
 {}

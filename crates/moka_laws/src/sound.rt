@@ -12,8 +12,8 @@ pub fn visits_keep_sound<K: Eq, V>()
     ensures sound { VisitsKeepSound K V K.eq }
 {}
 
-/// Cites the law that a call that leaves a sound desk, with no write but one that it holds, leaves it
-/// sound.
+/// Cites the law that a call that leaves a sound desk, with no write but one that it holds, leaves
+/// it sound.
 pub fn leaving_keeps_sound<K: Eq, V>()
     ensures sound { LeavingKeepsSound K V K.eq }
 {}

@@ -38,8 +38,9 @@ impl<K: Eq + Hash + Clone + Drop, V: Clone + Drop> Machine<K, V> {
     ghost use Rattle.moka_run.specs.Machine.{MachineIs, IsValid, Serves, Stops};
     ghost use Rattle.moka_run.specs.Running.{MayStopIn};
 
-    /// A fresh cache of these rules, of which none is set but that a capacity and a listener may be,
-    /// with a log of this many writes: 1 to 65536. One of capacity 0 is disabled: it stores nothing.
+    /// A fresh cache of these rules, of which none is set but that a capacity and a listener may
+    /// be, with a log of this many writes: 1 to 65536. One of capacity 0 is disabled: it stores
+    /// nothing.
     pub fn build(alloc: Global, rules: Rules, log: usize) -> Result<Self, AllocError>
         requires rules { rules ≡ rules_of rules.max_capacity rules.listener }
         requires least { 1 ≤ log }

@@ -2,8 +2,8 @@
 use Rattle.std.specs.Prelude.{ℕ, ◌==◌, ◌||◌, Bool, false, not, List, [], ◌∷◌, Option, None, Some}
 use Rattle.moka_sync.specs.Waiting.{waits}
 
--- what a mutex is seen as: the call that holds it, those that wait, in order, and how many more can be
--- listed without memory
+-- what a mutex is seen as: the call that holds it, those that wait, in order, and how many more can
+-- be listed without memory
 pub record MutexState : Type 0 where
   pub holder : Option ℕ
   pub waiting : List ℕ

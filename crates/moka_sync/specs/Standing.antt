@@ -32,7 +32,8 @@ abbrev pub AreBelow : ℕ → List Place → Type 0
 AreBelow next [] = Unit {0}
 AreBelow next (p ∷ ps) = (p.ticket < next) × AreBelow next ps
 
--- a call has one standing place where it has a ticket, and none where it has not; no ticket is the next
+-- a call has one standing place where it has a ticket, and none where it has not; no ticket is the
+-- next
 pub record AreKept (ticket_of : ℕ → Option ℕ) (places : List Place) (next : ℕ) : Type 0 where
   pub counted : (call : ℕ) → times call (standing ticket_of places) ≡ places_of (ticket_of call)
   pub below : AreBelow next places

@@ -9,8 +9,8 @@ use Rattle.moka_sync.specs.declared.wait_list.WaitList.TheInside.{Inside}
 abbrev pub view_of : Inside → Waiting
 view_of w = record { calls = standing (get nat_eq w.tickets) w.places; room = length w.spare }
 
--- each waiting call has one place, and there are nodes, tickets and room in the map for as many more as
--- there is room for
+-- each waiting call has one place, and there are nodes, tickets and room in the map for as many
+-- more as there is room for
 pub record IsWaitList (w : Inside) : Type 0 where
   pub kept : AreKept (get nat_eq w.tickets) w.places w.next
   pub count : hash_map_len w.tickets ≡ length (standing (get nat_eq w.tickets) w.places)

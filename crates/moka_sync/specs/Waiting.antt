@@ -2,8 +2,8 @@
 use Rattle.std.specs.Prelude.{◌≡◌, ℕ, ◌≤◌, ◌==◌, ◌||◌, Bool, true, false, cond, List, [], ◌∷◌, ◌++◌}
 use Rattle.moka_hist.specs.Finite.{times}
 
--- what a wait list is seen as: the calls that wait, the first to be listed first, and how many more can
--- be listed without memory
+-- what a wait list is seen as: the calls that wait, the first to be listed first, and how many more
+-- can be listed without memory
 pub record Waiting : Type 0 where
   pub calls : List ℕ
   pub room : ℕ

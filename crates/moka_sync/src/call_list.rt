@@ -46,8 +46,8 @@ impl CallList {
         self.places.is_empty() && self.more.is_empty()
     }
 
-    /// Answers the call at `index`, from 0, or `None` past the end. It walks that far: to go over all
-    /// calls take `iter`.
+    /// Answers the call at `index`, from 0, or `None` past the end. It walks that far: to go over
+    /// all calls take `iter`.
     pub fn get(&self, index: usize) -> Option<u64>
         ensures { result ≡ slice_get self.now index }
     {

@@ -15,6 +15,3 @@ pub use mutex::PolledMutex;
 pub use rw_lock::PolledRwLock;
 pub use wait_list::WaitList;
 pub use wait_place::WaitPlace;
-
-#[cfg(test)]
-mod tests;

@@ -53,9 +53,9 @@ impl PolledMutex {
         self.waiters.reserve(additional)
     }
 
-    /// Takes the mutex for the call and answers true, where no other call holds it. Else lists the call
-    /// and answers false. Memory is taken only for a call that was not listed; after an error nothing
-    /// has changed.
+    /// Takes the mutex for the call and answers true, where no other call holds it. Else lists the
+    /// call and answers false. Memory is taken only for a call that was not listed; after an error
+    /// nothing has changed.
     pub fn try_take(&mut self, call: u64) -> Result<bool, AllocError>
         ensures free { IfOk result (λ taken. taken ≡ not (is_others self.old.holder call)) }
         ensures holder { IfOk result (λ taken. OnTrue taken (self.new.holder ≡ Some call)) }
@@ -86,10 +86,11 @@ impl PolledMutex {
         ensures off { OnTrue result (self.new.waiting ≡ without call self.old.waiting) }
         ensures room { OnTrue result (self.new.room ≡ self.old.room) }
         ensures again { OnFalse result (waits call self.old.waiting ≡ true → self.new ≡ self.old) }
-        ensures first { OnFalse result (waits call self.old.waiting ≡ false → self.new ≡ record self.old {
-          waiting = self.old.waiting ++ call ∷ [];
-          room = self.old.room - 1;
-        }) }
+        ensures first { OnFalse result (waits call self.old.waiting ≡ false →
+            self.new ≡ record self.old {
+              waiting = self.old.waiting ++ call ∷ [];
+              room = self.old.room - 1;
+            }) }
     {
         if self.is_others(call) {
             self.waiters.add_reserved(call);

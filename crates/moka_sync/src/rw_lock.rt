@@ -56,8 +56,8 @@ impl PolledRwLock {
         self.writer == Some(call) || self.readers.contains(call)
     }
 
-    /// Takes memory for `additional` further calls that read or wait. After an error nobody holds or
-    /// waits who did not before.
+    /// Takes memory for `additional` further calls that read or wait. After an error nobody holds
+    /// or waits who did not before.
     pub fn reserve(&mut self, additional: usize) -> Result<(), AllocError>
         ensures writer { self.new.writer ≡ self.old.writer }
         ensures readers { self.new.readers ≡ self.old.readers }
@@ -69,9 +69,9 @@ impl PolledRwLock {
         self.waiters.reserve(additional)
     }
 
-    /// Takes the lock for the call to read and answers true, where no writer holds it. Else lists the
-    /// call, also where it is the writer itself, and answers false. Memory is taken only for a call
-    /// that is not yet among those it joins; after want of it nothing has changed.
+    /// Takes the lock for the call to read and answers true, where no writer holds it. Else lists
+    /// the call, also where it is the writer itself, and answers false. Memory is taken only for a
+    /// call that is not yet among those it joins; after want of it nothing has changed.
     pub fn try_read(&mut self, call: u64) -> Result<bool, AllocError>
         ensures free { IfOk result (λ taken. taken ≡ is_none self.old.writer) }
         ensures writer { self.new.writer ≡ self.old.writer }
@@ -99,9 +99,10 @@ impl PolledRwLock {
         Ok(true)
     }
 
-    /// Takes the lock for the call to write and answers true, where no other call holds it, to write
-    /// or to read; a call that alone reads becomes the writer. Else lists the call and answers false.
-    /// Memory is taken only for a call that was not listed; after want of it nothing has changed.
+    /// Takes the lock for the call to write and answers true, where no other call holds it, to
+    /// write or to read; a call that alone reads becomes the writer. Else lists the call and
+    /// answers false. Memory is taken only for a call that was not listed; after want of it nothing
+    /// has changed.
     pub fn try_write(&mut self, call: u64) -> Result<bool, AllocError>
         ensures free { IfOk result (λ taken. taken ≡ not (is_held_by_others self.old call)) }
         ensures writer { IfOk result (λ taken. OnTrue taken (self.new.writer ≡ Some call)) }

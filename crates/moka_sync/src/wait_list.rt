@@ -13,8 +13,8 @@ use std::mem;
 /// Calls that wait, each listed once, in the order in which they came to wait. Contracts see that
 /// list, and the room: how many more calls can be listed without memory.
 ///
-/// A call's place is a node of its own. One whose call has left stays in the chain, without a ticket,
-/// until such places are more than half: so no call searches the list.
+/// A call's place is a node of its own. One whose call has left stays in the chain, without a
+/// ticket, until such places are more than half: so no call searches the list.
 #[derive(Drop)]
 pub struct WaitList {
     alloc: Global,
@@ -75,8 +75,8 @@ impl WaitList {
 
     /// Takes memory for `additional` further waiters, so that `add_reserved` can list them.
     ///
-    /// Answers an error where there is no memory, or where 2^64 waiters came since the list was last
-    /// handed out; then nothing has changed.
+    /// Answers an error where there is no memory, or where 2^64 waiters came since the list was
+    /// last handed out; then nothing has changed.
     pub fn reserve(&mut self, additional: usize) -> Result<(), AllocError>
         ensures ok { OnOk result
             (self.new ≡ record self.old { room = self.old.room + additional }) }

@@ -13,7 +13,8 @@ use Rattle.moka_hist.specs.declared.tables.TableTurn.TheVariants as turn
 abbrev pub Pairs : (K V : Type 0) → Type 0
 Pairs K V = K → Option (K × Stored V)
 
--- at most so many steps an operation makes by itself, on a table whose first array was so long and that never had more keys at once
+-- at most so many steps an operation makes by itself, on a table whose first array was so long and
+-- that never had more keys at once
 abbrev pub most_steps : ℕ → ℕ → ℕ
 most_steps first peak = 16 * (first + 3 * peak) + 32
 
@@ -34,11 +35,13 @@ module _ {K V : Type 0} where
   keys_after map keys (op.Get key) = keys
   keys_after map keys (op.InsertOrModify key stored) = cond (is_some (map key)) keys (keys + 1)
   keys_after map keys (op.InsertIfAbsent key stored) = cond (is_some (map key)) keys (keys + 1)
-  keys_after map keys (op.RemoveIf key stamp) = cond (is_some (taken_by stamp (map key))) (keys - 1) keys
+  keys_after map keys (op.RemoveIf key stamp) =
+      cond (is_some (taken_by stamp (map key))) (keys - 1) keys
 
   -- What one step of an operation gives, and what the map and its count are after it: it stays
   -- undecided, which changes nothing, or it answers by the map and makes its change.
-  abbrev pub Moves : (K → K → Bool) → TableOp K V → Pairs K V → ℕ → TableTurn K V → Pairs K V → ℕ → Type 0
+  abbrev pub Moves : (K → K → Bool) → TableOp K V → Pairs K V → ℕ → TableTurn K V → Pairs K V → ℕ →
+      Type 0
   Moves eq operation old keys turn.Going new count = SameMap old new × (count ≡ keys)
   Moves eq operation old keys (turn.Decided answer) new count =
       (answer ≡ answer_of (pair_answered old operation))
@@ -46,7 +49,8 @@ module _ {K V : Type 0} where
       × (count ≡ keys_after old keys operation)
 
   -- the pairs are those of the map, each once, in some order of its keys
-  pub record ListsPairs (eq : K → K → Bool) (pairs : List (K × Stored V)) (map : Pairs K V) : Type 0 where
+  pub record ListsPairs (eq : K → K → Bool) (pairs : List (K × Stored V)) (map : Pairs K V)
+      : Type 0 where
     pub entries : List (K × (K × Stored V))
     pub lists : Lists eq entries map
     pub are : pairs ≡ values_of entries

@@ -23,7 +23,8 @@ abbrev pub plain_left : ℕ
 plain_left = 1
 
 -- what contracts see of a plain table
-abbrev pub plain_table : {K V : Type 0} → (K → K → Bool) → Table.Ghosts (PlainTable K V) K V (PlainCall K V)
+abbrev pub plain_table : {K V : Type 0} → (K → K → Bool) →
+    Table.Ghosts (PlainTable K V) K V (PlainCall K V)
 plain_table eq =
     record {
       map = map_of eq;

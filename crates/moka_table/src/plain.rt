@@ -65,7 +65,8 @@ impl<K: Eq + Hash + Clone + Drop, V: Clone + Drop> PlainTable<K, V> {
         self.pairs.reserve(1)
     }
 
-    // Puts the pair under its key, and gives the one that was there. There is room, so it can't fail.
+    // Puts the pair under its key, and gives the one that was there. There is room, so it can't
+    // fail.
     fn put(&mut self, place: K, key: K, stored: Stored<V>) -> TableAnswer<K, V>
         requires room { 0 < spare self.old.pairs }
         requires place { place ≡ key }

@@ -1,5 +1,5 @@
-//! A table whose operations stay undecided for a while: what the contract of `Table` asks of one that
-//! others change meanwhile.
+//! A table whose operations stay undecided for a while: what the contract of `Table` asks of one
+//! that others change meanwhile.
 ghost use Rattle.std.specs.Prelude.{◌≡◌, ◌≢◌, ◌<◌, ◌≤◌, ◌+◌, max, OnErr, IfOk, Some, None};
 ghost use Rattle.std.specs.HashMap.{hash_map_len};
 ghost use Rattle.std.proofs.Common.{arith};

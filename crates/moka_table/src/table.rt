@@ -36,7 +36,8 @@ pub trait Table<K: Eq + Hash + Clone, V: Clone> {
     /// The call was begun on this table, and has not decided.
     ghost fits: { Self → Self.Call → Type 0 };
 
-    /// How many steps the call may still make before it decides, where no other call steps in between.
+    /// How many steps the call may still make before it decides, where no other call steps in
+    /// between.
     ghost left: { Self → Self.Call → ℕ };
 
     /// How many segments the keys are spread over: at least one.
@@ -64,7 +65,8 @@ pub trait Table<K: Eq + Hash + Clone, V: Clone> {
             → (operation_of call.new ≡ operation_of call.old) × fits self.new call.new) }
         ensures nears { IfOk result (λ turn. turn ≡ TableTurn.Going
             → left self.new call.new < left self.old call.old) }
-        // The other calls: they still fit, and are as far from their end at most as at their beginning.
+        // The other calls: they still fit, and are as far from their end at most as at their
+        // beginning.
         ensures others { (other : Self.Call) → fits self.old other → fits self.new other }
         ensures others_left { (other : Self.Call) → fits self.old other
             → left self.new other ≤ most_steps (first self.new) (peak self.new) }

@@ -13,6 +13,3 @@ mod words;
 pub use laws::schedule_text_round_trip;
 pub use reports::write_report;
 pub use schedules::{Schedule, ScheduleError, read_schedule};
-
-#[cfg(test)]
-mod tests;

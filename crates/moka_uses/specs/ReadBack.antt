@@ -13,7 +13,14 @@ use Rattle.moka_hist.specs.declared.replies.Reply.TheVariants as reply
 
 -- no rule is set
 abbrev pub no_rules : Rules
-no_rules = record { max_capacity = None; time_to_live = None; time_to_idle = None; listener = false; closures = false }
+no_rules =
+    record {
+      max_capacity = None;
+      time_to_live = None;
+      time_to_idle = None;
+      listener = false;
+      closures = false;
+    }
 
 -- how many writes the log of the caller's cache has room for
 abbrev pub log_size : ℕ
@@ -33,9 +40,10 @@ abbrev pub found_in : {K V : Type 0} → Reply K V → Option V
 found_in (reply.Answer (answer.Found found)) = found
 found_in _ = None
 
--- The reference cache, begun with no record, stored the value under the key in one run, and in a second
--- the lookup of the key found this. Each state on the way is lawful.
-pub record IsReadBack {K V : Type 0} (eq : K → K → Bool) (key : K) (value : V) (found : Option V) : Type 0 where
+-- The reference cache, begun with no record, stored the value under the key in one run, and in a
+-- second the lookup of the key found this. Each state on the way is lawful.
+pub record IsReadBack {K V : Type 0} (eq : K → K → Bool) (key : K) (value : V) (found : Option V)
+    : Type 0 where
   pub stored : List (Reply K V)
   pub mid : State K V
   pub stores : Run eq (IsLawful eq) (fresh K V no_rules log_size) (storing key value) stored mid

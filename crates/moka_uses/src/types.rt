@@ -27,9 +27,9 @@ pub fn is_taken<T: Clone>()
 /// Each of these can be a value, and each but the shared ones and `Page` a key, since they have
 /// equality and hash.
 ///
-/// `String`, `Vec<u8>`, `Box<T>` and `Arc<T>` can't: a contract sees more of them than what they hold,
-/// as the room of a `String`, and a clone needn't have the same. `ByteStr`, `Bytes` and `Shared<T>`
-/// stand for them.
+/// `String`, `Vec<u8>`, `Box<T>` and `Arc<T>` can't: a contract sees more of them than what they
+/// hold, as the room of a `String`, and a clone needn't have the same. `ByteStr`, `Bytes` and
+/// `Shared<T>` stand for them.
 pub fn taken_types() {
     is_taken::<u32>();
     is_taken::<i64>();

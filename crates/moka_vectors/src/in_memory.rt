@@ -56,8 +56,8 @@ fn play_between(
     Ok(Played { status, bytes })
 }
 
-/// Plays the bytes, which come 7 a read and go 5 a write. The calls of the numbers in `reads` and in
-/// `writes` fail.
+/// Plays the bytes, which come 7 a read and go 5 a write. The calls of the numbers in `reads` and
+/// in `writes` fail.
 pub fn play_bytes(
     alloc: Global,
     words: &[&str],

@@ -24,7 +24,8 @@ HasNot same words n = (j m : ℕ) → node_of (word_at words j) ≡ Some m → s
 
 -- a key has one bucket, and its probe comes there
 pub record IsArray (hash : ℕ → ℕ) (same : ℕ → ℕ → Bool) (words : List Word) : Type 0 where
-  pub one : (i j n m : ℕ) → node_of (word_at words i) ≡ Some n → node_of (word_at words j) ≡ Some m → same n m ≡ true → i ≡ j
+  pub one : (i j n m : ℕ) → node_of (word_at words i) ≡ Some n →
+      node_of (word_at words j) ≡ Some m → same n m ≡ true → i ≡ j
   pub reached : (i n : ℕ) → node_of (word_at words i) ≡ Some n → IsReached words (hash n) i
 
 -- the node's key is new to the array, and its probe comes to the bucket i

@@ -23,7 +23,8 @@ pub record IsOwn (same : ℕ → ℕ → Bool) (own : ℕ → Bool) : Type 0 whe
 
 -- each node of the call's key that stands in the array was filled under this hash
 abbrev pub IsOwnHash : (hash : ℕ → ℕ) (own : ℕ → Bool) → List Word → ℕ → Type 0
-IsOwnHash hash own words h = (i n : ℕ) → node_of (word_at words i) ≡ Some n → own n ≡ true → hash n ≡ h
+IsOwnHash hash own words h =
+    (i n : ℕ) → node_of (word_at words i) ≡ Some n → own n ≡ true → hash n ≡ h
 
 -- the bucket has another key than the call's
 abbrev pub HasOther : (ℕ → Bool) → Word → Type 0
@@ -31,7 +32,8 @@ HasOther own w = (n : ℕ) × (node_of w ≡ Some n) × (own n ≡ false)
 
 -- a probe has passed n buckets, each with another key than the call's
 abbrev pub HasPassed : (ℕ → Bool) → List Word → (hash n : ℕ) → Type 0
-HasPassed own words hash n = (k : ℕ) → k < n → HasOther own (word_at words (bucket_at (length words) hash k))
+HasPassed own words hash n =
+    (k : ℕ) → k < n → HasOther own (word_at words (bucket_at (length words) hash k))
 
 -- no bucket has the call's key
 abbrev pub IsAbsent : (ℕ → Bool) → List Word → Type 0

@@ -21,7 +21,8 @@ IsStored words n = (i : ℕ) × (stored_in (word_at words i) ≡ Some n)
 
 -- the node, put into the first free bucket of its probe; where there is none, into no bucket
 abbrev pub placed : (ℕ → ℕ) → List Word → ℕ → List Word
-placed hash words n = option_map_or (λ i. slice_set words i (Live n)) (first_free words (hash n)) words
+placed hash words n =
+    option_map_or (λ i. slice_set words i (Live n)) (first_free words (hash n)) words
 
 -- the nodes, placed one after the other
 abbrev pub all_placed : (ℕ → ℕ) → List Word → List ℕ → List Word

@@ -15,8 +15,10 @@ is_sparse length tombstones len = nat_le 512 length && nat_lt (4 * len) (length 
 abbrev pub is_crowded : (length len : ℕ) → Bool
 is_crowded length len = nat_lt (7 * length) (10 * len)
 
--- how an array of this length is made anew, with so many tombstones in it and so many keys in its segment
+-- how an array of this length is made anew, with so many tombstones in it and so many keys in its
+-- segment
 abbrev pub rehash_op : (length tombstones len : ℕ) → RehashOp
 rehash_op length tombstones len =
-    if has_many_tombstones length tombstones then (if is_sparse length tombstones len then Shrink else GcOnly)
+    if has_many_tombstones length tombstones then
+    (if is_sparse length tombstones len then Shrink else GcOnly)
     else (if is_crowded length len then Expand else Skip)

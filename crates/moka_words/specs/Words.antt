@@ -37,7 +37,8 @@ is_sealed (SealedTomb n) = true
 abbrev pub word_at : List Word → ℕ → Word
 word_at words i = slice_index_or words i Unset
 
--- `same` says of two nodes whether they have one key: an equivalence, and nodes of one key have one hash
+-- `same` says of two nodes whether they have one key: an equivalence, and nodes of one key have one
+-- hash
 pub record NamesKeys (hash : ℕ → ℕ) (same : ℕ → ℕ → Bool) : Type 0 where
   pub itself : (n : ℕ) → same n n ≡ true
   pub either_way : (n m : ℕ) → same n m ≡ true → same m n ≡ true

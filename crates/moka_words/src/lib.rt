@@ -25,6 +25,3 @@ pub use layouts::{layout_has_all, layout_is_array, layout_is_filled};
 pub use probing::{first_free_is_reached, probe_comes_to_each};
 pub use rehash::RehashOp;
 pub use words::Word;
-
-#[cfg(test)]
-mod tests;

@@ -1,7 +1,7 @@
 use Rattle.std.proofs.Common.{sym, subst, nat_eq, rules}
 use Rattle.std.proofs.lemmas.Fn.{always_returns_same}
 use Rattle.moka_cht.specs.Buckets.{IsHashOf}
-use Rattle.moka_cht.proofs.tests.table.Table.get.Goals as goal
+use Rattle.moka_cases.proofs.buckets.table.Table.get.Goals as goal
 
 pub get-requires-clause-one : goal.get-requires-clause-one
 get-requires-clause-one c = (

@@ -1,10 +1,10 @@
 //! What no clause says: tables of texts and what they are read as, and printed lines.
 
-use crate::{Schedule, ScheduleError, read_schedule, write_report};
 use moka_hist::{
     Answer, Ask, Cause, Event, Notice, NoticeState, Place, Refusal, Reply, Rules, Start, Stored,
     Told,
 };
+use moka_text::{Schedule, ScheduleError, read_schedule, write_report};
 use std::alloc::Global;
 use std::test::Fail;
 

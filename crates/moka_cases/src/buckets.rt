@@ -3,9 +3,9 @@
 mod mirror;
 mod table;
 
-use crate::BucketArray;
-use crate::tests::mirror::Mirror;
-use crate::tests::table::{Table, told};
+use crate::buckets::mirror::Mirror;
+use crate::buckets::table::{Table, told};
+use moka_cht::BucketArray;
 use std::test::Fail;
 
 // The names of three keys.

@@ -1,6 +1,8 @@
 //! What no clause says: that calls succeed with ample memory, and where the list ends fail.
 
-use crate::{Failed, ListSink, ListSource, PlainSink, PlainSource, ReadError, read_all, write_all};
+use moka_ends::{
+    Failed, ListSink, ListSource, PlainSink, PlainSource, ReadError, read_all, write_all,
+};
 use std::test::Fail;
 
 #[test]

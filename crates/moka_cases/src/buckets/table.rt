@@ -2,7 +2,7 @@
 
 ghost use Rattle.std.specs.Prelude.{◌≡◌, ◌%◌, ◌<◌};
 
-use crate::{BucketArray, Insertion, KeyList};
+use moka_cht::{BucketArray, Insertion, KeyList};
 use std::alloc::{AllocError, Global};
 use std::marker::Model;
 

@@ -2,7 +2,7 @@
 
 ghost use Rattle.std.specs.Prelude.{◌<◌};
 
-use crate::tests::table::{Table, told};
+use crate::buckets::table::{Table, told};
 use std::alloc::{AllocError, Global};
 use std::collections::{HashMap, HashSet};
 

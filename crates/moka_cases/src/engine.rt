@@ -1,6 +1,6 @@
 //! Values from outside: the moments at which a time has just passed, and worked choices.
 
-use crate::{Known, choose, chosen_holds, remove_cause, upsert_cause, visible};
+use moka_engine::{Known, choose, chosen_holds, remove_cause, upsert_cause, visible};
 use moka_hist::{Cause, Rules, Times, later};
 use std::test::Fail;
 use std::time::Duration;

@@ -1,6 +1,6 @@
 //! Worked cases: who gets a lock, who waits, and who is handed out in which order.
 
-use crate::{CallList, Event, PolledMutex, PolledRwLock, WaitList};
+use moka_sync::{CallList, Event, PolledMutex, PolledRwLock, WaitList};
 use std::alloc::{AllocError, Global};
 use std::test::Fail;
 

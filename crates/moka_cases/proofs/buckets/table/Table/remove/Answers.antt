@@ -3,7 +3,7 @@ use borrow.Author.Tests.{eqb-true}
 use Rattle.std.proofs.lemmas.Fn.{always_returns_same}
 use Rattle.moka_cht.specs.Buckets.{IsHashOf}
 use Rattle.moka_cht.proofs.Following.{follows_removes_ok}
-use Rattle.moka_cht.proofs.tests.table.Table.remove.Goals as goal
+use Rattle.moka_cases.proofs.buckets.table.Table.remove.Goals as goal
 
 pub remove_if-requires-clause-one : goal.remove_if-requires-clause-one
 remove_if-requires-clause-one c = (

@@ -1,6 +1,6 @@
 //! Values from outside: where an array begins to be made anew, and how.
 
-use crate::RehashOp;
+use moka_words::RehashOp;
 use std::test::Fail;
 
 #[test]

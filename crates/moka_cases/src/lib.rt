@@ -1,0 +1,15 @@
+//! Worked cases of the lower crates: what no clause of them says.
+#![tactic(auto)]
+
+#[cfg(test)]
+mod buckets;
+#[cfg(test)]
+mod ends;
+#[cfg(test)]
+mod engine;
+#[cfg(test)]
+mod sync;
+#[cfg(test)]
+mod text;
+#[cfg(test)]
+mod words;
