@@ -54,7 +54,7 @@ impl<K: Drop, V: Drop> Calls<K, V> {
             ≡ put_at (place_at self.old) call (Some (Some running)) n }
     {
         match self.places.insert(call, Some(running)) {
-            Ok(_) => {}
+            Ok(before) => drop(before),
             Err(_) => unreachable!(),
         }
     }
@@ -79,7 +79,7 @@ impl<K: Drop, V: Drop> Calls<K, V> {
             ≡ put_at (place_at self.old) call (Some (Some running)) n }
     {
         match self.places.get_mut(&call) {
-            Some(place) => *place = Some(running),
+            Some(place) => drop(place.replace(running)),
             None => unreachable!(),
         }
     }
@@ -88,7 +88,7 @@ impl<K: Drop, V: Drop> Calls<K, V> {
     pub(crate) fn forget(&mut self, call: u64)
         ensures { (n : ℕ) → place_at self.new n ≡ put_at (place_at self.old) call None n }
     {
-        self.places.remove(&call);
+        drop(self.places.remove(&call));
     }
 
     /// Lists the numbers of the writes that running calls hold.

@@ -140,6 +140,7 @@ impl<K: Eq + Hash + Clone + Drop, V: Clone + Drop> Machine<K, V> {
             → MachineIs K.eq self.new (dropped s call (call_of flow)) }
     {
         let held = flow.held();
+        drop(flow);
         let _ = self.layers.desk.leave(call, held);
         self.end(call);
         Reply::Dropped
