@@ -9,6 +9,7 @@
 mod bare;
 mod calls;
 mod copies;
+mod departing;
 mod flow;
 mod goings;
 mod ground;

@@ -1,18 +1,14 @@
 //! How a flow goes on after its access.
-ghost use Rattle.std.specs.Prelude.{◌≡◌, true, false, [], ◌∷◌};
-ghost use Rattle.moka_hist.specs.Step.{next_of, access_of};
-ghost use Rattle.moka_hist.specs.Next.{goes};
-ghost use Rattle.moka_hist.specs.Plan as plan;
-ghost use Rattle.moka_init.specs.PointPlan.{is_copied, plan_at};
-ghost use Rattle.moka_init.specs.FlowPlan.{call_of, standing, next_in, is_begun, is_over};
+ghost use Rattle.std.specs.Prelude.{◌≡◌};
+ghost use Rattle.moka_hist.specs.Step.{next_of};
+ghost use Rattle.moka_init.specs.FlowPlan.{call_of, next_in, is_begun};
 ghost use Rattle.moka_init.specs.FlowPlan.{IsLive, IsReady, Leaves, GoesOn};
 ghost use Rattle.moka_init.specs.Forms.{HasForm};
 ghost use Rattle.moka_init.specs.Grounds.{access_at};
 
 use crate::flow::Flow;
-use crate::points::{Looking, Point, Removing, Writing};
+use crate::points::Point;
 use moka_hist::{Answer, Ask, Found, Got, Mode, TableTurn, Turn};
-use std::mem;
 
 impl<K: Drop, V: Drop> Flow<K, V> {
     /// Goes on with what the access gave that `want` told. It moves, and takes no memory.
@@ -28,15 +24,14 @@ impl<K: Drop, V: Drop> Flow<K, V> {
         ensures number { self.new.call ≡ self.old.call }
         ensures leaves { Leaves result self.new }
     {
-        let point = mem::replace(&mut self.point, Point::Spent);
         match got {
             Got::Table(turn) => {
                 self.begun = turn.is_going();
-                self.after_table(point, turn)
+                self.after_table(turn)
             }
             Got::Desk(found) => {
                 self.begun = false;
-                self.after_visit(point, found)
+                self.after_visit(found)
             }
         }
     }
@@ -81,50 +76,36 @@ impl<K: Drop, V: Drop> Flow<K, V> {
     }
 
     // After a step of a table operation.
-    fn after_table(&mut self, point: Point<K, V>, turn: TableTurn<K, V>) -> Turn<K, V>
-        requires form { HasForm (access_of self.old.call (standing self.old (plan_at point)))
-            (Got.Table turn) }
-        ensures { GoesOn self.old
-            (next_of self.old.call (standing self.old (plan_at point)) (Got.Table turn))
+    fn after_table(&mut self, turn: TableTurn<K, V>) -> Turn<K, V>
+        requires form { HasForm (access_at self.old) (Got.Table turn) }
+        ensures { GoesOn self.old (next_of self.old.call (call_of self.old) (Got.Table turn))
             result self.new }
     {
-        match point {
-            Point::Looking(Looking::Get(look)) => self.after_get(look, turn),
-            Point::Writing(Writing::Write { put, moment }) => self.after_write(put, moment, turn),
-            Point::Removing(Removing::Find(chosen)) => self.after_find(chosen, turn),
-            Point::Removing(Removing::Out(out)) => self.after_out(out, turn),
+        match &self.point {
+            Point::Looking(_) => self.looking_stepped(turn),
+            Point::Writing(_) => self.writing_stepped(turn),
+            Point::Removing(_) => self.removing_stepped(turn),
             _ => unreachable!(),
         }
     }
 
     // After a visit of the desk.
-    fn after_visit(&mut self, point: Point<K, V>, found: Found<V>) -> Turn<K, V>
-        requires live { is_over (plan_at point) ≡ false }
-        requires ready { is_copied point ≡ true }
-        requires form { HasForm (access_of self.old.call (standing self.old (plan_at point)))
-            (Got.Desk found) }
-        ensures { GoesOn self.old
-            (next_of self.old.call (standing self.old (plan_at point)) (Got.Desk found))
+    fn after_visit(&mut self, found: Found<V>) -> Turn<K, V>
+        requires live { IsLive self.old }
+        requires ready { IsReady self.old }
+        requires form { HasForm (access_at self.old) (Got.Desk found) }
+        ensures { GoesOn self.old (next_of self.old.call (call_of self.old) (Got.Desk found))
             result self.new }
     {
-        match point {
-            Point::Posting(posting) => self.after_posting(posting, found),
-            Point::Looking(looking) => self.after_looking(looking, found),
-            Point::Loading(loading) => self.after_loading(loading, found),
-            Point::Writing(writing) => self.after_writing(writing, found),
-            Point::Removing(removing) => self.after_removing(removing, found),
-            Point::Listening(listening) => self.after_listening(listening, found),
-            Point::Answering(answer) => self.answers_alone(answer),
+        match &self.point {
+            Point::Posting(_) => self.posting_visited(found),
+            Point::Looking(_) => self.looking_visited(found),
+            Point::Loading(_) => self.loading_visited(found),
+            Point::Writing(_) => self.writing_visited(found),
+            Point::Removing(_) => self.removing_visited(found),
+            Point::Listening(_) => self.listening_visited(found),
+            Point::Answering(_) => self.answering_visited(found),
             Point::Spent => unreachable!(),
         }
-    }
-
-    // The call's one step is its answer.
-    fn answers_alone(&mut self, answer: Answer<V>) -> Turn<K, V>
-        ensures { GoesOn self.old
-            (goes (standing self.old (plan_at self.old.point)) (plan.Reply answer ∷ []))
-            result self.new }
-    {
-        self.answers(answer)
     }
 }

@@ -1,0 +1,174 @@
+//! How a flow leaves the point where it stands, once its access was made. A point is moved out only
+//! where it is known which it is, so that no more is moved than that one holds.
+ghost use Rattle.std.specs.Prelude.{◌≡◌, [], ◌∷◌};
+ghost use Rattle.moka_hist.specs.Step.{next_of};
+ghost use Rattle.moka_hist.specs.Plan as plan;
+ghost use Rattle.moka_hist.specs.Next.{goes};
+ghost use Rattle.moka_init.specs.FlowPlan.{call_of, standing, GoesOn, IsReady};
+ghost use Rattle.moka_init.specs.PointPlan.{plan_at};
+ghost use Rattle.moka_init.specs.Forms.{HasForm};
+ghost use Rattle.moka_init.specs.Grounds.{access_at};
+
+use crate::flow::Flow;
+use crate::points::{Listening, Loading, Looking, Point, Posting, Removing, Writing};
+use moka_hist::{Answer, Found, Got, TableTurn, Turn};
+use std::mem;
+
+impl<K: Drop, V: Drop> Flow<K, V> {
+    ghost use Rattle.moka_hist.specs.declared.replies.Answer.{Answer};
+    ghost use Rattle.moka_init.specs.declared.points.Listening.{Listening};
+    ghost use Rattle.moka_init.specs.declared.points.Loading.{Loading};
+    ghost use Rattle.moka_init.specs.declared.points.Looking.{Looking};
+    ghost use Rattle.moka_init.specs.declared.points.Posting.{Posting};
+    ghost use Rattle.moka_init.specs.declared.points.Removing.{Removing};
+    ghost use Rattle.moka_init.specs.declared.points.Writing.{Writing};
+
+    // After a visit, where the call stands at its posting.
+    pub(crate) fn posting_visited(&mut self, found: Found<V>) -> Turn<K, V>
+        requires there { (posting : Posting K V) × (self.old.point ≡ Point.Posting posting) }
+        requires form { HasForm (access_at self.old) (Got.Desk found) }
+        ensures { GoesOn self.old (next_of self.old.call (call_of self.old) (Got.Desk found))
+            result self.new }
+    {
+        match self.point_out() {
+            Point::Posting(posting) => self.after_posting(posting, found),
+            _ => unreachable!(),
+        }
+    }
+
+    // After a visit, where the call stands at its looking.
+    pub(crate) fn looking_visited(&mut self, found: Found<V>) -> Turn<K, V>
+        requires there { (looking : Looking K V) × (self.old.point ≡ Point.Looking looking) }
+        requires form { HasForm (access_at self.old) (Got.Desk found) }
+        ensures { GoesOn self.old (next_of self.old.call (call_of self.old) (Got.Desk found))
+            result self.new }
+    {
+        match self.point_out() {
+            Point::Looking(looking) => self.after_looking(looking, found),
+            _ => unreachable!(),
+        }
+    }
+
+    // After a visit, where the call stands at its loading.
+    pub(crate) fn loading_visited(&mut self, found: Found<V>) -> Turn<K, V>
+        requires there { (loading : Loading K V) × (self.old.point ≡ Point.Loading loading) }
+        requires form { HasForm (access_at self.old) (Got.Desk found) }
+        ensures { GoesOn self.old (next_of self.old.call (call_of self.old) (Got.Desk found))
+            result self.new }
+    {
+        match self.point_out() {
+            Point::Loading(loading) => self.after_loading(loading, found),
+            _ => unreachable!(),
+        }
+    }
+
+    // After a visit, where the call stands at its writing.
+    pub(crate) fn writing_visited(&mut self, found: Found<V>) -> Turn<K, V>
+        requires there { (writing : Writing K V) × (self.old.point ≡ Point.Writing writing) }
+        requires form { HasForm (access_at self.old) (Got.Desk found) }
+        ensures { GoesOn self.old (next_of self.old.call (call_of self.old) (Got.Desk found))
+            result self.new }
+    {
+        match self.point_out() {
+            Point::Writing(writing) => self.after_writing(writing, found),
+            _ => unreachable!(),
+        }
+    }
+
+    // After a visit, where the call stands at its removing.
+    pub(crate) fn removing_visited(&mut self, found: Found<V>) -> Turn<K, V>
+        requires there { (removing : Removing K V) × (self.old.point ≡ Point.Removing removing) }
+        requires form { HasForm (access_at self.old) (Got.Desk found) }
+        ensures { GoesOn self.old (next_of self.old.call (call_of self.old) (Got.Desk found))
+            result self.new }
+    {
+        match self.point_out() {
+            Point::Removing(removing) => self.after_removing(removing, found),
+            _ => unreachable!(),
+        }
+    }
+
+    // After a visit, where the call stands at its listening.
+    pub(crate) fn listening_visited(&mut self, found: Found<V>) -> Turn<K, V>
+        requires there { (listening : Listening K V) × (self.old.point ≡ Point.Listening listening) }
+        requires ready { IsReady self.old }
+        requires form { HasForm (access_at self.old) (Got.Desk found) }
+        ensures { GoesOn self.old (next_of self.old.call (call_of self.old) (Got.Desk found))
+            result self.new }
+    {
+        match self.point_out() {
+            Point::Listening(listening) => self.after_listening(listening, found),
+            _ => unreachable!(),
+        }
+    }
+
+    // After its one visit, where the call only answers.
+    pub(crate) fn answering_visited(&mut self, found: Found<V>) -> Turn<K, V>
+        requires there { (answer : Answer V) × (self.old.point ≡ Point.Answering answer) }
+        requires form { HasForm (access_at self.old) (Got.Desk found) }
+        ensures { GoesOn self.old (next_of self.old.call (call_of self.old) (Got.Desk found))
+            result self.new }
+    {
+        match self.point_out() {
+            Point::Answering(answer) => self.answers_alone(answer),
+            _ => unreachable!(),
+        }
+    }
+
+    // The call's one step is its answer.
+    fn answers_alone(&mut self, answer: Answer<V>) -> Turn<K, V>
+        ensures { GoesOn self.old
+            (goes (standing self.old (plan_at self.old.point)) (plan.Reply answer ∷ []))
+            result self.new }
+    {
+        self.answers(answer)
+    }
+
+    // Moves the point out, and leaves nothing to do.
+    fn point_out(&mut self) -> Point<K, V>
+        ensures point { result ≡ self.old.point }
+        ensures flow { self.new ≡ record self.old { point = Point.Spent } }
+    {
+        mem::replace(&mut self.point, Point::Spent)
+    }
+
+    // After a step of a table operation, where the call stands at its looking.
+    pub(crate) fn looking_stepped(&mut self, turn: TableTurn<K, V>) -> Turn<K, V>
+        requires there { (looking : Looking K V) × (self.old.point ≡ Point.Looking looking) }
+        requires form { HasForm (access_at self.old) (Got.Table turn) }
+        ensures { GoesOn self.old (next_of self.old.call (call_of self.old) (Got.Table turn))
+            result self.new }
+    {
+        match self.point_out() {
+            Point::Looking(Looking::Get(look)) => self.after_get(look, turn),
+            _ => unreachable!(),
+        }
+    }
+
+    // After a step of a table operation, where the call stands at its writing.
+    pub(crate) fn writing_stepped(&mut self, turn: TableTurn<K, V>) -> Turn<K, V>
+        requires there { (writing : Writing K V) × (self.old.point ≡ Point.Writing writing) }
+        requires form { HasForm (access_at self.old) (Got.Table turn) }
+        ensures { GoesOn self.old (next_of self.old.call (call_of self.old) (Got.Table turn))
+            result self.new }
+    {
+        match self.point_out() {
+            Point::Writing(Writing::Write { put, moment }) => self.after_write(put, moment, turn),
+            _ => unreachable!(),
+        }
+    }
+
+    // After a step of a table operation, where the call stands at its removing.
+    pub(crate) fn removing_stepped(&mut self, turn: TableTurn<K, V>) -> Turn<K, V>
+        requires there { (removing : Removing K V) × (self.old.point ≡ Point.Removing removing) }
+        requires form { HasForm (access_at self.old) (Got.Table turn) }
+        ensures { GoesOn self.old (next_of self.old.call (call_of self.old) (Got.Table turn))
+            result self.new }
+    {
+        match self.point_out() {
+            Point::Removing(Removing::Find(chosen)) => self.after_find(chosen, turn),
+            Point::Removing(Removing::Out(out)) => self.after_out(out, turn),
+            _ => unreachable!(),
+        }
+    }
+}
