@@ -7,6 +7,8 @@ use borrow.Author.Tests.{eqb-true}
 use Rattle.std.proofs.lemmas.Bool.Decides.{nat_tests}
 use Rattle.moka_hist.specs.Finite.{times}
 use Rattle.moka_sync.specs.declared.places.Place.{Place}
+use Rattle.moka_sync.specs.declared.tickets.Held.{Held}
+use Rattle.moka_sync.specs.Tickets.{held_or, count_of}
 use Rattle.moka_sync.specs.Waiting.{Waiting, waits, AreOnce, without}
 use Rattle.moka_sync.specs.Standing.{is_standing, standing_places, standing, places_of, AreBelow, AreKept}
 
@@ -208,6 +210,13 @@ pub length-none : (entries : List (ℕ × ℕ)) → ((q : ℕ) → lookup (nat_e
 length-none [] none = refl
 length-none ((k, v) ∷ entries) none =
     let found : Some v ≡ None = (rw (eq-eqb k k refl) at (none k)) in
+    cc
+
+-- tickets of which no call has one are none
+pub len-none : (first : Option Held) (entries : List (ℕ × ℕ)) → ((q : ℕ) → held_or first q (lookup (nat_eq q) entries) ≡ None) → length entries + count_of first ≡ 0
+len-none None entries none = omega (arith, length-none entries none)
+len-none (Some held) entries none =
+    let found : Some held.ticket ≡ None = (rw (eq-eqb held.call held.call refl) at (none held.call)) in
     cc
 
 -- nothing is kept of no places, where no call has a ticket

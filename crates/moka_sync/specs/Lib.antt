@@ -4,3 +4,4 @@ pub mod CallsLeft
 pub mod WaitView
 pub mod Holders
 pub mod OnePlace
+pub mod Tickets

@@ -1,10 +1,11 @@
 //! Calls that are handed out, to be woken.
 
-ghost use Rattle.std.specs.Prelude.{◌≡◌, ◌↔◌, IsTrue, length, map, ◌++◌, slice_get};
+ghost use Rattle.std.specs.Prelude.{◌≡◌, ◌↔◌, IsTrue, length, map, [], ◌++◌, slice_get};
 ghost use Rattle.std.specs.Iterator.{YieldsFirst, item_count};
 ghost use Rattle.moka_sync.specs.CallsLeft.{calls_left};
 
 use crate::places::Place;
+use std::alloc::Global;
 use std::collections::LinkedList;
 use std::collections::linked_list::Iter;
 use std::marker::Model;
@@ -25,6 +26,16 @@ impl Model for CallList {
 }
 
 impl CallList {
+    /// Makes the list of no calls. It takes no memory.
+    pub fn new(alloc: Global) -> CallList
+        ensures { result ≡ [] }
+    {
+        CallList {
+            places: LinkedList::new(alloc),
+            more: LinkedList::new(alloc),
+        }
+    }
+
     /// Makes the list of the calls of both, those of the first places first.
     pub(crate) fn from_places(places: LinkedList<Place>, more: LinkedList<Place>) -> CallList
         ensures { result ≡ map (λ p. p.call) (places ++ more) }

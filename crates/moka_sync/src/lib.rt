@@ -6,6 +6,7 @@ mod event;
 mod mutex;
 mod places;
 mod rw_lock;
+mod tickets;
 mod wait_list;
 mod wait_place;
 

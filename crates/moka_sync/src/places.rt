@@ -1,12 +1,13 @@
 //! The places of a wait list, in a chain of nodes that move without memory.
 
-ghost use Rattle.std.specs.Prelude.{◌≡◌, ℕ, ◌+◌, ◌<◌, ◌≤◌, ◌^◌, if◌then◌else◌, map, [], ◌∷◌, ◌++◌, length, take, drop, nat_eq};
-ghost use Rattle.std.specs.HashMap.{get, hash_map_len, spare};
+ghost use Rattle.std.specs.Prelude.{◌≡◌, ℕ, ◌+◌, ◌<◌, ◌≤◌, ◌^◌, if◌then◌else◌, map, [], ◌∷◌, ◌++◌, length, take, drop};
 ghost use Rattle.moka_sync.specs.Standing.{is_standing, standing_places, AreBelow};
+ghost use Rattle.moka_sync.specs.Tickets.{ticket_of, tickets_room};
 ghost use Rattle.moka_sync.specs.Waiting.{waits};
 
+use crate::tickets::Tickets;
 use std::alloc::Global;
-use std::collections::{HashMap, LinkedList};
+use std::collections::LinkedList;
 use std::mem;
 
 /// A place of a call. It stands as long as the call's ticket is the one of the place.
@@ -47,18 +48,18 @@ pub(crate) fn seat(spare: &mut LinkedList<Place>, places: &mut LinkedList<Place>
 }
 
 /// Answers whether the place stands.
-pub(crate) fn stands(tickets: &HashMap<u64, u64>, place: &Place) -> bool
-    ensures { result ≡ is_standing (get nat_eq tickets.now) place.now }
+pub(crate) fn stands(tickets: &Tickets, place: &Place) -> bool
+    ensures { result ≡ is_standing (ticket_of tickets.now) place.now }
 {
-    match tickets.get(&place.call) {
-        Some(ticket) => *ticket == place.ticket,
+    match tickets.get(place.call) {
+        Some(ticket) => ticket == place.ticket,
         None => false,
     }
 }
 
 /// Drops the places that do not stand.
-pub(crate) fn sweep(alloc: Global, tickets: &HashMap<u64, u64>, places: &mut LinkedList<Place>)
-    ensures { places.new ≡ standing_places (get nat_eq tickets.now) places.old }
+pub(crate) fn sweep(alloc: Global, tickets: &Tickets, places: &mut LinkedList<Place>)
+    ensures { places.new ≡ standing_places (ticket_of tickets.now) places.old }
 {
     let mut kept = LinkedList::new(alloc);
     let count = places.len();
@@ -72,11 +73,11 @@ pub(crate) fn sweep(alloc: Global, tickets: &HashMap<u64, u64>, places: &mut Lin
 /// Drops the places that do not stand, where they are more than those that do.
 pub(crate) fn sweep_stale(
     alloc: Global,
-    tickets: &HashMap<u64, u64>,
+    tickets: &Tickets,
     places: &mut LinkedList<Place>,
 )
-    ensures same { standing_places (get nat_eq tickets.now) places.new
-        ≡ standing_places (get nat_eq tickets.now) places.old }
+    ensures same { standing_places (ticket_of tickets.now) places.new
+        ≡ standing_places (ticket_of tickets.now) places.old }
     ensures below { (next : ℕ) → AreBelow next places.old → AreBelow next places.new }
     ensures short { length places.new ≤ length places.old }
 {
@@ -85,39 +86,26 @@ pub(crate) fn sweep_stale(
     }
 }
 
-/// Gives the call, which has none, this ticket, in the room that the map has.
-pub(crate) fn give_ticket(tickets: &mut HashMap<u64, u64>, call: u64, ticket: u64)
-    requires room { 0 < spare tickets.old }
-    requires free { get nat_eq tickets.old call ≡ None }
-    ensures given { (q : ℕ) → get nat_eq tickets.new q
-        ≡ (if nat_eq call q then Some ticket else get nat_eq tickets.old q) }
-    ensures count { hash_map_len tickets.new ≡ hash_map_len tickets.old + 1 }
-    ensures spare { spare tickets.old ≤ spare tickets.new + 1 }
-{
-    let given: Result<_, _> = tickets.insert(call, ticket);
-    given.unwrap();
-}
-
 /// Takes the tickets of all calls that have a place.
-pub(crate) fn forget(tickets: &mut HashMap<u64, u64>, places: &LinkedList<Place>)
-    ensures gone { (call : ℕ) → get nat_eq tickets.new call
-        ≡ (if waits call (map (λ p. p.call) places.now) then None else get nat_eq tickets.old call) }
-    ensures spare { spare tickets.old ≤ spare tickets.new }
+pub(crate) fn forget(tickets: &mut Tickets, places: &LinkedList<Place>)
+    ensures gone { (call : ℕ) → ticket_of tickets.new call
+        ≡ (if waits call (map (λ p. p.call) places.now) then None else ticket_of tickets.old call) }
+    ensures room { tickets_room tickets.old ≤ tickets_room tickets.new }
 {
     for place in places.iter() {
-        tickets.remove(&place.call);
+        tickets.remove(place.call);
     }
 }
 
 /// Puts the one node at the end of what is kept, where its place stands.
 fn keep_standing(
-    tickets: &HashMap<u64, u64>,
+    tickets: &Tickets,
     mut node: LinkedList<Place>,
     kept: &mut LinkedList<Place>,
 )
     requires one { length node ≡ 1 }
     requires fits { length kept.old + 1 < 2 ^ 63 }
-    ensures { kept.new ≡ kept.old ++ standing_places (get nat_eq tickets.now) node }
+    ensures { kept.new ≡ kept.old ++ standing_places (ticket_of tickets.now) node }
 {
     let standing = match node.front() {
         Some(place) => stands(tickets, place),

@@ -4,9 +4,10 @@ ghost use Rattle.std.specs.Prelude.{◌≡◌, ◌+◌, ◌-◌, ◌<◌, ◌↔
 ghost use Rattle.moka_sync.specs.Waiting.{Waiting, waits, IsListed, AreOnce, without};
 
 use crate::CallList;
-use crate::places::{NOBODY, Place, forget, give_ticket, seat, sweep, sweep_stale};
+use crate::places::{NOBODY, Place, forget, seat, sweep, sweep_stale};
+use crate::tickets::Tickets;
 use std::alloc::{AllocError, Global};
-use std::collections::{HashMap, LinkedList};
+use std::collections::LinkedList;
 use std::marker::Model;
 use std::mem;
 
@@ -20,7 +21,7 @@ pub struct WaitList {
     alloc: Global,
     places: LinkedList<Place>,
     spare: LinkedList<Place>,
-    tickets: HashMap<u64, u64>,
+    tickets: Tickets,
     next: u64,
 }
 
@@ -46,7 +47,7 @@ impl WaitList {
             alloc,
             places: LinkedList::new(alloc),
             spare: LinkedList::new(alloc),
-            tickets: HashMap::new(alloc),
+            tickets: Tickets::new(alloc),
             next: 0,
         }
     }
@@ -70,7 +71,7 @@ impl WaitList {
     pub fn contains(&self, call: u64) -> bool
         ensures { result ≡ waits call self.now.calls }
     {
-        self.tickets.contains_key(&call)
+        self.tickets.get(call).is_some()
     }
 
     /// Takes memory for `additional` further waiters, so that `add_reserved` can list them.
@@ -106,7 +107,7 @@ impl WaitList {
             return;
         }
         let ticket = self.next;
-        give_ticket(&mut self.tickets, call, ticket);
+        self.tickets.give(call, ticket);
         self.next = ticket + 1;
         seat(&mut self.spare, &mut self.places, Place { call, ticket });
     }
@@ -131,7 +132,7 @@ impl WaitList {
     pub fn remove(&mut self, call: u64)
         ensures { self.new ≡ record self.old { calls = without call self.old.calls } }
     {
-        self.tickets.remove(&call);
+        self.tickets.remove(call);
         sweep_stale(self.alloc, &self.tickets, &mut self.places);
     }
 

@@ -1,6 +1,6 @@
 -- One more call has no ticket any more.
-use Rattle.std.proofs.Common.{map, nat_eq, arith, ◌∷◌, []}
-use Rattle.std.specs.HashMap.{get}
+use Rattle.std.proofs.Common.{map, arith, ◌∷◌, []}
+use Rattle.moka_sync.specs.Tickets.{ticket_of}
 use Rattle.std.proofs.lemmas.List.{map-append}
 use Rattle.std.specs.Borrow.{Bor}
 use Rattle.moka_sync.specs.declared.places.Place.{Place}
@@ -13,7 +13,7 @@ loop-place-preserved c =
     record {
       gone = λ q.
           rw (map-append call c.loop-place.yielded (c.in-Some.place ∷ []))
-          (gone-more (get nat_eq c.args.tickets.now) (get nat_eq c.loop-place.tickets) (get nat_eq c.remove.new.self) (map call c.loop-place.yielded) c.in-Some.place.now.call q
-          (c.remove.ensures.updates.0 q) (c.loop-place.invariant.gone q));
+          (gone-more (ticket_of c.args.tickets.now) (ticket_of c.loop-place.tickets) (ticket_of c.remove.new.self) (map call c.loop-place.yielded) c.in-Some.place.now.call q
+          (c.remove.ensures.lost q) (c.loop-place.invariant.gone q));
       spare = omega arith;
     }

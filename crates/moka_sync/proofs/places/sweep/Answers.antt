@@ -1,6 +1,6 @@
 -- One more place is kept where it stands.
-use Rattle.std.proofs.Common.{◌≡◌, ◌+◌, take, drop, nat_eq, sym, arith, rules, length-take}
-use Rattle.std.specs.HashMap.{get}
+use Rattle.std.proofs.Common.{◌≡◌, ◌+◌, take, drop, sym, arith, rules, length-take}
+use Rattle.moka_sync.specs.Tickets.{ticket_of}
 use Rattle.std.proofs.lemmas.List.{drop-drop}
 use Rattle.std.proofs.Math.Seq.{take-add}
 use Rattle.moka_sync.specs.Standing.{standing_places}
@@ -9,7 +9,7 @@ use Rattle.moka_sync.proofs.places.sweep.Goals as goal
 
 pub loop-preserved : goal.loop-preserved
 loop-preserved c =
-    let f = get nat_eq c.args.tickets.now in
+    let f = ticket_of c.args.tickets.now in
     let xs = c.args.places.now in
     let i = c.loop.counter in
     let kept : c.keep_standing.new.kept ≡ standing_places f (take (i + 1) xs) =

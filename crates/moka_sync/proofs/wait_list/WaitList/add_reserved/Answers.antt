@@ -1,6 +1,6 @@
 -- The call gets the next ticket and the first spare node.
-use Rattle.std.proofs.Common.{◌≡◌, ◌∙◌, ◌++◌, ◌∷◌, [], ◌-◌, ℕ, None, length, sym, ap, nat_eq, arith, length-append, length-drop, Bool, false}
-use Rattle.std.specs.HashMap.{get}
+use Rattle.std.proofs.Common.{◌≡◌, ◌∙◌, ◌++◌, ◌∷◌, [], ◌-◌, ℕ, None, length, sym, ap, arith, length-append, length-drop, Bool, false}
+use Rattle.moka_sync.specs.Tickets.{ticket_of}
 use Rattle.moka_sync.specs.Waiting.{Waiting, waits}
 use Rattle.moka_sync.specs.WaitView.{view_of, IsWaitList}
 use Rattle.moka_sync.specs.declared.wait_list.WaitList.TheInside.{Inside}
@@ -9,12 +9,12 @@ use Rattle.moka_sync.proofs.Stands.{no-ticket, AreKept-list, AreKept-listed, Wai
 use Rattle.moka_sync.proofs.wait_list.WaitList.add_reserved.Goals as goal
 
 -- a call that does not wait has no ticket
-free : (w : Inside) (v : Waiting) (call : ℕ) (answer : Bool) → view_of w ≡ v → IsWaitList w → answer ≡ waits call v.calls → answer ≡ false → get nat_eq w.tickets call ≡ None
+free : (w : Inside) (v : Waiting) (call : ℕ) (answer : Bool) → view_of w ≡ v → IsWaitList w → answer ≡ waits call v.calls → answer ≡ false → ticket_of w.tickets call ≡ None
 free w v call answer is inv waiting absent =
-    no-ticket (get nat_eq w.tickets) w.places w.next call inv.kept (ap (λ (u : Waiting). waits call u.calls) is ∙ sym waiting ∙ absent)
+    no-ticket (ticket_of w.tickets) w.places w.next call inv.kept (ap (λ (u : Waiting). waits call u.calls) is ∙ sym waiting ∙ absent)
 
-pub give_ticket-requires : goal.give_ticket-requires
-give_ticket-requires c =
+pub give-requires : goal.give-requires
+give-requires c =
     let room : length c.self.inside.spare ≡ c.args.self.now.room = ap (λ (v : Waiting). v.room) c.self.view_is in
     record {
       room = omega arith;
@@ -24,13 +24,13 @@ give_ticket-requires c =
 pub invariant_of-self : goal.invariant_of-self
 invariant_of-self c =
     let w = c.self.inside in
-    let f = get nat_eq w.tickets in
-    let g = get nat_eq c.give_ticket.new.tickets in
+    let f = ticket_of w.tickets in
+    let g = ticket_of c.give.new.self in
     let none = free w c.args.self.now c.args.call c.contains.result c.self.view_is c.self.invariant c.contains.ensures c.if-contains.false in
     let room : length w.spare ≡ c.args.self.now.room = ap (λ (v : Waiting). v.room) c.self.view_is in
-    let listed = AreKept-listed f g w.places c.args.call w.next none c.give_ticket.ensures.given c.self.invariant.kept in
+    let listed = AreKept-listed f g w.places c.args.call w.next none c.give.ensures.given c.self.invariant.kept in
     record {
-      kept = rw c.seat.ensures.places (AreKept-list f g w.places c.args.call w.next none c.give_ticket.ensures.given c.self.invariant.kept);
+      kept = rw c.seat.ensures.places (AreKept-list f g w.places c.args.call w.next none c.give.ensures.given c.self.invariant.kept);
       count = rw (c.seat.ensures.places, listed, length-append) (omega arith);
       map_room = rw (c.seat.ensures.spare, length-drop) (omega arith);
       tickets_left = rw (c.seat.ensures.spare, length-drop) (omega arith);
@@ -40,11 +40,11 @@ invariant_of-self c =
 pub returns-clause-first : goal.returns-clause-first
 returns-clause-first c =
     let w = c.self.inside in
-    let f = get nat_eq w.tickets in
-    let g = get nat_eq c.give_ticket.new.tickets in
+    let f = ticket_of w.tickets in
+    let g = ticket_of c.give.new.self in
     let calls : standing f w.places ≡ c.args.self.now.calls = ap (λ (v : Waiting). v.calls) c.self.view_is in
     let none = free w c.args.self.now c.args.call c.contains.result c.self.view_is c.self.invariant c.contains.ensures c.if-contains.false in
-    let listed = AreKept-listed f g w.places c.args.call w.next none c.give_ticket.ensures.given c.self.invariant.kept in
+    let listed = AreKept-listed f g w.places c.args.call w.next none c.give.ensures.given c.self.invariant.kept in
     let room : length w.spare ≡ c.args.self.now.room = ap (λ (v : Waiting). v.room) c.self.view_is in
     let more : standing g c.seat.new.places ≡ c.args.self.now.calls ++ c.args.call ∷ [] =
     rw (c.seat.ensures.places, listed) (ap (λ xs. xs ++ c.args.call ∷ []) calls) in
