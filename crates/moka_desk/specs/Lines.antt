@@ -4,9 +4,13 @@ use Rattle.std.specs.Option.{option_map_or}
 use Rattle.std.specs.HashMap.{HashMap, get}
 use Rattle.moka_sync.specs.Waiting.{Waiting, waits}
 
+-- those that wait on the list, if there is one
+abbrev pub calls_in : Option Waiting → List ℕ
+calls_in list = option_map_or (λ l. l.calls) list []
+
 -- those that wait on the list of this number, if there is one
 abbrev pub line_at : {S : Type 0} → HashMap ℕ Waiting S → ℕ → List ℕ
-line_at lists number = option_map_or (λ l. l.calls) (get nat_eq lists number) []
+line_at lists number = calls_in (get nat_eq lists number)
 
 -- the place is on the list of this number
 abbrev pub is_at : Option ℕ → ℕ → Bool

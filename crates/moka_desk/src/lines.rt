@@ -1,12 +1,12 @@
 //! The calls that wait for the things of others, thing by thing.
 
-ghost use Rattle.std.specs.Prelude.{◌≡◌, ℕ, ◌==◌, true, false, cond, Some, [], nat_eq, OnOk, OnErr};
+ghost use Rattle.std.specs.Prelude.{◌≡◌, ℕ, ◌==◌, true, false, cond, Some, [], ◌++◌, nat_eq, OnOk, OnErr};
 ghost use Rattle.std.specs.HashMap.{get};
 ghost use Rattle.moka_sync.specs.Waiting.{waits, without};
-ghost use Rattle.moka_desk.specs.Lines.{is_at, line_at, with_call};
+ghost use Rattle.moka_desk.specs.Lines.{calls_in, is_at, line_at, with_call};
 
 use crate::maps::put;
-use moka_sync::WaitList;
+use moka_sync::{CallList, WaitList};
 use std::alloc::{AllocError, Global};
 use std::collections::HashMap;
 
@@ -15,7 +15,7 @@ use std::collections::HashMap;
 /// listing on until its next visit, also once it was handed out: it is woken then.
 #[derive(Drop)]
 pub(crate) struct Lines {
-    alloc: Global,
+    pub(crate) alloc: Global,
     pub(crate) lists: HashMap<u64, WaitList>,
     pub(crate) places: HashMap<u64, u64>,
     ghost placed: { (number call : ℕ) → waits call (line_at lists number) ≡ true
@@ -68,18 +68,28 @@ impl Lines {
         }
     }
 
-    /// Takes the list of those that wait for the thing of this number, which has come.
-    pub(crate) fn take(&mut self, number: u64) -> WaitList
-        ensures all { result.calls ≡ line_at self.old.lists number }
+    /// Takes the list of those that wait for the thing of this number, which has come; None where
+    /// nobody ever waited for it.
+    pub(crate) fn take(&mut self, number: u64) -> Option<WaitList>
+        ensures all { calls_in result ≡ line_at self.old.lists number }
         ensures none { (n : ℕ) → line_at self.new.lists n ≡
             cond (number == n) [] (line_at self.old.lists n) }
         ensures woken { (c : ℕ) → is_out self.new c
             ≡ and_calls (line_at self.old.lists number) (is_out self.old) c }
     {
-        match self.lists.remove(&number) {
-            Some(list) => list,
-            None => WaitList::new(self.alloc),
-        }
+        self.lists.remove(&number)
+    }
+
+    /// Hands out those that wait for the thing of this number, which has come.
+    pub(crate) fn hand_out(&mut self, number: u64) -> CallList
+        ensures all { result ≡ line_at self.old.lists number }
+        ensures none { (n : ℕ) → line_at self.new.lists n ≡
+            cond (number == n) [] (line_at self.old.lists n) }
+        ensures woken { (c : ℕ) → is_out self.new c
+            ≡ and_calls (line_at self.old.lists number) (is_out self.old) c }
+    {
+        let list = self.take(number);
+        hand_all(self.alloc, list)
     }
 
     /// Whether the call was handed out and has not come back since.
@@ -93,6 +103,40 @@ impl Lines {
             Some(list) => !list.contains(call),
             None => true,
         }
+    }
+}
+
+/// Hands out those on the list, if there is one.
+fn hand_all(alloc: Global, list: Option<WaitList>) -> CallList
+    ensures { result ≡ calls_in list }
+{
+    match list {
+        Some(mut list) => list.take_all(),
+        None => CallList::new(alloc),
+    }
+}
+
+/// Hands out those on the first list, and then those on the second, where there are such lists.
+pub(crate) fn hand_both(
+    alloc: Global,
+    first: Option<WaitList>,
+    second: Option<WaitList>,
+) -> CallList
+    ensures { result ≡ calls_in first ++ calls_in second }
+{
+    match first {
+        Some(first) => hand_with(first, second),
+        None => hand_all(alloc, second),
+    }
+}
+
+// Hands out those on the first list, and then those on the second, if there is one.
+fn hand_with(mut first: WaitList, second: Option<WaitList>) -> CallList
+    ensures { result ≡ first.calls ++ calls_in second }
+{
+    match second {
+        Some(second) => first.take_both(second),
+        None => first.take_all(),
     }
 }
 

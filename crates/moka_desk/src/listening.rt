@@ -70,7 +70,7 @@ impl<K: Eq + Hash + Clone + Drop, V: Drop> Desk<K, V> {
     {
         self.writes.conclude(call, wrote);
         self.locks.free(call);
-        self.waits.locks.take(call).take_all()
+        self.waits.locks.hand_out(call)
     }
 
     /// Opens the notice of the call's number, which has none yet, for a record that its write took
@@ -149,7 +149,7 @@ impl<K: Eq + Hash + Clone + Drop, V: Drop> Desk<K, V> {
         ensures misses { MissWith K.eq self.old (λ w. heard w notice off) self.new }
     {
         self.notices.end(notice, off);
-        self.waits.notices.take(notice).take_all()
+        self.waits.notices.hand_out(notice)
     }
 
     /// Why the record of this stamp, last written at the moment `modified`, leaves now: for the

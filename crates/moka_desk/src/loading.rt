@@ -89,7 +89,7 @@ impl<K: Eq + Hash + Clone + Drop, V: Drop> Desk<K, V> {
         ensures misses { MissAfter K.eq self.old (visit.Settle call with) self.new }
     {
         self.loads.settle(call, with);
-        self.waits.settlements.take(call).take_all()
+        self.waits.settlements.hand_out(call)
     }
 
     /// Opens the call's ask, with the place of its answer. The call has no other one.
@@ -145,7 +145,7 @@ impl<K: Eq + Hash + Clone + Drop, V: Drop> Desk<K, V> {
             return None;
         }
         self.notices.end(number, off);
-        Some(self.waits.notices.take(number).take_all())
+        Some(self.waits.notices.hand_out(number))
     }
 
     /// Takes what the call was told, if its ask is closed.

@@ -5,7 +5,7 @@ ghost use Rattle.moka_sync.specs.Waiting.{without};
 ghost use Rattle.moka_desk.specs.Lines.{line_at};
 ghost use Rattle.moka_desk.specs.Woken.{all_but, and_calls, is_out};
 
-use crate::lines::Lines;
+use crate::lines::{Lines, hand_both};
 use moka_sync::CallList;
 use std::alloc::Global;
 
@@ -67,7 +67,7 @@ impl Waits {
         self.notices.leave(call);
         let load = self.settlements.take(call);
         let lock = self.locks.take(call);
-        load.take_both(lock)
+        hand_both(self.locks.alloc, load, lock)
     }
 
     /// Whether the call was handed out and has not come back since.

@@ -14,7 +14,7 @@ fn a_call_is_woken_until_it_comes_back(rt: HostRuntime) -> Result<(), Fail> {
         lines.wait(1, call)?;
         assert!(rt; !lines.is_woken(call));
     }
-    assert_eq!(rt; lines.take(1).take_all().len(), 2);
+    assert_eq!(rt; lines.hand_out(1).len(), 2);
     assert!(rt; lines.is_woken(2));
     assert!(rt; lines.is_woken(3));
     lines.leave(2);

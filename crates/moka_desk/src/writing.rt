@@ -169,6 +169,6 @@ impl<K: Eq + Hash + Clone + Drop, V: Drop> Desk<K, V> {
     {
         self.published = self.writes.applied.standing();
         self.turn = None;
-        self.waits.turns.take(call).take_all()
+        self.waits.turns.hand_out(call)
     }
 }
