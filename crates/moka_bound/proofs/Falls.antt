@@ -3,16 +3,16 @@ use Rattle.std.proofs.Common.{◌≡◌, ◌≢◌, ℕ, suc, ◌+◌, ◌<◌, 
 use Rattle.std.proofs.lemmas.List.{length-append}
 use Rattle.std.proofs.lemmas.Bool.Decides.{nat_tests}
 use Rattle.moka_hist.specs.State.{Call, DeskPart, World}
-use Rattle.moka_hist.specs.Plan.{Item, Aim, Change, Removal, look, loaded, load_rest, told_on, put, under_lock, is_disabled}
+use Rattle.moka_hist.specs.Plan.{Item, Aim, Change, Removal, look, loaded, load_rest, end_load, put, under_lock, is_disabled}
 use Rattle.moka_hist.specs.Plan as plan
 use Rattle.moka_hist.specs.Next.{Next, goes, stays, waits, asks, answers}
-use Rattle.moka_hist.specs.Visits.{claimed, unlocked, is_running, is_unlocked_for, locked_by, settlement_for, is_free_for, finds, claim_of, has_room}
+use Rattle.moka_hist.specs.Visits.{claimed, unlocked, is_running, is_unlocked_for, locked_by, settlement_for, is_free_for, finds, claim_of, has_room, is_seen}
 use Rattle.moka_hist.specs.Posting.{once_ended, after_drain, after_post, after_turn, after_apply}
-use Rattle.moka_hist.specs.Looking.{hits, misses, keeps, kept_rest, chosen_or_not, finds_pair, after_get, after_holds}
+use Rattle.moka_hist.specs.Looking.{hits, misses, keeps, kept_rest, chosen_or_not, finds_pair, after_get, after_judge, after_holds}
 use Rattle.moka_hist.specs.Loading.{retries, owner_rest, after_own, after_read, after_told}
 use Rattle.moka_hist.specs.Writing.{old_stamp, once_told, changes, nothing_rest, removed_rest, after_out}
 use Rattle.moka_hist.specs.Listening.{after_lock, after_hearing, after_notice}
-use Rattle.moka_hist.specs.Step.{Gets, access_of, access_for, next_of, after_table, after_visit, going_as}
+use Rattle.moka_hist.specs.Step.{Gets, access_of, access_for, replace_of, next_of, after_table, after_visit, going_as}
 use Rattle.moka_hist.specs.declared.records.Mode.{Mode}
 use Rattle.moka_hist.specs.declared.records.Stored.{Stored}
 use Rattle.moka_hist.specs.declared.rules.Cause.{Cause}
@@ -20,6 +20,7 @@ use Rattle.moka_hist.specs.declared.rules.Rules.{Rules}
 use Rattle.moka_hist.specs.declared.writes.Owed.{Owed}
 use Rattle.moka_hist.specs.declared.records.Mode.TheVariants as mode
 use Rattle.moka_hist.specs.declared.loads.Load.{Load}
+use Rattle.moka_hist.specs.declared.loads.Sought.{Sought}
 use Rattle.moka_hist.specs.declared.events.Told.{Told}
 use Rattle.moka_hist.specs.declared.events.Told.TheVariants as told
 use Rattle.moka_hist.specs.declared.writes.Write.{Write}
@@ -67,18 +68,18 @@ some_left k = grind (arith, nat_tests)
 some_room : (size : ℕ) → 0 < size → nat_lt 0 size ≡ true
 some_room size h = grind (arith, nat_tests)
 
-module _ {K V : Type 0} where
+module _ {K V E : Type 0} where
   -- the call, if it goes on, has fewer steps ahead than so many
-  abbrev Falls : Work → ℕ → Next K V → Type 0
-  Falls new bound next = next.turn ≡ turn.Going → (d : Call K V) × (next ≡ going_as d) × (ahead new d < bound)
+  abbrev Falls : Work → ℕ → Next K V E → Type 0
+  Falls new bound next = next.turn ≡ turn.Going → (d : Call K V E) × (next ≡ going_as d) × (ahead new d < bound)
 
-  never : (new : Work) (bound : ℕ) (next : Next K V) → next.turn ≢ turn.Going → Falls new bound next
+  never : (new : Work) (bound : ℕ) (next : Next K V E) → next.turn ≢ turn.Going → Falls new bound next
   never new bound next h e = absurd (h e)
 
-  falls_on : (new : Work) (bound : ℕ) (c : Call K V) → ahead new c < bound → Falls new bound (record { left = Some c; turn = turn.Going })
+  falls_on : (new : Work) (bound : ℕ) (c : Call K V E) → ahead new c < bound → Falls new bound (record { left = Some c; turn = turn.Going })
   falls_on new bound c h e = (c, refl, h)
 
-  falls_goes : (new : Work) (bound : ℕ) (c : Call K V) (rest : List (Item K V)) →
+  falls_goes : (new : Work) (bound : ℕ) (c : Call K V E) (rest : List (Item K V E)) →
       new.logged + steps_of new.owed new.most c.aborts (room_in new) new.left rest < bound → Falls new bound (goes c rest)
   falls_goes new bound c [] h = falls_on new bound (record c { mode = mode.Mid; plan = [] }) h
   falls_goes new bound c (plan.Reply a ∷ []) h = never new bound (answers a) (λ e. cc)
@@ -86,12 +87,12 @@ module _ {K V : Type 0} where
   falls_goes new bound c (item ∷ rest) h = falls_on new bound (record c { mode = mode.Mid; plan = item ∷ rest }) h
 
   -- the plan takes no more steps than before, with this room in the log
-  eased : (old new : Work) (aborts : ℕ) (room : Bool) (p : List (Item K V)) → Eases old new → post_steps (room_in new) ≤ post_steps room →
+  eased : (old new : Work) (aborts : ℕ) (room : Bool) (p : List (Item K V E)) → Eases old new → post_steps (room_in new) ≤ post_steps room →
       steps_of new.owed new.most aborts (room_in new) new.left p ≤ steps_of old.owed old.most aborts room old.most p
   eased old new aborts room p e r = more p new.owed old.owed new.most old.most aborts new.left old.most (room_in new) room e.owed e.most (omega (arith, e.most, e.within)) r
 
   -- where nothing has changed, the call goes on with a plan that takes fewer steps
-  same_falls : (old new : Work) (bound : ℕ) (c : Call K V) (rest : List (Item K V)) → Same old new →
+  same_falls : (old new : Work) (bound : ℕ) (c : Call K V E) (rest : List (Item K V E)) → Same old new →
       old.logged + steps_of old.owed old.most c.aborts (room_in old) old.most rest < bound → Falls new bound (goes c rest)
   same_falls old new bound c rest s h =
       let e = eased old new c.aborts (room_in old) rest s.eases (same_rooms old new s) in
@@ -99,17 +100,17 @@ module _ {K V : Type 0} where
 
   -- ---- the items that may leave the call going
 
-  module _ (old new : Work) (c : Call K V) (young : c.aborts < retries) where
+  module _ (old new : Work) (c : Call K V E) (young : c.aborts < retries) where
     -- what a plan takes, where the call stands at its first item
-    abbrev bound_of : List (Item K V) → ℕ
+    abbrev bound_of : List (Item K V E) → ℕ
     bound_of p = old.logged + steps_of old.owed old.most c.aborts (room_in old) old.left p
 
-    drains : (rest : List (Item K V)) → Same old new → Falls new (bound_of (plan.Drain ∷ rest)) (goes c rest)
+    drains : (rest : List (Item K V E)) → Same old new → Falls new (bound_of (plan.Drain ∷ rest)) (goes c rest)
     drains rest s =
         let e = eased old new c.aborts false rest s.eases (post_worst (room_in new)) in
         falls_goes new _ c rest (omega (arith, e, s.logged))
 
-    takes_up : (x : Owed) (rest : List (Item K V)) → Eases old new → new.logged ≡ old.logged → new.owed + 1 ≡ old.owed →
+    takes_up : (x : Owed) (rest : List (Item K V E)) → Eases old new → new.logged ≡ old.logged → new.owed + 1 ≡ old.owed →
         Falls new (bound_of (plan.Drain ∷ rest)) (goes c (once_ended x.notice (plan.Post x.write ∷ plan.Drain ∷ rest)))
     takes_up x rest e l o =
         let h = more rest new.owed old.owed new.most old.most c.aborts new.most old.most false false e.owed e.most e.most (post_worst false) in
@@ -121,57 +122,57 @@ module _ {K V : Type 0} where
         by None h r = falls_goes new _ c (plan.Post x.write ∷ plan.Drain ∷ rest) (omega (arith, h, r, l, o))
         by (Some notice) h r = falls_goes new _ c (plan.Ended notice ∷ plan.Post x.write ∷ plan.Drain ∷ rest) (omega (arith, h, r, l, o))
 
-    posts : (x : Write) (rest : List (Item K V)) → Eases old new → new.logged ≡ old.logged + 1 → room_in old ≡ true →
+    posts : (x : Write) (rest : List (Item K V E)) → Eases old new → new.logged ≡ old.logged + 1 → room_in old ≡ true →
         Falls new (bound_of (plan.Post x ∷ rest)) (goes c rest)
     posts x rest e l room =
         let h = eased old new c.aborts false rest e (post_worst (room_in new)) in
         falls_goes new _ c rest (omega (arith, h, l, ap post_steps room))
 
-    applies_first : (x : Write) (rest : List (Item K V)) → Same old new → room_in old ≡ false →
+    applies_first : (x : Write) (rest : List (Item K V E)) → Same old new → room_in old ≡ false →
         Falls new (bound_of (plan.Post x ∷ rest)) (goes c (plan.Turn ∷ plan.Apply ∷ plan.End ∷ plan.Post x ∷ rest))
     applies_first x rest s room =
         same_falls old new _ c (plan.Turn ∷ plan.Apply ∷ plan.End ∷ plan.Post x ∷ rest) s (omega (arith, ap post_steps room))
 
-    applied_all : (rest : List (Item K V)) → Same old new → room_in new ≡ true → Falls new (bound_of (plan.Apply ∷ rest)) (goes c rest)
+    applied_all : (rest : List (Item K V E)) → Same old new → room_in new ≡ true → Falls new (bound_of (plan.Apply ∷ rest)) (goes c rest)
     applied_all rest s room =
         let h = eased old new c.aborts true rest s.eases (omega (arith, ap post_steps room)) in
         falls_goes new _ c rest (omega (arith, h, s.logged))
 
-    applies_one : (rest : List (Item K V)) → Eases old new → new.logged + 1 ≡ old.logged → Falls new (bound_of (plan.Apply ∷ rest)) (goes c (plan.Apply ∷ rest))
+    applies_one : (rest : List (Item K V E)) → Eases old new → new.logged + 1 ≡ old.logged → Falls new (bound_of (plan.Apply ∷ rest)) (goes c (plan.Apply ∷ rest))
     applies_one rest e l =
         let h = more rest new.owed old.owed new.most old.most c.aborts new.most old.most true true e.owed e.most e.most (omega arith) in
         falls_goes new _ c (plan.Apply ∷ rest) (omega (arith, h, l))
 
-    turns : (rest : List (Item K V)) → Same old new → Falls new (bound_of (plan.Turn ∷ rest)) (goes c rest)
+    turns : (rest : List (Item K V E)) → Same old new → Falls new (bound_of (plan.Turn ∷ rest)) (goes c rest)
     turns rest s = same_falls old new _ c rest s (omega arith)
 
-    ends : (rest : List (Item K V)) → Same old new → Falls new (bound_of (plan.End ∷ rest)) (goes c rest)
+    ends : (rest : List (Item K V E)) → Same old new → Falls new (bound_of (plan.End ∷ rest)) (goes c rest)
     ends rest s = same_falls old new _ c rest s (omega arith)
 
     -- a step of its own, after which the rest follows
-    passes : (rest : List (Item K V)) → Same old new →
+    passes : (rest : List (Item K V E)) → Same old new →
         Falls new (old.logged + (1 + steps_of old.owed old.most c.aborts false old.most rest)) (goes c rest)
     passes rest s =
         let e = eased old new c.aborts false rest s.eases (post_worst (room_in new)) in
         falls_goes new _ c rest (omega (arith, e, s.logged))
 
-    locks : (key : K) (rest : List (Item K V)) (b : Bool) → Same old new → Falls new (bound_of (plan.Lock key ∷ rest)) (after_lock c rest (found.LockKey b))
+    locks : (key : K) (rest : List (Item K V E)) (b : Bool) → Same old new → Falls new (bound_of (plan.Lock key ∷ rest)) (after_lock c rest (found.LockKey b))
     locks key rest true s = passes rest s
     locks key rest false s = never new _ (waits c) (λ e. cc)
 
-    hears : (rest : List (Item K V)) (b : Bool) → Same old new →
+    hears : (rest : List (Item K V E)) (b : Bool) → Same old new →
         Falls new (old.logged + (1 + steps_of old.owed old.most c.aborts false old.most rest)) (after_hearing c rest (found.NoticeEnded b))
     hears rest true s = passes rest s
     hears rest false s = never new _ (waits c) (λ e. cc)
 
     -- the listener is asked, or it is off
-    tells : (key : K) (stored : Stored V) (rest : List (Item K V)) (cause : Cause) (off : Bool) → Same old new →
+    tells : (key : K) (stored : Stored V) (rest : List (Item K V E)) (cause : Cause) (off : Bool) → Same old new →
         Falls new (old.logged + (1 + steps_of old.owed old.most c.aborts false old.most rest))
         (after_notice c key stored rest (found.OpenNotice (cond off None (Some cause))))
     tells key stored rest cause true s = passes rest s
     tells key stored rest cause false s = never new _ (asks c (ask.Listener key stored.value cause) (plan.Heard ∷ rest)) (λ e. cc)
 
-    stamps : (change : Change K V) (moment : ℕ) (rest : List (Item K V)) → Same old new →
+    stamps : (change : Change K V) (moment : ℕ) (rest : List (Item K V E)) → Same old new →
         Falls new (bound_of (plan.Moment change ∷ rest)) (goes c (changes change moment rest))
     stamps (plan.To_store key value) moment rest s =
         same_falls old new _ c (plan.Write key value moment ∷ rest) s (omega arith)
@@ -206,47 +207,67 @@ module _ {K V : Type 0} where
         let r = post_worst (room_in old) in
         same_falls old new bound c (removed_rest false n removal key stored) s (omega (arith, h, r))
 
-    misses_falls : (bound : ℕ) (aim : Aim K) → Same old new → old.logged + judge_steps old.most c.aborts aim ≤ bound → Falls new bound (misses c aim)
+    misses_falls : (bound : ℕ) (aim : Aim K V) → Same old new → old.logged + judge_steps old.owed old.most c.aborts aim ≤ bound → Falls new bound (misses c aim)
     misses_falls bound (plan.To_evict key stamp cause) s h = kept_falls bound s (omega (arith, h))
     misses_falls bound plan.To_answer s h = never new bound (misses c plan.To_answer) (λ e. cc)
-    misses_falls bound (plan.To_load load) s h = same_falls old new bound c (plan.Own load ∷ []) s (omega (arith, h))
-    misses_falls bound (plan.To_own load) s h = same_falls old new bound c (plan.Ask load ∷ []) s (omega (arith, h))
+    misses_falls bound (plan.To_load sought) s h = same_falls old new bound c (plan.Own sought ∷ []) s (omega (arith, h))
+    misses_falls bound (plan.To_own sought) s h = same_falls old new bound c (plan.Ask sought.load ∷ []) s (omega (arith, h))
+    misses_falls bound (plan.To_insert key value) s h =
+        same_falls old new bound c (put c.rules key value (plan.Reply (answer.Loaded value true) ∷ [])) s (by c.rules.listener)
+      where
+        by : (listener : Bool) → old.logged + steps_of old.owed old.most c.aborts (room_in old) old.most
+            (put {E = E} (record c.rules { listener = listener }) key value (plan.Reply (answer.Loaded value true) ∷ [])) < bound
+        by true = omega (arith, h)
+        by false = omega (arith, h)
 
-    hits_falls : (bound : ℕ) (aim : Aim K) (value : V) → Same old new → old.logged + judge_steps old.most c.aborts aim ≤ bound → Falls new bound (hits c aim value)
+    hits_falls : (bound : ℕ) (aim : Aim K V) (value : V) → Same old new → old.logged + judge_steps old.owed old.most c.aborts aim ≤ bound → Falls new bound (hits c aim value)
     hits_falls bound (plan.To_evict key stamp cause) value s h = never new bound (waits c) (λ e. cc)
     hits_falls bound plan.To_answer value s h = never new bound (hits c plan.To_answer value) (λ e. cc)
-    hits_falls bound (plan.To_load load) value s h = never new bound (hits c (plan.To_load load) value) (λ e. cc)
-    hits_falls bound (plan.To_own load) value s h =
+    hits_falls bound (plan.To_load sought) value s h = never new bound (hits c (plan.To_load sought) value) (λ e. cc)
+    hits_falls bound (plan.To_insert key unused) value s h = never new bound (hits c (plan.To_insert key unused) value) (λ e. cc)
+    hits_falls bound (plan.To_own sought) value s h =
         same_falls old new bound c (plan.Settle (settled.Ready value) ∷ plan.Reply (answer.Loaded value false) ∷ []) s (omega (arith, h))
 
-    owns : (load : Load K) (k : Claim) → Same old new → Falls new (bound_of (plan.Own load ∷ [])) (after_own c load (found.WaitOrOwn k))
-    owns load claim.Owner s = by (is_disabled c.rules)
+    -- the record that was found is seen, or not
+    judge_falls : (bound : ℕ) (aim : Aim K V) (stored : Stored V) (seen : Bool) → Same old new →
+        old.logged + judge_steps old.owed old.most c.aborts aim ≤ bound → Falls new bound (after_judge c aim stored (found.Judge seen))
+    judge_falls bound aim stored true s h = hits_falls bound aim stored.value s h
+    judge_falls bound aim stored false s h = misses_falls bound aim s h
+
+    owns : (sought : Sought K) (k : Claim) → Same old new → Falls new (bound_of (plan.Own sought ∷ [])) (after_own c sought (found.WaitOrOwn k))
+    owns sought claim.Owner s = by (is_disabled c.rules)
       where
-        by : (disabled : Bool) → Falls new (bound_of (plan.Own load ∷ [])) (goes c (owner_rest disabled load))
-        by false = same_falls old new _ c (look (plan.To_own load) load.key) s (omega (arith, young))
-        by true = same_falls old new _ c (plan.Ask load ∷ []) s (omega arith)
-    owns load (claim.Waits owner) s = same_falls old new _ c (plan.Read load ∷ []) s (omega arith)
+        by : (disabled : Bool) → Falls new (bound_of (plan.Own sought ∷ [])) (goes c (owner_rest disabled sought))
+        by false = same_falls old new _ c (look (plan.To_own sought) sought.load.key) s (omega (arith, young))
+        by true = same_falls old new _ c (plan.Ask sought.load ∷ []) s (omega arith)
+    owns sought (claim.Waits owner) s = same_falls old new _ c (plan.Read sought ∷ []) s (omega arith)
 
-    starts_anew : (load : Load K) (spent : Bool) → Same old new → Falls new (bound_of (plan.Read load ∷ []))
-        (cond spent (answers answer.RetriesExhausted) (goes (record c { aborts = c.aborts + 1 }) (plan.Own load ∷ [])))
-    starts_anew load true s = never new _ (answers answer.RetriesExhausted) (λ e. cc)
-    starts_anew load false s = same_falls old new _ (record c { aborts = c.aborts + 1 }) (plan.Own load ∷ []) s (omega (arith, young))
+    starts_anew : (sought : Sought K) (spent : Bool) → Same old new → Falls new (bound_of (plan.Read sought ∷ []))
+        (cond spent (answers answer.RetriesExhausted) (goes (record c { aborts = c.aborts + 1 }) (plan.Own sought ∷ [])))
+    starts_anew sought true s = never new _ (answers answer.RetriesExhausted) (λ e. cc)
+    starts_anew sought false s = same_falls old new _ (record c { aborts = c.aborts + 1 }) (plan.Own sought ∷ []) s (omega (arith, young))
 
-    reads : (load : Load K) (with : Settled V) → Same old new → Falls new (bound_of (plan.Read load ∷ [])) (after_read c load (found.ReadSettled with))
-    reads load settled.NotYet s = never new _ (waits c) (λ e. cc)
-    reads load (settled.Ready value) s = never new _ (answers (answer.Loaded value false)) (λ e. cc)
-    reads load settled.Aborted s = starts_anew load (c.aborts + 1 == retries) s
+    reads : (sought : Sought K) (with : Settled V E) → Same old new → Falls new (bound_of (plan.Read sought ∷ [])) (after_read c sought (found.ReadSettled with))
+    reads sought settled.NotYet s = never new _ (waits c) (λ e. cc)
+    reads sought (settled.Ready value) s = never new _ (answers (answer.Loaded value false)) (λ e. cc)
+    reads sought (settled.Err error) s = never new _ (answers (answer.InitErr error)) (λ e. cc)
+    reads sought settled.Nothing s = never new _ (answers answer.Nothing) (λ e. cc)
+    reads sought settled.Aborted s = starts_anew sought (c.aborts + 1 == retries) s
 
-    is_told : (load : Load K) (given : Option (Told V)) → Same old new → Falls new (bound_of (plan.Told load ∷ [])) (after_told c load (found.TakeTold given))
+    is_told : (load : Load K) (given : Option (Told V E)) → Same old new → Falls new (bound_of (plan.Told load ∷ [])) (after_told c load (found.TakeTold given))
     is_told load None s = never new _ (waits c) (λ e. cc)
     is_told load (Some told.Done) s = never new _ (waits c) (λ e. cc)
     is_told load (Some told.Off) s = never new _ (waits c) (λ e. cc)
+    is_told load (Some told.Nothing) s =
+        same_falls old new _ c (end_load settled.Nothing answer.Nothing) s (omega arith)
+    is_told load (Some (told.Err error)) s =
+        same_falls old new _ c (end_load (settled.Err error) (answer.InitErr error)) s (omega arith)
     is_told load (Some (told.Value value)) s =
         same_falls old new _ c (loaded c.rules load value) s (by (is_disabled c.rules) c.rules.listener)
       where
         ahead_of : Bool → Bool → ℕ
         ahead_of disabled listener = steps_of old.owed old.most c.aborts (room_in old) old.most
-            (load_rest disabled (record c.rules { listener = listener }) load.key value)
+            (load_rest {E = E} disabled (record c.rules { listener = listener }) load.key value)
 
         by : (disabled listener : Bool) → old.logged + ahead_of disabled listener < bound_of (plan.Told load ∷ [])
         by true listener = omega arith
@@ -254,38 +275,38 @@ module _ {K V : Type 0} where
         by false false = omega arith
 
     -- an operation that stays undecided
-    stays_on : Eases old new → new.logged ≡ old.logged → new.left < old.left → (aim : Aim K) (key : K) (rest : List (Item K V)) → c.plan ≡ plan.Get aim key ∷ rest → Falls new (bound_of (plan.Get aim key ∷ rest)) (stays c)
-    stays_on e l less aim key rest is = falls_on new _ (record c { mode = mode.Mid }) (rw is (omega (arith, judge_more new.most old.most c.aborts aim e.most, l, less)))
+    stays_on : Eases old new → new.logged ≡ old.logged → new.left < old.left → (aim : Aim K V) (key : K) (rest : List (Item K V E)) → c.plan ≡ plan.Get aim key ∷ rest → Falls new (bound_of (plan.Get aim key ∷ rest)) (stays c)
+    stays_on e l less aim key rest is = falls_on new _ (record c { mode = mode.Mid }) (rw is (omega (arith, judge_more new.owed old.owed new.most old.most c.aborts aim e.owed e.most, l, less)))
 
   -- ---- what a visit leaves of the desk's lists
 
   -- the lists of writes are as long as they were, and the log has the room that it had
-  record Lists (w new : DeskPart K V) : Type 0 where
+  record Lists (w new : DeskPart K V E) : Type 0 where
     owed : length new.owed ≡ length w.owed
     log : length new.log ≡ length w.log
     size : new.size ≡ w.size
 
-  same_lists : (w : DeskPart K V) → Lists w w
+  same_lists : (w : DeskPart K V E) → Lists w w
   same_lists w = record { owed = refl; log = refl; size = refl }
 
-  either_lists : (b : Bool) (w x y : DeskPart K V) → Lists w x → Lists w y → Lists w (cond b x y)
+  either_lists : (b : Bool) (w x y : DeskPart K V E) → Lists w x → Lists w y → Lists w (cond b x y)
   either_lists true w x y h k = h
   either_lists false w x y h k = k
 
-  claimed_lists : (eq : K → K → Bool) (w : DeskPart K V) (n : ℕ) (load : Load K) (owner : Option ℕ) → Lists w (claimed eq w n load owner)
+  claimed_lists : (eq : K → K → Bool) (w : DeskPart K V E) (n : ℕ) (load : Load K) (owner : Option ℕ) → Lists w (claimed eq w n load owner)
   claimed_lists eq w n load None = record { owed = refl; log = refl; size = refl }
   claimed_lists eq w n load (Some owner) = record { owed = refl; log = refl; size = refl }
 
-  locked_lists : (eq : K → K → Bool) (w : DeskPart K V) (n : ℕ) (key : K) (free : Bool) → Lists w (locked_by eq w n key free)
+  locked_lists : (eq : K → K → Bool) (w : DeskPart K V E) (n : ℕ) (key : K) (free : Bool) → Lists w (locked_by eq w n key free)
   locked_lists eq w n key true = record { owed = refl; log = refl; size = refl }
   locked_lists eq w n key false = record { owed = refl; log = refl; size = refl }
 
-  unlocked_lists : (w : DeskPart K V) (n : ℕ) (wrote : Bool) → Lists w (unlocked w n wrote)
+  unlocked_lists : (w : DeskPart K V E) (n : ℕ) (wrote : Bool) → Lists w (unlocked w n wrote)
   unlocked_lists w n true = record { owed = refl; log = refl; size = refl }
   unlocked_lists w n false = record { owed = refl; log = refl; size = refl }
 
   -- the work is what it was, where the lists are and operations stay undecided for no longer
-  same_work : (w new : World K V) (old young : Work) → Counts w old → Counts new young → Lists w.desk new.desk →
+  same_work : (w new : World K V E) (old young : Work) → Counts w old → Counts new young → Lists w.desk new.desk →
       young.left ≤ young.most → young.most ≤ old.most → Same old young
   same_work w new old young c d l within most = record {
     eases = record { owed = omega (arith, c.owed, d.owed, l.owed); most = most; within = within };
@@ -293,18 +314,18 @@ module _ {K V : Type 0} where
     size = d.size ∙ l.size ∙ sym c.size;
   }
 
-  module _ (eq : K → K → Bool) (n : ℕ) (c : Call K V) (w next : World K V) (old new : Work) (young : c.aborts < retries)
+  module _ (eq : K → K → Bool) (n : ℕ) (c : Call K V E) (w next : World K V E) (old new : Work) (young : c.aborts < retries)
       (has_log : 0 < old.size) (was : Counts w old) (is : Counts next new) where
     -- how the call goes on after what its access gave
-    abbrev after : Item K V → List (Item K V) → Got K V → Next K V
+    abbrev after : Item K V E → List (Item K V E) → Got K V E → Next K V E
     after item rest (got.Table t) = after_table n c item rest t
     after item rest (got.Desk f) = after_visit c item rest f
 
     -- after an access that leaves the lists
-    leaves : (desk : DeskPart K V) → next.desk ≡ desk → Lists w.desk desk → new.left ≤ new.most → new.most ≤ old.most + 0 → Same old new
+    leaves : (desk : DeskPart K V E) → next.desk ≡ desk → Lists w.desk desk → new.left ≤ new.most → new.most ≤ old.most + 0 → Same old new
     leaves desk e l within most = same_work w next old new was is (subst (λ v. Lists w.desk v) (sym e) l) within (omega (arith, most))
 
-    drain_falls : (rest : List (Item K V)) (owed : List Owed) → w.desk.owed ≡ owed → length next.desk.owed ≡ length (drop 1 owed) →
+    drain_falls : (rest : List (Item K V E)) (owed : List Owed) → w.desk.owed ≡ owed → length next.desk.owed ≡ length (drop 1 owed) →
         next.desk.log ≡ w.desk.log → next.desk.size ≡ w.desk.size → new.left ≤ new.most → new.most ≤ old.most →
         Falls new (bound_of old new c young (plan.Drain ∷ rest)) (after_drain c rest (finds (record w.desk { owed = owed }) (visit.TakeOwed n)))
     drain_falls rest [] e o l z within most = drains old new c young rest (record {
@@ -316,7 +337,7 @@ module _ {K V : Type 0} where
         (record { owed = omega (arith, was.owed, is.owed, o, ap length e); most = most; within = within })
         (is.logged ∙ ap length l ∙ sym was.logged) (omega (arith, was.owed, is.owed, o, ap length e))
 
-    post_falls : (x : Write) (rest : List (Item K V)) (b : Bool) → has_room w.desk ≡ b →
+    post_falls : (x : Write) (rest : List (Item K V E)) (b : Bool) → has_room w.desk ≡ b →
         length next.desk.log ≡ length (cond b (w.desk.log ++ x ∷ []) w.desk.log) → length next.desk.owed ≡ length w.desk.owed →
         next.desk.size ≡ w.desk.size → new.left ≤ new.most → new.most ≤ old.most →
         Falls new (bound_of old new c young (plan.Post x ∷ rest)) (after_post c x rest (found.PostWrite b))
@@ -329,7 +350,7 @@ module _ {K V : Type 0} where
       size = is.size ∙ z ∙ sym was.size;
     }) (rw (was.logged, was.size) e)
 
-    apply_falls : (rest : List (Item K V)) (log : List Write) → w.desk.log ≡ log → length next.desk.log ≡ length (drop 1 log) →
+    apply_falls : (rest : List (Item K V E)) (log : List Write) → w.desk.log ≡ log → length next.desk.log ≡ length (drop 1 log) →
         length next.desk.owed ≡ length w.desk.owed → next.desk.size ≡ w.desk.size → new.left ≤ new.most → new.most ≤ old.most →
         Falls new (bound_of old new c young (plan.Apply ∷ rest)) (after_apply c rest (found.ApplyOne (nat_lt 0 (length log))))
     apply_falls rest [] e l o z within most =
@@ -345,7 +366,7 @@ module _ {K V : Type 0} where
         (applies_one old new c young rest (record { owed = omega (arith, was.owed, is.owed, o); most = most; within = within })
         (omega (arith, was.logged, is.logged, l, ap length e)))
 
-    get_falls : (aim : Aim K) (rest : List (Item K V)) (answer : TableAnswer K V) → (key : K) → Same old new →
+    get_falls : (aim : Aim K V) (rest : List (Item K V E)) (answer : TableAnswer K V) → (key : K) → Same old new →
         Falls new (bound_of old new c young (plan.Get aim key ∷ rest)) (after_get c aim (table.Decided answer))
     get_falls aim rest table_answer.None key s = misses_falls old new c young _ aim s (omega arith)
     get_falls aim rest (table_answer.Some there stored) key s = finds_falls aim
@@ -356,26 +377,27 @@ module _ {K V : Type 0} where
         chosen true key stamp cause = same_falls old new _ c (plan.Holds key stamp cause there stored ∷ []) s (omega arith)
         chosen false key stamp cause = kept_falls old new c young _ s (omega arith)
 
-        finds_falls : (aim : Aim K) → Falls new (bound_of old new c young (plan.Get aim key ∷ rest)) (finds_pair c aim there stored)
+        finds_falls : (aim : Aim K V) → Falls new (bound_of old new c young (plan.Get aim key ∷ rest)) (finds_pair c aim there stored)
         finds_falls plan.To_answer = same_falls old new _ c (plan.Judge plan.To_answer there stored ∷ []) s (omega arith)
-        finds_falls (plan.To_load load) = same_falls old new _ c (plan.Judge (plan.To_load load) there stored ∷ []) s (omega arith)
-        finds_falls (plan.To_own load) = same_falls old new _ c (plan.Judge (plan.To_own load) there stored ∷ []) s (omega arith)
+        finds_falls (plan.To_load sought) = same_falls old new _ c (plan.Judge (plan.To_load sought) there stored ∷ []) s (omega arith)
+        finds_falls (plan.To_own sought) = same_falls old new _ c (plan.Judge (plan.To_own sought) there stored ∷ []) s (omega arith)
+        finds_falls (plan.To_insert k value) = same_falls old new _ c (plan.Judge (plan.To_insert k value) there stored ∷ []) s (omega arith)
         finds_falls (plan.To_evict k stamp cause) = chosen (stored.stamp == stamp) k stamp cause
 
     -- a look or a write that stays undecided
-    get_stays : (aim : Aim K) (key : K) (rest : List (Item K V)) → c.plan ≡ plan.Get aim key ∷ rest → Same old new → new.left < old.left →
+    get_stays : (aim : Aim K V) (key : K) (rest : List (Item K V E)) → c.plan ≡ plan.Get aim key ∷ rest → Same old new → new.left < old.left →
         Falls new (bound_of old new c young (plan.Get aim key ∷ rest)) (stays c)
     get_stays aim key rest e s less = falls_on new _ (record c { mode = mode.Mid })
-        (rw e (omega (arith, judge_more new.most old.most c.aborts aim s.eases.most, s.logged, less)))
+        (rw e (omega (arith, judge_more new.owed old.owed new.most old.most c.aborts aim s.eases.owed s.eases.most, s.logged, less)))
 
-    write_stays : (key : K) (value : V) (moment : ℕ) (rest : List (Item K V)) → c.plan ≡ plan.Write key value moment ∷ rest → Same old new →
+    write_stays : (key : K) (value : V) (moment : ℕ) (rest : List (Item K V E)) → c.plan ≡ plan.Write key value moment ∷ rest → Same old new →
         new.left < old.left → Falls new (bound_of old new c young (plan.Write key value moment ∷ rest)) (stays c)
     write_stays key value moment rest e s less =
         let h = more rest new.owed old.owed (new.most + growth) (old.most + growth) c.aborts (new.most + growth) (old.most + growth) false false
         s.eases.owed (omega (arith, s.eases.most)) (omega (arith, s.eases.most)) (post_worst false) in
         falls_on new _ (record c { mode = mode.Mid }) (rw e (omega (arith, h, s.logged, less)))
 
-    wrote : (key : K) (value : V) (moment : ℕ) (rest : List (Item K V)) (x : Write) (answer : TableAnswer K V) → new.owed ≡ old.owed → new.logged ≡ old.logged →
+    wrote : (key : K) (value : V) (moment : ℕ) (rest : List (Item K V E)) (x : Write) (answer : TableAnswer K V) → new.owed ≡ old.owed → new.logged ≡ old.logged →
         new.most ≤ old.most + growth →
         Falls new (bound_of old new c young (plan.Write key value moment ∷ rest)) (goes c (once_told c.rules.listener key answer (plan.Post x ∷ rest)))
     wrote key value moment rest x answer o l most =
@@ -392,11 +414,11 @@ module _ {K V : Type 0} where
         by true (table_answer.Some there stored) h r =
             falls_goes new _ c (plan.Notice key stored None true ∷ plan.Unlock true ∷ plan.Post x ∷ rest) (omega (arith, h, l, r))
 
-    out_stays : (removal : Removal) (key : K) (rest : List (Item K V)) → c.plan ≡ plan.Out removal key ∷ rest → Same old new →
+    out_stays : (removal : Removal) (key : K) (rest : List (Item K V E)) → c.plan ≡ plan.Out removal key ∷ rest → Same old new →
         new.left < old.left → Falls new (bound_of old new c young (plan.Out removal key ∷ rest)) (stays c)
     out_stays removal key rest e s less = falls_on new _ (record c { mode = mode.Mid }) (rw e (omega (arith, s.logged, less)))
 
-    out_falls : (removal : Removal) (key : K) (rest : List (Item K V)) (answer : TableAnswer K V) → Same old new →
+    out_falls : (removal : Removal) (key : K) (rest : List (Item K V E)) (answer : TableAnswer K V) → Same old new →
         Falls new (bound_of old new c young (plan.Out removal key ∷ rest)) (after_out n c removal key (table.Decided answer))
     out_falls removal key rest table_answer.None s = nothing_falls old new c young _ removal c.rules.listener s (omega arith)
     out_falls removal key rest (table_answer.Some there stored) s =
@@ -405,7 +427,7 @@ module _ {K V : Type 0} where
     waits_falls : (bound : ℕ) → Falls new bound (waits c)
     waits_falls bound = never new bound (waits c) (λ e. cc)
 
-    on_item : (item : Item K V) (rest : List (Item K V)) (given : Got K V) → c.plan ≡ item ∷ rest → Gets eq n w (access_for n item) given next →
+    on_item : (item : Item K V E) (rest : List (Item K V E)) (given : Got K V E) → c.plan ≡ item ∷ rest → Gets eq n w (access_for n item) given next →
         Shortens old new (access_for n item) given → Falls new (bound_of old new c young (item ∷ rest)) (after item rest given)
     on_item plan.Drain rest (got.Desk f) e g h = rw g.0
         (drain_falls rest w.desk.owed refl (ap (λ v. length v.desk.owed) g.1) (ap (λ v. v.desk.log) g.1) (ap (λ v. v.desk.size) g.1) h.within (omega (arith, h.raises)))
@@ -421,11 +443,13 @@ module _ {K V : Type 0} where
     on_item plan.End rest (got.Desk f) e g h = rw g.0
         (ends old new c young rest (leaves _ (ap (λ v. v.desk) g.1) (record { owed = refl; log = refl; size = refl }) h.within h.raises))
     on_item (plan.Judge aim key stored) rest (got.Desk f) e g h = rw g.0
-        (hits_falls old new c young _ aim stored.value (leaves _ (ap (λ v. v.desk) g.1) (record { owed = refl; log = refl; size = refl }) h.within h.raises) (omega arith))
-    on_item (plan.Own load) rest (got.Desk f) e g h = rw g.0
-        (owns old new c young load (claim_of (w.desk.owners load)) (leaves _ (ap (λ v. v.desk) g.1) (claimed_lists eq w.desk n load (w.desk.owners load)) h.within h.raises))
-    on_item (plan.Read load) rest (got.Desk f) e g h = rw g.0
-        (reads old new c young load (unwrap_or (settlement_for w.desk n) settled.NotYet)
+        (judge_falls old new c young _ aim stored (is_seen w.desk (replace_of aim) key stored)
+        (leaves _ (ap (λ v. v.desk) g.1) (record { owed = refl; log = refl; size = refl }) h.within h.raises) (omega arith))
+    on_item (plan.Own sought) rest (got.Desk f) e g h = rw g.0
+        (owns old new c young sought (claim_of (w.desk.owners sought.load))
+        (leaves _ (ap (λ v. v.desk) g.1) (claimed_lists eq w.desk n sought.load (w.desk.owners sought.load)) h.within h.raises))
+    on_item (plan.Read sought) rest (got.Desk f) e g h = rw g.0
+        (reads old new c young sought (unwrap_or (settlement_for w.desk n) settled.NotYet)
         (leaves _ (ap (λ v. v.desk) g.1) (either_lists (is_some (settlement_for w.desk n)) w.desk _ w.desk (record { owed = refl; log = refl; size = refl }) (same_lists w.desk)) h.within h.raises))
     on_item (plan.Settle with) rest (got.Desk f) e g h = rw g.0
         (passes old new c young rest (leaves _ (ap (λ v. v.desk) g.1) (record { owed = refl; log = refl; size = refl }) h.within h.raises))
@@ -465,8 +489,8 @@ module _ {K V : Type 0} where
     -- no other answer is one of the item's access
     on_item _ rest _ e g h = absurd g
 
-  by_plan : (eq : K → K → Bool) (n : ℕ) (rules : Rules) (how : Mode) (p : List (Item K V)) (aborts : ℕ) (w next : World K V) (given : Got K V) (old new : Work) →
-      let c : Call K V = record { rules = rules; mode = how; plan = p; aborts = aborts } in
+  by_plan : (eq : K → K → Bool) (n : ℕ) (rules : Rules) (how : Mode) (p : List (Item K V E)) (aborts : ℕ) (w next : World K V E) (given : Got K V E) (old new : Work) →
+      let c : Call K V E = record { rules = rules; mode = how; plan = p; aborts = aborts } in
       aborts < retries → 0 < old.size → Gets eq n w (access_of n c) given next → Counts w old → Counts next new →
       Shortens old new (access_of n c) given → Falls new (ahead old c) (next_of n c given)
   by_plan eq n rules how [] aborts w next given old new young has_log g was is h = waits_falls eq n (record { rules = rules; mode = how; plan = []; aborts = aborts }) w next old new young has_log was is _
@@ -475,6 +499,6 @@ module _ {K V : Type 0} where
   by_plan eq n rules how (item ∷ rest) aborts w next (got.Desk f) old new young has_log g was is h =
       on_item eq n (record { rules = rules; mode = how; plan = item ∷ rest; aborts = aborts }) w next old new young has_log was is item rest (got.Desk f) refl g h
 
-  pub going_falls : (eq : K → K → Bool) → GoingFalls K V eq
+  pub going_falls : (eq : K → K → Bool) → GoingFalls K V E eq
   going_falls eq n c w next given old new young has_log g was is h going =
       by_plan eq n c.rules c.mode c.plan c.aborts w next given old new young has_log g was is h going

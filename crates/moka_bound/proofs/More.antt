@@ -9,17 +9,18 @@ pub post_worst : (room : Bool) → post_steps room ≤ post_steps false
 post_worst true = omega arith
 post_worst false = omega arith
 
-pub judge_more : {K : Type 0} (m m' aborts : ℕ) (aim : Aim K) → m ≤ m' → judge_steps m aborts aim ≤ judge_steps m' aborts aim
-judge_more m m' aborts plan.To_answer h = omega arith
-judge_more m m' aborts (plan.To_load load) h = omega arith
-judge_more m m' aborts (plan.To_own load) h = omega arith
-judge_more m m' aborts (plan.To_evict key stamp cause) h = omega (arith, h)
+pub judge_more : {K V : Type 0} (o o' m m' aborts : ℕ) (aim : Aim K V) → o ≤ o' → m ≤ m' → judge_steps o m aborts aim ≤ judge_steps o' m' aborts aim
+judge_more o o' m m' aborts plan.To_answer p h = omega arith
+judge_more o o' m m' aborts (plan.To_load sought) p h = omega arith
+judge_more o o' m m' aborts (plan.To_own sought) p h = omega arith
+judge_more o o' m m' aborts (plan.To_insert key value) p h = omega arith
+judge_more o o' m m' aborts (plan.To_evict key stamp cause) p h = omega (arith, h)
 
 same_room : (room : Bool) → post_steps room ≤ post_steps room
 same_room room = omega arith
 
-module _ {K V : Type 0} where
-  pub more : (p : List (Item K V)) (o o' m m' aborts l l' : ℕ) (r r' : Bool) → o ≤ o' → m ≤ m' → l ≤ l' → post_steps r ≤ post_steps r' →
+module _ {K V E : Type 0} where
+  pub more : (p : List (Item K V E)) (o o' m m' aborts l l' : ℕ) (r r' : Bool) → o ≤ o' → m ≤ m' → l ≤ l' → post_steps r ≤ post_steps r' →
       steps_of o m aborts r l p ≤ steps_of o' m' aborts r' l' p
   more [] o o' m m' aborts l l' r r' ho hm hl hr = omega arith
   more (plan.Drain ∷ rest) o o' m m' aborts l l' r r' ho hm hl hr =
@@ -35,8 +36,8 @@ module _ {K V : Type 0} where
   more (plan.End ∷ rest) o o' m m' aborts l l' r r' ho hm hl hr =
       let h = more rest o o' m m' aborts m m' r r' ho hm hm hr in omega (arith, h)
   more (plan.Get aim key ∷ rest) o o' m m' aborts l l' r r' ho hm hl hr =
-      let h = judge_more m m' aborts aim hm in omega (arith, h, hl)
-  more (plan.Judge aim key stored ∷ rest) o o' m m' aborts l l' r r' ho hm hl hr = judge_more m m' aborts aim hm
+      let h = judge_more o o' m m' aborts aim ho hm in omega (arith, h, hl)
+  more (plan.Judge aim key stored ∷ rest) o o' m m' aborts l l' r r' ho hm hl hr = judge_more o o' m m' aborts aim ho hm
   more (plan.Own load ∷ rest) o o' m m' aborts l l' r r' ho hm hl hr = omega (arith, hm)
   more (plan.Read load ∷ rest) o o' m m' aborts l l' r r' ho hm hl hr = omega (arith, hm)
   more (plan.Settle with ∷ rest) o o' m m' aborts l l' r r' ho hm hl hr =

@@ -11,8 +11,8 @@ use Rattle.moka_hist.specs.declared.tables.TableTurn.TheVariants as table
 use Rattle.moka_hist.specs.declared.visits.Visit.{Visit}
 use Rattle.moka_hist.specs.declared.visits.Visit.TheVariants as visit
 
-module _ {K V : Type 0} (eq : K → K → Bool) where
-  size_same : (w : World K V) (made : Visit K V) → (makes eq w.desk made).size ≡ w.desk.size
+module _ {K V E : Type 0} (eq : K → K → Bool) where
+  size_same : (w : World K V E) (made : Visit K V E) → (makes eq w.desk made).size ≡ w.desk.size
   size_same w (visit.WaitOrOwn n key kind) = claimed_same (w.desk.owners (record { key = key; kind = kind }))
     where
       claimed_same : (o : Option ℕ) → (claimed eq w.desk n (record { key = key; kind = kind }) o).size ≡ w.desk.size
@@ -32,7 +32,7 @@ module _ {K V : Type 0} (eq : K → K → Bool) where
   size_same w (visit.UnlockKey n false) = refl
   size_same w _ = refl
 
-  pub access_size : (n : ℕ) (w new : World K V) (a : Access K V) (g : Got K V) → Gets eq n w a g new → new.desk.size ≡ w.desk.size
+  pub access_size : (n : ℕ) (w new : World K V E) (a : Access K V E) (g : Got K V E) → Gets eq n w a g new → new.desk.size ≡ w.desk.size
   access_size n w new (step.On_table o) (got.Table table.Going) gets = ap (λ v. v.desk.size) gets.1
   access_size n w new (step.On_table o) (got.Table (table.Decided answer)) gets = ap (λ v. v.desk.size) gets.2
   access_size n w new (step.On_desk made) (got.Desk found) gets = ap (λ v. v.desk.size) gets.1 ∙ size_same w made

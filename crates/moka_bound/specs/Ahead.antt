@@ -50,19 +50,24 @@ out_steps left = left + 10
 abbrev pub holds_steps : ℕ → ℕ
 holds_steps most = 2 + out_steps most
 
-module _ {K : Type 0} where
-  -- to judge the record that was found
-  abbrev pub judge_steps : ℕ → ℕ → Aim K → ℕ
-  judge_steps most aborts plan.To_answer = 1
-  judge_steps most aborts (plan.To_load load) = 1 + own_steps most aborts
-  judge_steps most aborts (plan.To_own load) = 3
-  judge_steps most aborts (plan.To_evict key stamp cause) = holds_steps most
+-- to store a value where nothing was seen, under the key's lock where a listener is set, and answer
+abbrev pub insert_steps : ℕ → ℕ → ℕ
+insert_steps owed most = drain_steps owed + (most + 11) + 1
 
 module _ {K V : Type 0} where
+  -- to judge the record that was found, and to go on whether or not it is seen
+  abbrev pub judge_steps : ℕ → ℕ → ℕ → Aim K V → ℕ
+  judge_steps owed most aborts plan.To_answer = 1
+  judge_steps owed most aborts (plan.To_load sought) = 1 + own_steps most aborts
+  judge_steps owed most aborts (plan.To_own sought) = 3
+  judge_steps owed most aborts (plan.To_insert key value) = 1 + insert_steps owed most
+  judge_steps owed most aborts (plan.To_evict key stamp cause) = holds_steps most
+
+module _ {K V E : Type 0} where
   -- At most so many steps the plan takes, where so many writes are owed, so many owners were
   -- dropped, a later operation may stay undecided for `most` steps and one that stands first for
   -- `left`. Each logged write is counted apart.
-  abbrev pub steps_of : ℕ → ℕ → ℕ → Bool → ℕ → List (Item K V) → ℕ
+  abbrev pub steps_of : ℕ → ℕ → ℕ → Bool → ℕ → List (Item K V E) → ℕ
   steps_of owed most aborts room left [] = 0
   steps_of owed most aborts room left (plan.Drain ∷ rest) =
       drain_steps owed + steps_of owed most aborts false most rest
@@ -77,11 +82,11 @@ module _ {K V : Type 0} where
   steps_of owed most aborts room left (plan.End ∷ rest) =
       1 + steps_of owed most aborts room most rest
   steps_of owed most aborts room left (plan.Get aim key ∷ rest) =
-      left + 1 + judge_steps most aborts aim
+      left + 1 + judge_steps owed most aborts aim
   steps_of owed most aborts room left (plan.Judge aim key stored ∷ rest) =
-      judge_steps most aborts aim
-  steps_of owed most aborts room left (plan.Own load ∷ rest) = own_steps most aborts
-  steps_of owed most aborts room left (plan.Read load ∷ rest) = read_steps most aborts
+      judge_steps owed most aborts aim
+  steps_of owed most aborts room left (plan.Own sought ∷ rest) = own_steps most aborts
+  steps_of owed most aborts room left (plan.Read sought ∷ rest) = read_steps most aborts
   steps_of owed most aborts room left (plan.Settle with ∷ rest) =
       1 + steps_of owed most aborts false most rest
   steps_of owed most aborts room left (plan.Ask load ∷ rest) = 1
@@ -108,13 +113,13 @@ module _ {K V : Type 0} where
   steps_of owed most aborts room left (plan.Reply answer ∷ rest) = 1
 
   -- at most so many steps the call makes by itself
-  abbrev pub ahead : Work → Call K V → ℕ
+  abbrev pub ahead : Work → Call K V E → ℕ
   ahead work c =
       work.logged + steps_of work.owed work.most c.aborts
       (nat_lt work.logged work.size) work.left c.plan
 
   -- the work that is before the call of this number in the world
-  abbrev pub work_in : ℕ → World K V → Work
+  abbrev pub work_in : ℕ → World K V E → Work
   work_in n w = record {
     owed = length w.desk.owed;
     logged = length w.desk.log;

@@ -11,31 +11,31 @@ use Rattle.moka_hist.specs.declared.accesses.Got.TheVariants as got
 use Rattle.moka_hist.specs.declared.accesses.Turn.TheVariants as turns
 use Rattle.moka_bound.specs.Ahead.{Work, ahead, growth}
 
-module _ {K V : Type 0} where
+module _ {K V E : Type 0} where
   -- the work counts the writes of the world that are owed and logged
-  pub record Counts (w : World K V) (work : Work) : Type 0 where
+  pub record Counts (w : World K V E) (work : Work) : Type 0 where
     pub owed : work.owed ≡ length w.desk.owed
     pub logged : work.logged ≡ length w.desk.log
     pub size : work.size ≡ w.desk.size
 
   -- by how much an access that gave this may raise what a later operation may need
-  abbrev pub raised : Access K V → Got K V → ℕ
+  abbrev pub raised : Access K V E → Got K V E → ℕ
   raised (step.On_table (op.InsertOrModify key stored)) (got.Table (table.Decided answer)) = growth
   raised (step.On_table (op.InsertIfAbsent key stored)) (got.Table (table.Decided answer)) = growth
   raised _ _ = 0
 
   -- what an access that gave this may make of how long operations stay undecided
-  pub record Shortens (old new : Work) (access : Access K V) (given : Got K V) : Type 0 where
+  pub record Shortens (old new : Work) (access : Access K V E) (given : Got K V E) : Type 0 where
     pub within : new.left ≤ new.most
     pub raises : new.most ≤ old.most + raised access given
     pub going : given ≡ got.Table table.Going → new.left < old.left
 
 -- A step that leaves the call going leaves it live, and lowers how many steps it may still make,
 -- where the log has room for a write at all.
-abbrev pub GoingFalls : (K V : Type 0) → (K → K → Bool) → Type 0
-GoingFalls K V eq =
-    (n : ℕ) (c : Call K V) (w new : World K V) (given : Got K V) (before after : Work) →
+abbrev pub GoingFalls : (K V E : Type 0) → (K → K → Bool) → Type 0
+GoingFalls K V E eq =
+    (n : ℕ) (c : Call K V E) (w new : World K V E) (given : Got K V E) (before after : Work) →
     c.aborts < retries → 0 < before.size → Gets eq n w (access_of n c) given new →
     Counts w before → Counts new after → Shortens before after (access_of n c) given →
     (next_of n c given).turn ≡ turns.Going →
-    (d : Call K V) × (next_of n c given ≡ going_as d) × (ahead after d < ahead before c)
+    (d : Call K V E) × (next_of n c given ≡ going_as d) × (ahead after d < ahead before c)

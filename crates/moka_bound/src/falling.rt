@@ -4,6 +4,6 @@ ghost use Rattle.moka_bound.specs.Falling.{GoingFalls};
 
 /// Cites the law that each step which leaves a call going lowers how many steps it may still make
 /// by itself before it waits, asks or answers.
-pub fn going_falls<K: Eq, V>()
-    ensures falls { GoingFalls K V K.eq }
+pub fn going_falls<K: Eq, V, E>()
+    ensures falls { GoingFalls K V E K.eq }
 {}

@@ -107,6 +107,54 @@ fn the_first_bad_line_is_numbered(rt: HostRuntime) {
 }
 
 #[test]
+fn a_load_or_what_it_is_told_of_another_form_is_bad(rt: HostRuntime) -> Result<(), Fail> {
+    let lines = [
+        "start get_with 1 if",
+        "start get_with 1 if ",
+        "start get_with 1 if 02",
+        "start get_with 1 if 2 ",
+        "start get_with 1 if 2 3",
+        "start get_with 1 if -2",
+        "start get_with 1 if 18446744073709551616",
+        "start get_with 1 2",
+        "start get_with 1 when 2",
+        "start get_with 1  if 2",
+        "start get_with 1 ",
+        "start get_with if 2",
+        "start get_with 4294967296 if 2",
+        "start optional",
+        "start optional 1 ",
+        "start optional 1 if 2",
+        "start optional 4294967296",
+        "start try",
+        "start try 1 if 2",
+        "start try 01",
+        "start or_insert 1",
+        "start or_insert 1 ",
+        "start or_insert 1 2 3",
+        "start or_insert 1 4294967296",
+        "start or_insert 1 2 if 2",
+        "tell 1 nothing ",
+        "tell 1 nothing 2",
+        "tell 1 Nothing",
+        "tell 1 error",
+        "tell 1 error ",
+        "tell 1 error 03",
+        "tell 1 error 3 ",
+        "tell 1 error 4294967296",
+        "tell 1 value ",
+        "tell 1 value 4294967296",
+        "tell 1 err 3",
+        "tell nothing",
+    ];
+    for line in lines {
+        let text = format!(in rt.alloc(); "cache\nat 1\n{line}\nat 2\n")?;
+        assert_eq!(rt; bad_line(rt.alloc(), text.as_bytes()), Some(3), "at {line}");
+    }
+    Ok(())
+}
+
+#[test]
 fn bytes_that_are_no_text_are_bad(rt: HostRuntime) {
     assert_eq!(rt; bad_line(rt.alloc(), b"cache\nat 1\nat \xff\n"), Some(3));
 }
@@ -172,7 +220,10 @@ fn every_form_of_line_is_read(rt: HostRuntime) -> Result<(), Fail> {
             },
         },
         Event::Start {
-            start: Start::GetWith { key: 10 },
+            start: Start::GetWith {
+                key: 10,
+                replace: None,
+            },
         },
         Event::Step { call: 1 },
         Event::Poll { call: 2 },
@@ -217,6 +268,77 @@ fn every_form_of_removal_is_read(rt: HostRuntime) -> Result<(), Fail> {
         );
     }
     Ok(())
+}
+
+#[test]
+fn every_form_of_load_is_read(rt: HostRuntime) -> Result<(), Fail> {
+    let cases = [
+        ("start get_with 0", get_with(0, None)),
+        (
+            "start get_with 4294967295 if 0",
+            get_with(u32::MAX, Some(0)),
+        ),
+        (
+            "start get_with 7 if 18446744073709551615",
+            get_with(7, Some(u64::MAX)),
+        ),
+        (
+            "start optional 4294967295",
+            Start::Optional { key: u32::MAX },
+        ),
+        ("start try 0", Start::Try { key: 0 }),
+        (
+            "start or_insert 4294967295 0",
+            Start::OrInsert {
+                key: u32::MAX,
+                value: 0,
+            },
+        ),
+        (
+            "start or_insert 0 4294967295",
+            Start::OrInsert {
+                key: 0,
+                value: u32::MAX,
+            },
+        ),
+    ];
+    for (line, start) in cases {
+        let text = format!(in rt.alloc(); "cache\n{line}")?;
+        let Schedule { events, .. } = read_schedule(rt.alloc(), text.as_bytes())?;
+        assert_eq!(rt;
+            events.as_slice(),
+            [Event::Start { start }].as_slice(),
+            "at {line}"
+        );
+    }
+    Ok(())
+}
+
+#[test]
+fn every_form_of_what_an_ask_is_told_is_read(rt: HostRuntime) -> Result<(), Fail> {
+    let cases = [
+        ("tell 1 value 0", Told::Value(0)),
+        ("tell 1 value 4294967295", Told::Value(u32::MAX)),
+        ("tell 1 nothing", Told::Nothing),
+        ("tell 1 error 0", Told::Err(0)),
+        ("tell 1 error 4294967295", Told::Err(u32::MAX)),
+        ("tell 1 done", Told::Done),
+        ("tell 1 off", Told::Off),
+    ];
+    for (line, answer) in cases {
+        let text = format!(in rt.alloc(); "cache\n{line}")?;
+        let Schedule { events, .. } = read_schedule(rt.alloc(), text.as_bytes())?;
+        assert_eq!(rt;
+            events.as_slice(),
+            [Event::Tell { call: 1, answer }].as_slice(),
+            "at {line}"
+        );
+    }
+    Ok(())
+}
+
+fn get_with(key: u32, replace: Option<u64>) -> Start<u32, u32> {
+    Start::GetWith { key, replace }
 }
 
 fn evict(key: u32, stamp: u64, cause: Cause) -> Start<u32, u32> {
@@ -270,6 +392,8 @@ fn every_form_of_line_is_written(rt: HostRuntime) -> Result<(), Fail> {
             value: 6,
             fresh: false,
         }),
+        Reply::Answer(Answer::Nothing),
+        Reply::Answer(Answer::InitErr(u32::MAX)),
         Reply::Answer(Answer::RetriesExhausted),
         Reply::Answer(Answer::Evicted),
         Reply::Answer(Answer::Kept),
@@ -299,7 +423,8 @@ fn every_form_of_line_is_written(rt: HostRuntime) -> Result<(), Fail> {
         ask listener 1 2 Expired\nask listener 4294967295 0 Explicit\ntold\ndropped\n\
         refused UnknownCall\nrefused NotParked\nrefused NotAsked\nrefused ClockBack\n\
         refused CallsSpent\nanswer done\nanswer some 0\nanswer none\nanswer value 5 fresh\n\
-        answer value 6\nanswer exhausted\nanswer evicted\nanswer kept\n\
+        answer value 6\nanswer nothing\nanswer error 4294967295\nanswer exhausted\n\
+        answer evicted\nanswer kept\n\
         entry 7 8 stamp 9 at 10\nwrite 1 held\nwrite 2 owed\nwrite 3 logged\n\
         write 4 applied\nnotice 5 3 9 Replaced waiting\nnotice 6 3 9 Size running\n\
         notice 7 3 9 Replaced ended\nnotice 18446744073709551615 3 9 Replaced skipped\n";

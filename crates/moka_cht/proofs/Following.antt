@@ -9,7 +9,7 @@ use Rattle.std.specs.declared.alloc.AllocError.{AllocError}
 use Rattle.moka_cht.specs.declared.insertion.Insertion.{Insertion}
 use Rattle.moka_cht.specs.declared.insertion.Insertion.TheVariants.{Inserted, ReplacedTombstone, AlreadyPresent, NoFree}
 use Rattle.moka_cht.specs.Buckets.{Buckets, IsHashOf, filled}
-use Rattle.moka_cht.specs.Calls.{Inserts, Keeps, Modifies, Puts, Removes}
+use Rattle.moka_cht.specs.Calls.{Inserts, KeepsPresent, Modifies, Puts, Removes}
 
 module _ {K V : Type 0} (eq : K → K → Bool) (h : K → ℕ) (respects : (k q : K) → eq k q ≡ true → h k ≡ h q) where
   -- each key that has a bucket was filled under its own hash
@@ -33,9 +33,9 @@ module _ {K V : Type 0} (eq : K → K → Bool) (h : K → ℕ) (respects : (k q
   follows_inserts hash key value present old new is kept follows (Err e) done err = subst Follows (sym err) follows
 
   pub follows_keeps : (hash : ℕ) (key : K) (value : V) (is_clone : V → V → Type 0) (old new : Buckets K V) → hash ≡ h key → Follows old →
-      (r : Result (Insertion V) AllocError) → IfOk r (λ x. Inserts eq hash key value (Keeps is_clone old) old x new) → OnErr r (new ≡ old) → Follows new
+      (r : Result (Insertion V) AllocError) → IfOk r (λ x. Inserts eq hash key value (KeepsPresent is_clone old) old x new) → OnErr r (new ≡ old) → Follows new
   follows_keeps hash key value is_clone old new is follows r done err =
-      follows_inserts hash key value (Keeps is_clone old) old new is (λ pair v kept. subst Follows (sym kept.1) follows) follows r done err
+      follows_inserts hash key value (KeepsPresent is_clone old) old new is (λ pair v kept. subst Follows (sym kept.1) follows) follows r done err
 
   pub follows_modifies : {F : Type 0} (g : Mut F (Bor K × (Bor V × Unit {0})) V) (f : F) (hash : ℕ) (key : K) (value : V) (old new : Buckets K V) → hash ≡ h key → Follows old →
       (r : Result (Insertion V) AllocError) → IfOk r (λ x. Inserts eq hash key value (Modifies g f eq hash key old) old x new) → OnErr r (new ≡ old) → Follows new

@@ -20,7 +20,7 @@ use denote.Ref.{Bor}
 use Rattle.std.specs.Fn.{Mut}
 use Rattle.moka_cht.specs.declared.probe.Aim.{Aim}
 use Rattle.moka_cht.specs.declared.probe.Probe.{Probe}
-use Rattle.moka_cht.specs.Calls.{AnswersPair, Exchanges, Inserts, Keeps, Modifies, NeverPresent, Puts}
+use Rattle.moka_cht.specs.Calls.{AnswersPair, Exchanges, Inserts, KeepsPresent, Modifies, NeverPresent, Puts}
 use Rattle.moka_cht.proofs.Lookups.{filled_none, passes_absent, stored_named, within_words}
 
 option_none : {B : Type 0} (o p : Option B) → option_or o p ≡ None → (o ≡ None) × (p ≡ None)
@@ -106,8 +106,8 @@ module _ {K V : Type 0} (eq : K → K → Bool) where
   -- the insert that keeps what is present
   pub keeps_ok : (hash : ℕ) (key : K) (value : V) (is_clone : V → V → Type 0) (old : Buckets K V) (node : Node K V) → ((pair : K × V) → pair_in node ≡ Some pair → stored eq old key ≡ Some pair) → (r : Result (Insertion V) AllocError) →
       IfOk r (λ x. (pair : K × V) × (v : V) × (pair_in node ≡ Some pair) × is_clone pair.1 v × (x ≡ AlreadyPresent v)) →
-      IfOk r (λ x. Inserts eq hash key value (Keeps is_clone old) old x old)
-  keeps_ok hash key value is_clone old node found (Ok x) (pair, v, pair_is, clone, is) = subst (λ y. Inserts eq hash key value (Keeps is_clone old) old y old) (sym is) (pair, found pair pair_is, (clone, refl))
+      IfOk r (λ x. Inserts eq hash key value (KeepsPresent is_clone old) old x old)
+  keeps_ok hash key value is_clone old node found (Ok x) (pair, v, pair_is, clone, is) = subst (λ y. Inserts eq hash key value (KeepsPresent is_clone old) old y old) (sym is) (pair, found pair pair_is, (clone, refl))
   keeps_ok hash key value is_clone old node found (Err e) h = h
 
   -- the one that stores what the modifier makes of it

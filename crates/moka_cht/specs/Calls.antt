@@ -82,8 +82,8 @@ module _ {K V : Type 0} where
   NeverPresent pair v new = ⊥
 
   -- the insert that keeps what is present, and answers a clone of it
-  abbrev pub Keeps : (V → V → Type 0) → Buckets K V → K × V → V → Buckets K V → Type 0
-  Keeps is_clone old pair v new = is_clone pair.1 v × (new ≡ old)
+  abbrev pub KeepsPresent : (V → V → Type 0) → Buckets K V → K × V → V → Buckets K V → Type 0
+  KeepsPresent is_clone old pair v new = is_clone pair.1 v × (new ≡ old)
 
   -- the one that stores what f makes of it, and answers what was there
   abbrev pub Modifies : {F : Type 0} → Mut F (Bor K × (Bor V × Unit {0})) V → F → (K → K → Bool) →

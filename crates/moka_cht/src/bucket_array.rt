@@ -9,7 +9,7 @@ ghost use Rattle.moka_cht.specs.declared.insertion.Insertion.{Insertion};
 ghost use Rattle.moka_cht.specs.Nodes.{own_key, pair_in};
 ghost use Rattle.moka_cht.specs.Probes.{AtPlace};
 ghost use Rattle.moka_cht.specs.Buckets.{HasNoEmpty, IsHashOf, filled, live_pairs, stored, value_under};
-ghost use Rattle.moka_cht.specs.Calls.{AnswersPair, Asks, Exchanges, Inserts, Keeps, ListsCalls, Modifies, NeverPresent, Puts, Removes};
+ghost use Rattle.moka_cht.specs.Calls.{AnswersPair, Asks, Exchanges, Inserts, KeepsPresent, ListsCalls, Modifies, NeverPresent, Puts, Removes};
 
 use crate::keys::list_keys;
 use crate::look::{find, find_live, find_place, put_word, remove_word};
@@ -244,8 +244,8 @@ impl<K: Eq + Drop, V: Clone + Drop> BucketArray<K, V> {
         value: V,
     ) -> Result<Insertion<V>, AllocError>
         requires { IsHashOf K.eq self.old key hash }
-        ensures ok { IfOk result (λ r. Inserts K.eq hash key value (Keeps V.is_clone self.old)
-            self.old r self.new) }
+        ensures ok { IfOk result (λ r. Inserts K.eq hash key value
+            (KeepsPresent V.is_clone self.old) self.old r self.new) }
         ensures full { IfOk result (λ r. ((v : V) × (r ≡ Insertion.NoFree v))
             ↔ ((filled K.eq self.old key ≡ None) × HasNoEmpty self.old)) }
         ensures tombstone { IfOk result (λ r. (r ≡ Insertion.ReplacedTombstone)

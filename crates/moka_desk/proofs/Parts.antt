@@ -11,8 +11,8 @@ use Rattle.moka_desk.specs.declared.loads.Loads.{Loads}
 use Rattle.moka_desk.specs.declared.state.Desk.{Desk}
 
 -- the loads change as a claim does
-pub claim_stands : {K V : Type 0} {same : PartialEq.Ghosts K} {hash : Hash.Ghosts K} (eq : K → K → Bool) (desk : Desk K V same hash) (w : DeskPart K V) → StandsFor eq desk w →
-    (call : ℕ) (load : Load K) (owner : Option ℕ) (loads : Loads K V same hash) → LoadsAre eq loads (load_part (claimed eq w call load owner)) →
+pub claim_stands : {K V E : Type 0} {same : PartialEq.Ghosts K} {hash : Hash.Ghosts K} (eq : K → K → Bool) (desk : Desk K V E same hash) (w : DeskPart K V E) → StandsFor eq desk w →
+    (call : ℕ) (load : Load K) (owner : Option ℕ) (loads : Loads K V E same hash) → LoadsAre eq loads (load_part (claimed eq w call load owner)) →
     StandsFor eq (record desk { loads = loads }) (claimed eq w call load owner)
 claim_stands eq desk w h call load None loads are = record {
   rules = h.rules;

@@ -9,22 +9,22 @@ use Rattle.moka_desk.specs.declared.asks.Asks.{Asks}
 use Rattle.moka_desk.specs.declared.asks.OpenAsk.{OpenAsk}
 
 -- What the desk's part says of asks.
-pub record AskPart (V : Type 0) : Type 0 where
+pub record AskPart (V E : Type 0) : Type 0 where
   pub asks : ℕ → Option Takes
-  pub told : ℕ → Option (Told V)
+  pub told : ℕ → Option (Told V E)
 
 -- that part of it
-abbrev pub ask_part : {K V : Type 0} → DeskPart K V → AskPart V
+abbrev pub ask_part : {K V E : Type 0} → DeskPart K V E → AskPart V E
 ask_part w = record { asks = w.asks; told = w.told }
 
 -- The maps are those that are kept.
-pub record AsksAre {V : Type 0} (asks : Asks V) (p : AskPart V) : Type 0 where
+pub record AsksAre {V E : Type 0} (asks : Asks V E) (p : AskPart V E) : Type 0 where
   pub open_asks : (n : ℕ) → option_map (λ a. a.takes) (get nat_eq asks.open_asks n) ≡ p.asks n
   pub told : (n : ℕ) → option_map (λ a. a.told) (get nat_eq asks.told n) ≡ p.told n
 
 -- the asks change as the part does, whatever they stand for
-abbrev pub AsksBecome : {V : Type 0} → Asks V → (AskPart V → AskPart V) → Asks V → Type 0
-AsksBecome {V} old change new = (p : AskPart V) → AsksAre old p → AsksAre new (change p)
+abbrev pub AsksBecome : {V E : Type 0} → Asks V E → (AskPart V E → AskPart V E) → Asks V E → Type 0
+AsksBecome {V} {E} old change new = (p : AskPart V E) → AsksAre old p → AsksAre new (change p)
 
 -- the ask of this number is open
 abbrev pub is_open : {S : Type 0} → HashMap ℕ OpenAsk S → ℕ → Bool

@@ -10,16 +10,16 @@ use Rattle.moka_hist.specs.declared.visits.Settled.{Settled}
 use Rattle.moka_desk.specs.declared.loads.Loads.{Loads}
 
 -- What the desk's part says of loads.
-pub record LoadPart (K V : Type 0) : Type 0 where
+pub record LoadPart (K V E : Type 0) : Type 0 where
   pub owners : Load K → Option ℕ
   pub owning : ℕ → Option (Load K)
   pub joined : ℕ → Option ℕ
   pub readers : ℕ → ℕ
-  pub settled : ℕ → Option (Settled V)
+  pub settled : ℕ → Option (Settled V E)
 
-module _ {K V : Type 0} where
+module _ {K V E : Type 0} where
   -- that part of it
-  abbrev pub load_part : DeskPart K V → LoadPart K V
+  abbrev pub load_part : DeskPart K V E → LoadPart K V E
   load_part w =
       record {
         owners = w.owners;
@@ -36,8 +36,8 @@ unsettled (Some owner) settled = cond (is_some (settled owner)) None (Some owner
 
 -- The maps are those that are kept, and each call owns the load that it is the owner of, and no
 -- other.
-pub record LoadsAre {K V : Type 0} {same : PartialEq.Ghosts K} {hash : Hash.Ghosts K}
-    (eq : K → K → Bool) (loads : Loads K V same hash) (p : LoadPart K V) : Type 0 where
+pub record LoadsAre {K V E : Type 0} {same : PartialEq.Ghosts K} {hash : Hash.Ghosts K}
+    (eq : K → K → Bool) (loads : Loads K V E same hash) (p : LoadPart K V E) : Type 0 where
   pub owners : (l : Load K) → get (load_eq eq) loads.owners l ≡ p.owners l
   pub owning : (n : ℕ) → get nat_eq loads.owning n ≡ p.owning n
   pub joined : (n : ℕ) → get nat_eq loads.joined n ≡ p.joined n
@@ -47,18 +47,19 @@ pub record LoadsAre {K V : Type 0} {same : PartialEq.Ghosts K} {hash : Hash.Ghos
       IsSomeAnd (p.owning n) (λ own. load_eq eq own l ≡ true)
   pub owned : (l : Load K) (n : ℕ) → p.owning n ≡ Some l → p.owners l ≡ Some n
 
-module _ {K V : Type 0} {same : PartialEq.Ghosts K} {hash : Hash.Ghosts K} (eq : K → K → Bool) where
-  -- the loads change as the part does, whatever they stand for
-  abbrev pub LoadsBecome : Loads K V same hash → (LoadPart K V → LoadPart K V) →
-      Loads K V same hash → Type 0
-  LoadsBecome old change new = (p : LoadPart K V) → LoadsAre eq old p → LoadsAre eq new (change p)
+module _ {K V E : Type 0} {same : PartialEq.Ghosts K} {hash : Hash.Ghosts K} (eq : K → K → Bool)
+  where
+    -- the loads change as the part does, whatever they stand for
+    abbrev pub LoadsBecome : Loads K V E same hash → (LoadPart K V E → LoadPart K V E) →
+        Loads K V E same hash → Type 0
+    LoadsBecome old change new = (p : LoadPart K V E) → LoadsAre eq old p → LoadsAre eq new (change p)
 
-  -- nothing has changed of what they stand for
-  abbrev pub LoadsStay : Loads K V same hash → Loads K V same hash → Type 0
-  LoadsStay old new = LoadsBecome old (λ p. p) new
+    -- nothing has changed of what they stand for
+    abbrev pub LoadsStay : Loads K V E same hash → Loads K V E same hash → Type 0
+    LoadsStay old new = LoadsBecome old (λ p. p) new
 
-  -- the loads change as those of the reference's desk do
-  abbrev pub LoadsMake : Loads K V same hash → (DeskPart K V → LoadPart K V) → Loads K V same hash →
-      Type 0
-  LoadsMake old change new =
-      (w : DeskPart K V) → LoadsAre eq old (load_part w) → LoadsAre eq new (change w)
+    -- the loads change as those of the reference's desk do
+    abbrev pub LoadsMake : Loads K V E same hash → (DeskPart K V E → LoadPart K V E) →
+        Loads K V E same hash → Type 0
+    LoadsMake old change new =
+        (w : DeskPart K V E) → LoadsAre eq old (load_part w) → LoadsAre eq new (change w)

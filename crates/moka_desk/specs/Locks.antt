@@ -10,7 +10,7 @@ pub record LockPart (K : Type 0) : Type 0 where
   pub locked : ℕ → Option K
 
 -- that part of it
-abbrev pub lock_part : {K V : Type 0} → DeskPart K V → LockPart K
+abbrev pub lock_part : {K V E : Type 0} → DeskPart K V E → LockPart K
 lock_part w = record { locks = w.locks; locked = w.locked }
 
 -- The maps are those that are kept, and each call holds the lock of the key that it locked, and no

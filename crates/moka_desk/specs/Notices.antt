@@ -16,7 +16,7 @@ pub record NoticePart (K V : Type 0) : Type 0 where
   pub off : Bool
 
 -- that part of it
-abbrev pub notice_part : {K V : Type 0} → DeskPart K V → NoticePart K V
+abbrev pub notice_part : {K V E : Type 0} → DeskPart K V E → NoticePart K V
 notice_part w = record { notices = w.notices; opened = w.opened; off = w.off }
 
 module _ {K V : Type 0} where

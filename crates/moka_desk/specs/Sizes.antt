@@ -4,13 +4,13 @@ use Rattle.std.specs.declared.cmp.PartialEq as PartialEq
 use Rattle.std.specs.declared.hash.Hash as Hash
 use Rattle.moka_desk.specs.declared.state.Desk.{Desk}
 
-module _ {K V : Type 0} {same : PartialEq.Ghosts K} {hash : Hash.Ghosts K} where
+module _ {K V E : Type 0} {same : PartialEq.Ghosts K} {hash : Hash.Ghosts K} where
   -- how many writes dropped calls left, how many are logged, and how many the log has room for
-  abbrev pub owed_in : Desk K V same hash → ℕ
+  abbrev pub owed_in : Desk K V E same hash → ℕ
   owed_in desk = length desk.writes.owed.items
 
-  abbrev pub logged_in : Desk K V same hash → ℕ
+  abbrev pub logged_in : Desk K V E same hash → ℕ
   logged_in desk = length desk.writes.log.items
 
-  abbrev pub room_in : Desk K V same hash → ℕ
+  abbrev pub room_in : Desk K V E same hash → ℕ
   room_in desk = desk.writes.size

@@ -17,8 +17,8 @@ use Rattle.moka_desk.specs.Asks.{ask_part, AsksAre}
 use Rattle.moka_desk.specs.declared.state.Desk.{Desk}
 
 -- The desk has what the reference's desk has, part by part.
-pub record StandsFor {K V : Type 0} {same : PartialEq.Ghosts K} {hash : Hash.Ghosts K}
-    (eq : K → K → Bool) (desk : Desk K V same hash) (w : DeskPart K V) : Type 0 where
+pub record StandsFor {K V E : Type 0} {same : PartialEq.Ghosts K} {hash : Hash.Ghosts K}
+    (eq : K → K → Bool) (desk : Desk K V E same hash) (w : DeskPart K V E) : Type 0 where
   pub rules : desk.rules ≡ w.rules
   pub clock : desk.clock ≡ w.clock
   pub accessed : (n : ℕ) → get nat_eq desk.accessed n ≡ w.accessed n
@@ -31,31 +31,32 @@ pub record StandsFor {K V : Type 0} {same : PartialEq.Ghosts K} {hash : Hash.Gho
   pub notices : NoticesAre desk.notices (notice_part w)
   pub asks : AsksAre desk.asks (ask_part w)
 
-module _ {K V : Type 0} {same : PartialEq.Ghosts K} {hash : Hash.Ghosts K} (eq : K → K → Bool) where
-  -- the desk stands for a state that allows the visit
-  abbrev pub Can : Desk K V same hash → Visit K V → Type 0
-  Can desk visit = (w : DeskPart K V) × StandsFor eq desk w × MayVisit w visit
+module _ {K V E : Type 0} {same : PartialEq.Ghosts K} {hash : Hash.Ghosts K} (eq : K → K → Bool)
+  where
+    -- the desk stands for a state that allows the visit
+    abbrev pub Can : Desk K V E same hash → Visit K V E → Type 0
+    Can desk visit = (w : DeskPart K V E) × StandsFor eq desk w × MayVisit w visit
 
-  -- the visit finds this, in each state that the desk stands for and that allows it
-  abbrev pub Finds : Desk K V same hash → Visit K V → Found V → Type 0
-  Finds desk visit found =
-      (w : DeskPart K V) → StandsFor eq desk w → MayVisit w visit → found ≡ finds w visit
+    -- the visit finds this, in each state that the desk stands for and that allows it
+    abbrev pub Finds : Desk K V E same hash → Visit K V E → Found V E → Type 0
+    Finds desk visit found =
+        (w : DeskPart K V E) → StandsFor eq desk w → MayVisit w visit → found ≡ finds w visit
 
-  -- the visit was made, and nothing else, in each such state
-  abbrev pub Makes : Desk K V same hash → Visit K V → Desk K V same hash → Type 0
-  Makes old visit new =
-      (w : DeskPart K V) → StandsFor eq old w → MayVisit w visit →
-      StandsFor eq new (makes eq w visit)
+    -- the visit was made, and nothing else, in each such state
+    abbrev pub Makes : Desk K V E same hash → Visit K V E → Desk K V E same hash → Type 0
+    Makes old visit new =
+        (w : DeskPart K V E) → StandsFor eq old w → MayVisit w visit →
+        StandsFor eq new (makes eq w visit)
 
-  -- the desk changes as the state does, whatever it stands for
-  abbrev pub Becomes : Desk K V same hash → (DeskPart K V → DeskPart K V) → Desk K V same hash →
-      Type 0
-  Becomes old change new = (w : DeskPart K V) → StandsFor eq old w → StandsFor eq new (change w)
+    -- the desk changes as the state does, whatever it stands for
+    abbrev pub Becomes : Desk K V E same hash → (DeskPart K V E → DeskPart K V E) →
+        Desk K V E same hash → Type 0
+    Becomes old change new = (w : DeskPart K V E) → StandsFor eq old w → StandsFor eq new (change w)
 
-  -- nothing has changed of what the desk stands for
-  abbrev pub Stays : Desk K V same hash → Desk K V same hash → Type 0
-  Stays old new = Becomes old (λ w. w) new
+    -- nothing has changed of what the desk stands for
+    abbrev pub Stays : Desk K V E same hash → Desk K V E same hash → Type 0
+    Stays old new = Becomes old (λ w. w) new
 
-  -- the call may leave this write, if any: the desk stands for a state that allows it
-  abbrev pub CanLeave : Desk K V same hash → ℕ → Option Write → Type 0
-  CanLeave desk call write = (w : DeskPart K V) × StandsFor eq desk w × MayLeave w call write
+    -- the call may leave this write, if any: the desk stands for a state that allows it
+    abbrev pub CanLeave : Desk K V E same hash → ℕ → Option Write → Type 0
+    CanLeave desk call write = (w : DeskPart K V E) × StandsFor eq desk w × MayLeave w call write

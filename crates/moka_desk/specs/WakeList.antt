@@ -45,9 +45,9 @@ after_leaving call load lock l = record {
 abbrev pub Change : Type 0
 Change = (ℕ → Bool) → ℕ → Bool
 
-module _ {K V : Type 0} {same : PartialEq.Ghosts K} {hash : Hash.Ghosts K} where
+module _ {K V E : Type 0} {same : PartialEq.Ghosts K} {hash : Hash.Ghosts K} where
   -- the wake list of the desk
-  abbrev pub wake_list : Desk K V same hash → WakeList
+  abbrev pub wake_list : Desk K V E same hash → WakeList
   wake_list desk = record {
     turns = is_out desk.waits.turns;
     settlements = is_out desk.waits.settlements;
@@ -57,7 +57,7 @@ module _ {K V : Type 0} {same : PartialEq.Ghosts K} {hash : Hash.Ghosts K} where
   }
 
   -- nobody who is listed is on it, for things of the same kind
-  pub record ListedAreUnwoken (desk : Desk K V same hash) : Type 0 where
+  pub record ListedAreUnwoken (desk : Desk K V E same hash) : Type 0 where
     pub turns : EachListed (turn_line desk) (λ n c. is_out desk.waits.turns c ≡ false)
     pub settlements : EachListed (settlement_line desk)
         (λ n c. is_out desk.waits.settlements c ≡ false)
@@ -66,32 +66,34 @@ module _ {K V : Type 0} {same : PartialEq.Ghosts K} {hash : Hash.Ghosts K} where
     pub notices : EachListed (notice_line desk) (λ n c. is_out desk.waits.notices c ≡ false)
 
   -- the wake list changes so
-  abbrev pub Wake : Desk K V same hash → (WakeList → WakeList) → Desk K V same hash → Type 0
+  abbrev pub Wake : Desk K V E same hash → (WakeList → WakeList) → Desk K V E same hash → Type 0
   Wake old change new = HaveSame (wake_list new) (change (wake_list old))
 
   -- nobody comes to it, and nobody leaves it
-  abbrev pub NobodyWakes : Desk K V same hash → Desk K V same hash → Type 0
+  abbrev pub NobodyWakes : Desk K V E same hash → Desk K V E same hash → Type 0
   NobodyWakes old new = Wake old (λ l. l) new
 
   -- those on it that waited for things of one kind change so, and no others
-  abbrev pub TurnsWake : Desk K V same hash → Change → Desk K V same hash → Type 0
+  abbrev pub TurnsWake : Desk K V E same hash → Change → Desk K V E same hash → Type 0
   TurnsWake old change new = Wake old (λ l. record l { turns = change l.turns }) new
 
-  abbrev pub SettlementsWake : Desk K V same hash → Change → Desk K V same hash → Type 0
+  abbrev pub SettlementsWake : Desk K V E same hash → Change → Desk K V E same hash → Type 0
   SettlementsWake old change new =
       Wake old (λ l. record l { settlements = change l.settlements }) new
 
-  abbrev pub AnswersWake : Desk K V same hash → Change → Desk K V same hash → Type 0
+  abbrev pub AnswersWake : Desk K V E same hash → Change → Desk K V E same hash → Type 0
   AnswersWake old change new = Wake old (λ l. record l { answers = change l.answers }) new
 
-  abbrev pub LocksWake : Desk K V same hash → Change → Desk K V same hash → Type 0
+  abbrev pub LocksWake : Desk K V E same hash → Change → Desk K V E same hash → Type 0
   LocksWake old change new = Wake old (λ l. record l { locks = change l.locks }) new
 
-  abbrev pub NoticesWake : Desk K V same hash → Change → Desk K V same hash → Type 0
+  abbrev pub NoticesWake : Desk K V E same hash → Change → Desk K V E same hash → Type 0
   NoticesWake old change new = Wake old (λ l. record l { notices = change l.notices }) new
 
   -- these calls, that waited for such an answer, come to it
-  abbrev pub ToldWake : Desk K V same hash → Told V → List ℕ → Desk K V same hash → Type 0
+  abbrev pub ToldWake : Desk K V E same hash → Told V E → List ℕ → Desk K V E same hash → Type 0
   ToldWake old (answer.Value value) calls new = AnswersWake old (and_calls calls) new
+  ToldWake old answer.Nothing calls new = AnswersWake old (and_calls calls) new
+  ToldWake old (answer.Err error) calls new = AnswersWake old (and_calls calls) new
   ToldWake old answer.Done calls new = NoticesWake old (and_calls calls) new
   ToldWake old answer.Off calls new = NoticesWake old (and_calls calls) new

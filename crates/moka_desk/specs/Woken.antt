@@ -14,7 +14,7 @@ is_out lines call =
     (get nat_eq lines.places call) false
 
 -- the call waited for the answer to its own ask, was told it, and has not taken it up
-abbrev pub is_told : {V : Type 0} → Asks V → ℕ → Bool
+abbrev pub is_told : {V E : Type 0} → Asks V E → ℕ → Bool
 is_told asks call = option_map_or (λ a. a.woken) (get nat_eq asks.told call) false
 
 -- of calls that are woken: these calls are woken too; and this one no longer is

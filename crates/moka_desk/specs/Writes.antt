@@ -17,7 +17,7 @@ pub record WritePart : Type 0 where
   pub size : ℕ
 
 -- that part of it
-abbrev pub write_part : {K V : Type 0} → DeskPart K V → WritePart
+abbrev pub write_part : {K V E : Type 0} → DeskPart K V E → WritePart
 write_part w =
     record { holding = w.holding; owed = w.owed; log = w.log; applied = w.applied; size = w.size }
 

@@ -2,7 +2,7 @@
 
 ghost use Rattle.std.specs.Prelude.{◌≡◌, ℕ, ◌≤◌, ◌==◌, true, false, cond, [], ◌∷◌, Option, Some, None, is_some, IsSome, IfSome, MatchOption, nat_eq, OnOk, OnErr, if◌then◌else◌};
 ghost use Rattle.std.specs.Option.{option_map, option_map_or};
-ghost use Rattle.moka_hist.specs.Telling.{does_take as takes_answer};
+ghost use Rattle.moka_hist.specs.Telling.{takes_nothing, takes_error, does_take as takes_answer};
 ghost use Rattle.std.specs.HashMap.{get, spare, hash_map_len};
 
 use crate::maps::put;
@@ -20,24 +20,24 @@ pub(crate) struct OpenAsk {
 
 /// An answer that its call has not taken yet, and whether that was handed out with it.
 #[derive(Drop)]
-pub(crate) struct Answer<V> {
-    pub(crate) told: Told<V>,
+pub(crate) struct Answer<V, E> {
+    pub(crate) told: Told<V, E>,
     pub(crate) woken: bool,
 }
 
 /// The open asks, and what was told to those that are closed and not taken yet. Each open ask has
 /// the place of its answer, and that of its call on the list of those that wait for it.
 #[derive(Drop)]
-pub(crate) struct Asks<V> {
+pub(crate) struct Asks<V, E> {
     alloc: Global,
     pub(crate) open_asks: HashMap<u64, OpenAsk>,
-    pub(crate) told: HashMap<u64, Answer<V>>,
+    pub(crate) told: HashMap<u64, Answer<V, E>>,
     ghost answers_have_places: { hash_map_len open_asks ≤ spare told },
     ghost open_are_untold: { (n : ℕ) → is_some (get nat_eq open_asks n) ≡ true
         → get nat_eq told n ≡ None },
 }
 
-impl<V: Drop> Asks<V> {
+impl<V: Drop, E: Drop> Asks<V, E> {
     ghost use Rattle.moka_hist.specs.Finite.{put_at};
     ghost use Rattle.moka_desk.specs.Asks.{asker_at, asks_if, is_open, AsksAre, AsksBecome};
     ghost use Rattle.moka_desk.specs.Woken.{all_but, and_calls, is_told};
@@ -75,7 +75,7 @@ impl<V: Drop> Asks<V> {
 
     /// Closes the call's ask by an answer that it takes, and hands the call out, if it waits.
     /// Answers None where none is open that takes it; nothing has changed then.
-    pub(crate) fn tell(&mut self, call: u64, answer: Told<V>) -> Option<CallList>
+    pub(crate) fn tell(&mut self, call: u64, answer: Told<V, E>) -> Option<CallList>
         ensures finds { is_some result ≡ option_map_or
             (λ a. takes_answer a.takes answer) (get nat_eq self.old.open_asks call) false }
         ensures woken { IfSome result (λ woken. woken ≡ option_map_or
@@ -97,7 +97,7 @@ impl<V: Drop> Asks<V> {
     }
 
     /// Takes what the call was told, if anything was. Where its ask is open, the call waits.
-    pub(crate) fn take(&mut self, call: u64) -> Option<Told<V>>
+    pub(crate) fn take(&mut self, call: u64) -> Option<Told<V, E>>
         ensures finds { result ≡ option_map (λ a. a.told) (get nat_eq self.old.told call) }
         ensures makes { AsksBecome self.old
             (λ p. record p { told = put_at p.told call None }) self.new }
@@ -135,7 +135,7 @@ impl<V: Drop> Asks<V> {
     }
 
     // Closes an open ask by the answer, and hands its call out, if it waits.
-    fn close(&mut self, call: u64, answer: Told<V>) -> Option<CallList>
+    fn close(&mut self, call: u64, answer: Told<V, E>) -> Option<CallList>
         requires { IsSome (get nat_eq self.old.open_asks call) }
         ensures woken { result ≡ Some (option_map_or
             (λ a. cond a.place (call ∷ []) []) (get nat_eq self.old.open_asks call) []) }
@@ -160,12 +160,36 @@ impl<V: Drop> Asks<V> {
 }
 
 // Whether an ask takes answers of this shape.
-fn does_take<V>(takes: Takes, answer: &Told<V>) -> bool
+fn does_take<V, E>(takes: Takes, answer: &Told<V, E>) -> bool
     ensures { result ≡ takes_answer takes answer.now }
 {
-    match (takes, answer) {
-        (Takes::Value, Told::Value(_)) => true,
-        (Takes::Value, Told::Done) => false,
-        (Takes::Value, Told::Off) => false,
+    match answer {
+        Told::Value(_) => true,
+        Told::Nothing => does_take_nothing(takes),
+        Told::Err(_) => does_take_error(takes),
+        Told::Done => false,
+        Told::Off => false,
+    }
+}
+
+// Whether an ask takes that there is no value.
+fn does_take_nothing(takes: Takes) -> bool
+    ensures { result ≡ takes_nothing takes }
+{
+    match takes {
+        Takes::Value => false,
+        Takes::Optional => true,
+        Takes::Try => false,
+    }
+}
+
+// Whether an ask takes an error.
+fn does_take_error(takes: Takes) -> bool
+    ensures { result ≡ takes_error takes }
+{
+    match takes {
+        Takes::Value => false,
+        Takes::Optional => false,
+        Takes::Try => true,
     }
 }

@@ -19,6 +19,8 @@ mod writing;
 pub use state::Desk;
 
 #[cfg(test)]
+mod load_tests;
+#[cfg(test)]
 mod tests;
 #[cfg(test)]
 mod wake_tests;

@@ -12,7 +12,7 @@ use moka_sync::CallList;
 use std::alloc::AllocError;
 use std::hash::Hash;
 
-impl<K: Eq + Hash + Clone + Drop, V: Drop> Desk<K, V> {
+impl<K: Eq + Hash + Clone + Drop, V: Drop, E: Drop> Desk<K, V, E> {
     ghost use Rattle.moka_hist.specs.Finite.{IsExact};
     ghost use Rattle.moka_hist.specs.State.{DeskPart};
     ghost use Rattle.moka_hist.specs.Telling.{heard, MayEnd};
@@ -122,7 +122,7 @@ impl<K: Eq + Hash + Clone + Drop, V: Drop> Desk<K, V> {
         // want of memory
         ensures unlisted { OnErr result (NoticesMove self.old stays self.new) }
         ensures still { OnErr result (NobodyWakes self.old self.new) }
-        ensures needs { OnErr result ((w : DeskPart K V) → StandsFor K.eq self.old w
+        ensures needs { OnErr result ((w : DeskPart K V E) → StandsFor K.eq self.old w
             → is_running w notice ≡ true) }
         // who is listed misses that thing
         ensures misses { OnOk result
@@ -140,8 +140,8 @@ impl<K: Eq + Hash + Clone + Drop, V: Drop> Desk<K, V> {
     /// Ends the notice of this number, of which the listener was asked, turns the listener off, if
     /// `off`, and hands out all that wait for the end. One that has ended stays so.
     pub fn end_notice(&mut self, notice: u64, off: bool) -> CallList
-        requires { (w : DeskPart K V) × StandsFor K.eq self.old w × MayEnd (w.notices notice) }
-        ensures makes { (w : DeskPart K V) → StandsFor K.eq self.old w → MayEnd (w.notices notice)
+        requires { (w : DeskPart K V E) × StandsFor K.eq self.old w × MayEnd (w.notices notice) }
+        ensures makes { (w : DeskPart K V E) → StandsFor K.eq self.old w → MayEnd (w.notices notice)
             → StandsFor K.eq self.new (heard w notice off) }
         ensures woken { result ≡ notice_line self.old notice }
         ensures waits { NoticesMove self.old (comes notice) self.new }
@@ -155,7 +155,7 @@ impl<K: Eq + Hash + Clone + Drop, V: Drop> Desk<K, V> {
     /// Why the record of this stamp, last written at the moment `modified`, leaves now: for the
     /// cause handed in, or else as `upsert` says whether a write takes its place.
     pub fn cause_of(&self, stamp: u64, modified: u64, cause: Option<Cause>, upsert: bool) -> Cause
-        ensures { (w : DeskPart K V) → StandsFor K.eq self.now w
+        ensures { (w : DeskPart K V E) → StandsFor K.eq self.now w
             → result ≡ cause_of w stamp modified cause upsert }
     {
         match cause {
@@ -170,7 +170,7 @@ impl<K: Eq + Hash + Clone + Drop, V: Drop> Desk<K, V> {
     /// where a capacity is set, `Expired` past its time to live or to idle, `Replaced` never, and
     /// `Explicit` not yet, since no record is hidden or hit by an invalidation.
     pub fn holds(&self, stamp: u64, modified: u64, cause: Cause) -> bool
-        ensures { (w : DeskPart K V) → StandsFor K.eq self.now w
+        ensures { (w : DeskPart K V E) → StandsFor K.eq self.now w
             → result ≡ chosen_holds w.rules (times_at w stamp modified) false cause }
     {
         chosen_holds(&self.rules, &self.times(stamp, modified), false, cause)
@@ -178,7 +178,7 @@ impl<K: Eq + Hash + Clone + Drop, V: Drop> Desk<K, V> {
 
     // The times of the record of this stamp, last written at the moment.
     fn times(&self, stamp: u64, modified: u64) -> Times
-        ensures { (w : DeskPart K V) → StandsFor K.eq self.now w →
+        ensures { (w : DeskPart K V E) → StandsFor K.eq self.now w →
             result ≡ times_at w stamp modified }
     {
         Times {

@@ -9,7 +9,7 @@ use moka_sync::CallList;
 use std::alloc::AllocError;
 use std::hash::Hash;
 
-impl<K: Eq + Hash + Clone + Drop, V: Drop> Desk<K, V> {
+impl<K: Eq + Hash + Clone + Drop, V: Drop, E: Drop> Desk<K, V, E> {
     ghost use Rattle.moka_hist.specs.Finite.{IsExact};
     ghost use Rattle.moka_hist.specs.State.{DeskPart};
     ghost use Rattle.std.specs.Option.{option_map};
@@ -48,10 +48,12 @@ impl<K: Eq + Hash + Clone + Drop, V: Drop> Desk<K, V> {
 
     /// Reads how the owner ended that the call waits for. Answers NotYet where it has not ended. A
     /// call that has read it waits no longer, and the last one takes it away.
-    pub fn read_settled(&mut self, call: u64) -> Result<Settled<V>, AllocError>
+    pub fn read_settled(&mut self, call: u64) -> Result<Settled<V, E>, AllocError>
     where
         V: Clone,
+        E: Clone,
         requires values { IsExact V.is_clone }
+        requires errors { IsExact E.is_clone }
         requires waits { Can K.eq self.old (visit.ReadSettled call) }
         ensures finds { IfOk result (λ settled. Finds K.eq self.old (visit.ReadSettled call)
             (found.ReadSettled settled)) }
@@ -80,7 +82,7 @@ impl<K: Eq + Hash + Clone + Drop, V: Drop> Desk<K, V> {
 
     /// Ends the call's ownership of a load, keeps how it ended for those that wait for it, and
     /// hands these out.
-    pub fn settle(&mut self, call: u64, with: Settled<V>) -> CallList
+    pub fn settle(&mut self, call: u64, with: Settled<V, E>) -> CallList
         requires { Can K.eq self.old (visit.Settle call with) }
         ensures makes { Makes K.eq self.old (visit.Settle call with) self.new }
         ensures woken { result ≡ settlement_line self.old call }
@@ -104,11 +106,11 @@ impl<K: Eq + Hash + Clone + Drop, V: Drop> Desk<K, V> {
         self.asks.open(call, takes)
     }
 
-    /// Closes the ask of this number by an answer that it takes: a value is kept for the call, and
-    /// a listener's answer ends the notice of that number. Hands out all that wait for it. Answers
-    /// None where no such ask is open; nothing has changed then.
-    pub fn tell(&mut self, number: u64, answer: Told<V>) -> Option<CallList>
-        ensures finds { (w : DeskPart K V) → StandsFor K.eq self.old w →
+    /// Closes the ask of this number by an answer that it takes: what an initializer gives is kept
+    /// for the call, and a listener's answer ends the notice of that number. Hands out all that
+    /// wait for it. Answers None where no such ask is open; nothing has changed then.
+    pub fn tell(&mut self, number: u64, answer: Told<V, E>) -> Option<CallList>
+        ensures finds { (w : DeskPart K V E) → StandsFor K.eq self.old w →
             is_some result ≡ is_asked w number answer }
         ensures makes { Becomes K.eq self.old
             (λ w. if is_some result then with_told w number answer else w) self.new }
@@ -122,6 +124,8 @@ impl<K: Eq + Hash + Clone + Drop, V: Drop> Desk<K, V> {
     {
         match answer {
             Told::Value(value) => self.asks.tell(number, Told::Value(value)),
+            Told::Nothing => self.asks.tell(number, Told::Nothing),
+            Told::Err(error) => self.asks.tell(number, Told::Err(error)),
             Told::Done => self.hear(number, false),
             Told::Off => self.hear(number, true),
         }
@@ -129,7 +133,7 @@ impl<K: Eq + Hash + Clone + Drop, V: Drop> Desk<K, V> {
 
     // Ends the notice of this number, where it runs, and turns the listener off, if `off`.
     fn hear(&mut self, number: u64, off: bool) -> Option<CallList>
-        ensures finds { (w : DeskPart K V) → StandsFor K.eq self.old w →
+        ensures finds { (w : DeskPart K V E) → StandsFor K.eq self.old w →
             is_some result ≡ is_running w number }
         ensures makes { Becomes K.eq self.old
             (λ w. if is_some result then heard w number off else w) self.new }
@@ -149,7 +153,7 @@ impl<K: Eq + Hash + Clone + Drop, V: Drop> Desk<K, V> {
     }
 
     /// Takes what the call was told, if its ask is closed.
-    pub fn take_told(&mut self, call: u64) -> Option<Told<V>>
+    pub fn take_told(&mut self, call: u64) -> Option<Told<V, E>>
         requires { Can K.eq self.old (visit.TakeTold call) }
         ensures finds { Finds K.eq self.old (visit.TakeTold call) (found.TakeTold result) }
         ensures makes { Makes K.eq self.old (visit.TakeTold call) self.new }
@@ -167,7 +171,7 @@ impl<K: Eq + Hash + Clone + Drop, V: Drop> Desk<K, V> {
     /// out those that wait for its load, and then those that wait for its lock.
     pub fn leave(&mut self, call: u64, held: Option<Owed>) -> CallList
         requires { CanLeave K.eq self.old call (option_map (λ o. o.write) held) }
-        ensures makes { (w : DeskPart K V) → StandsFor K.eq self.old w
+        ensures makes { (w : DeskPart K V E) → StandsFor K.eq self.old w
             → MayLeave w call (option_map (λ o. o.write) held) →
             StandsFor K.eq self.new (left w call held) }
         ensures woken { result
@@ -188,7 +192,7 @@ impl<K: Eq + Hash + Clone + Drop, V: Drop> Desk<K, V> {
     // The write that is handed in, with its notice where that still runs.
     fn still_heard(&self, held: Option<Owed>) -> Option<Owed>
         ensures same { option_map (λ o. o.write) result ≡ option_map (λ o. o.write) held }
-        ensures notice { (w : DeskPart K V) → StandsFor K.eq self.now w →
+        ensures notice { (w : DeskPart K V E) → StandsFor K.eq self.now w →
             result ≡ option_map (owed_with w) held }
     {
         let Owed { write, notice } = held?;

@@ -17,18 +17,18 @@ use std::hash::Hash;
 /// and how owners ended that somebody has still to read. Each owner has the place of its
 /// settlement. As many wait for an owner as have joined it.
 #[derive(Drop)]
-pub(crate) struct Loads<K: Eq + Hash, V> {
+pub(crate) struct Loads<K: Eq + Hash, V, E> {
     pub(crate) owners: HashMap<Load<K>, u64>,
     pub(crate) owning: HashMap<u64, Load<K>>,
     pub(crate) joined: HashMap<u64, u64>,
     pub(crate) readers: HashMap<u64, u64>,
-    pub(crate) settled: HashMap<u64, Settled<V>>,
+    pub(crate) settled: HashMap<u64, Settled<V, E>>,
     ghost settlements_have_places: { hash_map_len owning ≤ spare settled },
     ghost all_are_counted: { (n : ℕ) → unwrap_or (get nat_eq readers n) 0
         ≡ waiting_for joined.entries n },
 }
 
-impl<K: Eq + Hash + Clone + Drop, V: Drop> Loads<K, V> {
+impl<K: Eq + Hash + Clone + Drop, V: Drop, E: Drop> Loads<K, V, E> {
     ghost use Rattle.moka_hist.specs.Finite.{load_eq, put_at, put_key};
     ghost use Rattle.moka_hist.specs.State.{DeskPart};
     ghost use Rattle.moka_hist.specs.declared.loads.Load.{Load as load_of};
@@ -63,7 +63,7 @@ impl<K: Eq + Hash + Clone + Drop, V: Drop> Loads<K, V> {
         requires exact { IsExact K.is_clone }
         requires idle { get nat_eq self.old.owning call ≡ None }
         requires apart { get nat_eq self.old.joined call ≡ None }
-        ensures finds { IfOk result (λ claim. (w : DeskPart K V) →
+        ensures finds { IfOk result (λ claim. (w : DeskPart K V E) →
             LoadsAre K.eq self.old (load_part w)
             → claim ≡ claim_of (w.owners load)) }
         ensures ok { OnOk result (LoadsMake K.eq self.old
@@ -136,11 +136,13 @@ impl<K: Eq + Hash + Clone + Drop, V: Drop> Loads<K, V> {
     /// Reads how the owner ended that the call waits for: NotYet where it has not, or the call
     /// waits for nobody. A call that has read it waits no longer, and the last one takes it away.
     /// For want of memory nothing was read.
-    pub(crate) fn read(&mut self, call: u64) -> Result<Settled<V>, AllocError>
+    pub(crate) fn read(&mut self, call: u64) -> Result<Settled<V, E>, AllocError>
     where
         V: Clone,
-        requires { IsExact V.is_clone }
-        ensures finds { IfOk result (λ found. (w : DeskPart K V) →
+        E: Clone,
+        requires values { IsExact V.is_clone }
+        requires errors { IsExact E.is_clone }
+        ensures finds { IfOk result (λ found. (w : DeskPart K V E) →
             LoadsAre K.eq self.old (load_part w)
             → found ≡ unwrap_or (settlement_for w call) settled.NotYet) }
         ensures ok { OnOk result (LoadsMake K.eq self.old (λ w. load_part (read w call)) self.new) }
@@ -168,7 +170,7 @@ impl<K: Eq + Hash + Clone + Drop, V: Drop> Loads<K, V> {
     }
 
     /// Ends what the call owns, and keeps how it ended for those that wait for it.
-    pub(crate) fn settle(&mut self, call: u64, with: Settled<V>)
+    pub(crate) fn settle(&mut self, call: u64, with: Settled<V, E>)
         ensures { LoadsMake K.eq self.old (λ w. load_part (settled_as w call with)) self.new }
     {
         let awaited = self.readers_of(call) > 0;
@@ -178,7 +180,7 @@ impl<K: Eq + Hash + Clone + Drop, V: Drop> Loads<K, V> {
     /// The call waits for nobody and owns nothing any more; those that wait for it read that it was
     /// dropped.
     pub(crate) fn leave(&mut self, call: u64)
-        ensures { (w : DeskPart K V) (held : Option Owed) → LoadsAre K.eq self.old (load_part w)
+        ensures { (w : DeskPart K V E) (held : Option Owed) → LoadsAre K.eq self.old (load_part w)
             → LoadsAre K.eq self.new (load_part (left w call held)) }
     {
         let awaited = self.readers_of(call) > 0;
@@ -187,10 +189,12 @@ impl<K: Eq + Hash + Clone + Drop, V: Drop> Loads<K, V> {
     }
 
     // How the owner ended that the call waits for, if it has.
-    fn settlement_for(&self, call: u64) -> Result<Option<Settled<V>>, AllocError>
+    fn settlement_for(&self, call: u64) -> Result<Option<Settled<V, E>>, AllocError>
     where
         V: Clone,
-        requires { IsExact V.is_clone }
+        E: Clone,
+        requires values { IsExact V.is_clone }
+        requires errors { IsExact E.is_clone }
         ensures { IfOk result (λ found. found ≡ option_and_then (get nat_eq self.now.settled)
             (get nat_eq self.now.joined call)) }
     {
@@ -221,7 +225,7 @@ impl<K: Eq + Hash + Clone + Drop, V: Drop> Loads<K, V> {
     }
 
     // Ends what the call owns. Where somebody waits for it, that it ended so is kept.
-    fn end(&mut self, call: u64, with: Settled<V>, awaited: bool)
+    fn end(&mut self, call: u64, with: Settled<V, E>, awaited: bool)
         ensures { LoadsMake K.eq self.old
             (λ w. record (load_part w) {
               owners = owners_without w call;
@@ -267,9 +271,9 @@ impl<K: Eq + Hash + Clone + Drop, V: Drop> Loads<K, V> {
 }
 
 // One that waited for the owner is gone; the last takes away how it ended.
-fn release<V: Drop>(
+fn release<V: Drop, E: Drop>(
     readers: &mut HashMap<u64, u64>,
-    settled: &mut HashMap<u64, Settled<V>>,
+    settled: &mut HashMap<u64, Settled<V, E>>,
     owner: u64,
 )
     ensures readers { (n : ℕ) → unwrap_or (get nat_eq readers.new n) 0 ≡ cond (owner == n)
@@ -297,8 +301,11 @@ fn count_in(readers: &HashMap<u64, u64>, owner: u64) -> u64
 }
 
 // An equal settlement.
-fn settlement_copy<V: Clone>(settlement: &Settled<V>) -> Result<Settled<V>, AllocError>
-    requires { IsExact V.is_clone }
+fn settlement_copy<V: Clone, E: Clone>(
+    settlement: &Settled<V, E>,
+) -> Result<Settled<V, E>, AllocError>
+    requires values { IsExact V.is_clone }
+    requires errors { IsExact E.is_clone }
     ensures { IfOk result (λ copy. copy ≡ settlement.now) }
 {
     match settlement {
@@ -307,6 +314,11 @@ fn settlement_copy<V: Clone>(settlement: &Settled<V>) -> Result<Settled<V>, Allo
             let copy = value.clone()?;
             Ok(Settled::Ready(copy))
         }
+        Settled::Err(error) => {
+            let copy = error.clone()?;
+            Ok(Settled::Err(copy))
+        }
+        Settled::Nothing => Ok(Settled::Nothing),
         Settled::Aborted => Ok(Settled::Aborted),
     }
 }

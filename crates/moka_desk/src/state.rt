@@ -1,6 +1,6 @@
 //! The desk, its clock and its numbers.
 
-ghost use Rattle.std.specs.Prelude.{◌≡◌, ℕ, false, ◌+◌, ◌==◌, nat_lt, not, Option, Some, None, MatchOption, IfOk, if◌then◌else◌};
+ghost use Rattle.std.specs.Prelude.{◌≡◌, ℕ, Bool, false, ◌+◌, ◌==◌, nat_lt, not, Option, Some, None, MatchOption, IfOk, if◌then◌else◌};
 
 use crate::asks::Asks;
 use crate::loads::Loads;
@@ -18,7 +18,7 @@ use std::hash::Hash;
 /// their numbers. A call that takes a moment, owns a load or opens an ask gets the places of what
 /// follows, so that a later visit never fails for want of memory where its signature has no error.
 #[derive(Drop)]
-pub struct Desk<K: Eq + Hash, V> {
+pub struct Desk<K: Eq + Hash, V, E> {
     pub(crate) rules: Rules,
     pub(crate) clock: u64,
     pub(crate) accessed: HashMap<u64, u64>,
@@ -26,14 +26,14 @@ pub struct Desk<K: Eq + Hash, V> {
     pub(crate) published: u64,
     pub(crate) last: u64,
     pub(crate) writes: Writes,
-    pub(crate) loads: Loads<K, V>,
+    pub(crate) loads: Loads<K, V, E>,
     pub(crate) locks: Locks<K>,
     pub(crate) notices: Notices<K, V>,
-    pub(crate) asks: Asks<V>,
+    pub(crate) asks: Asks<V, E>,
     pub(crate) waits: Waits,
 }
 
-impl<K: Eq + Hash + Clone + Drop, V: Drop> Desk<K, V> {
+impl<K: Eq + Hash + Clone + Drop, V: Drop, E: Drop> Desk<K, V, E> {
     ghost use Rattle.moka_hist.specs.State.{DeskPart, fresh_desk};
     ghost use Rattle.moka_hist.specs.Finite.{IsExact};
     ghost use Rattle.moka_hist.specs.Run.{last_call};
@@ -43,7 +43,8 @@ impl<K: Eq + Hash + Clone + Drop, V: Drop> Desk<K, V> {
 
     /// A desk by these rules, where nothing has happened, with a log of this many writes.
     pub fn new(alloc: Global, rules: Rules, log: usize) -> Result<Self, AllocError>
-        ensures { IfOk result (λ desk. StandsFor K.eq desk (fresh_desk K V rules log)) }
+        ensures { IfOk result (λ desk. (tests : ℕ → K → V → Bool)
+            → StandsFor K.eq desk (fresh_desk K V E rules log tests)) }
     {
         Desk::starting_after(alloc, rules, log, 0)
     }
@@ -55,9 +56,9 @@ impl<K: Eq + Hash + Clone + Drop, V: Drop> Desk<K, V> {
         log: usize,
         last: u64,
     ) -> Result<Self, AllocError>
-        ensures stands { IfOk result
-            (λ desk. StandsFor K.eq desk (record (fresh_desk K V rules log) { last = last })) }
-        ensures misses { IfOk result (λ desk. (w : DeskPart K V) → ListedMiss desk w) }
+        ensures stands { IfOk result (λ desk. (tests : ℕ → K → V → Bool)
+            → StandsFor K.eq desk (record (fresh_desk K V E rules log tests) { last = last })) }
+        ensures misses { IfOk result (λ desk. (w : DeskPart K V E) → ListedMiss desk w) }
         ensures unwoken { IfOk result (λ desk. (call : ℕ) → is_on (wake_list desk) call ≡ false) }
     {
         Ok(Desk {
@@ -78,21 +79,21 @@ impl<K: Eq + Hash + Clone + Drop, V: Drop> Desk<K, V> {
 
     /// What the cache was built with.
     pub fn rules(&self) -> Rules
-        ensures { (w : DeskPart K V) → StandsFor K.eq self.now w → result ≡ w.rules }
+        ensures { (w : DeskPart K V E) → StandsFor K.eq self.now w → result ≡ w.rules }
     {
         self.rules
     }
 
     /// The clock's moment.
     pub fn clock(&self) -> u64
-        ensures { (w : DeskPart K V) → StandsFor K.eq self.now w → result ≡ w.clock }
+        ensures { (w : DeskPart K V E) → StandsFor K.eq self.now w → result ≡ w.clock }
     {
         self.clock
     }
 
     /// The greatest call number that was given out, or 0.
     pub fn last(&self) -> u64
-        ensures { (w : DeskPart K V) → StandsFor K.eq self.now w → result ≡ w.last }
+        ensures { (w : DeskPart K V E) → StandsFor K.eq self.now w → result ≡ w.last }
     {
         self.last
     }
@@ -100,7 +101,7 @@ impl<K: Eq + Hash + Clone + Drop, V: Drop> Desk<K, V> {
     /// Moves the clock on to the moment. Answers false where that is before the clock; nothing has
     /// changed then.
     pub fn at(&mut self, moment: u64) -> bool
-        ensures finds { (w : DeskPart K V) → StandsFor K.eq self.old w →
+        ensures finds { (w : DeskPart K V E) → StandsFor K.eq self.old w →
             result ≡ not (nat_lt moment w.clock) }
         ensures makes { Becomes K.eq self.old
             (λ w. if nat_lt moment w.clock then w else record w { clock = moment }) self.new }
@@ -118,12 +119,12 @@ impl<K: Eq + Hash + Clone + Drop, V: Drop> Desk<K, V> {
     /// Gives the next call number out. Answers None where the greatest one was given out; nothing
     /// has changed then.
     pub fn enter(&mut self) -> Option<u64>
-        ensures finds { (w : DeskPart K V) → StandsFor K.eq self.old w
+        ensures finds { (w : DeskPart K V E) → StandsFor K.eq self.old w
             → result ≡ (if w.last == last_call then None else Some (w.last + 1)) }
-        ensures makes { (w : DeskPart K V) → StandsFor K.eq self.old w
+        ensures makes { (w : DeskPart K V E) → StandsFor K.eq self.old w
             → MatchOption result (StandsFor K.eq self.new w)
             (λ n. StandsFor K.eq self.new (record w { last = n })) }
-        ensures misses { (w : DeskPart K V) → ListedMiss self.old w
+        ensures misses { (w : DeskPart K V E) → ListedMiss self.old w
             → MatchOption result (ListedMiss self.new w)
             (λ n. ListedMiss self.new (record w { last = n })) }
         ensures wakes { NobodyWakes self.old self.new }
@@ -135,28 +136,28 @@ impl<K: Eq + Hash + Clone + Drop, V: Drop> Desk<K, V> {
 
     /// The writes that dropped calls left, oldest first, with the notices that ran then.
     pub fn owed(&self) -> &VecDeque<Owed>
-        ensures { (w : DeskPart K V) → StandsFor K.eq self.now w → result.now.items ≡ w.owed }
+        ensures { (w : DeskPart K V E) → StandsFor K.eq self.now w → result.now.items ≡ w.owed }
     {
         &self.writes.owed
     }
 
     /// The writes in the log, oldest first.
     pub fn logged(&self) -> &VecDeque<Write>
-        ensures { (w : DeskPart K V) → StandsFor K.eq self.now w → result.now.items ≡ w.log }
+        ensures { (w : DeskPart K V E) → StandsFor K.eq self.now w → result.now.items ≡ w.log }
     {
         &self.writes.log
     }
 
     /// The applied writes, oldest first.
     pub fn applied(&self) -> &[Write]
-        ensures { (w : DeskPart K V) → StandsFor K.eq self.now w → result.now ≡ w.applied }
+        ensures { (w : DeskPart K V E) → StandsFor K.eq self.now w → result.now ≡ w.applied }
     {
         self.writes.applied.writes.as_slice()
     }
 
     /// How many applied upserts stood unreplaced as the last turn ended.
     pub fn published(&self) -> u64
-        ensures { (w : DeskPart K V) → StandsFor K.eq self.now w → result ≡ w.published }
+        ensures { (w : DeskPart K V E) → StandsFor K.eq self.now w → result ≡ w.published }
     {
         self.published
     }
@@ -167,7 +168,7 @@ impl<K: Eq + Hash + Clone + Drop, V: Drop> Desk<K, V> {
         V: Clone,
         requires keys { IsExact K.is_clone }
         requires values { IsExact V.is_clone }
-        ensures { IfOk result (λ notice. (w : DeskPart K V) → StandsFor K.eq self.now w
+        ensures { IfOk result (λ notice. (w : DeskPart K V E) → StandsFor K.eq self.now w
             → notice ≡ w.notices number) }
     {
         self.notices.notice(number)
@@ -175,14 +176,14 @@ impl<K: Eq + Hash + Clone + Drop, V: Drop> Desk<K, V> {
 
     /// The numbers of the notices that were opened, in the order in which they were.
     pub fn opened(&self) -> &[u64]
-        ensures { (w : DeskPart K V) → StandsFor K.eq self.now w → result.now ≡ w.opened }
+        ensures { (w : DeskPart K V E) → StandsFor K.eq self.now w → result.now ≡ w.opened }
     {
         self.notices.opened.as_slice()
     }
 
     /// Whether the listener has answered that it is off.
     pub fn is_off(&self) -> bool
-        ensures { (w : DeskPart K V) → StandsFor K.eq self.now w → result ≡ w.off }
+        ensures { (w : DeskPart K V E) → StandsFor K.eq self.now w → result ≡ w.off }
     {
         self.notices.off
     }

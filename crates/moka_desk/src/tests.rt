@@ -1,9 +1,14 @@
 //! What no clause says: that calls succeed with ample memory, and where the call numbers end.
 
+ghost use Rattle.std.specs.Prelude.{ℕ, false, nat_eq, IfOk};
+ghost use Rattle.moka_hist.specs.State.{fresh_desk};
+ghost use Rattle.moka_desk.specs.StandsFor.{StandsFor};
+
 use crate::Desk;
 use crate::applied::Applied;
 use crate::writes::Writes;
 use moka_hist::{Cause, Claim, Kind, Load, Rules, Takes, Told, Write};
+use std::alloc::{AllocError, Global};
 use std::test::Fail;
 use std::time::Duration;
 
@@ -22,9 +27,17 @@ fn rules_with(max_capacity: Option<u64>) -> Rules {
     }
 }
 
+/// A desk with a log of four writes, where nothing has happened.
+pub(crate) fn new_desk(alloc: Global, rules: Rules) -> Result<Desk<u32, u32, u32>, AllocError>
+    ensures { IfOk result (λ desk. StandsFor nat_eq desk
+        (fresh_desk ℕ ℕ ℕ rules 4 (λ test key value. false))) }
+{
+    Desk::new(alloc, rules, 4)
+}
+
 #[test]
 fn call_numbers_end_with_the_greatest(rt: HostRuntime) -> Result<(), Fail> {
-    let mut desk: Desk<u32, u32> = Desk::starting_after(rt.alloc(), rules(), 1, u64::MAX - 1)?;
+    let mut desk: Desk<u32, u32, u32> = Desk::starting_after(rt.alloc(), rules(), 1, u64::MAX - 1)?;
     assert_eq!(rt; desk.enter(), Some(u64::MAX));
     assert_eq!(rt; desk.enter(), None);
     Ok(())
@@ -32,17 +45,18 @@ fn call_numbers_end_with_the_greatest(rt: HostRuntime) -> Result<(), Fail> {
 
 #[test]
 fn a_moment_is_taken(rt: HostRuntime) -> Result<(), Fail> {
-    let mut desk: Desk<u32, u32> = Desk::new(rt.alloc(), rules(), 4)?;
+    let mut desk = new_desk(rt.alloc(), rules())?;
     assert_eq!(rt; desk.stamp_moment(1)?, 0);
     assert!(rt; desk.at(7));
     assert!(rt; !desk.at(6));
-    assert!(rt; desk.judge(1, 3)?);
+    assert!(rt; desk.judge(false, 1, 3)?);
+    assert!(rt; !desk.judge(true, 1, 3)?);
     Ok(())
 }
 
 #[test]
 fn a_load_is_owned(rt: HostRuntime) -> Result<(), Fail> {
-    let mut desk: Desk<u32, u32> = Desk::new(rt.alloc(), rules(), 4)?;
+    let mut desk = new_desk(rt.alloc(), rules())?;
     let load = Load {
         key: 5,
         kind: Kind::GetWith,
@@ -53,7 +67,7 @@ fn a_load_is_owned(rt: HostRuntime) -> Result<(), Fail> {
 
 #[test]
 fn an_ask_takes_a_value(rt: HostRuntime) -> Result<(), Fail> {
-    let mut desk: Desk<u32, u32> = Desk::new(rt.alloc(), rules(), 4)?;
+    let mut desk = new_desk(rt.alloc(), rules())?;
     desk.open_ask(3, Takes::Value)?;
     assert!(rt; desk.tell(3, Told::Done).is_none());
     assert!(rt; desk.tell(3, Told::Value(9)).is_some());
@@ -63,21 +77,21 @@ fn an_ask_takes_a_value(rt: HostRuntime) -> Result<(), Fail> {
 
 #[test]
 fn the_turn_is_taken(rt: HostRuntime) -> Result<(), Fail> {
-    let mut desk: Desk<u32, u32> = Desk::new(rt.alloc(), rules(), 4)?;
+    let mut desk = new_desk(rt.alloc(), rules())?;
     assert!(rt; desk.take_turn(1)?);
     Ok(())
 }
 
 #[test]
 fn a_key_is_locked(rt: HostRuntime) -> Result<(), Fail> {
-    let mut desk: Desk<u32, u32> = Desk::new(rt.alloc(), rules(), 4)?;
+    let mut desk = new_desk(rt.alloc(), rules())?;
     assert!(rt; desk.lock_key(1, &5)?);
     Ok(())
 }
 
 #[test]
 fn those_that_wait_for_a_notice_are_handed_out(rt: HostRuntime) -> Result<(), Fail> {
-    let mut desk: Desk<u32, u32> = Desk::new(rt.alloc(), rules(), 4)?;
+    let mut desk = new_desk(rt.alloc(), rules())?;
     let cause = desk.open_notice(1, 5, 50, 0, 0, None, true)?;
     assert_eq!(rt; cause, Some(Cause::Replaced));
     assert!(rt; !desk.notice_ended(4, 1)?);
@@ -122,7 +136,7 @@ fn a_removed_record_is_counted_in_either_order(rt: HostRuntime) -> Result<(), Fa
 
 #[test]
 fn the_clock_gives_places_back(rt: HostRuntime) -> Result<(), Fail> {
-    let mut desk: Desk<u32, u32> = Desk::new(rt.alloc(), rules(), 4)?;
+    let mut desk = new_desk(rt.alloc(), rules())?;
     assert_eq!(rt; desk.stamp_moment(1)?, 0);
     assert_eq!(rt; desk.writes.applied.room, 1);
     assert_eq!(rt; desk.read_clock(1), 0);
@@ -151,7 +165,7 @@ fn a_notice_tells_the_cause_of_a_removal(rt: HostRuntime) -> Result<(), Fail> {
         (Some(Cause::Expired), Cause::Expired),
     ];
     for (handed, want) in cases {
-        let mut desk: Desk<u32, u32> = Desk::new(rt.alloc(), rules(), 4)?;
+        let mut desk = new_desk(rt.alloc(), rules())?;
         assert_eq!(rt;
             desk.open_notice(1, 5, 50, 0, 0, handed, false)?,
             Some(want)
@@ -172,7 +186,7 @@ fn a_chosen_record_leaves_for_its_size_where_a_capacity_is_set(
         (Some(3), Cause::Replaced, false),
     ];
     for (capacity, cause, want) in cases {
-        let desk: Desk<u32, u32> = Desk::new(rt.alloc(), rules_with(capacity), 4)?;
+        let desk = new_desk(rt.alloc(), rules_with(capacity))?;
         assert_eq!(rt; desk.holds(1, 0, cause), want, "with {capacity:?}");
     }
     Ok(())
@@ -184,7 +198,7 @@ fn a_chosen_record_leaves_once_its_time_is_past(rt: HostRuntime) -> Result<(), F
         time_to_live: Some(Duration::from_nanos(10)),
         ..rules()
     };
-    let mut desk: Desk<u32, u32> = Desk::new(rt.alloc(), rules, 4)?;
+    let mut desk = new_desk(rt.alloc(), rules)?;
     for (moment, want) in [(12, false), (13, true)] {
         assert!(rt; desk.at(moment));
         assert_eq!(rt; desk.holds(1, 3, Cause::Expired), want, "at {moment}");

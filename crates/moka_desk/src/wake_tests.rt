@@ -1,8 +1,8 @@
 //! The wake list, as calls are listed, handed out and come back.
 
-use crate::Desk;
 use crate::asks::Asks;
 use crate::lines::Lines;
+use crate::tests::new_desk;
 use crate::waits::Waits;
 use moka_hist::{Rules, Takes, Told};
 use std::test::Fail;
@@ -34,7 +34,7 @@ fn a_call_is_woken_for_a_notice(rt: HostRuntime) -> Result<(), Fail> {
         listener: true,
         closures: false,
     };
-    let mut desk: Desk<u32, u32> = Desk::new(rt.alloc(), rules, 4)?;
+    let mut desk = new_desk(rt.alloc(), rules)?;
     assert!(rt; desk.open_notice(1, 5, 50, 0, 0, None, true)?.is_some());
     assert!(rt; !desk.notice_ended(2, 1)?);
     assert!(rt; !desk.is_woken(2));
@@ -47,7 +47,7 @@ fn a_call_is_woken_for_a_notice(rt: HostRuntime) -> Result<(), Fail> {
 
 #[test]
 fn only_a_call_that_waits_is_woken_with_its_answer(rt: HostRuntime) -> Result<(), Fail> {
-    let mut asks: Asks<u32> = Asks::new(rt.alloc());
+    let mut asks: Asks<u32, u32> = Asks::new(rt.alloc());
     for waits in [false, true] {
         asks.open(3, Takes::Value)?;
         if waits {

@@ -1,6 +1,6 @@
 //! The visits that see to writes: owed, logged and applied.
 
-ghost use Rattle.std.specs.Prelude.{◌≡◌, false, None, cond, IsTrue, IfOk, OnOk, OnErr};
+ghost use Rattle.std.specs.Prelude.{◌≡◌, false, not, None, cond, IsFalse, IfOk, OnOk, OnErr};
 ghost use Rattle.std.specs.Bool.{OnTrue, OnFalse};
 ghost use Rattle.moka_sync.specs.Holders.{is_others};
 
@@ -10,7 +10,7 @@ use moka_sync::CallList;
 use std::alloc::AllocError;
 use std::hash::Hash;
 
-impl<K: Eq + Hash + Clone + Drop, V: Drop> Desk<K, V> {
+impl<K: Eq + Hash + Clone + Drop, V: Drop, E: Drop> Desk<K, V, E> {
     ghost use Rattle.moka_hist.specs.State.{DeskPart};
     ghost use Rattle.moka_hist.specs.Visits.{is_free_for, judged, decided as with_decided};
     ghost use Rattle.moka_hist.specs.declared.visits.Visit.TheVariants as visit;
@@ -75,20 +75,26 @@ impl<K: Eq + Hash + Clone + Drop, V: Drop> Desk<K, V> {
         self.writes.decide(call);
     }
 
-    /// Judges whether the record of this stamp, written at the moment `modified`, may be seen, and
-    /// raises its access moment to the clock if so. Each record may be seen.
-    pub fn judge(&mut self, stamp: u64, modified: u64) -> Result<bool, AllocError>
-        ensures finds { IfOk result (λ seen. IsTrue seen) }
-        ensures makes { OnOk result (Becomes K.eq self.old (λ w. judged w stamp modified) self.new) }
+    /// Judges whether the record of this stamp, written at the moment `modified`, is seen by a call
+    /// whose replace test holds on it, if `replaced`: it is seen where that is false. The access
+    /// moment of a record that is seen is raised to the clock; only that may want memory.
+    pub fn judge(&mut self, replaced: bool, stamp: u64, modified: u64) -> Result<bool, AllocError>
+        ensures finds { IfOk result (λ seen. seen ≡ not replaced) }
+        ensures makes { OnOk result (Becomes K.eq self.old
+            (λ w. judged w stamp modified (not replaced)) self.new) }
         ensures err { OnErr result (Stays K.eq self.old self.new) }
+        ensures needs { OnErr result (IsFalse replaced) }
         ensures quiet { NobodyMoves self.old self.new }
         ensures wakes { NobodyWakes self.old self.new }
         ensures misses { OnOk result
-            (MissWith K.eq self.old (λ w. judged w stamp modified) self.new) }
+            (MissWith K.eq self.old (λ w. judged w stamp modified (not replaced)) self.new) }
         ensures misses_still { OnErr result (MissWith K.eq self.old (λ w. w) self.new) }
     {
-        let seen = self.accessed.get(&stamp).copied().unwrap_or(modified);
-        self.accessed.insert(stamp, seen.max(self.clock))?;
+        if replaced {
+            return Ok(false);
+        }
+        let accessed = self.accessed.get(&stamp).copied().unwrap_or(modified);
+        self.accessed.insert(stamp, accessed.max(self.clock))?;
         Ok(true)
     }
 
@@ -122,7 +128,7 @@ impl<K: Eq + Hash + Clone + Drop, V: Drop> Desk<K, V> {
         // want of memory
         ensures unlisted { OnErr result (TurnsMove self.old stays self.new) }
         ensures still { OnErr result (NobodyWakes self.old self.new) }
-        ensures needs { OnErr result ((w : DeskPart K V) → StandsFor K.eq self.old w
+        ensures needs { OnErr result ((w : DeskPart K V E) → StandsFor K.eq self.old w
             → is_free_for w call ≡ false) }
         // who is listed misses that thing
         ensures misses { OnOk result (MissAfter K.eq self.old (visit.TakeTurn call) self.new) }
@@ -146,6 +152,7 @@ impl<K: Eq + Hash + Clone + Drop, V: Drop> Desk<K, V> {
 
     /// Applies the oldest write of the log, for the call that has the turn. Answers whether there
     /// was one.
+    #[cold]
     pub fn apply_one(&mut self, call: u64) -> bool
         requires { Can K.eq self.old (visit.ApplyOne call) }
         ensures finds { Finds K.eq self.old (visit.ApplyOne call) (found.ApplyOne result) }

@@ -1,6 +1,7 @@
 //! Worked schedules in which calls are dropped. ` / ` parts lines.
 
 use moka_vectors::first_misreported;
+use std::alloc::{AllocError, Global};
 use std::test::Fail;
 
 const DROPPED_OWNERS: [(&str, &str); 3] = [
@@ -61,23 +62,58 @@ fn a_dropped_write_is_owed_and_drained_by_the_next_call(rt: HostRuntime) -> Resu
     Ok(())
 }
 
-#[test]
-fn a_load_gives_up_at_the_200th_dropped_owner(rt: HostRuntime) -> Result<(), Fail> {
-    let mut schedule = String::from_str(
-        rt.alloc(),
-        "cache log=8 / start get_with 1 / poll 1 / start get_with 1 / poll 2 / drop 1",
+/// A schedule in which so many owners of one load are dropped, each before the call that waits for
+/// it is polled, and its report. `start` is what an owner is started for, and `waiting` what call 2
+/// is, which waits for each of them.
+fn dropped_owners(
+    alloc: Global,
+    start: &str,
+    waiting: &str,
+    owners: u64,
+) -> Result<(String, String), AllocError> {
+    let mut schedule = format!(in alloc;
+        "cache log=8 / start {start} / poll 1 / start {waiting} / poll 2 / drop 1"
     )?;
-    let mut report = String::from_str(rt.alloc(), "call 1 / ask init / call 2 / wait / dropped")?;
-    for owner in 3..202 {
+    let mut report = String::from_str(alloc, "call 1 / ask init / call 2 / wait / dropped")?;
+    for owner in 3..owners.saturating_add(2) {
         write!(
             schedule,
-            " / start get_with 1 / poll {owner} / poll 2 / drop {owner}"
+            " / start {start} / poll {owner} / poll 2 / drop {owner}"
         )?;
         write!(report, " / call {owner} / ask init / wait / dropped")?;
     }
-    schedule.push_str(" / poll 2")?;
-    report.push_str(" / answer exhausted")?;
-    let rows = [(schedule.as_str(), report.as_str())];
-    assert_eq!(rt; first_misreported(rt.alloc(), &rows)?, None);
+    Ok((schedule, report))
+}
+
+/// What the owners of a load are started for, and what the call is that waits for them.
+const LOADS: [(&str, &str); 4] = [
+    ("get_with 1", "get_with 1"),
+    ("get_with 1", "get_with 1 if 2"),
+    ("optional 1", "optional 1"),
+    ("try 1", "try 1"),
+];
+
+#[test]
+fn a_load_gives_up_at_the_200th_dropped_owner(rt: HostRuntime) -> Result<(), Fail> {
+    for (start, waiting) in LOADS {
+        let (mut schedule, mut report) = dropped_owners(rt.alloc(), start, waiting, 200)?;
+        schedule.push_str(" / poll 2")?;
+        report.push_str(" / answer exhausted")?;
+        let rows = [(schedule.as_str(), report.as_str())];
+        assert_eq!(rt; first_misreported(rt.alloc(), &rows)?, None, "{waiting}");
+    }
+    Ok(())
+}
+
+#[test]
+fn a_load_that_saw_199_dropped_owners_goes_on(rt: HostRuntime) -> Result<(), Fail> {
+    for (start, waiting) in LOADS {
+        let (mut schedule, mut report) = dropped_owners(rt.alloc(), start, waiting, 199)?;
+        schedule.push_str(" / poll 2 / tell 2 value 7 / poll 2")?;
+        report.push_str(" / ask init / told / answer value 7 fresh")?;
+        report.push_str(" / entry 1 7 stamp 2 at 0 / write 2 logged")?;
+        let rows = [(schedule.as_str(), report.as_str())];
+        assert_eq!(rt; first_misreported(rt.alloc(), &rows)?, None, "{waiting}");
+    }
     Ok(())
 }

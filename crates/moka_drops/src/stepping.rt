@@ -1,9 +1,10 @@
 //! Schedules driven by single steps come to what they come to by polls.
 ghost use Rattle.std.specs.Prelude.{nat_eq};
 ghost use Rattle.moka_run.specs.Machine.{IsValid};
+ghost use Rattle.moka_run.specs.NumberTest.{number_tests};
 
 use moka_hist::{Event, Notice, Place, Reply, Rules, Stored};
-use moka_run::{Machine, run};
+use moka_run::{Machine, NumberTests, run};
 use moka_text::read_schedule;
 use moka_vectors::text_of;
 use std::alloc::{AllocError, Global};
@@ -14,7 +15,7 @@ use std::test::Fail;
 /// the notices are.
 #[derive(PartialEq, Debug, Drop)]
 struct Outcome {
-    replies: Vec<Reply<u32, u32>>,
+    replies: Vec<Reply<u32, u32, u32>>,
     entries: Vec<(u32, Stored<u32>)>,
     places: Vec<(u64, Place)>,
     notices: Vec<Notice<u32, u32>>,
@@ -62,14 +63,28 @@ const REMOVALS: [&str; 10] = [
     "cache cap=0 log=8 listener / start remove 1 / poll 1 / start invalidate 1 / poll 2 / start evict 1 1 Size / poll 3",
 ];
 
+/// Schedules of loads that fail, find nothing, load again or insert.
+const LOADS: [&str; 10] = [
+    "cache log=8 / start get_with 1 / start optional 1 / start try 1 / poll 1 / poll 2 / poll 3 / tell 3 error 1 / tell 2 nothing / tell 1 value 1 / poll 3 / poll 2 / poll 1",
+    "cache log=8 / start try 1 / start try 1 / poll 1 / poll 2 / tell 1 error 3 / poll 1 / poll 2",
+    "cache log=8 / start try 1 / start try 1 / poll 1 / poll 2 / tell 1 error 3 / poll 2 / drop 1 / poll 2",
+    "cache log=1 / start optional 1 / start optional 1 / poll 1 / poll 2 / tell 1 value 3 / poll 1 / poll 2 / start try 1 / poll 3",
+    "cache log=8 / start insert 1 4 / poll 1 / start get_with 1 if 2 / poll 2 / tell 2 value 5 / poll 2 / start get_with 1 if 2 / poll 3",
+    "cache log=8 listener / start insert 1 4 / poll 1 / start get_with 1 if 2 / start get_with 1 if 2 / poll 2 / poll 3 / tell 2 value 6 / poll 2 / poll 3 / tell 2 done / poll 2 / poll 3",
+    "cache log=8 listener / start insert 1 5 / poll 1 / start remove 1 / poll 2 / start or_insert 1 6 / poll 3 / start or_insert 1 7 / poll 4 / tell 2 done / poll 2 / poll 3 / poll 4 / tell 4 done / poll 4",
+    "cache log=1 / start or_insert 1 6 / poll 1 / start or_insert 2 7 / poll 2 / start or_insert 1 8 / poll 3",
+    "cache cap=0 log=8 / start or_insert 1 6 / poll 1 / start optional 1 / start optional 1 / poll 2 / poll 3 / tell 2 nothing / poll 2 / poll 3",
+    "cache cap=0 log=8 / start try 1 / start try 1 / poll 1 / poll 2 / drop 1 / poll 2 / tell 2 value 8 / poll 2",
+];
+
 /// The reply to one event. None where memory is wanting.
 fn reply_to(
     alloc: Global,
-    machine: &mut Machine<u32, u32>,
-    event: &Event<u32, u32>,
-) -> Option<Reply<u32, u32>>
-    requires { IsValid nat_eq machine.old }
-    ensures { IsValid nat_eq machine.new }
+    machine: &mut Machine<u32, u32, u32, NumberTests>,
+    event: &Event<u32, u32, u32>,
+) -> Option<Reply<u32, u32, u32>>
+    requires { IsValid nat_eq number_tests machine.old }
+    ensures { IsValid nat_eq number_tests machine.new }
 {
     let report = match run(alloc, machine, slice::from_ref(event)) {
         Ok(report) => report,
@@ -84,11 +99,11 @@ fn reply_to(
 /// The reply that a poll gives, by single steps, of which there are at most a hundred.
 fn reply_by_steps(
     alloc: Global,
-    machine: &mut Machine<u32, u32>,
+    machine: &mut Machine<u32, u32, u32, NumberTests>,
     call: u64,
-) -> Option<Reply<u32, u32>>
-    requires { IsValid nat_eq machine.old }
-    ensures { IsValid nat_eq machine.new }
+) -> Option<Reply<u32, u32, u32>>
+    requires { IsValid nat_eq number_tests machine.old }
+    ensures { IsValid nat_eq number_tests machine.new }
 {
     for _step in 0..100 {
         let reply = reply_to(alloc, machine, &Event::Step { call })?;
@@ -113,7 +128,7 @@ fn comes_to(alloc: Global, row: &str, by_steps: bool) -> Result<Outcome, AllocEr
         listener: schedule.rules.listener,
         closures: false,
     };
-    let mut machine = Machine::build(alloc, rules, schedule.log)?;
+    let mut machine = Machine::build(alloc, rules, schedule.log, NumberTests)?;
     let mut replies = Vec::new(alloc);
     for event in &schedule.events {
         replies.push(served(alloc, &mut machine, event, by_steps)?)?;
@@ -132,12 +147,12 @@ fn comes_to(alloc: Global, row: &str, by_steps: bool) -> Result<Outcome, AllocEr
 
 fn served(
     alloc: Global,
-    machine: &mut Machine<u32, u32>,
-    event: &Event<u32, u32>,
+    machine: &mut Machine<u32, u32, u32, NumberTests>,
+    event: &Event<u32, u32, u32>,
     by_steps: bool,
-) -> Result<Reply<u32, u32>, AllocError>
-    requires { IsValid nat_eq machine.old }
-    ensures { IsValid nat_eq machine.new }
+) -> Result<Reply<u32, u32, u32>, AllocError>
+    requires { IsValid nat_eq number_tests machine.old }
+    ensures { IsValid nat_eq number_tests machine.new }
 {
     let reply = match event {
         Event::Poll { call } if by_steps => reply_by_steps(alloc, machine, *call),
@@ -168,6 +183,12 @@ fn single_steps_come_to_what_polls_do_in_ten_schedules(rt: HostRuntime) -> Resul
 #[test]
 fn single_steps_come_to_what_polls_do_under_a_listener(rt: HostRuntime) -> Result<(), Fail> {
     assert_eq!(rt; first_other(rt.alloc(), &HEARD)?, None);
+    Ok(())
+}
+
+#[test]
+fn single_steps_come_to_what_polls_do_in_loads_of_each_kind(rt: HostRuntime) -> Result<(), Fail> {
+    assert_eq!(rt; first_other(rt.alloc(), &LOADS)?, None);
     Ok(())
 }
 

@@ -4,9 +4,10 @@
 //! One allocation fails at most, so what the test takes beside the run is tried twice.
 ghost use Rattle.std.specs.Prelude.{nat_eq, IfOk};
 ghost use Rattle.moka_run.specs.Machine.{IsValid};
+ghost use Rattle.moka_run.specs.NumberTest.{number_tests};
 
 use moka_hist::{Event, Reply, Rules};
-use moka_run::{Machine, Memory, Report, run};
+use moka_run::{Machine, Memory, NumberTests, Report, run};
 use moka_text::{read_schedule, write_report};
 use moka_vectors::text_of;
 use std::alloc::{AllocError, Global};
@@ -21,14 +22,14 @@ const TRIES: usize = 3;
 /// report that it is to come to.
 #[derive(Drop)]
 struct Row {
-    events: Vec<Event<u32, u32>>,
-    machine: Machine<u32, u32>,
-    replies: Vec<Reply<u32, u32>>,
+    events: Vec<Event<u32, u32, u32>>,
+    machine: Machine<u32, u32, u32, NumberTests>,
+    replies: Vec<Reply<u32, u32, u32>>,
     report: String,
 }
 
 fn made(alloc: Global, schedule: &str, report: &str) -> Result<Row, AllocError>
-    ensures { IfOk result (λ row. IsValid nat_eq row.machine) }
+    ensures { IfOk result (λ row. IsValid nat_eq number_tests row.machine) }
 {
     let text = text_of(alloc, schedule)?;
     let report = text_of(alloc, report)?;
@@ -43,7 +44,7 @@ fn made(alloc: Global, schedule: &str, report: &str) -> Result<Row, AllocError>
         listener: schedule.rules.listener,
         closures: false,
     };
-    let machine = Machine::build(alloc, rules, schedule.log)?;
+    let machine = Machine::build(alloc, rules, schedule.log, NumberTests)?;
     let replies = Vec::with_capacity(alloc, schedule.events.len())?;
     Ok(Row {
         events: schedule.events,
@@ -54,7 +55,10 @@ fn made(alloc: Global, schedule: &str, report: &str) -> Result<Row, AllocError>
 }
 
 /// Appends the replies, for which there is room.
-fn keep(replies: &mut Vec<Reply<u32, u32>>, more: &[Reply<u32, u32>]) -> Result<(), AllocError> {
+fn keep(
+    replies: &mut Vec<Reply<u32, u32, u32>>,
+    more: &[Reply<u32, u32, u32>],
+) -> Result<(), AllocError> {
     for reply in more {
         replies.push(reply.clone()?)?;
     }
@@ -63,9 +67,9 @@ fn keep(replies: &mut Vec<Reply<u32, u32>>, more: &[Reply<u32, u32>]) -> Result<
 
 /// The events after those that were done, of which each has its reply.
 fn rest_after<'a>(
-    events: &'a [Event<u32, u32>],
-    memory: &Memory<u32, u32>,
-) -> Option<&'a [Event<u32, u32>]> {
+    events: &'a [Event<u32, u32, u32>],
+    memory: &Memory<u32, u32, u32>,
+) -> Option<&'a [Event<u32, u32, u32>]> {
     if memory.replies.len() as u64 != memory.done {
         return None;
     }
@@ -76,11 +80,11 @@ fn rest_after<'a>(
 fn run_on(
     rt: &(impl AllocGlobal + Eprint),
     name: &str,
-    machine: &mut Machine<u32, u32>,
-    events: &[Event<u32, u32>],
-    replies: &mut Vec<Reply<u32, u32>>,
-) -> Result<Report<u32, u32>, Fail>
-    requires { IsValid nat_eq machine.old }
+    machine: &mut Machine<u32, u32, u32, NumberTests>,
+    events: &[Event<u32, u32, u32>],
+    replies: &mut Vec<Reply<u32, u32, u32>>,
+) -> Result<Report<u32, u32, u32>, Fail>
+    requires { IsValid nat_eq number_tests machine.old }
 {
     let mut rest = events;
     for _try in 0..TRIES {
@@ -125,8 +129,8 @@ fn comes_to(
 fn text_of_report(
     rt: &(impl AllocGlobal + Eprint),
     name: &str,
-    replies: &[Reply<u32, u32>],
-    report: Report<u32, u32>,
+    replies: &[Reply<u32, u32, u32>],
+    report: Report<u32, u32, u32>,
 ) -> Result<String, Fail> {
     let mut entries = report.entries.into_vec();
     entries.sort_unstable_by_key(|entry| entry.0);
@@ -142,7 +146,7 @@ fn text_of_report(
 }
 
 /// Schedules with their reports, and a name for each.
-const ROWS: [(&str, &str, &str); 15] = [
+const ROWS: [(&str, &str, &str); 20] = [
     (
         "a_get",
         "cache log=8 / start get 1 / poll 1",
@@ -217,6 +221,31 @@ const ROWS: [(&str, &str, &str); 15] = [
         "a_disabled_load",
         "cache cap=0 log=8 / start insert 1 5 / poll 1 / start get_with 1 / poll 2 / tell 2 value 3 / poll 2 / start get 1 / poll 3",
         "call 1 / answer done / call 2 / ask init / told / answer value 3 fresh / call 3 / answer none",
+    ),
+    (
+        "an_error",
+        "cache log=8 / start try 1 / start try 1 / poll 1 / poll 2 / tell 1 error 3 / poll 1 / poll 2",
+        "call 1 / call 2 / ask init / wait / told / answer error 3 / answer error 3",
+    ),
+    (
+        "one_load_of_each_kind",
+        "cache log=8 / start get_with 1 / start optional 1 / start try 1 / poll 1 / poll 2 / poll 3 / tell 3 error 1 / tell 2 nothing / tell 1 value 1 / poll 3 / poll 2 / poll 1",
+        "call 1 / call 2 / call 3 / ask init / ask init / ask init / told / told / told / answer error 1 / answer nothing / answer value 1 fresh / entry 1 1 stamp 1 at 0 / write 1 logged",
+    ),
+    (
+        "a_load_again",
+        "cache log=8 listener / start insert 1 4 / poll 1 / start get_with 1 if 2 / start get_with 1 if 2 / poll 2 / poll 3 / tell 2 value 6 / poll 2 / poll 3 / tell 2 done / poll 2 / poll 3",
+        "call 1 / answer done / call 2 / call 3 / ask init / wait / told / ask listener 1 4 Replaced / wait / told / answer value 6 fresh / answer value 6 / entry 1 6 stamp 2 at 0 / write 1 logged / write 2 logged / notice 2 1 4 Replaced ended",
+    ),
+    (
+        "or_inserts",
+        "cache log=8 listener / start insert 1 5 / poll 1 / start remove 1 / poll 2 / start or_insert 1 6 / poll 3 / start or_insert 1 7 / poll 4 / tell 2 done / poll 2 / poll 3 / poll 4 / tell 4 done / poll 4 / start or_insert 1 8 / poll 5",
+        "call 1 / answer done / call 2 / ask listener 1 5 Explicit / call 3 / wait / call 4 / wait / told / answer some 5 / answer value 6 fresh / ask listener 1 6 Replaced / told / answer value 7 fresh / call 5 / answer value 7 / entry 1 7 stamp 4 at 0 / write 1 logged / write 2 logged / write 3 logged / write 4 logged / notice 2 1 5 Explicit ended / notice 4 1 6 Replaced ended",
+    ),
+    (
+        "disabled_loads",
+        "cache cap=0 log=8 / start or_insert 1 6 / poll 1 / start optional 1 / start optional 1 / poll 2 / poll 3 / tell 2 nothing / poll 2 / poll 3",
+        "call 1 / answer value 6 fresh / call 2 / call 3 / ask init / wait / told / answer nothing / answer nothing",
     ),
 ];
 

@@ -31,7 +31,7 @@ module _ {K V : Type 0} where
   abbrev pub most_undecided : TablePart K V → ℕ
   most_undecided t = 16 * array_bound t + 32
 
-  -- fewer steps than these a call makes by itself from this state on, each of which leaves it going
-  abbrev pub step_bound : State K V → ℕ
-  step_bound s =
-      64 * (4 + array_bound s.world.table + length s.world.desk.owed + length s.world.desk.log)
+-- fewer steps than these a call makes by itself from this state on, each of which leaves it going
+abbrev pub step_bound : {K V E : Type 0} → State K V E → ℕ
+step_bound s =
+    64 * (4 + array_bound s.world.table + length s.world.desk.owed + length s.world.desk.log)

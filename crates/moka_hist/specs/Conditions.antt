@@ -33,26 +33,32 @@ MayLeaveWith (Some (holding.Own pending)) call None = Unit {0}
 MayLeaveWith (Some (holding.TookUp write)) call None = ⊥
 
 -- an owner of a load of this kind may end so
-abbrev pub may_end : {V : Type 0} → Kind → Settled V → Bool
-may_end kind.GetWith settled.NotYet = false
-may_end kind.GetWith (settled.Ready value) = true
-may_end kind.GetWith settled.Aborted = true
+abbrev pub may_end : {V E : Type 0} → Kind → Settled V E → Bool
+may_end kind settled.NotYet = false
+may_end kind (settled.Ready value) = true
+may_end kind.GetWith (settled.Err error) = false
+may_end kind.Optional (settled.Err error) = false
+may_end kind.Try (settled.Err error) = true
+may_end kind.GetWith settled.Nothing = false
+may_end kind.Optional settled.Nothing = true
+may_end kind.Try settled.Nothing = false
+may_end kind settled.Aborted = true
 
-module _ {K V : Type 0} where
+module _ {K V E : Type 0} where
   -- the call holds this write: it took it up, or has a place for the write of its own number
-  abbrev pub HoldsWrite : DeskPart K V → ℕ → Write → Type 0
+  abbrev pub HoldsWrite : DeskPart K V E → ℕ → Write → Type 0
   HoldsWrite w call write = IsPlaceOf (w.holding call) call write
 
   -- the call has at most a place for a write of its own, and none that it took up
-  abbrev pub HoldsNoWrite : DeskPart K V → ℕ → Type 0
+  abbrev pub HoldsNoWrite : DeskPart K V E → ℕ → Type 0
   HoldsNoWrite w call = (write : Write) → w.holding call ≢ Some (holding.TookUp write)
 
   -- the numbers of the writes that stand with the desk: owed, logged or applied
-  abbrev pub numbers_of : DeskPart K V → List ℕ
+  abbrev pub numbers_of : DeskPart K V E → List ℕ
   numbers_of w = map number_of (map (λ o. o.write) w.owed ++ w.log ++ w.applied)
 
   -- no write of the number is owed, logged, applied or held
-  pub record IsUnused (w : DeskPart K V) (number : ℕ) : Type 0 where
+  pub record IsUnused (w : DeskPart K V E) (number : ℕ) : Type 0 where
     pub stands : times number (numbers_of w) ≡ 0
     pub held : (n : ℕ) (h : Holding) → w.holding n ≡ Some h → held_number n h ≢ number
 
@@ -60,7 +66,7 @@ module _ {K V : Type 0} where
   -- time; it settles what it owns, posts what it holds, frees the lock that it holds, opens one
   -- notice, and applies the log while it has the turn. Places that it gives back are those of no
   -- write that it took up.
-  abbrev pub MayVisit : DeskPart K V → Visit K V → Type 0
+  abbrev pub MayVisit : DeskPart K V E → Visit K V E → Type 0
   MayVisit w (visit.Clock call) = HoldsNoWrite w call
   MayVisit w (visit.TakeOwed call) = IsNone (w.holding call)
   MayVisit w (visit.NoticeEnded call number) = Unit {0}
@@ -69,7 +75,7 @@ module _ {K V : Type 0} where
       IsSome (w.locked call) × (wrote ≡ false → HoldsNoWrite w call)
   MayVisit w (visit.OpenNotice call key value stamp modified cause upsert) = IsNone (w.notices call)
   MayVisit w (visit.StampMoment call) = IsNone (w.holding call) × IsUnused w call
-  MayVisit w (visit.Judge key stored) = Unit {0}
+  MayVisit w (visit.Judge replace key stored) = Unit {0}
   MayVisit w (visit.Holds key stored cause) = Unit {0}
   MayVisit w (visit.WaitOrOwn call key kind) = IsNone (w.owning call) × IsNone (w.joined call)
   MayVisit w (visit.ReadSettled call) = IsSome (w.joined call)
@@ -83,5 +89,5 @@ module _ {K V : Type 0} where
   MayVisit w (visit.EndTurn call) = w.turn ≡ Some call
 
   -- the desk allows the call to leave this write to others, if any: it holds it
-  abbrev pub MayLeave : DeskPart K V → ℕ → Option Write → Type 0
+  abbrev pub MayLeave : DeskPart K V E → ℕ → Option Write → Type 0
   MayLeave w call write = MayLeaveWith (w.holding call) call write

@@ -8,20 +8,20 @@ use Rattle.moka_hist.specs.Visits.{is_running, locks_without, owners_without, se
 use Rattle.moka_hist.specs.declared.writes.Owed.{Owed}
 use Rattle.moka_hist.specs.declared.visits.Settled.TheVariants as settled
 
-module _ {K V : Type 0} where
+module _ {K V E : Type 0} where
   -- the notice, where it still runs
-  abbrev pub running_of : DeskPart K V → Option ℕ → Option ℕ
+  abbrev pub running_of : DeskPart K V E → Option ℕ → Option ℕ
   running_of w None = None
   running_of w (Some number) = cond (is_running w number) (Some number) None
 
   -- a write as it is owed once its call has left: with its notice where that still runs
-  abbrev pub owed_with : DeskPart K V → Owed → Owed
+  abbrev pub owed_with : DeskPart K V E → Owed → Owed
   owed_with w held = record held { notice = running_of w held.notice }
 
   -- The call leaves the desk: its ask is closed; those that wait for it read that it was dropped;
   -- it waits for nobody; its lock is free; and a write that it held is owed from then on. A
   -- listener that was asked is still asked.
-  abbrev pub left : DeskPart K V → ℕ → Option Owed → DeskPart K V
+  abbrev pub left : DeskPart K V E → ℕ → Option Owed → DeskPart K V E
   left w call held = record w {
     holding = put_at w.holding call None;
     owed = w.owed ++ option_to_list (option_map (owed_with w) held);
@@ -37,11 +37,11 @@ module _ {K V : Type 0} where
   }
 
   -- what the call holds, with the notice that it hears
-  abbrev pub owed_by : ℕ → Call K V → Option Owed
+  abbrev pub owed_by : ℕ → Call K V E → Option Owed
   owed_by n c =
       option_map (λ write. record { write = write; notice = hearing n c.plan }) (held_by c.plan)
 
-  abbrev pub dropped : State K V → ℕ → Call K V → State K V
+  abbrev pub dropped : State K V E → ℕ → Call K V E → State K V E
   dropped s n c = record {
     world = record s.world { desk = left s.world.desk n (owed_by n c) };
     calls = put_at s.calls n None;

@@ -1,10 +1,10 @@
 -- Finite maps as functions, and the lists that list them.
-use Rattle.std.specs.Prelude.{◌≡◌, ℕ, ◌+◌, ◌==◌, Bool, true, cond, List, [], ◌∷◌, ◌&&◌, Option}
+use Rattle.std.specs.Prelude.{◌≡◌, ℕ, ◌+◌, ◌==◌, Bool, true, false, cond, List, [], ◌∷◌, ◌&&◌, Option}
 use Rattle.std.specs.Map.{lookup, keys_of}
 use Rattle.std.specs.List.{IsDistinct}
 use Rattle.moka_hist.specs.declared.loads.Kind.{Kind}
 use Rattle.moka_hist.specs.declared.loads.Load.{Load}
-use Rattle.moka_hist.specs.declared.loads.Kind.TheVariants.{GetWith}
+use Rattle.moka_hist.specs.declared.loads.Kind.TheVariants.{GetWith, Optional, Try}
 
 -- f, but w at the number n
 abbrev pub put_at : {A : Type 0} → (ℕ → A) → ℕ → A → ℕ → A
@@ -17,6 +17,14 @@ put_key eq f k w q = cond (eq k q) w (f q)
 -- two kinds are one
 abbrev pub kind_eq : Kind → Kind → Bool
 kind_eq GetWith GetWith = true
+kind_eq GetWith Optional = false
+kind_eq GetWith Try = false
+kind_eq Optional GetWith = false
+kind_eq Optional Optional = true
+kind_eq Optional Try = false
+kind_eq Try GetWith = false
+kind_eq Try Optional = false
+kind_eq Try Try = true
 
 -- two loads are one: of equal keys and one kind
 abbrev pub load_eq : {K : Type 0} → (K → K → Bool) → Load K → Load K → Bool

@@ -9,24 +9,24 @@ use Rattle.moka_hist.specs.declared.replies.Ask.TheVariants as ask
 use Rattle.moka_hist.specs.declared.visits.Found.{Found}
 use Rattle.moka_hist.specs.declared.visits.Found.TheVariants as found
 
-module _ {K V : Type 0} where
+module _ {K V E : Type 0} where
   -- the lock is waited for while another call holds it
-  abbrev pub after_lock : Call K V → List (Item K V) → Found V → Next K V
+  abbrev pub after_lock : Call K V E → List (Item K V E) → Found V E → Next K V E
   after_lock c rest (found.LockKey true) = goes c rest
   after_lock c rest _ = waits c
 
-  abbrev pub after_unlock : Call K V → List (Item K V) → Found V → Next K V
+  abbrev pub after_unlock : Call K V E → List (Item K V E) → Found V E → Next K V E
   after_unlock c rest found.UnlockKey = goes c rest
   after_unlock c rest _ = waits c
 
   -- the listener is asked, and heard; where it is off it hears nothing
-  abbrev pub after_notice : Call K V → K → Stored V → List (Item K V) → Found V → Next K V
+  abbrev pub after_notice : Call K V E → K → Stored V → List (Item K V E) → Found V E → Next K V E
   after_notice c key old rest (found.OpenNotice None) = goes c rest
   after_notice c key old rest (found.OpenNotice (Some cause)) =
       asks c (ask.Listener key old.value cause) (plan.Heard ∷ rest)
   after_notice c key old rest _ = waits c
 
   -- a notice that runs is waited for
-  abbrev pub after_hearing : Call K V → List (Item K V) → Found V → Next K V
+  abbrev pub after_hearing : Call K V E → List (Item K V E) → Found V E → Next K V E
   after_hearing c rest (found.NoticeEnded true) = goes c rest
   after_hearing c rest _ = waits c

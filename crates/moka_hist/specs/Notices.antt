@@ -17,44 +17,45 @@ abbrev pub IsBefore : List ℕ → ℕ → ℕ → Type 0
 IsBefore xs a b =
     (front : List ℕ) × (mid : List ℕ) × (back : List ℕ) × (xs ≡ front ++ a ∷ mid ++ b ∷ back)
 
-module _ {K V : Type 0} where
+module _ {K V E : Type 0} where
   -- this very write stands there
-  abbrev pub WriteAt : State K V → Place → Write → Type 0
+  abbrev pub WriteAt : State K V E → Place → Write → Type 0
   WriteAt s place.Held write =
-      (n : ℕ) × (c : Call K V) × (s.calls n ≡ Some c) × (held_by c.plan ≡ Some write)
+      (n : ℕ) × (c : Call K V E) × (s.calls n ≡ Some c) × (held_by c.plan ≡ Some write)
   WriteAt s place.Owed write = Contains (map (λ o. o.write) s.world.desk.owed) write
   WriteAt s place.Logged write = Contains s.world.desk.log write
   WriteAt s place.Applied write = Contains s.world.desk.applied write
 
   -- the plan is about to open its notice
-  abbrev pub OpensNotice : List (Item K V) → Type 0
+  abbrev pub OpensNotice : List (Item K V E) → Type 0
   OpensNotice (plan.Notice key old cause upsert ∷ rest) = Unit {0}
   OpensNotice _ = ⊥
 
   -- The notice of this number is due: its live call has committed, and opens it with its next step.
   -- The call is between two steps, where it can't be dropped.
-  pub record IsDue (s : State K V) (number : ℕ) : Type 0 where
-    pub call : Call K V
+  pub record IsDue (s : State K V E) (number : ℕ) : Type 0 where
+    pub call : Call K V E
     pub live : s.calls number ≡ Some call
     pub opens : OpensNotice call.plan
     pub between : call.mode ≡ mode.Mid
 
   -- the notice of this number was opened
-  abbrev pub IsOpened : State K V → ℕ → Type 0
+  abbrev pub IsOpened : State K V E → ℕ → Type 0
   IsOpened s number = IsSome (s.world.desk.notices number)
 
-  -- a write of this number that replaced a record stands somewhere
-  pub record HasReplaced (s : State K V) (number : ℕ) : Type 0 where
+  -- a write of this number that replaced a record, or took one out, stands somewhere
+  pub record HasReplaced (s : State K V E) (number : ℕ) : Type 0 where
     pub write : Write
     pub named : number_of write ≡ number
     pub replaced : IsSome (old_of write)
     pub where_ : Place
     pub stands : WriteAt s where_ write
 
-  -- Where a listener is set each committed write that replaced a record has one notice, under its
-  -- number: it is due, or it was opened. There is no other notice; none was skipped before the
-  -- listener was off; and a write is logged only once its notice has ended or was skipped.
-  pub record NoticesAreSettled (s : State K V) : Type 0 where
+  -- Where a listener is set each committed write that replaced a record, or took one out, has one
+  -- notice, under its number: it is due, or it was opened. There is no other notice; none was
+  -- skipped before the listener was off; and a write is logged only once its notice has ended or
+  -- was skipped.
+  pub record NoticesAreSettled (s : State K V E) : Type 0 where
     pub each : (n : ℕ) → s.world.desk.rules.listener ≡ true → HasReplaced s n →
         IsDue s n ⊎ IsOpened s n
     pub one : (n : ℕ) → IsDue s n → IsNone (s.world.desk.notices n)
@@ -70,7 +71,7 @@ module _ {K V : Type 0} where
         is_running s.world.desk (number_of w) ≢ true
 
   -- the plan is past its locking and before its freeing, where a listener is set
-  abbrev pub IsUnderLock : List (Item K V) → Type 0
+  abbrev pub IsUnderLock : List (Item K V E) → Type 0
   IsUnderLock (plan.Moment change ∷ rest) = Unit {0}
   IsUnderLock (plan.Write key value moment ∷ rest) = Unit {0}
   IsUnderLock (plan.Notice key old cause upsert ∷ rest) = Unit {0}
@@ -82,21 +83,21 @@ module _ {K V : Type 0} where
   IsUnderLock _ = ⊥
 
   -- the live call of this number is between its locking and its freeing
-  pub record HoldsLock (s : State K V) (n : ℕ) : Type 0 where
-    pub call : Call K V
+  pub record HoldsLock (s : State K V E) (n : ℕ) : Type 0 where
+    pub call : Call K V E
     pub live : s.calls n ≡ Some call
     pub under : IsUnderLock call.plan
 
   -- where a listener is set, a call holds a lock exactly where it is live and between its locking
   -- and its freeing; without one nobody does
-  pub record LocksAreHeld (s : State K V) : Type 0 where
+  pub record LocksAreHeld (s : State K V E) : Type 0 where
     pub held : (n : ℕ) → s.world.desk.rules.listener ≡ true →
         IsSome (s.world.desk.locked n) ↔ HoldsLock s n
     pub none : (n : ℕ) → IsSome (s.world.desk.locked n) → s.world.desk.rules.listener ≡ true
 
   -- Of two notices of one key that which was opened first was committed first; and where both still
   -- run the call of the first was dropped.
-  pub record NoticesAreInOrder (eq : K → K → Bool) (s : State K V) : Type 0 where
+  pub record NoticesAreInOrder (eq : K → K → Bool) (s : State K V E) : Type 0 where
     pub order : (a b : ℕ) (x y : Notice K V) → IsBefore s.world.desk.opened a b →
         s.world.desk.notices a ≡ Some x → s.world.desk.notices b ≡ Some y → eq x.key y.key ≡ true →
         IsBefore s.world.table.committed a b

@@ -12,24 +12,24 @@ use Rattle.moka_hist.specs.declared.writes.Write.{Write}
 use Rattle.moka_hist.specs.declared.writes.Place.{Place}
 use Rattle.moka_hist.specs.declared.writes.Place.TheVariants as place
 
-module _ {K V : Type 0} where
+module _ {K V E : Type 0} where
   -- the live call holds the write of this number
-  pub record Holds (s : State K V) (n : ℕ) (number : ℕ) : Type 0 where
-    pub call : Call K V
+  pub record Holds (s : State K V E) (n : ℕ) (number : ℕ) : Type 0 where
+    pub call : Call K V E
     pub live : s.calls n ≡ Some call
     pub write : Write
     pub held : held_by call.plan ≡ Some write
     pub named : number_of write ≡ number
 
   -- the write of this number stands there
-  abbrev pub StandsAt : State K V → Place → ℕ → Type 0
+  abbrev pub StandsAt : State K V E → Place → ℕ → Type 0
   StandsAt s place.Held number = (n : ℕ) × Holds s n number
   StandsAt s place.Owed number = 0 < times number (map (λ o. number_of o.write) s.world.desk.owed)
   StandsAt s place.Logged number = 0 < times number (map number_of s.world.desk.log)
   StandsAt s place.Applied number = 0 < times number (map number_of s.world.desk.applied)
 
   -- the committed write of this number stands in exactly one place, and there once
-  pub record StandsOnce (s : State K V) (number : ℕ) : Type 0 where
+  pub record StandsOnce (s : State K V E) (number : ℕ) : Type 0 where
     pub place : Place
     pub stands : StandsAt s place number
     pub only : (other : Place) → StandsAt s other number → other ≡ place
@@ -39,22 +39,22 @@ module _ {K V : Type 0} where
     pub once_applied : times number (map number_of s.world.desk.applied) ≤ 1
 
   -- the live call has an open initializer of the load
-  pub record Initializes (s : State K V) (n : ℕ) (load : Load K) : Type 0 where
-    pub call : Call K V
+  pub record Initializes (s : State K V E) (n : ℕ) (load : Load K) : Type 0 where
+    pub call : Call K V E
     pub live : s.calls n ≡ Some call
     pub asked : call.plan ≡ plan.Told load ∷ []
     pub opened : IsSome (s.world.desk.asks n)
 
   -- the desk knows each write that a live call holds
-  abbrev pub HeldAreKnown : State K V → Type 0
+  abbrev pub HeldAreKnown : State K V E → Type 0
   HeldAreKnown s =
-      (n : ℕ) (c : Call K V) (write : Write) → s.calls n ≡ Some c → held_by c.plan ≡ Some write →
+      (n : ℕ) (c : Call K V E) (write : Write) → s.calls n ≡ Some c → held_by c.plan ≡ Some write →
       HoldsWrite s.world.desk n write
 
   -- What holds in every state of a run: no number commits twice, each committed write stands in
-  -- exactly one place, no other write stands anywhere, each replaced record has its notice, and no
-  -- key and kind has two open initializers.
-  pub record IsLawful (eq : K → K → Bool) (s : State K V) : Type 0 where
+  -- exactly one place, no other write stands anywhere, each record that was replaced or taken out
+  -- under a listener has its notice, and no key and kind has two open initializers.
+  pub record IsLawful (eq : K → K → Bool) (s : State K V E) : Type 0 where
     pub commits_once : (number : ℕ) → times number s.world.table.committed ≤ 1
     pub one_place : (number : ℕ) → Contains s.world.table.committed number → StandsOnce s number
     pub committed : (number : ℕ) (place : Place) → StandsAt s place number →

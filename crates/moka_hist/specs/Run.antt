@@ -23,29 +23,29 @@ use Rattle.moka_hist.specs.declared.accesses.Turn.TheVariants as turn
 abbrev pub last_call : ℕ
 last_call = 2 ^ 64 - 1
 
-module _ {K V : Type 0} where
+module _ {K V E : Type 0} where
   -- a step's reply
-  abbrev pub reply_of : Turn K V → Reply K V
+  abbrev pub reply_of : Turn K V E → Reply K V E
   reply_of turn.Going = reply.Going
   reply_of turn.Wait = reply.Wait
   reply_of (turn.Ask ask) = reply.Ask ask
   reply_of (turn.Answer answer) = reply.Answer answer
 
-module _ {K V : Type 0} where
-  abbrev pub fresh_call : Rules → Start K V → Call K V
+module _ {K V E : Type 0} where
+  abbrev pub fresh_call : Rules → Start K V → Call K V E
   fresh_call rules start =
       record { rules = rules; mode = mode.Fresh; plan = plan_of rules start; aborts = 0 }
 
   -- the state with this desk
-  abbrev pub with_desk : State K V → DeskPart K V → State K V
+  abbrev pub with_desk : State K V E → DeskPart K V E → State K V E
   with_desk s desk = record s { world = record s.world { desk = desk } }
 
   -- the clock has moved on
-  abbrev pub at_moment : State K V → ℕ → State K V
+  abbrev pub at_moment : State K V E → ℕ → State K V E
   at_moment s moment = with_desk s (record s.world.desk { clock = moment })
 
   -- a call was given the next number
-  abbrev pub started : State K V → Start K V → State K V
+  abbrev pub started : State K V E → Start K V → State K V E
   started s start =
       let n : ℕ = s.world.desk.last + 1 in
       record {
@@ -54,49 +54,49 @@ module _ {K V : Type 0} where
       }
 
   -- refused for this reason, and nothing has changed
-  pub record Refuses (s : State K V) (why : Refusal) (r : Reply K V) (new : State K V)
+  pub record Refuses (s : State K V E) (why : Refusal) (r : Reply K V E) (new : State K V E)
       : Type 0 where
     pub reply : r ≡ reply.Refused why
     pub same : new ≡ s
 
   -- carried out with this reply, and this is the state then
-  pub record Becomes (next : State K V) (answer : Reply K V) (r : Reply K V) (new : State K V)
-      : Type 0 where
+  pub record Becomes (next : State K V E) (answer : Reply K V E) (r : Reply K V E)
+      (new : State K V E) : Type 0 where
     pub reply : r ≡ answer
     pub after : new ≡ next
 
   -- k steps of the call, each of which leaves it going, through states that meet P
-  unfoldable pub Goings : (K → K → Bool) → (State K V → Type 0) → ℕ → State K V → ℕ → State K V →
-      Type 0
+  unfoldable pub Goings : (K → K → Bool) → (State K V E → Type 0) → ℕ → State K V E → ℕ →
+      State K V E → Type 0
   Goings eq P zero s n new = new ≡ s
   Goings eq P (suc k) s n new =
-      (mid : State K V) × Goings eq P k s n mid × Step eq mid n turn.Going new × P new
+      (mid : State K V E) × Goings eq P k s n mid × Step eq mid n turn.Going new × P new
 
   -- one step of the live call, with its reply
-  pub record Steps (eq : K → K → Bool) (s : State K V) (n : ℕ) (r : Reply K V) (new : State K V)
-      : Type 0 where
-    pub turn : Turn K V
+  pub record Steps (eq : K → K → Bool) (s : State K V E) (n : ℕ) (r : Reply K V E)
+      (new : State K V E) : Type 0 where
+    pub turn : Turn K V E
     pub step : Step eq s n turn new
     pub reply : r ≡ reply_of turn
 
   -- steps of the live call, all Going but the last, whose reply is the event's
-  pub record Polls (eq : K → K → Bool) (P : State K V → Type 0) (s : State K V) (n : ℕ)
-      (r : Reply K V) (new : State K V) : Type 0 where
+  pub record Polls (eq : K → K → Bool) (P : State K V E → Type 0) (s : State K V E) (n : ℕ)
+      (r : Reply K V E) (new : State K V E) : Type 0 where
     pub going : ℕ
-    pub mid : State K V
+    pub mid : State K V E
     pub goes : Goings eq P going s n mid
     pub last : Steps eq mid n r new
     pub ends : r ≢ reply.Going
 
   -- a call is dropped but between two steps
-  abbrev pub Drops : State K V → ℕ → Call K V → Mode → Reply K V → State K V → Type 0
+  abbrev pub Drops : State K V E → ℕ → Call K V E → Mode → Reply K V E → State K V E → Type 0
   Drops s n c mode.Mid r new = Refuses s refusal.NotParked r new
   Drops s n c mode.Fresh r new = Becomes (dropped s n c) reply.Dropped r new
   Drops s n c mode.Parked r new = Becomes (dropped s n c) reply.Dropped r new
 
   -- what an event may reply, and the state then
-  abbrev pub Happens : (K → K → Bool) → (State K V → Type 0) → State K V → Event K V → Reply K V →
-      State K V → Type 0
+  abbrev pub Happens : (K → K → Bool) → (State K V E → Type 0) → State K V E → Event K V E →
+      Reply K V E → State K V E → Type 0
   Happens eq P s (event.At moment) r new =
       MatchBool (nat_lt moment s.world.desk.clock)
       (Refuses s refusal.ClockBack r new)
@@ -117,24 +117,25 @@ module _ {K V : Type 0} where
       MatchOption (s.calls n) (Refuses s refusal.UnknownCall r new) (λ c. Drops s n c c.mode r new)
 
   -- the events one after the other, each with its reply, through states that meet P
-  abbrev pub Run : (K → K → Bool) → (State K V → Type 0) → State K V → List (Event K V) →
-      List (Reply K V) → State K V → Type 0
+  abbrev pub Run : (K → K → Bool) → (State K V E → Type 0) → State K V E → List (Event K V E) →
+      List (Reply K V E) → State K V E → Type 0
   Run eq P s [] [] new = new ≡ s
   Run eq P s (e ∷ es) (r ∷ rs) new =
-      (mid : State K V) × Happens eq P s e r mid × P mid × Run eq P mid es rs new
+      (mid : State K V E) × Happens eq P s e r mid × P mid × Run eq P mid es rs new
   Run eq P s [] (r ∷ rs) new = ⊥
   Run eq P s (e ∷ es) [] new = ⊥
 
   -- whatever holds of a state
-  abbrev pub Any : State K V → Type 0
+  abbrev pub Any : State K V E → Type 0
   Any s = Unit {0}
 
-  -- the state comes after some events on a fresh cache of some rules with a log of some size, at
-  -- least of one write
-  pub record IsReached (eq : K → K → Bool) (s : State K V) : Type 0 where
+  -- the state comes after some events on a fresh cache of some rules and tests with a log of some
+  -- size, at least of one write
+  pub record IsReached (eq : K → K → Bool) (s : State K V E) : Type 0 where
     pub rules : Rules
     pub size : ℕ
+    pub tests : ℕ → K → V → Bool
     pub has_log : 0 < size
-    pub events : List (Event K V)
-    pub replies : List (Reply K V)
-    pub run : Run eq Any (fresh K V rules size) events replies s
+    pub events : List (Event K V E)
+    pub replies : List (Reply K V E)
+    pub run : Run eq Any (fresh K V E rules size tests) events replies s

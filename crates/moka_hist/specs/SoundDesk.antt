@@ -7,7 +7,7 @@ use Rattle.moka_hist.specs.declared.loads.Load.{Load}
 use Rattle.moka_hist.specs.declared.writes.Holding.{Holding}
 
 -- No write stands twice or with two calls, and a load and its owner are one to one.
-pub record SoundDesk {K V : Type 0} (eq : K → K → Bool) (w : DeskPart K V) : Type 0 where
+pub record SoundDesk {K V E : Type 0} (eq : K → K → Bool) (w : DeskPart K V E) : Type 0 where
   -- no number stands twice in what is owed, logged and applied together; none of them is that of a
   -- held write; and no two calls hold writes of one number
   pub once : (x : ℕ) → times x (numbers_of w) ≤ 1

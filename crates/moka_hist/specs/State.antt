@@ -24,9 +24,11 @@ pub record TablePart (K V : Type 0) : Type 0 where
   pub committed : List ℕ
 
 -- What the desk keeps.
-pub record DeskPart (K V : Type 0) : Type 0 where
-  -- what the cache was built with
+pub record DeskPart (K V E : Type 0) : Type 0 where
+  -- what the cache was built with: its rules, and what the test of each number answers of a key
+  -- and its value
   pub rules : Rules
+  pub tests : ℕ → K → V → Bool
   pub clock : ℕ
   -- the moment at which a stamp's record was last seen; where there is none, that of its write
   pub accessed : ℕ → Option ℕ
@@ -52,7 +54,7 @@ pub record DeskPart (K V : Type 0) : Type 0 where
   pub joined : ℕ → Option ℕ
   pub readers : ℕ → ℕ
   -- how an owner ended, as long as somebody has still to read it
-  pub settled : ℕ → Option (Settled V)
+  pub settled : ℕ → Option (Settled V E)
   -- the call that holds a key's lock, and the key whose lock a call holds
   pub locks : K → Option ℕ
   pub locked : ℕ → Option K
@@ -63,14 +65,14 @@ pub record DeskPart (K V : Type 0) : Type 0 where
   pub off : Bool
   -- what an open ask takes, and what was told to one that is closed and not taken yet
   pub asks : ℕ → Option Takes
-  pub told : ℕ → Option (Told V)
+  pub told : ℕ → Option (Told V E)
 
 -- What a live call is to the reference: how far it is, what it has still to do, and how often it
 -- has read that an owner was dropped; beside them the rules of its cache.
-pub record Call (K V : Type 0) : Type 0 where
+pub record Call (K V E : Type 0) : Type 0 where
   pub rules : Rules
   pub mode : Mode
-  pub plan : List (Item K V)
+  pub plan : List (Item K V E)
   pub aborts : ℕ
 
 -- How often in a row the table operation of one call has stayed undecided.
@@ -80,23 +82,24 @@ pub record Stay : Type 0 where
   -- how many of its steps there in a row, up to that one, left its operation undecided
   pub times : ℕ
 
-pub record World (K V : Type 0) : Type 0 where
+pub record World (K V E : Type 0) : Type 0 where
   pub table : TablePart K V
-  pub desk : DeskPart K V
+  pub desk : DeskPart K V E
   pub stay : Stay
 
-pub record State (K V : Type 0) : Type 0 where
-  pub world : World K V
-  pub calls : ℕ → Option (Call K V)
+pub record State (K V E : Type 0) : Type 0 where
+  pub world : World K V E
+  pub calls : ℕ → Option (Call K V E)
 
 abbrev pub empty_table : (K V : Type 0) → TablePart K V
 empty_table K V = record { stored = λ _. None; keys = 0; peak = 0; committed = [] }
 
--- a desk by these rules with a log of this size, where nothing has happened
-abbrev pub fresh_desk : (K V : Type 0) → Rules → ℕ → DeskPart K V
-fresh_desk K V rules size =
+-- a desk by these rules, with a log of this size and these tests, where nothing has happened
+abbrev pub fresh_desk : (K V E : Type 0) → Rules → ℕ → (ℕ → K → V → Bool) → DeskPart K V E
+fresh_desk K V E rules size tests =
     record {
       rules = rules;
+      tests = tests;
       clock = 0;
       accessed = λ _. None;
       holding = λ _. None;
@@ -122,12 +125,12 @@ fresh_desk K V rules size =
     }
 
 -- nothing is stored, no call was started, and the clock is 0
-abbrev pub fresh : (K V : Type 0) → Rules → ℕ → State K V
-fresh K V rules size =
+abbrev pub fresh : (K V E : Type 0) → Rules → ℕ → (ℕ → K → V → Bool) → State K V E
+fresh K V E rules size tests =
     record {
       world = record {
         table = empty_table K V;
-        desk = fresh_desk K V rules size;
+        desk = fresh_desk K V E rules size tests;
         stay = record { call = 0; times = 0 };
       };
       calls = λ _. None;

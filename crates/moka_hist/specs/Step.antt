@@ -1,8 +1,8 @@
 -- One step of a call: one access, and what follows from its answer.
-use Rattle.std.specs.Prelude.{◌<◌, ◌≢◌, suc, zero, ◌≡◌, ℕ, Bool, true, false, List, [], ◌∷◌, Some}
+use Rattle.std.specs.Prelude.{◌<◌, ◌≢◌, suc, zero, ◌≡◌, ℕ, Bool, true, false, List, [], ◌∷◌, Option, Some, None}
 use Rattle.moka_hist.specs.Finite.{put_at}
 use Rattle.moka_hist.specs.State.{Call, TablePart, World, State}
-use Rattle.moka_hist.specs.Plan.{Item}
+use Rattle.moka_hist.specs.Plan.{Item, Aim}
 use Rattle.moka_hist.specs.Plan as plan
 use Rattle.moka_hist.specs.Visits.{finds, makes}
 use Rattle.moka_hist.specs.Conditions.{MayVisit}
@@ -33,17 +33,27 @@ use Rattle.moka_hist.specs.declared.accesses.Turn.{Turn}
 use Rattle.moka_hist.specs.declared.accesses.Turn.TheVariants as turns
 
 -- what a call does to the world in one step: a step of a table operation, or a visit of the desk
-pub data Access (K V : Type 0) : Type 0 where
-  On_table : (operation : TableOp K V) → Access K V
-  On_desk : (made : Visit K V) → Access K V
+pub data Access (K V E : Type 0) : Type 0 where
+  On_table : (operation : TableOp K V) → Access K V E
+  On_desk : (made : Visit K V E) → Access K V E
 
 -- which answers the ask of a load takes
 abbrev pub takes_of : Kind → Takes
 takes_of kind.GetWith = takes.Value
+takes_of kind.Optional = takes.Optional
+takes_of kind.Try = takes.Try
 
-module _ {K V : Type 0} where
+-- the test by which a look's call passes over what it finds
+abbrev pub replace_of : {K V : Type 0} → Aim K V → Option ℕ
+replace_of plan.To_answer = None
+replace_of (plan.To_load sought) = sought.replace
+replace_of (plan.To_own sought) = sought.replace
+replace_of (plan.To_insert key value) = None
+replace_of (plan.To_evict key stamp cause) = None
+
+module _ {K V E : Type 0} where
   -- the access that an item needs
-  abbrev pub access_for : ℕ → Item K V → Access K V
+  abbrev pub access_for : ℕ → Item K V E → Access K V E
   access_for n plan.Drain = On_desk (visit.TakeOwed n)
   access_for n (plan.Ended number) = On_desk (visit.NoticeEnded n number)
   access_for n (plan.Post write) = On_desk (visit.PostWrite n write)
@@ -51,9 +61,9 @@ module _ {K V : Type 0} where
   access_for n plan.Apply = On_desk (visit.ApplyOne n)
   access_for n plan.End = On_desk (visit.EndTurn n)
   access_for n (plan.Get aim key) = On_table (op.Get key)
-  access_for n (plan.Judge aim key stored) = On_desk (visit.Judge key stored)
-  access_for n (plan.Own load) = On_desk (visit.WaitOrOwn n load.key load.kind)
-  access_for n (plan.Read load) = On_desk (visit.ReadSettled n)
+  access_for n (plan.Judge aim key stored) = On_desk (visit.Judge (replace_of aim) key stored)
+  access_for n (plan.Own sought) = On_desk (visit.WaitOrOwn n sought.load.key sought.load.kind)
+  access_for n (plan.Read sought) = On_desk (visit.ReadSettled n)
   access_for n (plan.Settle with) = On_desk (visit.Settle n with)
   access_for n (plan.Ask load) = On_desk (visit.OpenAsk n (takes_of load.kind))
   access_for n (plan.Told load) = On_desk (visit.TakeTold n)
@@ -72,28 +82,29 @@ module _ {K V : Type 0} where
 
   -- the access of a call's next step: that of its first item. Where nothing is left but an answer,
   -- it reads the clock
-  abbrev pub access_of : ℕ → Call K V → Access K V
+  abbrev pub access_of : ℕ → Call K V E → Access K V E
   access_of n c = by_plan c.plan
     where
-      by_plan : List (Item K V) → Access K V
+      by_plan : List (Item K V E) → Access K V E
       by_plan [] = On_desk (visit.Clock n)
       by_plan (item ∷ rest) = access_for n item
 
   -- an access as it is wanted: an operation that was begun is gone on with
-  abbrev pub want_for : Bool → Access K V → Want K V
+  abbrev pub want_for : Bool → Access K V E → Want K V E
   want_for false (On_table operation) = want.Begin operation
   want_for true (On_table operation) = want.Table
   want_for begun (On_desk made) = want.Desk made
 
   -- how a call goes on after a step of its table operation
-  abbrev pub after_table : ℕ → Call K V → Item K V → List (Item K V) → TableTurn K V → Next K V
+  abbrev pub after_table : ℕ → Call K V E → Item K V E → List (Item K V E) → TableTurn K V →
+      Next K V E
   after_table n c (plan.Get aim key) rest turn = after_get c aim turn
   after_table n c (plan.Write key value moment) rest turn = after_write n c key rest turn
   after_table n c (plan.Out removal key) rest turn = after_out n c removal key turn
   after_table n c _ rest turn = waits c
 
   -- how a call goes on after its visit
-  abbrev pub after_visit : Call K V → Item K V → List (Item K V) → Found V → Next K V
+  abbrev pub after_visit : Call K V E → Item K V E → List (Item K V E) → Found V E → Next K V E
   after_visit c plan.Drain rest f = after_drain c rest f
   after_visit c (plan.Ended number) rest f = after_hearing c rest f
   after_visit c (plan.Post write) rest f = after_post c write rest f
@@ -101,8 +112,8 @@ module _ {K V : Type 0} where
   after_visit c plan.Apply rest f = after_apply c rest f
   after_visit c plan.End rest f = after_end c rest f
   after_visit c (plan.Judge aim key stored) rest f = after_judge c aim stored f
-  after_visit c (plan.Own load) rest f = after_own c load f
-  after_visit c (plan.Read load) rest f = after_read c load f
+  after_visit c (plan.Own sought) rest f = after_own c sought f
+  after_visit c (plan.Read sought) rest f = after_read c sought f
   after_visit c (plan.Settle with) rest f = after_settle c rest f
   after_visit c (plan.Ask load) rest f = after_ask c load f
   after_visit c (plan.Told load) rest f = after_told c load f
@@ -119,10 +130,10 @@ module _ {K V : Type 0} where
   after_visit c (plan.Write key value moment) rest f = waits c
 
   -- how a call goes on after its access gave this
-  abbrev pub next_of : ℕ → Call K V → Got K V → Next K V
+  abbrev pub next_of : ℕ → Call K V E → Got K V E → Next K V E
   next_of n c g = by_plan c.plan g
     where
-      by_plan : List (Item K V) → Got K V → Next K V
+      by_plan : List (Item K V E) → Got K V E → Next K V E
       by_plan [] g = waits c
       by_plan (item ∷ rest) (got.Table turn) = after_table n c item rest turn
       by_plan (item ∷ rest) (got.Desk f) = after_visit c item rest f
@@ -130,7 +141,8 @@ module _ {K V : Type 0} where
   -- What the world may give the call of this number for an access, and become by it. A table
   -- operation may stay undecided, which leaves the map, but not for more steps in a row than its
   -- table may need.
-  abbrev pub Gets : (K → K → Bool) → ℕ → World K V → Access K V → Got K V → World K V → Type 0
+  abbrev pub Gets : (K → K → Bool) → ℕ → World K V E → Access K V E → Got K V E → World K V E →
+      Type 0
   Gets eq n w (On_table operation) (got.Table table.Going) new =
       (times_of w.stay n < most_undecided w.table) × (new ≡ record w { stay = stayed w.stay n })
   Gets eq n w (On_table operation) (got.Table (table.Decided answer)) new =
@@ -142,63 +154,64 @@ module _ {K V : Type 0} where
   Gets eq n w (On_desk made) (got.Table turn) new = ⊥
 
   -- the call's place after the step, in a world that the access made
-  abbrev pub state_after : State K V → ℕ → World K V → Next K V → State K V
+  abbrev pub state_after : State K V E → ℕ → World K V E → Next K V E → State K V E
   state_after s n w next = record { world = w; calls = put_at s.calls n next.left }
 
   -- one step of the live call of this number
-  pub record Step (eq : K → K → Bool) (s : State K V) (n : ℕ) (turn : Turn K V) (new : State K V)
-      : Type 0 where
-    pub call : Call K V
+  pub record Step (eq : K → K → Bool) (s : State K V E) (n : ℕ) (turn : Turn K V E)
+      (new : State K V E) : Type 0 where
+    pub call : Call K V E
     pub live : s.calls n ≡ Some call
-    pub given : Got K V
-    pub world : World K V
+    pub given : Got K V E
+    pub world : World K V E
     pub gets : Gets eq n s.world (access_of n call) given world
     pub turns : turn ≡ (next_of n call given).turn
     pub after : new ≡ state_after s n world (next_of n call given)
 
-module _ {K V : Type 0} where
+module _ {K V E : Type 0} where
   -- what the world must have for an access: what the desk must have for a visit
-  abbrev pub May : World K V → Access K V → Type 0
+  abbrev pub May : World K V E → Access K V E → Type 0
   May w (On_desk made) = MayVisit w.desk made
   May w (On_table operation) = Unit {0}
 
   -- one step of a call by itself: how it goes on, and the world then
-  pub record Moves (eq : K → K → Bool) (n : ℕ) (c : Call K V) (w : World K V) (next : Next K V)
-      (new : World K V) : Type 0 where
-    pub given : Got K V
+  pub record Moves (eq : K → K → Bool) (n : ℕ) (c : Call K V E) (w : World K V E)
+      (next : Next K V E) (new : World K V E) : Type 0 where
+    pub given : Got K V E
     pub gets : Gets eq n w (access_of n c) given new
     pub goes : next ≡ next_of n c given
 
   -- the call is still live, and goes on as d
-  abbrev pub going_as : Call K V → Next K V
+  abbrev pub going_as : Call K V E → Next K V E
   going_as d = record { left = Some d; turn = turns.Going }
 
   -- k steps of a call by itself, each of which leaves it going
-  unfoldable pub MovesOn : (K → K → Bool) → ℕ → ℕ → Call K V → World K V → Call K V → World K V →
-      Type 0
+  unfoldable pub MovesOn : (K → K → Bool) → ℕ → ℕ → Call K V E → World K V E → Call K V E →
+      World K V E → Type 0
   MovesOn eq zero n c w d new = (d ≡ c) × (new ≡ w)
   MovesOn eq (suc k) n c w d new =
-      (b : Call K V) × (mid : World K V) × MovesOn eq k n c w b mid ×
+      (b : Call K V E) × (mid : World K V E) × MovesOn eq k n c w b mid ×
       Moves eq n b mid (going_as d) new
 
   -- steps of a call by itself, all of which leave it going but the last, which doesn't
-  pub record Polled (eq : K → K → Bool) (n : ℕ) (c : Call K V) (w : World K V) (next : Next K V)
-      (new : World K V) : Type 0 where
+  pub record Polled (eq : K → K → Bool) (n : ℕ) (c : Call K V E) (w : World K V E)
+      (next : Next K V E) (new : World K V E) : Type 0 where
     pub going : ℕ
-    pub call : Call K V
-    pub mid : World K V
+    pub call : Call K V E
+    pub mid : World K V E
     pub goes : MovesOn eq going n c w call mid
     pub last : Moves eq n call mid next new
     pub ends : next.turn ≢ turns.Going
 
   -- the world has what each step of the call needs, as long as it goes on by itself
-  abbrev pub IsSafe : (K → K → Bool) → ℕ → Call K V → World K V → Type 0
+  abbrev pub IsSafe : (K → K → Bool) → ℕ → Call K V E → World K V E → Type 0
   IsSafe eq n c w =
-      (k : ℕ) (d : Call K V) (mid : World K V) → MovesOn eq k n c w d mid → May mid (access_of n d)
+      (k : ℕ) (d : Call K V E) (mid : World K V E) → MovesOn eq k n c w d mid →
+      May mid (access_of n d)
 
   -- accesses with what they gave, by which the call goes on from c to d, always going
-  abbrev pub Leads : ℕ → Call K V → List (Access K V × Got K V) → Call K V → Type 0
+  abbrev pub Leads : ℕ → Call K V E → List (Access K V E × Got K V E) → Call K V E → Type 0
   Leads n c [] d = d ≡ c
   Leads n c (made ∷ more) d =
-      (mid : Call K V) × (made.0 ≡ access_of n c) × (next_of n c made.1 ≡ going_as mid) ×
+      (mid : Call K V E) × (made.0 ≡ access_of n c) × (next_of n c made.1 ≡ going_as mid) ×
       Leads n mid more d

@@ -9,6 +9,7 @@ use Rattle.moka_hist.specs.declared.loads.Load.{Load}
 use Rattle.moka_hist.specs.declared.notices.Notice.{Notice}
 use Rattle.moka_hist.specs.declared.notices.NoticeState.{NoticeState}
 use Rattle.moka_hist.specs.declared.notices.NoticeState.TheVariants as notice
+use Rattle.moka_hist.specs.declared.records.Stored.{Stored}
 use Rattle.moka_hist.specs.declared.rules.Cause.{Cause}
 use Rattle.moka_hist.specs.declared.rules.Times.{Times}
 use Rattle.moka_hist.specs.declared.writes.Owed.{Owed}
@@ -87,34 +88,42 @@ abbrev pub claim_of : Option ℕ → Claim
 claim_of None = claim.Owner
 claim_of (Some owner) = claim.Waits owner
 
-module _ {K V : Type 0} where
+module _ {K V E : Type 0} where
   -- when the record of this stamp, written at the moment, was last seen
-  abbrev pub access_of : DeskPart K V → ℕ → ℕ → ℕ
+  abbrev pub access_of : DeskPart K V E → ℕ → ℕ → ℕ
   access_of w stamp modified = unwrap_or (w.accessed stamp) modified
 
   -- nobody has the turn, or this call has it
-  abbrev pub is_free_for : DeskPart K V → ℕ → Bool
+  abbrev pub is_free_for : DeskPart K V E → ℕ → Bool
   is_free_for w call = option_map_or (λ holder. holder == call) w.turn true
 
   -- the moment that the call has taken for a write that it hasn't committed yet
-  abbrev pub pending_of : DeskPart K V → ℕ → Option ℕ
+  abbrev pub pending_of : DeskPart K V E → ℕ → Option ℕ
   pending_of w call = option_and_then moment_of (w.holding call)
 
   -- nobody holds the key's lock, or this call holds it
-  abbrev pub is_unlocked_for : DeskPart K V → ℕ → K → Bool
+  abbrev pub is_unlocked_for : DeskPart K V E → ℕ → K → Bool
   is_unlocked_for w call key = option_map_or (λ holder. holder == call) (w.locks key) true
 
   -- the keys that are locked but for that whose lock the call holds
-  abbrev pub locks_without : DeskPart K V → ℕ → K → Option ℕ
+  abbrev pub locks_without : DeskPart K V E → ℕ → K → Option ℕ
   locks_without w call key =
       cond (option_map_or (λ h. h == call) (w.locks key) false) None (w.locks key)
 
   -- the notice of this number runs
-  abbrev pub is_running : DeskPart K V → ℕ → Bool
+  abbrev pub is_running : DeskPart K V E → ℕ → Bool
   is_running w number = option_map_or (λ x. runs x.state) (w.notices number) false
 
+  -- the call's replace test, if it has one, holds on the record
+  abbrev pub is_replaced_by : DeskPart K V E → Option ℕ → K → V → Bool
+  is_replaced_by w replace key value = option_map_or (λ test. w.tests test key value) replace false
+
+  -- a call with this replace test, if any, sees the record
+  abbrev pub is_seen : DeskPart K V E → Option ℕ → K → Stored V → Bool
+  is_seen w replace key stored = not (is_replaced_by w replace key stored.value)
+
   -- the times of a record of this stamp, last written at the moment
-  abbrev pub times_at : DeskPart K V → ℕ → ℕ → Times
+  abbrev pub times_at : DeskPart K V E → ℕ → ℕ → Times
   times_at w stamp modified =
       record {
         clock = w.clock;
@@ -125,79 +134,80 @@ module _ {K V : Type 0} where
 
   -- why a record leaves: for the cause handed in, or else since a write took its place or a call
   -- removed it
-  abbrev pub cause_of : DeskPart K V → ℕ → ℕ → Option Cause → Bool → Cause
+  abbrev pub cause_of : DeskPart K V E → ℕ → ℕ → Option Cause → Bool → Cause
   cause_of w stamp modified (Some cause) upsert = cause
   cause_of w stamp modified None true = upsert_cause w.rules (times_at w stamp modified)
   cause_of w stamp modified None false = remove_cause w.rules (times_at w stamp modified)
 
   -- the log takes another write
-  abbrev pub has_room : DeskPart K V → Bool
+  abbrev pub has_room : DeskPart K V E → Bool
   has_room w = nat_lt (length w.log) w.size
 
   -- how the owner ended that the call waits for
-  abbrev pub settlement_for : DeskPart K V → ℕ → Option (Settled V)
+  abbrev pub settlement_for : DeskPart K V E → ℕ → Option (Settled V E)
   settlement_for w call = option_and_then w.settled (w.joined call)
 
   -- the call waits for this owner
-  abbrev pub is_reader_of : DeskPart K V → ℕ → ℕ → Bool
+  abbrev pub is_reader_of : DeskPart K V E → ℕ → ℕ → Bool
   is_reader_of w call owner = option_map_or (λ o. o == owner) (w.joined call) false
 
   -- how many wait for each owner once the call has left
-  abbrev pub readers_without : DeskPart K V → ℕ → ℕ → ℕ
+  abbrev pub readers_without : DeskPart K V E → ℕ → ℕ → ℕ
   readers_without w call owner =
       cond (is_reader_of w call owner) (w.readers owner - 1) (w.readers owner)
 
   -- what is kept of each owner once the call has left: nothing where it was the last to read it
-  abbrev pub settled_without : DeskPart K V → ℕ → ℕ → Option (Settled V)
+  abbrev pub settled_without : DeskPart K V E → ℕ → ℕ → Option (Settled V E)
   settled_without w call owner =
       cond (is_reader_of w call owner && w.readers owner == 1) None (w.settled owner)
 
   -- the owners but for this call
-  abbrev pub owners_without : DeskPart K V → ℕ → Load K → Option ℕ
+  abbrev pub owners_without : DeskPart K V E → ℕ → Load K → Option ℕ
   owners_without w call load =
       cond (option_map_or (λ o. o == call) (w.owners load) false) None (w.owners load)
 
   -- what is kept once the call has ended so: nothing where it owns nothing, or nobody waits for it
-  abbrev pub settled_with : DeskPart K V → ℕ → Settled V → (ℕ → Option (Settled V)) → ℕ →
-      Option (Settled V)
+  abbrev pub settled_with : DeskPart K V E → ℕ → Settled V E → (ℕ → Option (Settled V E)) → ℕ →
+      Option (Settled V E)
   settled_with w call with kept owner =
       cond (is_some (w.owning call) && nat_lt 0 (w.readers call) && call == owner) (Some with)
       (kept owner)
 
   -- ---- what each visit changes
 
-  abbrev pub took_owed : DeskPart K V → ℕ → DeskPart K V
+  abbrev pub took_owed : DeskPart K V E → ℕ → DeskPart K V E
   took_owed w call = record w {
     holding = holding_with w.holding call (option_map (λ o. o.write) (first_of w.owed));
     owed = drop 1 w.owed;
   }
 
-  abbrev pub stamped : DeskPart K V → ℕ → DeskPart K V
+  abbrev pub stamped : DeskPart K V E → ℕ → DeskPart K V E
   stamped w call =
       record w { holding = put_at w.holding call (Some (holding.Own (Some w.clock))) }
 
   -- the write is decided, and its moment pending no more
-  abbrev pub decided : DeskPart K V → ℕ → DeskPart K V
+  abbrev pub decided : DeskPart K V E → ℕ → DeskPart K V E
   decided w call =
       record w { holding = put_at w.holding call (option_map without_moment (w.holding call)) }
 
-  abbrev pub judged : DeskPart K V → ℕ → ℕ → DeskPart K V
-  judged w stamp modified =
-      record w {
-        accessed = put_at w.accessed stamp
-            (Some (max (access_of w stamp modified) w.clock));
-      }
+  -- a record that is seen was accessed now
+  abbrev pub judged : DeskPart K V E → ℕ → ℕ → Bool → DeskPart K V E
+  judged w stamp modified seen = record w {
+    accessed =
+        cond seen (put_at w.accessed stamp (Some (max (access_of w stamp modified) w.clock)))
+        w.accessed;
+  }
 
   -- where the log has room the call holds the write no longer. The visit that posts is the first
   -- after the write, so the pending moment ends too
-  abbrev pub posted : DeskPart K V → ℕ → Write → DeskPart K V
+  abbrev pub posted : DeskPart K V E → ℕ → Write → DeskPart K V E
   posted w call write = record w {
     holding = put_at w.holding call
         (cond (has_room w) None (option_map without_moment (w.holding call)));
     log = cond (has_room w) (w.log ++ write ∷ []) w.log;
   }
 
-  abbrev pub locked_by : (K → K → Bool) → DeskPart K V → ℕ → K → Bool → DeskPart K V
+  abbrev pub locked_by : (K → K → Bool) → DeskPart K V E → ℕ → K → Bool → DeskPart K V E
   locked_by eq w call key false = w
   locked_by eq w call key true = record w {
     locks = put_key eq w.locks key (Some call);
@@ -205,16 +215,16 @@ module _ {K V : Type 0} where
   }
 
   -- the places of a write that the call doesn't need are given back
-  abbrev pub gave_back : DeskPart K V → ℕ → DeskPart K V
+  abbrev pub gave_back : DeskPart K V E → ℕ → DeskPart K V E
   gave_back w call = record w { holding = put_at w.holding call None }
 
   -- The visit is the first after the change where no notice was opened: the pending moment ends,
   -- and where nothing was written the places of a write are given back.
-  abbrev pub once_decided : DeskPart K V → ℕ → Bool → DeskPart K V
+  abbrev pub once_decided : DeskPart K V E → ℕ → Bool → DeskPart K V E
   once_decided w call wrote =
       record w { holding = put_at w.holding call (once_freed (w.holding call) wrote) }
 
-  abbrev pub unlocked : DeskPart K V → ℕ → Bool → DeskPart K V
+  abbrev pub unlocked : DeskPart K V E → ℕ → Bool → DeskPart K V E
   unlocked w call wrote =
       record (once_decided w call wrote) {
         locks = locks_without w call;
@@ -222,13 +232,13 @@ module _ {K V : Type 0} where
       }
 
   -- a notice of this number was opened, in this state
-  abbrev pub with_notice : DeskPart K V → ℕ → Notice K V → DeskPart K V
+  abbrev pub with_notice : DeskPart K V E → ℕ → Notice K V → DeskPart K V E
   with_notice w call told =
       record w { notices = put_at w.notices call (Some told); opened = w.opened ++ call ∷ [] }
 
   -- The notice is opened, or skipped where the listener is off. The visit is the first after the
   -- write, so the pending moment ends.
-  abbrev pub opened_notice : DeskPart K V → ℕ → K → V → Cause → DeskPart K V
+  abbrev pub opened_notice : DeskPart K V E → ℕ → K → V → Cause → DeskPart K V E
   opened_notice w call key value cause =
       with_notice (decided w call) call (record {
         number = call;
@@ -238,17 +248,17 @@ module _ {K V : Type 0} where
         state = cond w.off notice.Skipped notice.Running;
       })
 
-  abbrev pub took_turn : DeskPart K V → ℕ → DeskPart K V
+  abbrev pub took_turn : DeskPart K V E → ℕ → DeskPart K V E
   took_turn w call = record w { turn = cond (is_free_for w call) (Some call) w.turn }
 
-  abbrev pub applied_one : DeskPart K V → DeskPart K V
+  abbrev pub applied_one : DeskPart K V E → DeskPart K V E
   applied_one w = record w { log = drop 1 w.log; applied = w.applied ++ take 1 w.log }
 
-  abbrev pub ended_turn : DeskPart K V → DeskPart K V
+  abbrev pub ended_turn : DeskPart K V E → DeskPart K V E
   ended_turn w = record w { turn = None; published = standing w.applied }
 
   -- the call owns the load where nobody does, and else waits for its owner
-  abbrev pub claimed : (K → K → Bool) → DeskPart K V → ℕ → Load K → Option ℕ → DeskPart K V
+  abbrev pub claimed : (K → K → Bool) → DeskPart K V E → ℕ → Load K → Option ℕ → DeskPart K V E
   claimed eq w call load None = record w {
     owners = put_key (load_eq eq) w.owners load (Some call);
     owning = put_at w.owning call (Some load);
@@ -259,7 +269,7 @@ module _ {K V : Type 0} where
   }
 
   -- the settlement was read, if there is one
-  abbrev pub read : DeskPart K V → ℕ → DeskPart K V
+  abbrev pub read : DeskPart K V E → ℕ → DeskPart K V E
   read w call = cond (is_some (settlement_for w call))
       (record w {
         joined = put_at w.joined call None;
@@ -268,24 +278,24 @@ module _ {K V : Type 0} where
       })
       w
 
-  abbrev pub settled_as : DeskPart K V → ℕ → Settled V → DeskPart K V
+  abbrev pub settled_as : DeskPart K V E → ℕ → Settled V E → DeskPart K V E
   settled_as w call with = record w {
     owners = owners_without w call;
     owning = put_at w.owning call None;
     settled = settled_with w call with w.settled;
   }
 
-  abbrev pub opened : DeskPart K V → ℕ → Takes → DeskPart K V
+  abbrev pub opened : DeskPart K V E → ℕ → Takes → DeskPart K V E
   opened w call takes =
       record w { asks = put_at w.asks call (Some takes); told = put_at w.told call None }
 
-  abbrev pub took_told : DeskPart K V → ℕ → DeskPart K V
+  abbrev pub took_told : DeskPart K V E → ℕ → DeskPart K V E
   took_told w call = record w { told = put_at w.told call None }
 
   -- ---- a visit of a call, as it makes it
 
   -- what it finds
-  abbrev pub finds : DeskPart K V → Visit K V → Found V
+  abbrev pub finds : DeskPart K V E → Visit K V E → Found V E
   finds w (visit.Clock call) = found.Clock w.clock
   finds w (visit.TakeOwed call) = found.TakeOwed (first_of w.owed)
   finds w (visit.NoticeEnded call number) = found.NoticeEnded (not (is_running w number))
@@ -294,7 +304,7 @@ module _ {K V : Type 0} where
   finds w (visit.OpenNotice call key value stamp modified cause upsert) =
       found.OpenNotice (cond w.off None (Some (cause_of w stamp modified cause upsert)))
   finds w (visit.StampMoment call) = found.StampMoment w.clock
-  finds w (visit.Judge key stored) = found.Judge true
+  finds w (visit.Judge replace key stored) = found.Judge (is_seen w replace key stored)
   finds w (visit.Holds key stored cause) =
       found.Holds (chosen_holds w.rules (times_at w stored.stamp stored.modified) false cause)
   finds w (visit.WaitOrOwn call key kind) =
@@ -310,7 +320,7 @@ module _ {K V : Type 0} where
   finds w (visit.EndTurn call) = found.EndTurn
 
   -- what it changes
-  abbrev pub makes : (K → K → Bool) → DeskPart K V → Visit K V → DeskPart K V
+  abbrev pub makes : (K → K → Bool) → DeskPart K V E → Visit K V E → DeskPart K V E
   makes eq w (visit.Clock call) = gave_back w call
   makes eq w (visit.TakeOwed call) = took_owed w call
   makes eq w (visit.NoticeEnded call number) = w
@@ -319,7 +329,8 @@ module _ {K V : Type 0} where
   makes eq w (visit.OpenNotice call key value stamp modified cause upsert) =
       opened_notice w call key value (cause_of w stamp modified cause upsert)
   makes eq w (visit.StampMoment call) = stamped w call
-  makes eq w (visit.Judge key stored) = judged w stored.stamp stored.modified
+  makes eq w (visit.Judge replace key stored) =
+      judged w stored.stamp stored.modified (is_seen w replace key stored)
   makes eq w (visit.Holds key stored cause) = w
   makes eq w (visit.WaitOrOwn call key kind) =
       let load : Load K =

@@ -7,7 +7,12 @@ use crate::Cause;
 pub enum Start<K, V> {
     Get { key: K },
     Insert { key: K, value: V },
-    GetWith { key: K },
+    /// Where the replace test of this number holds on the record that is there, it is loaded again.
+    GetWith { key: K, replace: Option<u64> },
+    Optional { key: K },
+    Try { key: K },
+    /// The value is stored where no record is found.
+    OrInsert { key: K, value: V },
     Invalidate { key: K },
     Remove { key: K },
     /// The record of this stamp is taken out, where it still stands under the key and the cause
@@ -15,18 +20,20 @@ pub enum Start<K, V> {
     Evict { key: K, stamp: u64, cause: Cause },
 }
 
-/// What an open ask is told: a value, by an initializer; `Done` by a listener, or `Off`, after
-/// which it hears of no further record.
+/// What an open ask is told: by an initializer a value, that there is none, or why it gives none;
+/// `Done` by a listener, or `Off`, after which it hears of no further record.
 #[derive(Clone, PartialEq, Debug, Drop)]
-pub enum Told<V> {
+pub enum Told<V, E> {
     Value(V),
+    Nothing,
+    Err(E),
     Done,
     Off,
 }
 
 /// One event of a schedule. Moments are nanoseconds, and calls go by their numbers.
 #[derive(Clone, PartialEq, Debug, Drop)]
-pub enum Event<K, V> {
+pub enum Event<K, V, E> {
     /// The clock moves on to the moment.
     At { moment: u64 },
     /// A call is started, and gets the next number.
@@ -36,7 +43,7 @@ pub enum Event<K, V> {
     /// The call makes steps up to the first whose reply is not Going.
     Poll { call: u64 },
     /// The call's open ask is answered.
-    Tell { call: u64, answer: Told<V> },
+    Tell { call: u64, answer: Told<V, E> },
     /// The call is dropped where it stands.
     Drop { call: u64 },
 }

@@ -6,6 +6,10 @@
 pub enum Kind {
     /// `get_with`: the initializer gives a value.
     GetWith,
+    /// `optional`: the initializer gives a value, or that there is none.
+    Optional,
+    /// `try`: the initializer gives a value or an error.
+    Try,
 }
 
 /// What an owner owns and others wait for: a key and a kind.
@@ -13,4 +17,12 @@ pub enum Kind {
 pub struct Load<K> {
     pub key: K,
     pub kind: Kind,
+}
+
+/// What a call seeks: a load, and where it has one its replace test, by number. A record on which
+/// that test holds is loaded again.
+#[derive(Clone, PartialEq, Debug, Drop)]
+pub struct Sought<K> {
+    pub load: Load<K>,
+    pub replace: Option<u64>,
 }

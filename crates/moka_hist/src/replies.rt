@@ -5,7 +5,7 @@ use crate::Cause;
 /// What a call asks of its caller.
 #[derive(Clone, PartialEq, Debug, Drop)]
 pub enum Ask<K, V> {
-    /// The initializer of a load is to be run, and its value told.
+    /// The initializer of a load is to be run, and what it gives told.
     Init,
     /// The listener is to hear of a record that has left, and its answer is to be told.
     Listener { key: K, value: V, cause: Cause },
@@ -13,11 +13,15 @@ pub enum Ask<K, V> {
 
 /// What a call answers in the end.
 #[derive(Clone, PartialEq, Debug, Drop)]
-pub enum Answer<V> {
+pub enum Answer<V, E> {
     Done,
     Found(Option<V>),
     /// The value of a load; `fresh` where this call's own initializer gave it.
     Loaded { value: V, fresh: bool },
+    /// The initializer of the load gave neither a value nor an error.
+    Nothing,
+    /// The initializer of the load gave this error.
+    InitErr(E),
     /// The owner that the call waited for was dropped, for the 200th time.
     RetriesExhausted,
     /// The record was taken out, by this call.
@@ -44,13 +48,13 @@ pub enum Refusal {
 
 /// The reply to one event.
 #[derive(Clone, PartialEq, Debug, Drop)]
-pub enum Reply<K, V> {
+pub enum Reply<K, V, E> {
     At,
     Call(u64),
     Going,
     Wait,
     Ask(Ask<K, V>),
-    Answer(Answer<V>),
+    Answer(Answer<V, E>),
     Told,
     Dropped,
     Refused(Refusal),

@@ -9,11 +9,14 @@ pub enum Claim {
     Waits { owner: u64 },
 }
 
-/// How an owner ended, for those that wait for it.
-#[derive(Drop)]
-pub enum Settled<V> {
+/// How an owner ended, for those that wait for it: with a value, with an error, with neither, or
+/// dropped.
+#[derive(Debug, Drop)]
+pub enum Settled<V, E> {
     NotYet,
     Ready(V),
+    Err(E),
+    Nothing,
     Aborted,
 }
 
@@ -22,11 +25,15 @@ pub enum Settled<V> {
 pub enum Takes {
     /// A value, and nothing else.
     Value,
+    /// A value, or that there is none.
+    Optional,
+    /// A value or an error.
+    Try,
 }
 
 /// A visit of the desk, with the number of the call that makes it.
 #[derive(Drop)]
-pub enum Visit<K, V> {
+pub enum Visit<K, V, E> {
     /// Reads the clock. Places of a write that the call has taken and doesn't need are given back.
     Clock {
         call: u64,
@@ -55,8 +62,10 @@ pub enum Visit<K, V> {
     StampMoment {
         call: u64,
     },
-    /// Judges whether a record may be seen, and if so raises its access moment.
+    /// Judges whether a record may be seen, and if so raises its access moment. A call doesn't see
+    /// a record on which its replace test holds.
     Judge {
+        replace: Option<u64>,
         key: K,
         stored: Stored<V>,
     },
@@ -79,7 +88,7 @@ pub enum Visit<K, V> {
     /// Ends the call's ownership.
     Settle {
         call: u64,
-        with: Settled<V>,
+        with: Settled<V, E>,
     },
     /// Opens the notice of the record that the call's write took out: the record of this stamp,
     /// last written at the moment `modified`. Its cause is the one handed in, or else that of a
@@ -123,7 +132,7 @@ pub enum Visit<K, V> {
 
 /// What the visit of the same name finds.
 #[derive(Drop)]
-pub enum Found<V> {
+pub enum Found<V, E> {
     Clock(u64),
     TakeOwed(Option<Owed>),
     NoticeEnded(bool),
@@ -133,11 +142,11 @@ pub enum Found<V> {
     Judge(bool),
     Holds(bool),
     WaitOrOwn(Claim),
-    ReadSettled(Settled<V>),
+    ReadSettled(Settled<V, E>),
     Settle,
     OpenNotice(Option<Cause>),
     OpenAsk,
-    TakeTold(Option<Told<V>>),
+    TakeTold(Option<Told<V, E>>),
     PostWrite(bool),
     TakeTurn(bool),
     ApplyOne(bool),

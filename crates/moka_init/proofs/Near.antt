@@ -13,8 +13,8 @@ use Rattle.moka_init.specs.FlowPlan.{call_of, next_in}
 use Rattle.moka_init.specs.Grounds.{access_at}
 use Rattle.moka_init.proofs.Begun.{left_going}
 
-module _ {K V : Type 0} (eq : K → K → Bool) where
-  pub near : (old new : Flow K V) (t : Turn K V) (w after : World K V) (given : Got K V) (before then : Work) →
+module _ {K V E : Type 0} (eq : K → K → Bool) where
+  pub near : (old new : Flow K V E) (t : Turn K V E) (w after : World K V E) (given : Got K V E) (before then : Work) →
       0 < before.size → Gets eq old.call w (access_at old) given after → next_in t new ≡ next_of old.call (call_of old) given → t ≡ turn.Going →
       Counts w before → Counts after then → Shortens before then (access_at old) given → ahead then (call_of new) < ahead before (call_of old)
   near old new t w after given before then has_log gets next going was is shortens =

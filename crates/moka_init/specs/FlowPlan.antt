@@ -18,8 +18,8 @@ use Rattle.moka_hist.specs.declared.tables.TableTurn.TheVariants as table
 use Rattle.moka_init.specs.PointPlan.{plan_at, is_copied}
 use Rattle.moka_init.specs.declared.flow.Flow.{Flow}
 
-module _ {K V : Type 0} where
-  abbrev pub call_of : Flow K V → Call K V
+module _ {K V E : Type 0} where
+  abbrev pub call_of : Flow K V E → Call K V E
   call_of flow =
       record {
         rules = flow.rules;
@@ -29,64 +29,64 @@ module _ {K V : Type 0} where
       }
 
   -- what the call of this number holds that has this to do: the write, and the notice that it hears
-  abbrev pub owed_in : ℕ → List (Item K V) → Option Owed
+  abbrev pub owed_in : ℕ → List (Item K V E) → Option Owed
   owed_in n items =
       option_map (λ write. record { write = write; notice = hearing n items }) (held_by items)
 
   -- the visit that opens the notice with which the plan of the call of this number starts, if it
   -- does
-  abbrev pub opening : ℕ → List (Item K V) → Option (Visit K V)
+  abbrev pub opening : ℕ → List (Item K V E) → Option (Visit K V E)
   opening n (plan.Notice key old cause upsert ∷ rest) =
       Some (visit.OpenNotice n key old.value old.stamp old.modified cause upsert)
   opening n _ = None
 
   -- the visit that opens the notice of the flow's call, where that is due
-  abbrev pub due_of : Flow K V → Option (Visit K V)
+  abbrev pub due_of : Flow K V E → Option (Visit K V E)
   due_of flow = opening flow.call (call_of flow).plan
 
-module _ {K V : Type 0} where
+module _ {K V E : Type 0} where
   -- the flow's call, with this plan
-  abbrev pub standing : Flow K V → List (Item K V) → Call K V
+  abbrev pub standing : Flow K V E → List (Item K V E) → Call K V E
   standing flow items =
       record { rules = flow.rules; mode = flow.mode; plan = items; aborts = flow.aborts }
 
   -- it goes on with this plan
-  abbrev pub mid : Flow K V → List (Item K V) → Next K V
+  abbrev pub mid : Flow K V E → List (Item K V E) → Next K V E
   mid flow items = going_as
       (record { rules = flow.rules; mode = mode.Mid; plan = items; aborts = flow.aborts })
 
   -- the call that a turn leaves in the flow
-  abbrev pub left_in : Turn K V → Flow K V → Option (Call K V)
+  abbrev pub left_in : Turn K V E → Flow K V E → Option (Call K V E)
   left_in turn.Going flow = Some (call_of flow)
   left_in turn.Wait flow = Some (call_of flow)
   left_in (turn.Ask ask) flow = Some (call_of flow)
   left_in (turn.Answer answer) flow = None
 
-  abbrev pub next_in : Turn K V → Flow K V → Next K V
+  abbrev pub next_in : Turn K V E → Flow K V E → Next K V E
   next_in t flow = record { left = left_in t flow; turn = t }
 
   -- a table operation was begun and hasn't decided
-  abbrev pub is_begun : Got K V → Bool
+  abbrev pub is_begun : Got K V E → Bool
   is_begun (got.Table table.Going) = true
   is_begun (got.Table (table.Decided answer)) = false
   is_begun (got.Desk found) = false
 
   -- nothing is left to do
-  abbrev pub is_over : List (Item K V) → Bool
+  abbrev pub is_over : List (Item K V E) → Bool
   is_over [] = true
   is_over (item ∷ rest) = false
 
   -- the call has not answered: something is left for it to do
-  abbrev pub IsLive : Flow K V → Type 0
+  abbrev pub IsLive : Flow K V E → Type 0
   IsLive flow = is_over (plan_at flow.point) ≡ false
 
   -- nothing is left of an answered call: nothing to do, and no write that it holds
-  pub record IsOver (flow : Flow K V) : Type 0 where
+  pub record IsOver (flow : Flow K V E) : Type 0 where
     pub plan : (call_of flow).plan ≡ []
     pub holds : held_by (call_of flow).plan ≡ None
 
   -- what a turn leaves of its call: nothing, once it has answered
-  abbrev pub Leaves : Turn K V → Flow K V → Type 0
+  abbrev pub Leaves : Turn K V E → Flow K V E → Type 0
   Leaves turn.Going flow = IsLive flow
   Leaves turn.Wait flow = IsLive flow
   Leaves (turn.Ask ask) flow = IsLive flow
@@ -94,19 +94,19 @@ module _ {K V : Type 0} where
 
   -- The flow stands for what it stood for: the same call under the same number, with the same
   -- operation begun.
-  pub record StandsStill (old new : Flow K V) : Type 0 where
+  pub record StandsStill (old new : Flow K V E) : Type 0 where
     pub call : call_of new ≡ call_of old
     pub number : new.call ≡ old.call
     pub begun : new.begun ≡ old.begun
 
   -- what the flow's next step needs twice was copied
-  abbrev pub IsReady : Flow K V → Type 0
+  abbrev pub IsReady : Flow K V E → Type 0
   IsReady flow = is_copied flow.point ≡ true
 
   -- the flow goes on so: its turn and the call that is left are these, of the same number, and
   -- where its operation is stays
-  pub record GoesOn (old : Flow K V) (on : Next K V) (turn : Turn K V)
-      (new : Flow K V) : Type 0 where
+  pub record GoesOn (old : Flow K V E) (on : Next K V E) (turn : Turn K V E)
+      (new : Flow K V E) : Type 0 where
     pub next : next_in turn new ≡ on
     pub leaves : Leaves turn new
     pub number : new.call ≡ old.call

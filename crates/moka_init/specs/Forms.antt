@@ -16,9 +16,9 @@ use Rattle.moka_hist.specs.declared.visits.Visit.TheVariants as visit
 use Rattle.moka_hist.specs.declared.rules.Cause.{Cause}
 use Rattle.moka_hist.specs.declared.writes.Owed.{Owed}
 
-module _ {K V : Type 0} where
+module _ {K V E : Type 0} where
   -- what such a visit finds: the variant of its name
-  abbrev pub IsFoundBy : Visit K V → Found V → Type 0
+  abbrev pub IsFoundBy : Visit K V E → Found V E → Type 0
   IsFoundBy (visit.Clock n) f = (moment : ℕ) × (f ≡ found.Clock moment)
   IsFoundBy (visit.TakeOwed n) f = (owed : Option Owed) × (f ≡ found.TakeOwed owed)
   IsFoundBy (visit.NoticeEnded n number) f = (ended : Bool) × (f ≡ found.NoticeEnded ended)
@@ -27,27 +27,27 @@ module _ {K V : Type 0} where
   IsFoundBy (visit.OpenNotice n key value stamp modified handed upsert) f =
       (cause : Option Cause) × (f ≡ found.OpenNotice cause)
   IsFoundBy (visit.StampMoment n) f = (moment : ℕ) × (f ≡ found.StampMoment moment)
-  IsFoundBy (visit.Judge key stored) f = (seen : Bool) × (f ≡ found.Judge seen)
+  IsFoundBy (visit.Judge replace key stored) f = (seen : Bool) × (f ≡ found.Judge seen)
   IsFoundBy (visit.Holds key stored cause) f = (holds : Bool) × (f ≡ found.Holds holds)
   IsFoundBy (visit.WaitOrOwn n key kind) f = (claim : Claim) × (f ≡ found.WaitOrOwn claim)
-  IsFoundBy (visit.ReadSettled n) f = (settled : Settled V) × (f ≡ found.ReadSettled settled)
+  IsFoundBy (visit.ReadSettled n) f = (settled : Settled V E) × (f ≡ found.ReadSettled settled)
   IsFoundBy (visit.Settle n with) f = f ≡ found.Settle
   IsFoundBy (visit.OpenAsk n takes) f = f ≡ found.OpenAsk
-  IsFoundBy (visit.TakeTold n) f = (answer : Option (Told V)) × (f ≡ found.TakeTold answer)
+  IsFoundBy (visit.TakeTold n) f = (answer : Option (Told V E)) × (f ≡ found.TakeTold answer)
   IsFoundBy (visit.PostWrite n write) f = (posted : Bool) × (f ≡ found.PostWrite posted)
   IsFoundBy (visit.TakeTurn n) f = (taken : Bool) × (f ≡ found.TakeTurn taken)
   IsFoundBy (visit.ApplyOne n) f = (applied : Bool) × (f ≡ found.ApplyOne applied)
   IsFoundBy (visit.EndTurn n) f = f ≡ found.EndTurn
 
   -- a table operation gives a turn of the table, a visit what such a visit finds
-  abbrev pub HasForm : Access K V → Got K V → Type 0
+  abbrev pub HasForm : Access K V E → Got K V E → Type 0
   HasForm (step.On_table operation) (got.Table turn) = Unit {0}
   HasForm (step.On_table operation) (got.Desk f) = ⊥
   HasForm (step.On_desk made) (got.Table turn) = ⊥
   HasForm (step.On_desk made) (got.Desk f) = IsFoundBy made f
 
   -- the same of an access as it is wanted
-  abbrev pub FitsWant : Want K V → Got K V → Type 0
+  abbrev pub FitsWant : Want K V E → Got K V E → Type 0
   FitsWant (want.Begin operation) (got.Table turn) = Unit {0}
   FitsWant (want.Begin operation) (got.Desk f) = ⊥
   FitsWant want.Table (got.Table turn) = Unit {0}

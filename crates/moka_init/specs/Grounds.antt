@@ -7,6 +7,8 @@ use Rattle.moka_hist.specs.Visits.{is_free_for, is_running}
 use Rattle.moka_hist.specs.Step.{Access, Gets, access_of, want_for, May}
 use Rattle.moka_hist.specs.Step as step
 use Rattle.moka_hist.specs.declared.tables.TableOp.{TableOp}
+use Rattle.moka_hist.specs.declared.visits.Settled.{Settled}
+use Rattle.moka_hist.specs.declared.visits.Settled.TheVariants as settled
 use Rattle.moka_hist.specs.declared.visits.Visit.{Visit}
 use Rattle.moka_hist.specs.declared.visits.Visit.TheVariants as visit
 use Rattle.moka_hist.specs.declared.tables.TableTurn.TheVariants as table
@@ -21,25 +23,33 @@ use Rattle.moka_init.specs.Forms.{HasForm}
 use Rattle.moka_init.specs.declared.flow.Flow.{Flow}
 
 -- what a ground has told that keeps no list of the accesses that were made
-abbrev pub nothing_told : (K V : Type 0) → Option (List (Access K V × Got K V))
-nothing_told K V = None
+abbrev pub nothing_told : (K V E : Type 0) → Option (List (Access K V E × Got K V E))
+nothing_told K V E = None
 
 -- What a ground tells of itself.
-pub record Account (K V : Type 0) : Type 0 where
+pub record Account (K V E : Type 0) : Type 0 where
   -- the number of the call whose ground it is
   pub call : ℕ
   -- the table operation that the call has begun there and that has not decided
   pub begun : Option (TableOp K V)
   -- the accesses that were made there with what they gave, where it can tell them
-  pub made : Option (List (Access K V × Got K V))
+  pub made : Option (List (Access K V E × Got K V E))
   -- What the length of the call's way depends on there: how many writes are owed and logged, and
   -- for how many steps its table operation may stay undecided.
   pub work : Work
 
-module _ {K V : Type 0} where
+-- memory may be wanting to tell those that wait how an owner ended: it is copied
+abbrev pub SettledNeedsMemory : {V E : Type 0} → Settled V E → Type 0
+SettledNeedsMemory settled.NotYet = ⊥
+SettledNeedsMemory (settled.Ready value) = Unit {0}
+SettledNeedsMemory (settled.Err error) = Unit {0}
+SettledNeedsMemory settled.Nothing = ⊥
+SettledNeedsMemory settled.Aborted = ⊥
+
+module _ {K V E : Type 0} where
   -- The access that is wanted, where this operation was begun: nothing else is, until it has
   -- decided.
-  abbrev pub wanted : Option (TableOp K V) → Want K V → Option (Access K V)
+  abbrev pub wanted : Option (TableOp K V) → Want K V E → Option (Access K V E)
   wanted None (want.Begin operation) = Some (step.On_table operation)
   wanted None (want.Desk made) = Some (step.On_desk made)
   wanted None want.Table = None
@@ -48,7 +58,7 @@ module _ {K V : Type 0} where
   wanted (Some begun) (want.Desk made) = None
 
   -- for such a visit a key or a value is copied
-  abbrev pub VisitTakesCopies : Visit K V → Type 0
+  abbrev pub VisitTakesCopies : Visit K V E → Type 0
   VisitTakesCopies (visit.Clock n) = ⊥
   VisitTakesCopies (visit.TakeOwed n) = ⊥
   VisitTakesCopies (visit.NoticeEnded n number) = ⊥
@@ -56,11 +66,11 @@ module _ {K V : Type 0} where
   VisitTakesCopies (visit.UnlockKey n wrote) = ⊥
   VisitTakesCopies (visit.OpenNotice n key value stamp modified cause upsert) = Unit {0}
   VisitTakesCopies (visit.StampMoment n) = ⊥
-  VisitTakesCopies (visit.Judge key stored) = Unit {0}
+  VisitTakesCopies (visit.Judge replace key stored) = Unit {0}
   VisitTakesCopies (visit.Holds key stored cause) = Unit {0}
   VisitTakesCopies (visit.WaitOrOwn n key kind) = Unit {0}
   VisitTakesCopies (visit.ReadSettled n) = ⊥
-  VisitTakesCopies (visit.Settle n with) = Unit {0}
+  VisitTakesCopies (visit.Settle n with) = SettledNeedsMemory with
   VisitTakesCopies (visit.OpenAsk n takes) = ⊥
   VisitTakesCopies (visit.TakeTold n) = ⊥
   VisitTakesCopies (visit.PostWrite n write) = ⊥
@@ -69,14 +79,14 @@ module _ {K V : Type 0} where
   VisitTakesCopies (visit.EndTurn n) = ⊥
 
   -- for such an access a key or a value is copied; one of the table may take them along
-  abbrev pub TakesCopies : Access K V → Type 0
+  abbrev pub TakesCopies : Access K V E → Type 0
   TakesCopies (step.On_table operation) = Unit {0}
   TakesCopies (step.On_desk made) = VisitTakesCopies made
 
   -- Memory may be wanting for such a visit of the desk: it copies a key or a value, or writes down
   -- what is new; where the turn is another's, or the notice runs, it lists the call. Taking up what
   -- is owed or told, freeing a lock, posting a write and applying the log need none.
-  abbrev pub VisitNeedsMemory : DeskPart K V → Visit K V → Type 0
+  abbrev pub VisitNeedsMemory : DeskPart K V E → Visit K V E → Type 0
   VisitNeedsMemory w (visit.Clock n) = ⊥
   VisitNeedsMemory w (visit.TakeOwed n) = ⊥
   VisitNeedsMemory w (visit.NoticeEnded n number) = is_running w number ≡ true
@@ -84,11 +94,11 @@ module _ {K V : Type 0} where
   VisitNeedsMemory w (visit.UnlockKey n wrote) = ⊥
   VisitNeedsMemory w (visit.OpenNotice n key value stamp modified cause upsert) = Unit {0}
   VisitNeedsMemory w (visit.StampMoment n) = Unit {0}
-  VisitNeedsMemory w (visit.Judge key stored) = Unit {0}
+  VisitNeedsMemory w (visit.Judge replace key stored) = Unit {0}
   VisitNeedsMemory w (visit.Holds key stored cause) = Unit {0}
   VisitNeedsMemory w (visit.WaitOrOwn n key kind) = Unit {0}
   VisitNeedsMemory w (visit.ReadSettled n) = Unit {0}
-  VisitNeedsMemory w (visit.Settle n with) = Unit {0}
+  VisitNeedsMemory w (visit.Settle n with) = SettledNeedsMemory with
   VisitNeedsMemory w (visit.OpenAsk n takes) = Unit {0}
   VisitNeedsMemory w (visit.TakeTold n) = ⊥
   VisitNeedsMemory w (visit.PostWrite n write) = ⊥
@@ -98,67 +108,67 @@ module _ {K V : Type 0} where
 
   -- memory may be wanting for such an access in this world: it goes to the table, or is such a
   -- visit
-  abbrev pub NeedsMemory : World K V → Access K V → Type 0
+  abbrev pub NeedsMemory : World K V E → Access K V E → Type 0
   NeedsMemory w (step.On_table operation) = Unit {0}
   NeedsMemory w (step.On_desk made) = VisitNeedsMemory w.desk made
 
   -- whatever the access
-  abbrev pub any_access : World K V → Access K V → Type 0
+  abbrev pub any_access : World K V E → Access K V E → Type 0
   any_access w access = Unit {0}
 
   -- the operation that is begun after an access gave this
-  abbrev pub still_begun : Access K V → Got K V → Option (TableOp K V)
+  abbrev pub still_begun : Access K V E → Got K V E → Option (TableOp K V)
   still_begun (step.On_table operation) (got.Table table.Going) = Some operation
   still_begun (step.On_table operation) (got.Table (table.Decided answer)) = None
   still_begun (step.On_table operation) (got.Desk found) = None
   still_begun (step.On_desk made) given = None
 
   -- the world has what the wanted access needs
-  abbrev pub MayWant : World K V → Option (TableOp K V) → Want K V → Type 0
+  abbrev pub MayWant : World K V E → Option (TableOp K V) → Want K V E → Type 0
   MayWant w begun wish = MatchOption (wanted begun wish) ⊥ (λ access. May w access)
 
   -- the access of the flow's call, had it this to do, and that access as it is wanted
-  abbrev pub access_from : Flow K V → List (Item K V) → Access K V
+  abbrev pub access_from : Flow K V E → List (Item K V E) → Access K V E
   access_from flow items = access_of flow.call (standing flow items)
 
-  abbrev pub wish_for : Flow K V → List (Item K V) → Want K V
+  abbrev pub wish_for : Flow K V E → List (Item K V E) → Want K V E
   wish_for flow items = want_for flow.begun (access_from flow items)
 
   -- the access that the flow stands at
-  abbrev pub access_at : Flow K V → Access K V
+  abbrev pub access_at : Flow K V E → Access K V E
   access_at flow = access_of flow.call (call_of flow)
 
   -- the access that the flow wants, as it wants it
-  abbrev pub wish_of : Flow K V → Want K V
+  abbrev pub wish_of : Flow K V E → Want K V E
   wish_of flow = want_for flow.begun (access_at flow)
 
   -- where the flow has begun its operation, it is the one that is begun there, and else none is
-  abbrev pub HasBegun : Option (TableOp K V) → Flow K V → Type 0
+  abbrev pub HasBegun : Option (TableOp K V) → Flow K V E → Type 0
   HasBegun begun flow = wanted begun (wish_of flow) ≡ Some (access_at flow)
 
   -- a ground that tells this is that of the flow
-  pub record IsOn (account : Account K V) (flow : Flow K V) : Type 0 where
+  pub record IsOn (account : Account K V E) (flow : Flow K V E) : Type 0 where
     pub call : account.call ≡ flow.call
     pub begun : HasBegun account.begun flow
 
   -- The access gave this, in each world that the ground stood for and that allows it, and the
   -- ground stands for the world then.
-  abbrev pub Gives : (K → K → Bool) → ℕ → (World K V → Type 0) → Access K V → Got K V
-      → (World K V → Type 0) → Type 0
+  abbrev pub Gives : (K → K → Bool) → ℕ → (World K V E → Type 0) → Access K V E → Got K V E
+      → (World K V E → Type 0) → Type 0
   Gives eq call stood access given stands =
-      (w : World K V) → stood w → May w access
-      → (new : World K V) × Gets eq call w access given new × stands new
+      (w : World K V E) → stood w → May w access
+      → (new : World K V E) × Gets eq call w access given new × stands new
 
   -- the access is told with what it gave, after what was told before, and nothing else is
-  abbrev pub Tells : Option (List (Access K V × Got K V)) → Access K V → Got K V
-      → Option (List (Access K V × Got K V)) → Type 0
+  abbrev pub Tells : Option (List (Access K V E × Got K V E)) → Access K V E → Got K V E
+      → Option (List (Access K V E × Got K V E)) → Type 0
   Tells old access given new =
-      (before : List (Access K V × Got K V)) → old ≡ Some before
+      (before : List (Access K V E × Got K V E)) → old ≡ Some before
       → new ≡ Some (before ++ (access, given) ∷ [])
 
   -- What a ground tells after the access gave this.
-  pub record Accesses (old : Account K V) (access : Access K V) (given : Got K V)
-      (new : Account K V) : Type 0 where
+  pub record Accesses (old : Account K V E) (access : Access K V E) (given : Got K V E)
+      (new : Account K V E) : Type 0 where
     -- the answer is of the form that belongs to the access
     pub form : HasForm access given
     -- it is the ground of the same call
@@ -172,9 +182,9 @@ module _ {K V : Type 0} where
 
   -- memory was wanting for the access: in each world that the ground stood for and that allows it,
   -- it may be
-  abbrev pub Lacks : (World K V → Type 0) → (World K V → Access K V → Type 0) → Access K V → Type 0
-  Lacks stood needs access = (w : World K V) → stood w → May w access → needs w access
+  abbrev pub Lacks : (World K V E → Type 0) → (World K V E → Access K V E → Type 0) → Access K V E → Type 0
+  Lacks stood needs access = (w : World K V E) → stood w → May w access → needs w access
 
   -- it holds of the access that is wanted
-  abbrev pub OfWanted : Account K V → Want K V → (Access K V → Type 0) → Type 0
-  OfWanted old wish P = (access : Access K V) → wanted old.begun wish ≡ Some access → P access
+  abbrev pub OfWanted : Account K V E → Want K V E → (Access K V E → Type 0) → Type 0
+  OfWanted old wish P = (access : Access K V E) → wanted old.begun wish ≡ Some access → P access

@@ -1,14 +1,20 @@
 -- What a call has still to do, by where it stands.
-use Rattle.std.specs.Prelude.{Bool, true, false, cond, List, [], ◌∷◌, Some, None}
-use Rattle.moka_hist.specs.Plan.{Item, Aim}
+use Rattle.std.specs.Prelude.{Bool, true, false, List, [], ◌∷◌, Some, None}
+use Rattle.moka_hist.specs.Plan.{Item, Aim, end_load}
 use Rattle.moka_hist.specs.Plan as plan
 use Rattle.moka_hist.specs.Writing.{nothing_answer}
 use Rattle.moka_hist.specs.declared.replies.Answer.TheVariants as answer
+use Rattle.moka_hist.specs.declared.replies.Answer.{Answer}
+use Rattle.moka_hist.specs.declared.visits.Settled.{Settled}
 use Rattle.moka_hist.specs.declared.visits.Settled.TheVariants as settled
 use Rattle.moka_init.specs.declared.points.Look as looks
 use Rattle.moka_init.specs.declared.points.Look.TheVariants as look
 use Rattle.moka_init.specs.declared.points.Chosen.{Chosen}
 use Rattle.moka_init.specs.declared.points.Put.{Put}
+use Rattle.moka_init.specs.declared.points.Then.{Then}
+use Rattle.moka_init.specs.declared.points.Then.TheVariants as thens
+use Rattle.moka_init.specs.declared.points.Ending.{Ending}
+use Rattle.moka_init.specs.declared.points.Ending.TheVariants as ending
 use Rattle.moka_init.specs.declared.points.Removal.{Removal}
 use Rattle.moka_init.specs.declared.points.Removal.TheVariants as removal
 use Rattle.moka_init.specs.declared.points.TakeOut.{TakeOut}
@@ -33,80 +39,107 @@ use Rattle.moka_init.specs.declared.points.Listening.TheVariants as listening
 use Rattle.moka_init.specs.declared.points.Point.{Point}
 use Rattle.moka_init.specs.declared.points.Point.TheVariants as point
 
-module _ {K : Type 0} where
-  abbrev pub aim_of : looks.Look K → Aim K
+module _ {K V : Type 0} where
+  abbrev pub aim_of : looks.Look K V → Aim K V
   aim_of (look.Answer key) = plan.To_answer
-  aim_of (look.Load load) = plan.To_load load
-  aim_of (look.Own load) = plan.To_own load
+  aim_of (look.Load sought) = plan.To_load sought
+  aim_of (look.Own sought) = plan.To_own sought
+  aim_of (look.Insert key value) = plan.To_insert key value
 
   -- the key that is looked up
-  abbrev pub key_sought : looks.Look K → K
+  abbrev pub key_sought : looks.Look K V → K
   key_sought (look.Answer key) = key
-  key_sought (look.Load load) = load.key
-  key_sought (look.Own load) = load.key
+  key_sought (look.Load sought) = sought.load.key
+  key_sought (look.Own sought) = sought.load.key
+  key_sought (look.Insert key value) = key
 
-  abbrev pub aim_at : Chosen K → Aim K
+  abbrev pub aim_at : Chosen K → Aim K V
   aim_at c = plan.To_evict c.key c.stamp c.cause
+
+  -- the key whose lock is taken
+  abbrev pub key_locked : Locked K V → K
+  key_locked (locked.Put p) = p.key
+  key_locked (locked.TakeOut t) = t.key
+  key_locked (locked.Find c) = c.key
+
+  -- what follows once the write of the value is posted
+  abbrev pub posted_after : Then → V → Posted K V
+  posted_after thens.Done value = posted.Done
+  posted_after thens.Settle value = posted.Settle value
+  posted_after thens.Loaded value = posted.Loaded value
 
 abbrev pub removal_of : Removal → plan.Removal
 removal_of removal.Invalidate = plan.To_invalidate
 removal_of removal.Remove = plan.To_remove
 removal_of (removal.Evict stamp cause) = plan.To_evict_chosen stamp cause
 
-module _ {K V : Type 0} where
-  -- a told value is settled, and then answered
-  abbrev pub settles : V → Bool → List (Item K V)
-  settles value fresh =
-      plan.Settle (settled.Ready value) ∷ plan.Reply (answer.Loaded value fresh) ∷ []
+module _ {V E : Type 0} where
+  -- what an owner that ends so tells those that wait, and what it answers
+  abbrev pub settled_of : Ending V E → Settled V E
+  settled_of (ending.Ready value fresh) = settled.Ready value
+  settled_of (ending.Err error) = settled.Err error
+  settled_of ending.Nothing = settled.Nothing
+
+  abbrev pub answer_of : Ending V E → Answer V E
+  answer_of (ending.Ready value fresh) = answer.Loaded value fresh
+  answer_of (ending.Err error) = answer.InitErr error
+  answer_of ending.Nothing = answer.Nothing
+
+module _ {K V E : Type 0} where
+  -- how the owner ends is told to those that wait, and then answered
+  abbrev pub settles : Ending V E → List (Item K V E)
+  settles e = end_load (settled_of e) (answer_of e)
 
   -- what follows once the value is stored and the write posted
-  abbrev pub put_rest : Put K V → List (Item K V)
-  put_rest p = cond p.loads (settles p.value true) (plan.Reply answer.Done ∷ [])
+  abbrev pub put_rest : Put K V → List (Item K V E)
+  put_rest p = by p.then
+    where
+      by : Then → List (Item K V E)
+      by thens.Done = plan.Reply answer.Done ∷ []
+      by thens.Settle = settles (ending.Ready p.value true)
+      by thens.Loaded = plan.Reply (answer.Loaded p.value true) ∷ []
 
   -- a write at its moment
-  abbrev pub stores : Put K V → List (Item K V)
+  abbrev pub stores : Put K V → List (Item K V E)
   stores p = plan.Moment (plan.To_store p.key p.value) ∷ put_rest p
 
   -- a removal at its moment
-  abbrev pub takes_out : TakeOut K → List (Item K V)
+  abbrev pub takes_out : TakeOut K → List (Item K V E)
   takes_out t = plan.Moment (plan.To_take_out (removal_of t.removal) t.key) ∷ []
 
   -- nothing was found, which is answered
-  abbrev pub answers_nothing : Removal → List (Item K V)
+  abbrev pub answers_nothing : Removal → List (Item K V E)
   answers_nothing r = plan.Reply (nothing_answer (removal_of r)) ∷ []
 
   -- the chosen record is looked up
-  abbrev pub finds : Chosen K → List (Item K V)
+  abbrev pub finds : Chosen K → List (Item K V E)
   finds c = plan.Get (aim_at c) c.key ∷ []
 
-  -- the key whose lock is taken, and what is done under it
-  abbrev pub key_locked : Locked K V → K
-  key_locked (locked.Put p) = p.key
-  key_locked (locked.TakeOut t) = t.key
-  key_locked (locked.Find c) = c.key
-
-  abbrev pub locked_rest : Locked K V → List (Item K V)
+  -- what is done under a key's lock
+  abbrev pub locked_rest : Locked K V → List (Item K V E)
   locked_rest (locked.Put p) = stores p
   locked_rest (locked.TakeOut t) = takes_out t
   locked_rest (locked.Find c) = finds c
 
-  abbrev pub drained_rest : Drained K V → List (Item K V)
+  abbrev pub drained_rest : Drained K V → List (Item K V E)
   drained_rest (drained.Look l) = plan.Get (aim_of l) (key_sought l) ∷ []
-  drained_rest (drained.Own load) = plan.Own load ∷ []
+  drained_rest (drained.Own sought) = plan.Own sought ∷ []
   drained_rest (drained.Put p) = stores p
   drained_rest (drained.TakeOut t) = takes_out t
   drained_rest (drained.Lock l) = plan.Lock (key_locked l) ∷ locked_rest l
+  drained_rest (drained.Loaded value) = plan.Reply (answer.Loaded value true) ∷ []
 
-  abbrev pub posted_rest : Posted K V → List (Item K V)
+  abbrev pub posted_rest : Posted K V → List (Item K V E)
   posted_rest (posted.Drain then) = plan.Drain ∷ drained_rest then
   posted_rest posted.Done = plan.Reply answer.Done ∷ []
-  posted_rest (posted.Settle value) = settles value true
+  posted_rest (posted.Settle value) = settles (ending.Ready value true)
+  posted_rest (posted.Loaded value) = plan.Reply (answer.Loaded value true) ∷ []
   posted_rest (posted.Found value) = plan.Reply (answer.Found (Some value)) ∷ []
   posted_rest posted.Evicted = plan.Reply answer.Evicted ∷ []
 
   -- ---- what a call that stands there has still to do, by what it is about
 
-  abbrev pub posting_plan : Posting K V → List (Item K V)
+  abbrev pub posting_plan : Posting K V → List (Item K V E)
   posting_plan (posting.Drain then) = plan.Drain ∷ drained_rest then
   posting_plan (posting.Post write then) = plan.Post write ∷ posted_rest then
   posting_plan (posting.Turn write then) =
@@ -115,22 +148,22 @@ module _ {K V : Type 0} where
       plan.Apply ∷ plan.End ∷ plan.Post write ∷ posted_rest then
   posting_plan (posting.End write then) = plan.End ∷ plan.Post write ∷ posted_rest then
 
-  abbrev pub looking_plan : Looking K V → List (Item K V)
+  abbrev pub looking_plan : Looking K V → List (Item K V E)
   looking_plan (looking.Get l) = plan.Get (aim_of l) (key_sought l) ∷ []
   looking_plan (looking.Judge l key stored) = plan.Judge (aim_of l) key stored ∷ []
 
-  abbrev pub loading_plan : Loading K V → List (Item K V)
-  loading_plan (loading.Own load) = plan.Own load ∷ []
-  loading_plan (loading.Read load) = plan.Read load ∷ []
-  loading_plan (loading.Settle value fresh) = settles value fresh
+  abbrev pub loading_plan : Loading K V E → List (Item K V E)
+  loading_plan (loading.Own sought) = plan.Own sought ∷ []
+  loading_plan (loading.Read sought) = plan.Read sought ∷ []
+  loading_plan (loading.Settle e) = settles e
   loading_plan (loading.Ask load) = plan.Ask load ∷ []
   loading_plan (loading.Told load) = plan.Told load ∷ []
 
-  abbrev pub writing_plan : Writing K V → List (Item K V)
+  abbrev pub writing_plan : Writing K V → List (Item K V E)
   writing_plan (writing.Moment p) = stores p
   writing_plan (writing.Write p moment) = plan.Write p.key p.value moment ∷ put_rest p
 
-  abbrev pub removing_plan : Removing K V → List (Item K V)
+  abbrev pub removing_plan : Removing K V → List (Item K V E)
   removing_plan (removing.Find c) = finds c
   removing_plan (removing.Holds c key stored) =
       plan.Holds c.key c.stamp c.cause key stored ∷ []
@@ -138,7 +171,7 @@ module _ {K V : Type 0} where
   removing_plan (removing.Out t) = plan.Out (removal_of t.removal) t.key ∷ []
   removing_plan (removing.Idle r) = plan.Idle ∷ answers_nothing r
 
-  abbrev pub listening_plan : Listening K V → List (Item K V)
+  abbrev pub listening_plan : Listening K V → List (Item K V E)
   listening_plan (listening.Ended number write then) =
       plan.Ended number ∷ plan.Post write ∷ plan.Drain ∷ drained_rest then
   listening_plan (listening.Lock l) = plan.Lock (key_locked l) ∷ locked_rest l
@@ -154,7 +187,7 @@ module _ {K V : Type 0} where
   listening_plan (listening.Release r) = plan.Unlock false ∷ answers_nothing r
 
   -- what a call that stands there has still to do
-  abbrev pub plan_at : Point K V → List (Item K V)
+  abbrev pub plan_at : Point K V E → List (Item K V E)
   plan_at (point.Posting p) = posting_plan p
   plan_at (point.Looking p) = looking_plan p
   plan_at (point.Loading p) = loading_plan p
@@ -164,8 +197,9 @@ module _ {K V : Type 0} where
   plan_at (point.Answering answer) = plan.Reply answer ∷ []
   plan_at point.Spent = []
 
-  -- ---- whether the value that is needed twice was copied
+-- ---- whether the value that is needed twice was copied
 
+module _ {K V : Type 0} where
   abbrev pub is_copied_in : Listening K V → Bool
   is_copied_in (listening.Ended number write then) = true
   is_copied_in (listening.Lock l) = true
@@ -175,7 +209,8 @@ module _ {K V : Type 0} where
   is_copied_in (listening.Unlock write then) = true
   is_copied_in (listening.Release r) = true
 
-  abbrev pub is_copied : Point K V → Bool
+module _ {K V E : Type 0} where
+  abbrev pub is_copied : Point K V E → Bool
   is_copied (point.Posting p) = true
   is_copied (point.Looking p) = true
   is_copied (point.Loading p) = true

@@ -1,5 +1,5 @@
 -- What the steps of a flow do to the worlds that its ground stands for.
-use Rattle.std.specs.Prelude.{◌≡◌, ◌⊎◌, ◌<◌, ℕ, Bool, List, Option, Some}
+use Rattle.std.specs.Prelude.{◌≡◌, ◌⊎◌, ◌<◌, ℕ, Bool, List, Some}
 use Rattle.moka_hist.specs.Bound.{as_told}
 use Rattle.moka_hist.specs.Next.{Next}
 use Rattle.moka_hist.specs.State.{World}
@@ -11,56 +11,56 @@ use Rattle.moka_init.specs.Telling.{Made, TellsSteps}
 use Rattle.moka_init.specs.declared.flow.Flow.{Flow}
 
 -- the worlds that a ground stands for
-abbrev pub Worlds : (K V : Type 0) → Type 1
-Worlds K V = World K V → Type 0
+abbrev pub Worlds : (K V E : Type 0) → Type 1
+Worlds K V E = World K V E → Type 0
 
-module _ {K V : Type 0} where
+module _ {K V E : Type 0} where
   -- the call moves by one step in each of these worlds that has what the step needs
-  abbrev pub MovesThere : (K → K → Bool) → Worlds K V → Flow K V → Next K V → Worlds K V → Type 0
+  abbrev pub MovesThere : (K → K → Bool) → Worlds K V E → Flow K V E → Next K V E → Worlds K V E → Type 0
   MovesThere eq stood flow next stands =
-      (w : World K V) → stood w → May w (access_at flow)
-      → (new : World K V) × Moves eq flow.call (call_of flow) w next new × stands new
+      (w : World K V E) → stood w → May w (access_at flow)
+      → (new : World K V E) × Moves eq flow.call (call_of flow) w next new × stands new
 
   -- it moves up to the first turn that isn't Going, in each of these worlds that has what its steps
   -- need
-  abbrev pub PolledThere : (K → K → Bool) → Worlds K V → Flow K V → Next K V → Worlds K V → Type 0
+  abbrev pub PolledThere : (K → K → Bool) → Worlds K V E → Flow K V E → Next K V E → Worlds K V E → Type 0
   PolledThere eq stood flow next stands =
-      (w : World K V) → stood w → IsSafe eq flow.call (call_of flow) w
-      → (new : World K V) × Polled eq flow.call (call_of flow) w next new × stands new
+      (w : World K V E) → stood w → IsSafe eq flow.call (call_of flow) w
+      → (new : World K V E) × Polled eq flow.call (call_of flow) w next new × stands new
 
   -- it moves by so many steps, each of which leaves it going
-  abbrev pub GoesThere : (K → K → Bool) → ℕ → Worlds K V → Flow K V → Flow K V → Worlds K V → Type 0
+  abbrev pub GoesThere : (K → K → Bool) → ℕ → Worlds K V E → Flow K V E → Flow K V E → Worlds K V E → Type 0
   GoesThere eq steps stood flow on stands =
-      (w : World K V) → stood w → IsSafe eq flow.call (call_of flow) w
-      → (new : World K V) × MovesOn eq steps flow.call (call_of flow) w (call_of on) new
+      (w : World K V E) → stood w → IsSafe eq flow.call (call_of flow) w
+      → (new : World K V E) × MovesOn eq steps flow.call (call_of flow) w (call_of on) new
       × stands new
 
   -- memory may be wanting for the flow's next access in the world: for its copies, or on the ground
-  abbrev pub MayLack : (World K V → Access K V → Type 0) → World K V → Flow K V → Type 0
+  abbrev pub MayLack : (World K V E → Access K V E → Type 0) → World K V E → Flow K V E → Type 0
   MayLack needs w flow = TakesCopies (access_at flow) ⊎ needs w (access_at flow)
 
   -- it moves by so many steps, each of which leaves it going, up to one for which memory may be
   -- wanting
-  abbrev pub StopsThere : (K → K → Bool) → ℕ → Worlds K V → Flow K V → Flow K V → Worlds K V
-      → (World K V → Access K V → Type 0) → Type 0
+  abbrev pub StopsThere : (K → K → Bool) → ℕ → Worlds K V E → Flow K V E → Flow K V E → Worlds K V E
+      → (World K V E → Access K V E → Type 0) → Type 0
   StopsThere eq steps stood flow on stands needs =
-      (w : World K V) → stood w → IsSafe eq flow.call (call_of flow) w
-      → (new : World K V) × MovesOn eq steps flow.call (call_of flow) w (call_of on) new
+      (w : World K V E) → stood w → IsSafe eq flow.call (call_of flow) w
+      → (new : World K V E) × MovesOn eq steps flow.call (call_of flow) w (call_of on) new
       × stands new × MayLack needs new on
 
   -- so many steps were made, as it is told, each of which left the call going, and just these are
   -- told; and memory may be wanting for the next one
-  abbrev pub Unended : (K → K → Bool) → ℕ → Worlds K V → Account K V → Flow K V → Flow K V
-      → Worlds K V → Account K V
-      → (World K V → Access K V → Type 0) → Type 0
+  abbrev pub Unended : (K → K → Bool) → ℕ → Worlds K V E → Account K V E → Flow K V E → Flow K V E
+      → Worlds K V E → Account K V E
+      → (World K V E → Access K V E → Type 0) → Type 0
   Unended eq told stood old flow on stands new needs =
       (steps : ℕ) × (told ≡ as_told steps) × StopsThere eq steps stood flow on stands needs
-      × ((before : List (Made K V)) → old.made ≡ Some before
+      × ((before : List (Made K V E)) → old.made ≡ Some before
       → TellsSteps steps flow.call (call_of flow) (call_of on) before new.made)
 
   -- the call may still make fewer steps, in each of these worlds that has what the step needed and
   -- whose log has room for a write at all
-  abbrev pub Nears : Worlds K V → Account K V → Flow K V → Account K V → Flow K V → Type 0
+  abbrev pub Nears : Worlds K V E → Account K V E → Flow K V E → Account K V E → Flow K V E → Type 0
   Nears stood old flow new on =
-      (w : World K V) → stood w → May w (access_at flow) → 0 < w.desk.size
+      (w : World K V E) → stood w → May w (access_at flow) → 0 < w.desk.size
       → ahead new.work (call_of on) < ahead old.work (call_of flow)

@@ -6,23 +6,23 @@ use Rattle.moka_hist.specs.Step.{Access, Leads, access_of, next_of}
 use Rattle.moka_hist.specs.declared.accesses.Got.{Got}
 
 -- an access with what it gave
-abbrev pub Made : (K V : Type 0) → Type 0
-Made K V = Access K V × Got K V
+abbrev pub Made : (K V E : Type 0) → Type 0
+Made K V E = Access K V E × Got K V E
 
-module _ {K V : Type 0} where
+module _ {K V E : Type 0} where
   -- beside what was told before, the one access of a step, from whose answer the turn and the call
   -- that is left follow
-  abbrev pub TellsStep : ℕ → Call K V → Next K V → List (Made K V) → Option (List (Made K V))
+  abbrev pub TellsStep : ℕ → Call K V E → Next K V E → List (Made K V E) → Option (List (Made K V E))
       → Type 0
   TellsStep n c next before after =
-      (given : Got K V) × (next ≡ next_of n c given)
+      (given : Got K V E) × (next ≡ next_of n c given)
       × (after ≡ Some (before ++ (access_of n c, given) ∷ []))
 
   -- beside what was told before, the accesses of k steps by which the call goes on from c to d
-  pub record TellsSteps (k n : ℕ) (c d : Call K V) (before : List (Made K V))
-      (after : Option (List (Made K V))) : Type 0 where
+  pub record TellsSteps (k n : ℕ) (c d : Call K V E) (before : List (Made K V E))
+      (after : Option (List (Made K V E))) : Type 0 where
     -- the accesses of the steps, in order
-    pub path : List (Made K V)
+    pub path : List (Made K V E)
     -- one for each step
     pub steps : length path ≡ k
     -- each is the access that the call stood at, and it left the call going
@@ -32,16 +32,16 @@ module _ {K V : Type 0} where
 
   -- beside what was told before, the accesses of the steps that left the call going, and that of
   -- the last step
-  pub record TellsPoll (n : ℕ) (c : Call K V) (next : Next K V) (before : List (Made K V))
-      (after : Option (List (Made K V))) : Type 0 where
+  pub record TellsPoll (n : ℕ) (c : Call K V E) (next : Next K V E) (before : List (Made K V E))
+      (after : Option (List (Made K V E))) : Type 0 where
     -- the accesses of the steps that left the call going, in order
-    pub path : List (Made K V)
+    pub path : List (Made K V E)
     -- the call at its last step
-    pub call : Call K V
+    pub call : Call K V E
     -- each access is the one that the call stood at, and it left the call going
     pub leads : Leads n c path call
     -- what the last access gave
-    pub given : Got K V
+    pub given : Got K V E
     -- the turn and the call that is left follow from it
     pub turns : next ≡ next_of n call given
     -- all are told after what was told before, and nothing else is

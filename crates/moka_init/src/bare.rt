@@ -15,7 +15,7 @@ use std::test::Fail;
 
 // An empty cache, for the looks of one call alone. Any other access is refused.
 #[derive(Drop)]
-struct Bare<K, V> {
+struct Bare<K, V, E> {
     call: u64,
     // How many steps of a look stay undecided.
     undecided: u8,
@@ -23,11 +23,11 @@ struct Bare<K, V> {
     memory: u64,
     begun: Option<TableOp<K, V>>,
     // The accesses so far, each as it was first wanted, with what it gave.
-    notes: Vec<(Want<K, V>, Got<K, V>)>,
+    notes: Vec<(Want<K, V, E>, Got<K, V, E>)>,
     ghost few: { undecided ≤ 255 },
 }
 
-impl<K: Eq + Clone + Drop, V: Clone + Drop> Bare<K, V> {
+impl<K: Eq + Clone + Drop, V: Clone + Drop, E: Clone + Drop> Bare<K, V, E> {
     ghost use Rattle.moka_hist.specs.Step.{Access, On_table, On_desk};
     ghost use Rattle.moka_hist.specs.declared.accesses.Want.{Want};
     ghost use Rattle.moka_hist.specs.declared.tables.TableOp.{TableOp};
@@ -36,7 +36,7 @@ impl<K: Eq + Clone + Drop, V: Clone + Drop> Bare<K, V> {
 
     // A step of the look for the key, which is noted. Without memory nothing has changed.
     #[tactic(auto, using(crate::proofs::EmptyCache::looked_bare))]
-    fn look(&mut self, key: K, again: K) -> Result<Got<K, V>, AllocError>
+    fn look(&mut self, key: K, again: K) -> Result<Got<K, V, E>, AllocError>
         requires same { again ≡ key }
         ensures serves { IfOk result (λ given. BareServes K.eq self.old.notes.items
             self.old.undecided (On_table (TableOp.Get key)) (Want.Begin (TableOp.Get key)) given
@@ -59,7 +59,7 @@ impl<K: Eq + Clone + Drop, V: Clone + Drop> Bare<K, V> {
     }
 
     // Begins a look.
-    fn begin(&mut self, key: K) -> Result<Got<K, V>, AllocError>
+    fn begin(&mut self, key: K) -> Result<Got<K, V, E>, AllocError>
         requires { IsExact K.is_clone }
         ensures serves { IfOk result (λ given. BareServes K.eq self.old.notes.items
             self.old.undecided (On_table (TableOp.Get key)) (Want.Begin (TableOp.Get key)) given
@@ -73,7 +73,7 @@ impl<K: Eq + Clone + Drop, V: Clone + Drop> Bare<K, V> {
     }
 
     // A further step of the look that was begun.
-    fn resume(&mut self) -> Result<Got<K, V>, AllocError>
+    fn resume(&mut self) -> Result<Got<K, V, E>, AllocError>
         requires { IsExact K.is_clone }
         ensures serves { IfOk result (λ given. (o : TableOp K V) → self.old.begun ≡ Some o
             → BareServes K.eq self.old.notes.items self.old.undecided (On_table o)
@@ -93,7 +93,7 @@ impl<K: Eq + Clone + Drop, V: Clone + Drop> Bare<K, V> {
 
     // Nothing is owed, which is noted.
     #[tactic(auto, using(crate::proofs::EmptyCache::owes_bare))]
-    fn take_owed(&mut self, call: u64) -> Result<Got<K, V>, AllocError>
+    fn take_owed(&mut self, call: u64) -> Result<Got<K, V, E>, AllocError>
         ensures serves { IfOk result (λ given. BareServes K.eq self.old.notes.items
             self.old.undecided (On_desk (Visit.TakeOwed call)) (Want.Desk (Visit.TakeOwed call))
             given self.new.begun self.new.notes.items self.new.undecided) }
@@ -108,10 +108,10 @@ impl<K: Eq + Clone + Drop, V: Clone + Drop> Bare<K, V> {
     }
 
     // Serves what is wanted: a look, or what is owed.
-    fn give(&mut self, want: Want<K, V>) -> Result<Got<K, V>, AllocError>
+    fn give(&mut self, want: Want<K, V, E>) -> Result<Got<K, V, E>, AllocError>
         requires { IsExact K.is_clone }
-        ensures serves { IfOk result (λ given. (access : Access K V)
-            → wanted self.old.begun want ≡ Some access → (wish : Want K V)
+        ensures serves { IfOk result (λ given. (access : Access K V E)
+            → wanted self.old.begun want ≡ Some access → (wish : Want K V E)
             × BareServes K.eq self.old.notes.items self.old.undecided access wish given
             self.new.begun self.new.notes.items self.new.undecided) }
         ensures call { self.new.call ≡ self.old.call }
@@ -127,12 +127,12 @@ impl<K: Eq + Clone + Drop, V: Clone + Drop> Bare<K, V> {
     }
 
     // The same, where memory is left for it.
-    fn serve(&mut self, want: Want<K, V>) -> Result<Got<K, V>, AllocError>
+    fn serve(&mut self, want: Want<K, V, E>) -> Result<Got<K, V, E>, AllocError>
         requires { IsExact K.is_clone }
-        ensures gives { IfOk result (λ given. (access : Access K V)
+        ensures gives { IfOk result (λ given. (access : Access K V E)
             → wanted self.old.begun want ≡ Some access
             → BareGives K.eq self.old.undecided access given self.new.undecided) }
-        ensures tells { IfOk result (λ given. (access : Access K V)
+        ensures tells { IfOk result (λ given. (access : Access K V E)
             → wanted self.old.begun want ≡ Some access → Accesses
             (bare_account self.old.call self.old.begun self.old.notes.items self.old.undecided)
             access given
@@ -150,7 +150,7 @@ impl<K: Eq + Clone + Drop, V: Clone + Drop> Bare<K, V> {
     }
 }
 
-impl<K: Eq + Clone + Drop, V: Clone + Drop> Ground<K, V> for Bare<K, V> {
+impl<K: Eq + Clone + Drop, V: Clone + Drop, E: Clone + Drop> Ground<K, V, E> for Bare<K, V, E> {
     ghost use Rattle.moka_hist.specs.State.{World};
     ghost use Rattle.moka_init.specs.EmptyCache.{BareAllows, IsBare, bare_account, bare_counts};
     ghost use Rattle.moka_init.specs.Grounds.{Accesses, Gives, Lacks, OfWanted, any_access};
@@ -173,9 +173,10 @@ impl<K: Eq + Clone + Drop, V: Clone + Drop> Ground<K, V> for Bare<K, V> {
 
     ghost counts = { λ g w stands. bare_counts g.undecided w stands };
 
-    fn access(&mut self, want: Want<K, V>) -> Result<Got<K, V>, AllocError>
+    fn access(&mut self, want: Want<K, V, E>) -> Result<Got<K, V, E>, AllocError>
         requires keys { IsExact K.is_clone }
         requires values { IsExact V.is_clone }
+        requires errors { IsExact E.is_clone }
         requires fits { BareAllows self.old.undecided self.old.begun want }
         ensures gives { IfOk result (λ given. OfWanted
             (bare_account self.old.call self.old.begun self.old.notes.items self.old.undecided) want
@@ -191,7 +192,7 @@ impl<K: Eq + Clone + Drop, V: Clone + Drop> Ground<K, V> for Bare<K, V> {
         ensures err { OnErr result
             (bare_account self.new.call self.new.begun self.new.notes.items self.new.undecided
             ≡ bare_account self.old.call self.old.begun self.old.notes.items self.old.undecided) }
-        ensures err_stands { OnErr result ((w : World K V) → IsBare self.old.undecided w
+        ensures err_stands { OnErr result ((w : World K V E) → IsBare self.old.undecided w
             → IsBare self.new.undecided w) }
         ensures err_needs { OnErr result (OfWanted
             (bare_account self.old.call self.old.begun self.old.notes.items self.old.undecided) want
@@ -201,15 +202,15 @@ impl<K: Eq + Clone + Drop, V: Clone + Drop> Ground<K, V> for Bare<K, V> {
     }
 }
 
-impl<K: Eq + Clone + Drop, V: Clone + Drop> Alone<K, V> for Bare<K, V> {}
+impl<K: Eq + Clone + Drop, V: Clone + Drop, E: Clone + Drop> Alone<K, V, E> for Bare<K, V, E> {}
 
 // The same, where others may make accesses meanwhile: it stands for no world, and tells its call's.
 #[derive(Drop)]
-struct Shared<K, V> {
-    bare: Bare<K, V>,
+struct Shared<K, V, E> {
+    bare: Bare<K, V, E>,
 }
 
-impl<K: Eq + Clone + Drop, V: Clone + Drop> Ground<K, V> for Shared<K, V> {
+impl<K: Eq + Clone + Drop, V: Clone + Drop, E: Clone + Drop> Ground<K, V, E> for Shared<K, V, E> {
     ghost use Rattle.moka_hist.specs.State.{World};
     ghost use Rattle.moka_init.specs.EmptyCache.{AnyWant, NoWorld, bare_account};
     ghost use Rattle.moka_init.specs.Grounds.{Accesses, Gives, Lacks, OfWanted, any_access};
@@ -233,9 +234,10 @@ impl<K: Eq + Clone + Drop, V: Clone + Drop> Ground<K, V> for Shared<K, V> {
 
     ghost counts = { λ g w stands. absurd stands };
 
-    fn access(&mut self, want: Want<K, V>) -> Result<Got<K, V>, AllocError>
+    fn access(&mut self, want: Want<K, V, E>) -> Result<Got<K, V, E>, AllocError>
         requires keys { IsExact K.is_clone }
         requires values { IsExact V.is_clone }
+        requires errors { IsExact E.is_clone }
         requires fits { AnyWant want }
         ensures gives { IfOk result (λ given. OfWanted (bare_account self.old.bare.call
             self.old.bare.begun self.old.bare.notes.items self.old.bare.undecided) want
@@ -251,7 +253,7 @@ impl<K: Eq + Clone + Drop, V: Clone + Drop> Ground<K, V> for Shared<K, V> {
             self.new.bare.begun self.new.bare.notes.items self.new.bare.undecided
             ≡ bare_account self.old.bare.call
             self.old.bare.begun self.old.bare.notes.items self.old.bare.undecided) }
-        ensures err_stands { OnErr result ((w : World K V) → NoWorld w → NoWorld w) }
+        ensures err_stands { OnErr result ((w : World K V E) → NoWorld w → NoWorld w) }
         ensures err_needs { OnErr result (OfWanted (bare_account self.old.bare.call
             self.old.bare.begun self.old.bare.notes.items self.old.bare.undecided) want
             (Lacks NoWorld any_access)) }
@@ -261,12 +263,13 @@ impl<K: Eq + Clone + Drop, V: Clone + Drop> Ground<K, V> for Shared<K, V> {
 }
 
 // Makes the first step of a get where others may make accesses meanwhile: just one access is noted.
-fn step_get<K: Eq + Clone + Drop, V: Clone + Drop>(
+fn step_get<K: Eq + Clone + Drop, V: Clone + Drop, E: Clone + Drop>(
     key: K,
-    ground: &mut Shared<K, V>,
-) -> Result<Turn<K, V>, AllocError>
+    ground: &mut Shared<K, V, E>,
+) -> Result<Turn<K, V, E>, AllocError>
     requires keys { IsExact K.is_clone }
     requires values { IsExact V.is_clone }
+    requires errors { IsExact E.is_clone }
     requires call { ground.old.bare.call ≡ 1 }
     requires begun { ground.old.bare.begun ≡ None }
     ensures { OnOk result
@@ -277,12 +280,13 @@ fn step_get<K: Eq + Clone + Drop, V: Clone + Drop>(
 }
 
 // Polls a fresh get on an empty cache: each access is noted, and nothing else.
-fn poll_get<K: Eq + Clone + Drop, V: Clone + Drop>(
+fn poll_get<K: Eq + Clone + Drop, V: Clone + Drop, E: Clone + Drop>(
     key: K,
-    ground: &mut Bare<K, V>,
-) -> Result<Turn<K, V>, Unfinished>
+    ground: &mut Bare<K, V, E>,
+) -> Result<Turn<K, V, E>, Unfinished>
     requires keys { IsExact K.is_clone }
     requires values { IsExact V.is_clone }
+    requires errors { IsExact E.is_clone }
     requires call { ground.old.call ≡ 1 }
     requires begun { ground.old.begun ≡ None }
     ensures { OnOk result (NotesPoll key ground.old.notes.items ground.new.notes.items) }
@@ -332,7 +336,7 @@ fn a_step_makes_one_access_where_no_world_is_at_hand(rt: HostRuntime) -> Result<
 }
 
 // An empty cache for the call 1.
-fn empty(alloc: Global, undecided: u8, memory: u64) -> Bare<u32, u32>
+fn empty(alloc: Global, undecided: u8, memory: u64) -> Bare<u32, u32, u32>
     ensures call { result.call ≡ 1 }
     ensures begun { result.begun ≡ None }
 {

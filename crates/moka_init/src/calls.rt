@@ -11,7 +11,7 @@ use crate::points::{Listening, Point, Posting};
 use moka_hist::{Cause, Mode, Owed, Rules, Start, Stored, Visit, Write};
 use std::alloc::AllocError;
 
-impl<K: Drop, V: Drop> Flow<K, V> {
+impl<K: Drop, V: Drop, E: Drop> Flow<K, V, E> {
     ghost use Rattle.moka_hist.specs.Run.{fresh_call};
     ghost use Rattle.moka_init.specs.FlowPlan.{call_of, IsLive, IsReady};
 
@@ -34,7 +34,7 @@ impl<K: Drop, V: Drop> Flow<K, V> {
     }
 }
 
-impl<K, V> Flow<K, V> {
+impl<K, V, E> Flow<K, V, E> {
     ghost use Rattle.moka_hist.specs.Dropping.{owed_by};
     ghost use Rattle.moka_init.specs.FlowPlan.{call_of, is_over};
 
@@ -60,19 +60,54 @@ impl<K, V> Flow<K, V> {
         ensures { result ≡ owed_by self.now.call (call_of self.now) }
     {
         match &self.point {
-            Point::Posting(posting) => held_in_posting(self.call, posting),
-            Point::Listening(listening) => held_in_listening(self.call, listening),
+            Point::Posting(posting) => self.held_in_posting(posting),
+            Point::Listening(listening) => self.held_in_listening(listening),
             _ => None,
+        }
+    }
+
+    // The write that a call holds that is posting.
+    fn held_in_posting(&self, posting: &Posting<K, V>) -> Option<Owed>
+        ensures { result ≡ owed_in {E = E} self.now.call (posting_plan posting.now) }
+    {
+        match posting {
+            Posting::Drain(_) => None,
+            Posting::Post { write, .. } => Some(unheard(*write)),
+            Posting::Turn { write, .. } => Some(unheard(*write)),
+            Posting::Apply { write, .. } => Some(unheard(*write)),
+            Posting::End { write, .. } => Some(unheard(*write)),
+        }
+    }
+
+    // The write that a call holds which tells the listener of a record, with the notice that it
+    // hears.
+    fn held_in_listening(&self, listening: &Listening<K, V>) -> Option<Owed>
+        ensures { result ≡ owed_in {E = E} self.now.call (listening_plan listening.now) }
+    {
+        match listening {
+            Listening::Ended { notice, write, .. } => Some(Owed {
+                write: *write,
+                notice: Some(*notice),
+            }),
+            Listening::Lock(_) => None,
+            Listening::Notice { write, .. } => Some(unheard(*write)),
+            Listening::Uncopied { write, .. } => Some(unheard(*write)),
+            Listening::Heard { write, .. } => Some(Owed {
+                write: *write,
+                notice: Some(self.call),
+            }),
+            Listening::Unlock { write, .. } => Some(unheard(*write)),
+            Listening::Release(_) => None,
         }
     }
 }
 
-impl<K: Clone + Drop, V: Clone + Drop> Flow<K, V> {
+impl<K: Clone + Drop, V: Clone + Drop, E: Clone + Drop> Flow<K, V, E> {
     ghost use Rattle.moka_init.specs.FlowPlan.{due_of};
 
     /// The visit that opens the call's notice, where that is due. It makes the clones that it
     /// needs.
-    pub fn due(&self) -> Result<Option<Visit<K, V>>, AllocError>
+    pub fn due(&self) -> Result<Option<Visit<K, V, E>>, AllocError>
         requires keys { IsExact K.is_clone }
         requires values { IsExact V.is_clone }
         ensures { IfOk result (λ due. due ≡ due_of self.now) }
@@ -85,10 +120,10 @@ impl<K: Clone + Drop, V: Clone + Drop> Flow<K, V> {
 }
 
 // The visit that opens the notice of a call that is listening, where that is due.
-fn due_in_listening<K: Clone + Drop, V: Clone + Drop>(
+fn due_in_listening<K: Clone + Drop, V: Clone + Drop, E>(
     call: u64,
     listening: &Listening<K, V>,
-) -> Result<Option<Visit<K, V>>, AllocError>
+) -> Result<Option<Visit<K, V, E>>, AllocError>
     requires keys { IsExact K.is_clone }
     requires values { IsExact V.is_clone }
     ensures { IfOk result (λ due. due ≡ opening call (listening_plan listening.now)) }
@@ -113,13 +148,13 @@ fn due_in_listening<K: Clone + Drop, V: Clone + Drop>(
 }
 
 // The visit that opens the notice of a record that left by the call's write or removal.
-pub(crate) fn open_notice<K: Clone + Drop, V: Clone + Drop>(
+pub(crate) fn open_notice<K: Clone + Drop, V: Clone + Drop, E>(
     call: u64,
     key: &K,
     old: &Stored<V>,
     cause: Option<Cause>,
     upsert: bool,
-) -> Result<Visit<K, V>, AllocError>
+) -> Result<Visit<K, V, E>, AllocError>
     requires keys { IsExact K.is_clone }
     requires values { IsExact V.is_clone }
     ensures { IfOk result (λ visit.
@@ -136,40 +171,6 @@ pub(crate) fn open_notice<K: Clone + Drop, V: Clone + Drop>(
         cause,
         upsert,
     })
-}
-
-// The write that a call holds that is posting.
-fn held_in_posting<K, V>(call: u64, posting: &Posting<K, V>) -> Option<Owed>
-    ensures { result ≡ owed_in call (posting_plan posting.now) }
-{
-    match posting {
-        Posting::Drain(_) => None,
-        Posting::Post { write, .. } => Some(unheard(*write)),
-        Posting::Turn { write, .. } => Some(unheard(*write)),
-        Posting::Apply { write, .. } => Some(unheard(*write)),
-        Posting::End { write, .. } => Some(unheard(*write)),
-    }
-}
-
-// The write that a call holds which tells the listener of a record, with the notice that it hears.
-fn held_in_listening<K, V>(call: u64, listening: &Listening<K, V>) -> Option<Owed>
-    ensures { result ≡ owed_in call (listening_plan listening.now) }
-{
-    match listening {
-        Listening::Ended { notice, write, .. } => Some(Owed {
-            write: *write,
-            notice: Some(*notice),
-        }),
-        Listening::Lock(_) => None,
-        Listening::Notice { write, .. } => Some(unheard(*write)),
-        Listening::Uncopied { write, .. } => Some(unheard(*write)),
-        Listening::Heard { write, .. } => Some(Owed {
-            write: *write,
-            notice: Some(call),
-        }),
-        Listening::Unlock { write, .. } => Some(unheard(*write)),
-        Listening::Release(_) => None,
-    }
 }
 
 // A write of whose notice nothing is to be heard.

@@ -1,13 +1,14 @@
 //! The accesses for which a key or a value is copied.
-ghost use Rattle.std.specs.Prelude.{◌≡◌, false, IfOk};
+ghost use Rattle.std.specs.Prelude.{◌≡◌, false, IfOk, OnErr};
 ghost use Rattle.moka_hist.specs.Finite.{IsExact};
 ghost use Rattle.moka_hist.specs.Plan as plan;
-ghost use Rattle.moka_hist.specs.Step.{access_for, want_for, takes_of, On_table};
+ghost use Rattle.moka_hist.specs.Step.{access_for, replace_of, want_for, takes_of, On_table};
 ghost use Rattle.moka_hist.specs.Writing.{stamp_asked};
-ghost use Rattle.moka_init.specs.PointPlan.{key_locked, key_sought, removal_of};
+ghost use Rattle.moka_init.specs.Grounds.{SettledNeedsMemory};
+ghost use Rattle.moka_init.specs.PointPlan.{aim_of, key_locked, key_sought, removal_of, settled_of};
 
 use crate::calls::open_notice;
-use crate::points::{Locked, Look, Put, Removal, TakeOut};
+use crate::points::{Ending, Locked, Look, Put, Removal, TakeOut};
 use moka_hist::{Cause, Kind, Load, Settled, Stored, TableOp, Takes, Visit, Want};
 use std::alloc::AllocError;
 
@@ -17,11 +18,16 @@ pub(crate) fn takes_of(kind: Kind) -> Takes
 {
     match kind {
         Kind::GetWith => Takes::Value,
+        Kind::Optional => Takes::Optional,
+        Kind::Try => Takes::Try,
     }
 }
 
 /// Looks the key up.
-pub(crate) fn want_get<K: Clone + Drop, V>(begun: bool, key: &K) -> Result<Want<K, V>, AllocError>
+pub(crate) fn want_get<K: Clone + Drop, V, E>(
+    begun: bool,
+    key: &K,
+) -> Result<Want<K, V, E>, AllocError>
     requires { IsExact K.is_clone }
     ensures { IfOk result (λ want. want ≡ want_for begun (On_table (TableOp.Get key.now))) }
 {
@@ -33,13 +39,26 @@ pub(crate) fn want_get<K: Clone + Drop, V>(begun: bool, key: &K) -> Result<Want<
 }
 
 /// The key that is looked up.
-pub(crate) fn key_sought<K>(look: &Look<K>) -> &K
+pub(crate) fn key_sought<K, V>(look: &Look<K, V>) -> &K
     ensures { result.now ≡ key_sought look.now }
 {
     match look {
         Look::Answer { key } => key,
-        Look::Load(load) => &load.key,
-        Look::Own(load) => &load.key,
+        Look::Load(sought) => &sought.load.key,
+        Look::Own(sought) => &sought.load.key,
+        Look::Insert { key, .. } => key,
+    }
+}
+
+/// The test by which the call passes over what it finds.
+pub(crate) fn replace_of<K, V>(look: &Look<K, V>) -> Option<u64>
+    ensures { result ≡ replace_of (aim_of look.now) }
+{
+    match look {
+        Look::Answer { .. } => None,
+        Look::Load(sought) => sought.replace,
+        Look::Own(sought) => sought.replace,
+        Look::Insert { .. } => None,
     }
 }
 
@@ -55,10 +74,10 @@ pub(crate) fn key_locked<K, V>(locked: &Locked<K, V>) -> &K
 }
 
 /// Takes the record out.
-pub(crate) fn want_out<K: Clone + Drop, V>(
+pub(crate) fn want_out<K: Clone + Drop, V, E>(
     begun: bool,
     out: &TakeOut<K>,
-) -> Result<Want<K, V>, AllocError>
+) -> Result<Want<K, V, E>, AllocError>
     requires { IsExact K.is_clone }
     ensures { IfOk result (λ want. want ≡ want_for begun
         (access_for 0 (plan.Out (removal_of out.now.removal) out.now.key))) }
@@ -83,11 +102,11 @@ fn stamp_asked(removal: Removal) -> Option<u64>
 }
 
 /// Judges whether a record that was chosen for the cause has still to leave.
-pub(crate) fn want_holds<K: Clone + Drop, V: Clone + Drop>(
+pub(crate) fn want_holds<K: Clone + Drop, V: Clone + Drop, E>(
     key: &K,
     stored: &Stored<V>,
     cause: Cause,
-) -> Result<Want<K, V>, AllocError>
+) -> Result<Want<K, V, E>, AllocError>
     requires keys { IsExact K.is_clone }
     requires values { IsExact V.is_clone }
     ensures { IfOk result (λ want. want ≡ Want.Desk (Visit.Holds key.now stored.now cause)) }
@@ -97,25 +116,30 @@ pub(crate) fn want_holds<K: Clone + Drop, V: Clone + Drop>(
     Ok(Want::Desk(Visit::Holds { key, stored, cause }))
 }
 
-/// Judges the record that was found.
-pub(crate) fn want_judge<K: Clone + Drop, V: Clone + Drop>(
+/// Judges the record that was found, on which the test, if any, may hold.
+pub(crate) fn want_judge<K: Clone + Drop, V: Clone + Drop, E>(
+    replace: Option<u64>,
     key: &K,
     stored: &Stored<V>,
-) -> Result<Want<K, V>, AllocError>
+) -> Result<Want<K, V, E>, AllocError>
     requires keys { IsExact K.is_clone }
     requires values { IsExact V.is_clone }
-    ensures { IfOk result (λ want. want ≡ Want.Desk (Visit.Judge key.now stored.now)) }
+    ensures { IfOk result (λ want. want ≡ Want.Desk (Visit.Judge replace key.now stored.now)) }
 {
     let key = key.clone()?;
     let stored = stored.clone()?;
-    Ok(Want::Desk(Visit::Judge { key, stored }))
+    Ok(Want::Desk(Visit::Judge {
+        replace,
+        key,
+        stored,
+    }))
 }
 
 /// Becomes the owner of the load, or waits for it.
-pub(crate) fn want_own<K: Clone + Drop, V>(
+pub(crate) fn want_own<K: Clone + Drop, V, E>(
     call: u64,
     load: &Load<K>,
-) -> Result<Want<K, V>, AllocError>
+) -> Result<Want<K, V, E>, AllocError>
     requires { IsExact K.is_clone }
     ensures { IfOk result (λ want.
         want ≡ Want.Desk (Visit.WaitOrOwn call load.now.key load.now.kind)) }
@@ -128,29 +152,50 @@ pub(crate) fn want_own<K: Clone + Drop, V>(
     }))
 }
 
-/// Tells the value to those that wait.
-pub(crate) fn want_settle<K, V: Clone + Drop>(
+/// Tells those that wait how the owner ends.
+pub(crate) fn want_settle<K, V: Clone + Drop, E: Clone + Drop>(
     call: u64,
-    value: &V,
-) -> Result<Want<K, V>, AllocError>
-    requires { IsExact V.is_clone }
-    ensures { IfOk result (λ want.
-        want ≡ Want.Desk (Visit.Settle call (Settled.Ready value.now))) }
+    ending: &Ending<V, E>,
+) -> Result<Want<K, V, E>, AllocError>
+    requires values { IsExact V.is_clone }
+    requires errors { IsExact E.is_clone }
+    ensures want { IfOk result (λ want.
+        want ≡ Want.Desk (Visit.Settle call (settled_of ending.now))) }
+    ensures err { OnErr result (SettledNeedsMemory (settled_of ending.now)) }
 {
-    let told = value.clone()?;
-    Ok(Want::Desk(Visit::Settle {
-        call,
-        with: Settled::Ready(told),
-    }))
+    let with = settled_by(ending)?;
+    Ok(Want::Desk(Visit::Settle { call, with }))
+}
+
+// What is told to those that wait.
+fn settled_by<V: Clone + Drop, E: Clone + Drop>(
+    ending: &Ending<V, E>,
+) -> Result<Settled<V, E>, AllocError>
+    requires values { IsExact V.is_clone }
+    requires errors { IsExact E.is_clone }
+    ensures told { IfOk result (λ with. with ≡ settled_of ending.now) }
+    ensures err { OnErr result (SettledNeedsMemory (settled_of ending.now)) }
+{
+    match ending {
+        Ending::Ready { value, .. } => {
+            let told = value.clone()?;
+            Ok(Settled::Ready(told))
+        }
+        Ending::Err(error) => {
+            let told = error.clone()?;
+            Ok(Settled::Err(told))
+        }
+        Ending::Nothing => Ok(Settled::Nothing),
+    }
 }
 
 /// Stores the value.
-pub(crate) fn want_write<K: Clone + Drop, V: Clone + Drop>(
+pub(crate) fn want_write<K: Clone + Drop, V: Clone + Drop, E>(
     begun: bool,
     call: u64,
     put: &Put<K, V>,
     moment: u64,
-) -> Result<Want<K, V>, AllocError>
+) -> Result<Want<K, V, E>, AllocError>
     requires keys { IsExact K.is_clone }
     requires values { IsExact V.is_clone }
     ensures { IfOk result (λ want. want
@@ -172,7 +217,10 @@ pub(crate) fn want_write<K: Clone + Drop, V: Clone + Drop>(
 }
 
 /// Takes the key's lock.
-pub(crate) fn want_lock<K: Clone + Drop, V>(call: u64, key: &K) -> Result<Want<K, V>, AllocError>
+pub(crate) fn want_lock<K: Clone + Drop, V, E>(
+    call: u64,
+    key: &K,
+) -> Result<Want<K, V, E>, AllocError>
     requires { IsExact K.is_clone }
     ensures { IfOk result (λ want. want ≡ Want.Desk (Visit.LockKey call key.now)) }
 {
@@ -181,13 +229,13 @@ pub(crate) fn want_lock<K: Clone + Drop, V>(call: u64, key: &K) -> Result<Want<K
 }
 
 /// Opens the notice of the record that left.
-pub(crate) fn want_notice<K: Clone + Drop, V: Clone + Drop>(
+pub(crate) fn want_notice<K: Clone + Drop, V: Clone + Drop, E>(
     call: u64,
     key: &K,
     old: &Stored<V>,
     cause: Option<Cause>,
     upsert: bool,
-) -> Result<Want<K, V>, AllocError>
+) -> Result<Want<K, V, E>, AllocError>
     requires keys { IsExact K.is_clone }
     requires values { IsExact V.is_clone }
     ensures { IfOk result (λ want. want

@@ -14,7 +14,7 @@ use crate::points::{Listening, Loading, Looking, Point, Posting, Removing, Writi
 use moka_hist::{Answer, Found, Got, TableTurn, Turn};
 use std::mem;
 
-impl<K: Drop, V: Drop> Flow<K, V> {
+impl<K: Drop, V: Drop, E: Drop> Flow<K, V, E> {
     ghost use Rattle.moka_hist.specs.declared.replies.Answer.{Answer};
     ghost use Rattle.moka_init.specs.declared.points.Listening.{Listening};
     ghost use Rattle.moka_init.specs.declared.points.Loading.{Loading};
@@ -24,7 +24,7 @@ impl<K: Drop, V: Drop> Flow<K, V> {
     ghost use Rattle.moka_init.specs.declared.points.Writing.{Writing};
 
     // After a visit, where the call stands at its posting.
-    pub(crate) fn posting_visited(&mut self, found: Found<V>) -> Turn<K, V>
+    pub(crate) fn posting_visited(&mut self, found: Found<V, E>) -> Turn<K, V, E>
         requires there { (posting : Posting K V) × (self.old.point ≡ Point.Posting posting) }
         requires form { HasForm (access_at self.old) (Got.Desk found) }
         ensures { GoesOn self.old (next_of self.old.call (call_of self.old) (Got.Desk found))
@@ -37,7 +37,7 @@ impl<K: Drop, V: Drop> Flow<K, V> {
     }
 
     // After a visit, where the call stands at its looking.
-    pub(crate) fn looking_visited(&mut self, found: Found<V>) -> Turn<K, V>
+    pub(crate) fn looking_visited(&mut self, found: Found<V, E>) -> Turn<K, V, E>
         requires there { (looking : Looking K V) × (self.old.point ≡ Point.Looking looking) }
         requires form { HasForm (access_at self.old) (Got.Desk found) }
         ensures { GoesOn self.old (next_of self.old.call (call_of self.old) (Got.Desk found))
@@ -50,8 +50,8 @@ impl<K: Drop, V: Drop> Flow<K, V> {
     }
 
     // After a visit, where the call stands at its loading.
-    pub(crate) fn loading_visited(&mut self, found: Found<V>) -> Turn<K, V>
-        requires there { (loading : Loading K V) × (self.old.point ≡ Point.Loading loading) }
+    pub(crate) fn loading_visited(&mut self, found: Found<V, E>) -> Turn<K, V, E>
+        requires there { (loading : Loading K V E) × (self.old.point ≡ Point.Loading loading) }
         requires form { HasForm (access_at self.old) (Got.Desk found) }
         ensures { GoesOn self.old (next_of self.old.call (call_of self.old) (Got.Desk found))
             result self.new }
@@ -63,7 +63,7 @@ impl<K: Drop, V: Drop> Flow<K, V> {
     }
 
     // After a visit, where the call stands at its writing.
-    pub(crate) fn writing_visited(&mut self, found: Found<V>) -> Turn<K, V>
+    pub(crate) fn writing_visited(&mut self, found: Found<V, E>) -> Turn<K, V, E>
         requires there { (writing : Writing K V) × (self.old.point ≡ Point.Writing writing) }
         requires form { HasForm (access_at self.old) (Got.Desk found) }
         ensures { GoesOn self.old (next_of self.old.call (call_of self.old) (Got.Desk found))
@@ -76,7 +76,7 @@ impl<K: Drop, V: Drop> Flow<K, V> {
     }
 
     // After a visit, where the call stands at its removing.
-    pub(crate) fn removing_visited(&mut self, found: Found<V>) -> Turn<K, V>
+    pub(crate) fn removing_visited(&mut self, found: Found<V, E>) -> Turn<K, V, E>
         requires there { (removing : Removing K V) × (self.old.point ≡ Point.Removing removing) }
         requires form { HasForm (access_at self.old) (Got.Desk found) }
         ensures { GoesOn self.old (next_of self.old.call (call_of self.old) (Got.Desk found))
@@ -89,7 +89,7 @@ impl<K: Drop, V: Drop> Flow<K, V> {
     }
 
     // After a visit, where the call stands at its listening.
-    pub(crate) fn listening_visited(&mut self, found: Found<V>) -> Turn<K, V>
+    pub(crate) fn listening_visited(&mut self, found: Found<V, E>) -> Turn<K, V, E>
         requires there { (listening : Listening K V) × (self.old.point ≡ Point.Listening listening) }
         requires ready { IsReady self.old }
         requires form { HasForm (access_at self.old) (Got.Desk found) }
@@ -103,8 +103,8 @@ impl<K: Drop, V: Drop> Flow<K, V> {
     }
 
     // After its one visit, where the call only answers.
-    pub(crate) fn answering_visited(&mut self, found: Found<V>) -> Turn<K, V>
-        requires there { (answer : Answer V) × (self.old.point ≡ Point.Answering answer) }
+    pub(crate) fn answering_visited(&mut self, found: Found<V, E>) -> Turn<K, V, E>
+        requires there { (answer : Answer V E) × (self.old.point ≡ Point.Answering answer) }
         requires form { HasForm (access_at self.old) (Got.Desk found) }
         ensures { GoesOn self.old (next_of self.old.call (call_of self.old) (Got.Desk found))
             result self.new }
@@ -116,7 +116,7 @@ impl<K: Drop, V: Drop> Flow<K, V> {
     }
 
     // The call's one step is its answer.
-    fn answers_alone(&mut self, answer: Answer<V>) -> Turn<K, V>
+    fn answers_alone(&mut self, answer: Answer<V, E>) -> Turn<K, V, E>
         ensures { GoesOn self.old
             (goes (standing self.old (plan_at self.old.point)) (plan.Reply answer ∷ []))
             result self.new }
@@ -125,7 +125,7 @@ impl<K: Drop, V: Drop> Flow<K, V> {
     }
 
     // Moves the point out, and leaves nothing to do.
-    fn point_out(&mut self) -> Point<K, V>
+    fn point_out(&mut self) -> Point<K, V, E>
         ensures point { result ≡ self.old.point }
         ensures flow { self.new ≡ record self.old { point = Point.Spent } }
     {
@@ -133,7 +133,7 @@ impl<K: Drop, V: Drop> Flow<K, V> {
     }
 
     // After a step of a table operation, where the call stands at its looking.
-    pub(crate) fn looking_stepped(&mut self, turn: TableTurn<K, V>) -> Turn<K, V>
+    pub(crate) fn looking_stepped(&mut self, turn: TableTurn<K, V>) -> Turn<K, V, E>
         requires there { (looking : Looking K V) × (self.old.point ≡ Point.Looking looking) }
         requires form { HasForm (access_at self.old) (Got.Table turn) }
         ensures { GoesOn self.old (next_of self.old.call (call_of self.old) (Got.Table turn))
@@ -146,7 +146,7 @@ impl<K: Drop, V: Drop> Flow<K, V> {
     }
 
     // After a step of a table operation, where the call stands at its writing.
-    pub(crate) fn writing_stepped(&mut self, turn: TableTurn<K, V>) -> Turn<K, V>
+    pub(crate) fn writing_stepped(&mut self, turn: TableTurn<K, V>) -> Turn<K, V, E>
         requires there { (writing : Writing K V) × (self.old.point ≡ Point.Writing writing) }
         requires form { HasForm (access_at self.old) (Got.Table turn) }
         ensures { GoesOn self.old (next_of self.old.call (call_of self.old) (Got.Table turn))
@@ -159,7 +159,7 @@ impl<K: Drop, V: Drop> Flow<K, V> {
     }
 
     // After a step of a table operation, where the call stands at its removing.
-    pub(crate) fn removing_stepped(&mut self, turn: TableTurn<K, V>) -> Turn<K, V>
+    pub(crate) fn removing_stepped(&mut self, turn: TableTurn<K, V>) -> Turn<K, V, E>
         requires there { (removing : Removing K V) × (self.old.point ≡ Point.Removing removing) }
         requires form { HasForm (access_at self.old) (Got.Table turn) }
         ensures { GoesOn self.old (next_of self.old.call (call_of self.old) (Got.Table turn))

@@ -6,7 +6,7 @@ use moka_hist::{Mode, Rules};
 
 /// A call as a state: the rules of its cache, its number, how far it is, and where it stands.
 #[derive(Drop)]
-pub struct Flow<K, V> {
+pub struct Flow<K, V, E> {
     pub(crate) rules: Rules,
     pub(crate) call: u64,
     pub(crate) mode: Mode,
@@ -14,6 +14,6 @@ pub struct Flow<K, V> {
     pub(crate) aborts: u64,
     // Whether the table operation at which it stands was begun.
     pub(crate) begun: bool,
-    pub(crate) point: Point<K, V>,
+    pub(crate) point: Point<K, V, E>,
     ghost few: { aborts < 200 },
 }

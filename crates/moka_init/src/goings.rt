@@ -16,19 +16,20 @@ use std::alloc::AllocError;
 /// Makes one step: exactly the access that the flow wants. Condition: the flow has not answered,
 /// and the ground is that of its call, and serves what it wants. After want of memory flow and
 /// ground are as before.
-pub fn step<K: Eq + Clone + Drop, V: Clone + Drop, G: Ground<K, V>>(
-    flow: &mut Flow<K, V>,
+pub fn step<K: Eq + Clone + Drop, V: Clone + Drop, E: Clone + Drop, G: Ground<K, V, E>>(
+    flow: &mut Flow<K, V, E>,
     ground: &mut G,
-) -> Result<Turn<K, V>, AllocError>
+) -> Result<Turn<K, V, E>, AllocError>
     requires keys { IsExact K.is_clone }
     requires values { IsExact V.is_clone }
+    requires errors { IsExact E.is_clone }
     requires live { IsLive flow.old }
     requires on { IsOn (G.account ground.old) flow.old }
     requires fits { G.fits ground.old (wish_of flow.old) }
     // The step, and the one access that is told of it.
     ensures moves { IfOk result (λ turn. MovesThere K.eq (G.stands ground.old) flow.old
         (next_in turn flow.new) (G.stands ground.new)) }
-    ensures tells { IfOk result (λ turn. (before : List (Made K V))
+    ensures tells { IfOk result (λ turn. (before : List (Made K V E))
         → (G.account ground.old).made ≡ Some before
         → TellsStep flow.old.call (call_of flow.old) (next_in turn flow.new) before
         (G.account ground.new).made) }
@@ -41,9 +42,9 @@ pub fn step<K: Eq + Clone + Drop, V: Clone + Drop, G: Ground<K, V>>(
     ensures keeps { G.keeps ground.old ground.new }
     // Without memory.
     ensures err { OnErr result (StandsStill flow.old flow.new) }
-    ensures err_needs { OnErr result ((w : World K V) → G.stands ground.old w
+    ensures err_needs { OnErr result ((w : World K V E) → G.stands ground.old w
         → May w (access_at flow.old) → MayLack G.needs w flow.old) }
-    ensures err_stands { OnErr result ((w : World K V) → G.stands ground.old w
+    ensures err_stands { OnErr result ((w : World K V E) → G.stands ground.old w
         → G.stands ground.new w) }
     ensures err_account { OnErr result (G.account ground.new ≡ G.account ground.old) }
 {
@@ -63,20 +64,21 @@ pub struct Unfinished {
 /// ground is that of its call, and has what each of its steps needs, as long as it goes on; and its
 /// log has room for a write once it is empty, without which a write would never be posted. After
 /// want of memory the steps made so far stand.
-pub fn poll<K: Eq + Clone + Drop, V: Clone + Drop, G: Alone<K, V>>(
-    flow: &mut Flow<K, V>,
+pub fn poll<K: Eq + Clone + Drop, V: Clone + Drop, E: Clone + Drop, G: Alone<K, V, E>>(
+    flow: &mut Flow<K, V, E>,
     ground: &mut G,
-) -> Result<Turn<K, V>, Unfinished>
+) -> Result<Turn<K, V, E>, Unfinished>
     requires keys { IsExact K.is_clone }
     requires values { IsExact V.is_clone }
+    requires errors { IsExact E.is_clone }
     requires live { IsLive flow.old }
     requires on { IsOn (G.account ground.old) flow.old }
-    requires safe { (w : World K V) × G.stands ground.old w
+    requires safe { (w : World K V E) × G.stands ground.old w
         × IsSafe K.eq flow.old.call (call_of flow.old) w × (0 < w.desk.size) }
     // The steps, and what is told of them.
     ensures polls { IfOk result (λ turn. PolledThere K.eq (G.stands ground.old) flow.old
         (next_in turn flow.new) (G.stands ground.new)) }
-    ensures tells { IfOk result (λ turn. (before : List (Made K V))
+    ensures tells { IfOk result (λ turn. (before : List (Made K V E))
         → (G.account ground.old).made ≡ Some before
         → TellsPoll flow.old.call (call_of flow.old) (next_in turn flow.new) before
         (G.account ground.new).made) }

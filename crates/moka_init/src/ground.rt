@@ -11,29 +11,30 @@ use moka_hist::{Got, Want};
 use std::alloc::AllocError;
 
 /// A table and a desk, as one call reaches them.
-pub trait Ground<K: Eq + Clone, V: Clone> {
+pub trait Ground<K: Eq + Clone, V: Clone, E: Clone> {
     /// The worlds that it stands for. A ground on which others may make accesses meanwhile may
     /// stand for none, and still tell those of its call.
-    ghost stands: { Self → World K V → Type 0 };
+    ghost stands: { Self → World K V E → Type 0 };
 
     /// The wants that fit it: those that it serves. Where it stands for worlds, what one of them
     /// allows fits.
-    ghost fits: { Self → Want K V → Type 0 };
+    ghost fits: { Self → Want K V E → Type 0 };
 
     /// What it tells of itself: whose it is, what is begun there, and which accesses were made.
-    ghost account: { Self → Account K V };
+    ghost account: { Self → Account K V E };
 
     /// The accesses for which memory may be wanting there, in such a world.
-    ghost needs: { World K V → Access K V → Type 0 };
+    ghost needs: { World K V E → Access K V E → Type 0 };
 
     /// What stays of it, whatever its call accesses there.
     ghost keeps: { Self → Self → Type 0 };
 
     /// Makes the wanted access, and no other. Condition: the want fits. After want of memory
     /// nothing has changed.
-    fn access(&mut self, want: Want<K, V>) -> Result<Got<K, V>, AllocError>
+    fn access(&mut self, want: Want<K, V, E>) -> Result<Got<K, V, E>, AllocError>
         requires keys { IsExact K.is_clone }
         requires values { IsExact V.is_clone }
+        requires errors { IsExact E.is_clone }
         requires fits { fits self.old want }
         // What it gives, and what is told then.
         ensures gives { IfOk result (λ given. OfWanted (account self.old) want (λ access.
@@ -43,13 +44,13 @@ pub trait Ground<K: Eq + Clone, V: Clone> {
         ensures keeps { keeps self.old self.new }
         // Without memory.
         ensures err { OnErr result (account self.new ≡ account self.old) }
-        ensures err_stands { OnErr result ((w : World K V) → stands self.old w
+        ensures err_stands { OnErr result ((w : World K V E) → stands self.old w
             → stands self.new w) }
         ensures err_needs { OnErr result
             (OfWanted (account self.old) want (Lacks (stands self.old) needs)) };
 
     /// What a world allows that it stands for fits.
-    ghost allows: { (g : Self) (w : World K V) (want : Want K V) → stands g w
+    ghost allows: { (g : Self) (w : World K V E) (want : Want K V E) → stands g w
         → MayWant w (account g).begun want → fits g want };
 
     /// What stays of it stays from access to access.
@@ -58,9 +59,9 @@ pub trait Ground<K: Eq + Clone, V: Clone> {
     ghost keeps_on: { (a b c : Self) → keeps a b → keeps b c → keeps a c };
 
     /// It tells how many writes such a world owes and has logged.
-    ghost counts: { (g : Self) (w : World K V) → stands g w → Counts w (account g).work };
+    ghost counts: { (g : Self) (w : World K V E) → stands g w → Counts w (account g).work };
 }
 
 /// A ground that nobody else changes while it is lent: what it stands for stays until its next
 /// access.
-pub trait Alone<K: Eq + Clone, V: Clone>: Ground<K, V> {}
+pub trait Alone<K: Eq + Clone, V: Clone, E: Clone>: Ground<K, V, E> {}

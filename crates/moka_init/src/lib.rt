@@ -14,6 +14,8 @@ mod flow;
 mod goings;
 mod ground;
 mod listening;
+#[cfg(test)]
+mod load_tests;
 mod loading;
 mod looking;
 mod points;

@@ -15,12 +15,12 @@ use crate::points::{
 };
 use moka_hist::{Ask, Cause, Found, Got, Stored, Turn, Visit, Write};
 
-impl<K: Drop, V: Drop> Flow<K, V> {
+impl<K: Drop, V: Drop, E: Drop> Flow<K, V, E> {
     pub(crate) fn after_listening(
         &mut self,
         listening: Listening<K, V>,
-        found: Found<V>,
-    ) -> Turn<K, V>
+        found: Found<V, E>,
+    ) -> Turn<K, V, E>
         requires ready { is_copied_in listening ≡ true }
         requires form { HasForm
             (access_of self.old.call (standing self.old (listening_plan listening)))
@@ -56,8 +56,8 @@ impl<K: Drop, V: Drop> Flow<K, V> {
         notice: u64,
         write: Write,
         then: Drained<K, V>,
-        found: Found<V>,
-    ) -> Turn<K, V>
+        found: Found<V, E>,
+    ) -> Turn<K, V, E>
         requires form { IsFoundBy {K = K} (Visit.NoticeEnded self.old.call notice) found }
         ensures { GoesOn self.old
             (after_hearing
@@ -78,7 +78,7 @@ impl<K: Drop, V: Drop> Flow<K, V> {
         }
     }
 
-    fn after_lock(&mut self, locked: Locked<K, V>, found: Found<V>) -> Turn<K, V>
+    fn after_lock(&mut self, locked: Locked<K, V>, found: Found<V, E>) -> Turn<K, V, E>
         requires form { IsFoundBy (Visit.LockKey self.old.call (key_locked locked)) found }
         ensures { GoesOn self.old
             (after_lock
@@ -93,7 +93,7 @@ impl<K: Drop, V: Drop> Flow<K, V> {
     }
 
     // The key's lock is held.
-    fn goes_locked(&mut self, locked: Locked<K, V>) -> Turn<K, V>
+    fn goes_locked(&mut self, locked: Locked<K, V>) -> Turn<K, V, E>
         ensures { GoesOn self.old (mid self.old (locked_rest locked)) result self.new }
     {
         match locked {
@@ -109,8 +109,8 @@ impl<K: Drop, V: Drop> Flow<K, V> {
         old: Stored<V>,
         write: Write,
         then: Posted<K, V>,
-        found: Found<V>,
-    ) -> Turn<K, V>
+        found: Found<V, E>,
+    ) -> Turn<K, V, E>
         requires form { (cause : Option Cause) × (found ≡ Found.OpenNotice cause) }
         ensures { (hand : Option Cause) → (upsert : Bool) → GoesOn self.old
             (after_notice
@@ -133,7 +133,7 @@ impl<K: Drop, V: Drop> Flow<K, V> {
         }
     }
 
-    fn after_heard(&mut self, write: Write, then: Posted<K, V>, found: Found<V>) -> Turn<K, V>
+    fn after_heard(&mut self, write: Write, then: Posted<K, V>, found: Found<V, E>) -> Turn<K, V, E>
         requires form { IsFoundBy {K = K} (Visit.NoticeEnded self.old.call self.old.call) found }
         ensures { GoesOn self.old
             (after_hearing (standing self.old (listening_plan (Listening.Heard write then)))
@@ -150,7 +150,12 @@ impl<K: Drop, V: Drop> Flow<K, V> {
         }
     }
 
-    fn after_unlock(&mut self, write: Write, then: Posted<K, V>, found: Found<V>) -> Turn<K, V>
+    fn after_unlock(
+        &mut self,
+        write: Write,
+        then: Posted<K, V>,
+        found: Found<V, E>,
+    ) -> Turn<K, V, E>
         requires form { IsFoundBy {K = K} (Visit.UnlockKey self.old.call true) found }
         ensures { GoesOn self.old
             (after_unlock (standing self.old (listening_plan (Listening.Unlock write then)))
@@ -162,7 +167,7 @@ impl<K: Drop, V: Drop> Flow<K, V> {
         }
     }
     // Nothing was written under the lock: nothing is left but to answer so.
-    fn after_release(&mut self, removal: Removal, found: Found<V>) -> Turn<K, V>
+    fn after_release(&mut self, removal: Removal, found: Found<V, E>) -> Turn<K, V, E>
         requires form { IsFoundBy {K = K} (Visit.UnlockKey self.old.call false) found }
         ensures { GoesOn self.old
             (after_unlock (standing self.old (plan.Unlock false ∷ answers_nothing removal))

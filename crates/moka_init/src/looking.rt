@@ -1,18 +1,23 @@
 //! Looking a key up.
-ghost use Rattle.std.specs.Prelude.{◌≡◌, [], ◌∷◌};
+ghost use Rattle.std.specs.Prelude.{◌≡◌, true, [], ◌∷◌};
 ghost use Rattle.moka_hist.specs.Plan as plan;
 ghost use Rattle.moka_hist.specs.Looking.{after_get, after_judge, hits, misses};
-ghost use Rattle.moka_hist.specs.Step.{next_of, access_of};
+ghost use Rattle.moka_hist.specs.Plan.{put};
+ghost use Rattle.moka_hist.specs.Step.{next_of, access_of, replace_of};
 ghost use Rattle.moka_init.specs.PointPlan.{aim_of, key_sought, plan_at, looking_plan};
-ghost use Rattle.moka_init.specs.FlowPlan.{standing, GoesOn};
+ghost use Rattle.moka_init.specs.FlowPlan.{standing, mid, GoesOn};
 ghost use Rattle.moka_init.specs.Forms.{HasForm, IsFoundBy};
 
 use crate::flow::Flow;
-use crate::points::{Loading, Look, Looking, Point};
+use crate::points::{Ending, Loading, Look, Looking, Point, Put, Then};
 use moka_hist::{Answer, Found, Got, Stored, TableAnswer, TableTurn, Turn, Visit};
 
-impl<K: Drop, V: Drop> Flow<K, V> {
-    pub(crate) fn after_looking(&mut self, looking: Looking<K, V>, found: Found<V>) -> Turn<K, V>
+impl<K: Drop, V: Drop, E: Drop> Flow<K, V, E> {
+    pub(crate) fn after_looking(
+        &mut self,
+        looking: Looking<K, V>,
+        found: Found<V, E>,
+    ) -> Turn<K, V, E>
         requires form { HasForm
             (access_of self.old.call (standing self.old (looking_plan looking)))
             (Got.Desk found) }
@@ -26,7 +31,7 @@ impl<K: Drop, V: Drop> Flow<K, V> {
         }
     }
 
-    pub(crate) fn after_get(&mut self, look: Look<K>, turn: TableTurn<K, V>) -> Turn<K, V>
+    pub(crate) fn after_get(&mut self, look: Look<K, V>, turn: TableTurn<K, V>) -> Turn<K, V, E>
         ensures { GoesOn self.old
             (after_get (standing self.old (plan.Get (aim_of look) (key_sought look) ∷ []))
             (aim_of look) turn) result self.new }
@@ -42,12 +47,12 @@ impl<K: Drop, V: Drop> Flow<K, V> {
 
     fn after_judge(
         &mut self,
-        look: Look<K>,
+        look: Look<K, V>,
         key: K,
         stored: Stored<V>,
-        found: Found<V>,
-    ) -> Turn<K, V>
-        requires form { IsFoundBy (Visit.Judge key stored) found }
+        found: Found<V, E>,
+    ) -> Turn<K, V, E>
+        requires form { IsFoundBy (Visit.Judge (replace_of (aim_of look)) key stored) found }
         ensures { GoesOn self.old
             (after_judge (standing self.old (plan.Judge (aim_of look) key stored ∷ []))
             (aim_of look) stored found) result self.new }
@@ -59,19 +64,31 @@ impl<K: Drop, V: Drop> Flow<K, V> {
         }
     }
 
-    fn misses(&mut self, look: Look<K>) -> Turn<K, V>
+    fn misses(&mut self, look: Look<K, V>) -> Turn<K, V, E>
         ensures { GoesOn self.old
             (misses (standing self.old (plan_at self.old.point)) (aim_of look))
             result self.new }
     {
         match look {
             Look::Answer { .. } => self.answers(Answer::Found(None)),
-            Look::Load(load) => self.goes(Point::Loading(Loading::Own(load))),
-            Look::Own(load) => self.goes(Point::Loading(Loading::Ask(load))),
+            Look::Load(sought) => self.goes(Point::Loading(Loading::Own(sought))),
+            Look::Own(sought) => self.goes(Point::Loading(Loading::Ask(sought.load))),
+            Look::Insert { key, value } => self.inserts(key, value),
         }
     }
 
-    fn hits(&mut self, look: Look<K>, value: V) -> Turn<K, V>
+    // Nothing was found: the value is stored, and then answered.
+    fn inserts(&mut self, key: K, value: V) -> Turn<K, V, E>
+        ensures { GoesOn self.old (mid self.old
+            (put self.old.rules key value (plan.Reply (Answer.Loaded value true) ∷ [])))
+            result self.new }
+    {
+        let then = Then::Loaded;
+        let point = Point::storing(self.rules, Put { key, value, then });
+        self.goes(point)
+    }
+
+    fn hits(&mut self, look: Look<K, V>, value: V) -> Turn<K, V, E>
         ensures { GoesOn self.old
             (hits (standing self.old (plan_at self.old.point)) (aim_of look) value)
             result self.new }
@@ -82,10 +99,14 @@ impl<K: Drop, V: Drop> Flow<K, V> {
                 value,
                 fresh: false,
             }),
-            Look::Own(_) => self.goes(Point::Loading(Loading::Settle {
+            Look::Own(_) => self.settles(Ending::Ready {
                 value,
                 fresh: false,
-            })),
+            }),
+            Look::Insert { .. } => self.answers(Answer::Loaded {
+                value,
+                fresh: false,
+            }),
         }
     }
 }

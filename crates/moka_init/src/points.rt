@@ -1,17 +1,19 @@
 //! Where a call stands: one variant for each item that can come first, with all that is still to
 //! do.
 
-use moka_hist::{Answer, Cause, Load, Stored, Write};
+use moka_hist::{Answer, Cause, Load, Sought, Stored, Write};
 
 /// A key that is looked up, and what for.
 #[derive(Drop)]
-pub enum Look<K> {
+pub enum Look<K, V> {
     /// To answer what is found.
     Answer { key: K },
     /// To answer what is found, or else to load it.
-    Load(Load<K>),
+    Load(Sought<K>),
     /// To load it, by its owner, unless it is found.
-    Own(Load<K>),
+    Own(Sought<K>),
+    /// To answer what is found, or else to store the value.
+    Insert { key: K, value: V },
 }
 
 /// A record that was chosen to leave for the cause, by its key and its stamp.
@@ -22,12 +24,23 @@ pub struct Chosen<K> {
     pub cause: Cause,
 }
 
-/// A value that is to be stored. A load tells it afterwards to those that wait.
+/// What follows once a value is stored.
+#[derive(Clone, Copy)]
+pub enum Then {
+    /// That it is stored is answered.
+    Done,
+    /// It is told to those that wait, and answered.
+    Settle,
+    /// It is answered.
+    Loaded,
+}
+
+/// A value that is to be stored, and what follows then.
 #[derive(Drop)]
 pub struct Put<K, V> {
     pub key: K,
     pub value: V,
-    pub loads: bool,
+    pub then: Then,
 }
 
 /// What a record is taken out for.
@@ -62,15 +75,17 @@ pub enum Locked<K, V> {
 /// What follows once nothing is owed any more.
 #[derive(Drop)]
 pub enum Drained<K, V> {
-    Look(Look<K>),
+    Look(Look<K, V>),
     /// A load is owned or waited for: a disabled cache is not looked at.
-    Own(Load<K>),
+    Own(Sought<K>),
     /// A value is stored.
     Put(Put<K, V>),
     /// A record is taken out.
     TakeOut(TakeOut<K>),
     /// The key's lock is taken first.
     Lock(Locked<K, V>),
+    /// The value is answered: a disabled cache stores nothing.
+    Loaded(V),
 }
 
 /// What follows once a write is posted.
@@ -82,6 +97,8 @@ pub enum Posted<K, V> {
     Done,
     /// It was a load's own: the value is told to those that wait.
     Settle(V),
+    /// It stored a value where none was found: the value is answered.
+    Loaded(V),
     /// It took a record out whose value is answered.
     Found(V),
     /// It took out a record that was chosen to leave.
@@ -101,20 +118,32 @@ pub enum Posting<K, V> {
 /// Looking a key up, and judging the record that was found.
 #[derive(Drop)]
 pub enum Looking<K, V> {
-    Get(Look<K>),
+    Get(Look<K, V>),
     Judge {
-        look: Look<K>,
+        look: Look<K, V>,
         key: K,
         stored: Stored<V>,
     },
 }
 
-/// Owning a load or waiting for its owner, asking for its value, and telling it to those that wait.
+/// How an owner ends: what it tells those that wait, and then answers.
 #[derive(Drop)]
-pub enum Loading<K, V> {
-    Own(Load<K>),
-    Read(Load<K>),
-    Settle { value: V, fresh: bool },
+pub enum Ending<V, E> {
+    /// The value; `fresh` where the call's own initializer gave it.
+    Ready { value: V, fresh: bool },
+    /// The error that its initializer gave.
+    Err(E),
+    /// Its initializer gave neither.
+    Nothing,
+}
+
+/// Owning a load or waiting for its owner, asking what it gives, and telling that to those that
+/// wait.
+#[derive(Drop)]
+pub enum Loading<K, V, E> {
+    Own(Sought<K>),
+    Read(Sought<K>),
+    Settle(Ending<V, E>),
     Ask(Load<K>),
     Told(Load<K>),
 }
@@ -180,15 +209,15 @@ pub enum Listening<K, V> {
 
 /// Where a call stands.
 #[derive(Drop)]
-pub enum Point<K, V> {
+pub enum Point<K, V, E> {
     Posting(Posting<K, V>),
     Looking(Looking<K, V>),
-    Loading(Loading<K, V>),
+    Loading(Loading<K, V, E>),
     Writing(Writing<K, V>),
     Removing(Removing<K, V>),
     Listening(Listening<K, V>),
     /// Nothing is left but this answer: the cache is disabled.
-    Answering(Answer<V>),
+    Answering(Answer<V, E>),
     /// The call has answered.
     Spent,
 }

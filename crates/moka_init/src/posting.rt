@@ -11,12 +11,16 @@ ghost use Rattle.moka_init.specs.Forms.{HasForm, IsFoundBy};
 
 use crate::flow::Flow;
 use crate::points::{
-    Drained, Listening, Loading, Looking, Point, Posted, Posting, Removing, Writing,
+    Drained, Ending, Listening, Loading, Looking, Point, Posted, Posting, Removing, Writing,
 };
 use moka_hist::{Answer, Found, Got, Owed, Turn, Visit, Write};
 
-impl<K: Drop, V: Drop> Flow<K, V> {
-    pub(crate) fn after_posting(&mut self, posting: Posting<K, V>, found: Found<V>) -> Turn<K, V>
+impl<K: Drop, V: Drop, E: Drop> Flow<K, V, E> {
+    pub(crate) fn after_posting(
+        &mut self,
+        posting: Posting<K, V>,
+        found: Found<V, E>,
+    ) -> Turn<K, V, E>
         requires form { HasForm
             (access_of self.old.call (standing self.old (posting_plan posting)))
             (Got.Desk found) }
@@ -33,7 +37,7 @@ impl<K: Drop, V: Drop> Flow<K, V> {
         }
     }
 
-    fn after_drain(&mut self, then: Drained<K, V>, found: Found<V>) -> Turn<K, V>
+    fn after_drain(&mut self, then: Drained<K, V>, found: Found<V, E>) -> Turn<K, V, E>
         requires form { IsFoundBy {K = K} (Visit.TakeOwed self.old.call) found }
         ensures { GoesOn self.old
             (after_drain (standing self.old (plan.Drain ∷ drained_rest then))
@@ -47,7 +51,7 @@ impl<K: Drop, V: Drop> Flow<K, V> {
     }
 
     // An owed write is posted, once its notice has ended.
-    fn takes_up(&mut self, owed: Owed, then: Drained<K, V>) -> Turn<K, V>
+    fn takes_up(&mut self, owed: Owed, then: Drained<K, V>) -> Turn<K, V, E>
         ensures { GoesOn self.old (mid self.old (once_ended owed.notice
             (plan.Post owed.write ∷ plan.Drain ∷ drained_rest then))) result self.new }
     {
@@ -66,19 +70,22 @@ impl<K: Drop, V: Drop> Flow<K, V> {
     }
 
     // Nothing is owed any more.
-    fn drained(&mut self, then: Drained<K, V>) -> Turn<K, V>
-        ensures { GoesOn self.old (mid self.old (drained_rest then)) result self.new }
+    fn drained(&mut self, then: Drained<K, V>) -> Turn<K, V, E>
+        ensures { GoesOn self.old
+            (goes (standing self.old (plan_at self.old.point)) (drained_rest then))
+            result self.new }
     {
         match then {
             Drained::Look(look) => self.goes(Point::Looking(Looking::Get(look))),
-            Drained::Own(load) => self.goes(Point::Loading(Loading::Own(load))),
+            Drained::Own(sought) => self.goes(Point::Loading(Loading::Own(sought))),
             Drained::Put(put) => self.goes(Point::Writing(Writing::Moment(put))),
             Drained::TakeOut(out) => self.goes(Point::Removing(Removing::Moment(out))),
             Drained::Lock(locked) => self.goes(Point::Listening(Listening::Lock(locked))),
+            Drained::Loaded(value) => self.answers(Answer::Loaded { value, fresh: true }),
         }
     }
 
-    fn after_post(&mut self, write: Write, then: Posted<K, V>, found: Found<V>) -> Turn<K, V>
+    fn after_post(&mut self, write: Write, then: Posted<K, V>, found: Found<V, E>) -> Turn<K, V, E>
         requires form { IsFoundBy {K = K} (Visit.PostWrite self.old.call write) found }
         ensures { GoesOn self.old
             (after_post (standing self.old (plan.Post write ∷ posted_rest then))
@@ -91,7 +98,7 @@ impl<K: Drop, V: Drop> Flow<K, V> {
         }
     }
 
-    fn posted(&mut self, then: Posted<K, V>) -> Turn<K, V>
+    fn posted(&mut self, then: Posted<K, V>) -> Turn<K, V, E>
         ensures { GoesOn self.old
             (goes (standing self.old (plan_at self.old.point)) (posted_rest then))
             result self.new }
@@ -99,16 +106,14 @@ impl<K: Drop, V: Drop> Flow<K, V> {
         match then {
             Posted::Drain(then) => self.goes(Point::Posting(Posting::Drain(then))),
             Posted::Done => self.answers(Answer::Done),
-            Posted::Settle(value) => self.goes(Point::Loading(Loading::Settle {
-                value,
-                fresh: true,
-            })),
+            Posted::Settle(value) => self.settles(Ending::Ready { value, fresh: true }),
+            Posted::Loaded(value) => self.answers(Answer::Loaded { value, fresh: true }),
             Posted::Found(value) => self.answers(Answer::Found(Some(value))),
             Posted::Evicted => self.answers(Answer::Evicted),
         }
     }
 
-    fn after_turn(&mut self, write: Write, then: Posted<K, V>, found: Found<V>) -> Turn<K, V>
+    fn after_turn(&mut self, write: Write, then: Posted<K, V>, found: Found<V, E>) -> Turn<K, V, E>
         requires form { IsFoundBy {K = K} (Visit.TakeTurn self.old.call) found }
         ensures { GoesOn self.old
             (after_turn (standing self.old (posting_plan (Posting.Turn write then)))
@@ -121,7 +126,7 @@ impl<K: Drop, V: Drop> Flow<K, V> {
         }
     }
 
-    fn after_apply(&mut self, write: Write, then: Posted<K, V>, found: Found<V>) -> Turn<K, V>
+    fn after_apply(&mut self, write: Write, then: Posted<K, V>, found: Found<V, E>) -> Turn<K, V, E>
         requires form { IsFoundBy {K = K} (Visit.ApplyOne self.old.call) found }
         ensures { GoesOn self.old
             (after_apply (standing self.old (posting_plan (Posting.Apply write then)))
@@ -134,7 +139,7 @@ impl<K: Drop, V: Drop> Flow<K, V> {
         }
     }
 
-    fn after_end(&mut self, write: Write, then: Posted<K, V>, found: Found<V>) -> Turn<K, V>
+    fn after_end(&mut self, write: Write, then: Posted<K, V>, found: Found<V, E>) -> Turn<K, V, E>
         requires form { IsFoundBy {K = K} (Visit.EndTurn self.old.call) found }
         ensures { GoesOn self.old
             (after_end (standing self.old (posting_plan (Posting.End write then)))

@@ -5,7 +5,7 @@ ghost use Rattle.moka_hist.specs.Looking.{after_get, after_holds, chosen_or_not,
 ghost use Rattle.moka_hist.specs.Step.{next_of, access_of};
 ghost use Rattle.moka_hist.specs.Writing.{after_moment, after_out, after_idle};
 ghost use Rattle.moka_hist.specs.Writing.{nothing_rest, removed_rest, removed_answer};
-ghost use Rattle.moka_init.specs.PointPlan.{aim_at, answers_nothing, finds, plan_at, posted_rest};
+ghost use Rattle.moka_init.specs.PointPlan.{aim_at, answers_nothing, finds, plan_at};
 ghost use Rattle.moka_init.specs.PointPlan.{removal_of, removing_plan, takes_out};
 ghost use Rattle.moka_init.specs.FlowPlan.{standing, mid, GoesOn};
 ghost use Rattle.moka_init.specs.Forms.{HasForm, IsFoundBy};
@@ -14,8 +14,12 @@ use crate::flow::Flow;
 use crate::points::{Chosen, Listening, Point, Posted, Posting, Removal, Removing, TakeOut};
 use moka_hist::{Answer, Found, Got, Stored, TableAnswer, TableTurn, Turn, Visit, Write};
 
-impl<K: Drop, V: Drop> Flow<K, V> {
-    pub(crate) fn after_removing(&mut self, removing: Removing<K, V>, found: Found<V>) -> Turn<K, V>
+impl<K: Drop, V: Drop, E: Drop> Flow<K, V, E> {
+    pub(crate) fn after_removing(
+        &mut self,
+        removing: Removing<K, V>,
+        found: Found<V, E>,
+    ) -> Turn<K, V, E>
         requires form { HasForm
             (access_of self.old.call (standing self.old (removing_plan removing)))
             (Got.Desk found) }
@@ -37,7 +41,7 @@ impl<K: Drop, V: Drop> Flow<K, V> {
     }
 
     // After a step of the look for a chosen record: one that is another by now stays.
-    pub(crate) fn after_find(&mut self, chosen: Chosen<K>, turn: TableTurn<K, V>) -> Turn<K, V>
+    pub(crate) fn after_find(&mut self, chosen: Chosen<K>, turn: TableTurn<K, V>) -> Turn<K, V, E>
         ensures { GoesOn self.old
             (after_get (standing self.old (finds chosen)) (aim_at chosen) turn)
             result self.new }
@@ -51,7 +55,7 @@ impl<K: Drop, V: Drop> Flow<K, V> {
         }
     }
 
-    fn finds(&mut self, chosen: Chosen<K>, key: K, stored: Stored<V>) -> Turn<K, V>
+    fn finds(&mut self, chosen: Chosen<K>, key: K, stored: Stored<V>) -> Turn<K, V, E>
         ensures { GoesOn self.old
             (chosen_or_not (standing self.old (plan_at self.old.point))
             (stored.stamp == chosen.stamp) chosen.key chosen.stamp chosen.cause key stored)
@@ -69,7 +73,7 @@ impl<K: Drop, V: Drop> Flow<K, V> {
     }
 
     // The chosen record stays. The lock is freed where one is held.
-    fn keeps(&mut self, chosen: Chosen<K>) -> Turn<K, V>
+    fn keeps(&mut self, chosen: Chosen<K>) -> Turn<K, V, E>
         ensures { GoesOn self.old
             (keeps (standing self.old (plan_at self.old.point))) result self.new }
     {
@@ -85,8 +89,8 @@ impl<K: Drop, V: Drop> Flow<K, V> {
         chosen: Chosen<K>,
         key: K,
         stored: Stored<V>,
-        found: Found<V>,
-    ) -> Turn<K, V>
+        found: Found<V, E>,
+    ) -> Turn<K, V, E>
         requires form { IsFoundBy (Visit.Holds key stored chosen.cause) found }
         ensures { GoesOn self.old
             (after_holds
@@ -100,7 +104,7 @@ impl<K: Drop, V: Drop> Flow<K, V> {
         }
     }
 
-    fn after_taken_moment(&mut self, out: TakeOut<K>, found: Found<V>) -> Turn<K, V>
+    fn after_taken_moment(&mut self, out: TakeOut<K>, found: Found<V, E>) -> Turn<K, V, E>
         requires form { IsFoundBy {K = K} (Visit.StampMoment self.old.call) found }
         ensures { GoesOn self.old
             (after_moment (standing self.old (takes_out out))
@@ -112,7 +116,7 @@ impl<K: Drop, V: Drop> Flow<K, V> {
         }
     }
 
-    pub(crate) fn after_out(&mut self, out: TakeOut<K>, turn: TableTurn<K, V>) -> Turn<K, V>
+    pub(crate) fn after_out(&mut self, out: TakeOut<K>, turn: TableTurn<K, V>) -> Turn<K, V, E>
         ensures { GoesOn self.old
             (after_out self.old.call
             (standing self.old (plan.Out (removal_of out.removal) out.key ∷ []))
@@ -126,7 +130,7 @@ impl<K: Drop, V: Drop> Flow<K, V> {
     }
 
     // Nothing was taken out: the lock is freed, or without a listener the clock read.
-    fn finds_nothing(&mut self, removal: Removal) -> Turn<K, V>
+    fn finds_nothing(&mut self, removal: Removal) -> Turn<K, V, E>
         ensures { GoesOn self.old
             (mid self.old (nothing_rest self.old.rules.listener (removal_of removal)))
             result self.new }
@@ -139,7 +143,7 @@ impl<K: Drop, V: Drop> Flow<K, V> {
     }
 
     // The removal is committed, and to be posted, once the listener has heard of the record.
-    fn removes(&mut self, out: TakeOut<K>, old: Stored<V>) -> Turn<K, V>
+    fn removes(&mut self, out: TakeOut<K>, old: Stored<V>) -> Turn<K, V, E>
         ensures { GoesOn self.old
             (mid self.old (removed_rest self.old.rules.listener self.old.call
             (removal_of out.removal) out.key old)) result self.new }
@@ -151,15 +155,12 @@ impl<K: Drop, V: Drop> Flow<K, V> {
         if self.rules.listener {
             self.tells_removed(out, old, write)
         } else {
-            self.goes(Point::Posting(Posting::Post {
-                write,
-                then: out.removal.posted(old.value),
-            }))
+            self.goes(Point::removed(write, out.removal, old.value))
         }
     }
 
     // The notice of the record that was taken out is due.
-    fn tells_removed(&mut self, out: TakeOut<K>, old: Stored<V>, write: Write) -> Turn<K, V>
+    fn tells_removed(&mut self, out: TakeOut<K>, old: Stored<V>, write: Write) -> Turn<K, V, E>
         requires write { write ≡ Write.Remove self.old.call old.stamp }
         ensures { GoesOn self.old
             (mid self.old (removed_rest true self.old.call
@@ -187,7 +188,7 @@ impl<K: Drop, V: Drop> Flow<K, V> {
         }
     }
 
-    fn after_idle(&mut self, removal: Removal, found: Found<V>) -> Turn<K, V>
+    fn after_idle(&mut self, removal: Removal, found: Found<V, E>) -> Turn<K, V, E>
         requires form { IsFoundBy {K = K} (Visit.Clock self.old.call) found }
         ensures { GoesOn self.old
             (after_idle (standing self.old (plan.Idle ∷ answers_nothing removal))
@@ -223,23 +224,26 @@ impl<K> Chosen<K> {
     }
 }
 
-impl Removal {
-    ghost use Rattle.moka_hist.specs.Writing.{nothing_answer};
-
-    // What follows once the removal is posted that took out a record of this value.
-    fn posted<K, V: Drop>(self, value: V) -> Posted<K, V>
-        ensures { posted_rest result
-            ≡ plan.Reply (removed_answer (removal_of self) value) ∷ [] }
+impl<K: Drop, V: Drop, E: Drop> Point<K, V, E> {
+    // The write is posted of a removal that took out a record of this value, and that is answered.
+    fn removed(write: Write, removal: Removal, value: V) -> Self
+        ensures { plan_at result ≡ plan.Post write
+            ∷ plan.Reply (removed_answer (removal_of removal) value) ∷ [] }
     {
-        match self {
+        let then = match removal {
             Removal::Invalidate => Posted::Done,
             Removal::Remove => Posted::Found(value),
             Removal::Evict { .. } => Posted::Evicted,
-        }
+        };
+        Point::Posting(Posting::Post { write, then })
     }
+}
+
+impl Removal {
+    ghost use Rattle.moka_hist.specs.Writing.{nothing_answer};
 
     // What is answered where nothing was found.
-    pub(crate) fn nothing<V>(self) -> Answer<V>
+    pub(crate) fn nothing<V, E>(self) -> Answer<V, E>
         ensures { result ≡ nothing_answer (removal_of self) }
     {
         match self {

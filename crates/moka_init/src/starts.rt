@@ -1,14 +1,14 @@
 //! Where a fresh call stands.
 
-ghost use Rattle.std.specs.Prelude.{◌≡◌, [], ◌∷◌};
+ghost use Rattle.std.specs.Prelude.{◌≡◌};
 ghost use Rattle.moka_hist.specs.Plan.{is_disabled, get_plan, insert_plan, load_plan, plan_of, put};
-ghost use Rattle.moka_hist.specs.Plan.{take_out, under_lock, look, Drain, To_evict};
-ghost use Rattle.moka_init.specs.PointPlan.{drained_rest, plan_at, put_rest, removal_of};
+ghost use Rattle.moka_hist.specs.Plan.{or_insert_plan, seek, take_out, under_lock, look, To_evict};
+ghost use Rattle.moka_init.specs.PointPlan.{plan_at, put_rest, removal_of};
 
 use crate::points::{
-    Chosen, Drained, Listening, Locked, Look, Point, Posting, Put, Removal, Removing, TakeOut,
+    Chosen, Drained, Listening, Locked, Look, Point, Posting, Put, Removal, Removing, TakeOut, Then,
 };
-use moka_hist::{Answer, Kind, Load, Rules, Start};
+use moka_hist::{Answer, Kind, Load, Rules, Sought, Start};
 
 /// Whether a cache of these rules is disabled: its capacity is 0, and it stores nothing.
 pub(crate) fn is_disabled(rules: Rules) -> bool
@@ -20,7 +20,7 @@ pub(crate) fn is_disabled(rules: Rules) -> bool
     }
 }
 
-impl<K: Drop, V: Drop> Point<K, V> {
+impl<K: Drop, V: Drop, E: Drop> Point<K, V, E> {
     /// Where a fresh call stands.
     pub(crate) fn first(rules: Rules, start: Start<K, V>) -> Self
         ensures { plan_at result ≡ plan_of rules start }
@@ -28,27 +28,12 @@ impl<K: Drop, V: Drop> Point<K, V> {
         match start {
             Start::Get { key } => Point::get(is_disabled(rules), key),
             Start::Insert { key, value } => Point::insert(rules, key, value),
-            Start::GetWith { key } => Point::load(
-                is_disabled(rules),
-                Load {
-                    key,
-                    kind: Kind::GetWith,
-                },
-            ),
-            Start::Invalidate { key } => Point::take_out(
-                rules,
-                TakeOut {
-                    key,
-                    removal: Removal::Invalidate,
-                },
-            ),
-            Start::Remove { key } => Point::take_out(
-                rules,
-                TakeOut {
-                    key,
-                    removal: Removal::Remove,
-                },
-            ),
+            Start::GetWith { key, replace } => Point::seeks(rules, Kind::GetWith, key, replace),
+            Start::Optional { key } => Point::seeks(rules, Kind::Optional, key, None),
+            Start::Try { key } => Point::seeks(rules, Kind::Try, key, None),
+            Start::OrInsert { key, value } => Point::or_insert(is_disabled(rules), key, value),
+            Start::Invalidate { key } => Point::takes_out(rules, Removal::Invalidate, key),
+            Start::Remove { key } => Point::takes_out(rules, Removal::Remove, key),
             Start::Evict { key, stamp, cause } => {
                 Point::evict(rules.listener, Chosen { key, stamp, cause })
             }
@@ -73,28 +58,44 @@ impl<K: Drop, V: Drop> Point<K, V> {
         if is_disabled(rules) {
             Point::Answering(Answer::Done)
         } else {
-            let put = Put {
-                key,
-                value,
-                loads: false,
-            };
-            Point::Posting(Posting::Drain(Drained::storing(rules, put)))
+            let then = Then::Done;
+            Point::storing(rules, Put { key, value, then })
         }
     }
 
-    fn load(disabled: bool, load: Load<K>) -> Self
-        ensures { plan_at result ≡ load_plan disabled load }
+    // A load of this kind, with this replace test, if any.
+    fn seeks(rules: Rules, kind: Kind, key: K, replace: Option<u64>) -> Self
+        ensures { plan_at result ≡ load_plan (is_disabled rules) (seek kind key replace) }
+    {
+        let load = Load { key, kind };
+        Point::load(is_disabled(rules), Sought { load, replace })
+    }
+
+    fn load(disabled: bool, sought: Sought<K>) -> Self
+        ensures { plan_at result ≡ load_plan disabled sought }
     {
         if disabled {
-            Point::Posting(Posting::Drain(Drained::Own(load)))
+            Point::Posting(Posting::Drain(Drained::Own(sought)))
         } else {
-            Point::Posting(Posting::Drain(Drained::Look(Look::Load(load))))
+            Point::Posting(Posting::Drain(Drained::Look(Look::Load(sought))))
         }
     }
 
-    fn take_out(rules: Rules, out: TakeOut<K>) -> Self
-        ensures { plan_at result ≡ take_out rules (removal_of out.removal) out.key }
+    // A disabled cache answers the value.
+    fn or_insert(disabled: bool, key: K, value: V) -> Self
+        ensures { plan_at result ≡ or_insert_plan disabled key value }
     {
+        if disabled {
+            Point::Posting(Posting::Drain(Drained::Loaded(value)))
+        } else {
+            Point::Posting(Posting::Drain(Drained::Look(Look::Insert { key, value })))
+        }
+    }
+
+    fn takes_out(rules: Rules, removal: Removal, key: K) -> Self
+        ensures { plan_at result ≡ take_out rules (removal_of removal) key }
+    {
+        let out = TakeOut { key, removal };
         let then = if rules.listener {
             Drained::Lock(Locked::TakeOut(out))
         } else {
@@ -114,17 +115,16 @@ impl<K: Drop, V: Drop> Point<K, V> {
             Point::Removing(Removing::Find(chosen))
         }
     }
-}
 
-impl<K, V> Drained<K, V> {
-    /// The value is stored, under its key's lock where a listener is set.
+    /// The value is stored once nothing is owed, under its key's lock where a listener is set.
     pub(crate) fn storing(rules: Rules, value: Put<K, V>) -> Self
-        ensures { Drain ∷ drained_rest result ≡ put rules value.key value.value (put_rest value) }
+        ensures { plan_at result ≡ put rules value.key value.value (put_rest value) }
     {
-        if rules.listener {
+        let then = if rules.listener {
             Drained::Lock(Locked::Put(value))
         } else {
             Drained::Put(value)
-        }
+        };
+        Point::Posting(Posting::Drain(then))
     }
 }

@@ -9,13 +9,14 @@ ghost use Rattle.moka_init.specs.Grounds.{access_at};
 use crate::flow::Flow;
 use crate::points::Point;
 use moka_hist::{Answer, Ask, Found, Got, Mode, TableTurn, Turn};
+use std::mem;
 
-impl<K: Drop, V: Drop> Flow<K, V> {
+impl<K: Drop, V: Drop, E: Drop> Flow<K, V, E> {
     /// Goes on with what the access gave that `want` told. It moves, and takes no memory.
     /// Condition: the call has not answered, `want` has made the copies that the flow keeps, and
     /// the answer is of the form that belongs to that access. A call that has answered has nothing
     /// left to do, and holds no write.
-    pub fn take(&mut self, got: Got<K, V>) -> Turn<K, V>
+    pub fn take(&mut self, got: Got<K, V, E>) -> Turn<K, V, E>
         requires live { IsLive self.old }
         requires ready { IsReady self.old }
         requires form { HasForm (access_at self.old) got }
@@ -37,46 +38,53 @@ impl<K: Drop, V: Drop> Flow<K, V> {
     }
 
     // The call goes on from the point.
-    pub(crate) fn goes(&mut self, point: Point<K, V>) -> Turn<K, V>
+    pub(crate) fn goes(&mut self, point: Point<K, V, E>) -> Turn<K, V, E>
         ensures turn { result ≡ Turn.Going }
         ensures flow { self.new ≡ record self.old { mode = Mode.Mid; point = point } }
     {
         self.mode = Mode::Mid;
-        self.point = point;
+        self.stands_at(point);
         Turn::Going
     }
 
     // Something is missing: the call is parked at the point.
-    pub(crate) fn waits(&mut self, point: Point<K, V>) -> Turn<K, V>
+    pub(crate) fn waits(&mut self, point: Point<K, V, E>) -> Turn<K, V, E>
         ensures turn { result ≡ Turn.Wait }
         ensures flow { self.new ≡ record self.old { mode = Mode.Parked; point = point } }
     {
         self.mode = Mode::Parked;
-        self.point = point;
+        self.stands_at(point);
         Turn::Wait
     }
 
     // The call asks its caller, and is parked at the point.
-    pub(crate) fn asks(&mut self, ask: Ask<K, V>, point: Point<K, V>) -> Turn<K, V>
+    pub(crate) fn asks(&mut self, ask: Ask<K, V>, point: Point<K, V, E>) -> Turn<K, V, E>
         ensures turn { result ≡ Turn.Ask ask }
         ensures flow { self.new ≡ record self.old { mode = Mode.Parked; point = point } }
     {
         self.mode = Mode::Parked;
-        self.point = point;
+        self.stands_at(point);
         Turn::Ask(ask)
     }
 
     // The call has answered.
-    pub(crate) fn answers(&mut self, answer: Answer<V>) -> Turn<K, V>
+    pub(crate) fn answers(&mut self, answer: Answer<V, E>) -> Turn<K, V, E>
         ensures turn { result ≡ Turn.Answer answer }
         ensures flow { self.new ≡ record self.old { point = Point.Spent } }
     {
-        self.point = Point::Spent;
+        self.stands_at(Point::Spent);
         Turn::Answer(answer)
     }
 
+    // The call stands at the point, and the one where it stood is let go.
+    pub(crate) fn stands_at(&mut self, point: Point<K, V, E>)
+        ensures { self.new ≡ record self.old { point = point } }
+    {
+        drop(mem::replace(&mut self.point, point));
+    }
+
     // After a step of a table operation.
-    fn after_table(&mut self, turn: TableTurn<K, V>) -> Turn<K, V>
+    fn after_table(&mut self, turn: TableTurn<K, V>) -> Turn<K, V, E>
         requires form { HasForm (access_at self.old) (Got.Table turn) }
         ensures { GoesOn self.old (next_of self.old.call (call_of self.old) (Got.Table turn))
             result self.new }
@@ -90,7 +98,7 @@ impl<K: Drop, V: Drop> Flow<K, V> {
     }
 
     // After a visit of the desk.
-    fn after_visit(&mut self, found: Found<V>) -> Turn<K, V>
+    fn after_visit(&mut self, found: Found<V, E>) -> Turn<K, V, E>
         requires live { IsLive self.old }
         requires ready { IsReady self.old }
         requires form { HasForm (access_at self.old) (Got.Desk found) }

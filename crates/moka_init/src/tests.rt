@@ -6,14 +6,15 @@ ghost use Rattle.moka_init.specs.Forms.{FitsWant, IsFoundBy};
 
 use crate::{Flow, Got, Turn, Want};
 use moka_hist::{
-    Answer, Ask, Cause, Claim, Found, Owed, Rules, Settled, Start, Stored, TableAnswer, TableOp,
-    TableTurn, Told, Visit, Write,
+    Answer, Ask, Cause, Found, Owed, Rules, Settled, Start, Stored, TableAnswer, TableOp,
+    TableTurn, Takes, Visit, Write,
 };
+use std::alloc::Global;
 use std::process::Abort;
 use std::test::Fail;
 
 // An access, what it gives, and the turn then.
-pub(crate) type Row = (&'static str, Got<u32, u32>, &'static str);
+pub(crate) type Row = (&'static str, Got<u32, u32, u32>, &'static str);
 
 pub(crate) const KEY: u32 = 3;
 
@@ -32,6 +33,18 @@ pub(crate) const RULES: Rules = Rules {
     closures: false,
 };
 
+// A listener is set.
+pub(crate) const HEARD: Rules = Rules {
+    listener: true,
+    ..RULES
+};
+
+// The cache is disabled.
+pub(crate) const DISABLED: Rules = Rules {
+    max_capacity: Some(0),
+    ..RULES
+};
+
 // A record of the call 2 under the key.
 pub(crate) fn found() -> TableAnswer<u32, u32> {
     TableAnswer::Some {
@@ -44,23 +57,15 @@ pub(crate) fn found() -> TableAnswer<u32, u32> {
     }
 }
 
-pub(crate) fn decided(answer: TableAnswer<u32, u32>) -> Got<u32, u32> {
+pub(crate) fn decided(answer: TableAnswer<u32, u32>) -> Got<u32, u32, u32> {
     Got::Table(TableTurn::Decided(answer))
 }
 
-fn waits() -> Got<u32, u32> {
-    Got::Desk(Found::WaitOrOwn(Claim::Waits { owner: 2 }))
-}
-
-fn aborted() -> Got<u32, u32> {
-    Got::Desk(Found::ReadSettled(Settled::Aborted))
-}
-
-pub(crate) fn undecided() -> Got<u32, u32> {
+pub(crate) fn undecided() -> Got<u32, u32, u32> {
     Got::Table(TableTurn::Going)
 }
 
-fn want_name(want: &Want<u32, u32>) -> &'static str {
+fn want_name(want: &Want<u32, u32, u32>) -> &'static str {
     match want {
         Want::Begin(TableOp::Get { .. }) => "get",
         Want::Begin(TableOp::InsertOrModify { .. }) => "insert",
@@ -71,7 +76,7 @@ fn want_name(want: &Want<u32, u32>) -> &'static str {
     }
 }
 
-fn visit_name(visit: &Visit<u32, u32>) -> &'static str {
+fn visit_name(visit: &Visit<u32, u32, u32>) -> &'static str {
     match visit {
         Visit::Clock { .. } => "clock",
         Visit::TakeOwed { .. } => "take owed",
@@ -80,12 +85,16 @@ fn visit_name(visit: &Visit<u32, u32>) -> &'static str {
         Visit::UnlockKey { .. } => "unlock key",
         Visit::OpenNotice { .. } => "open notice",
         Visit::StampMoment { .. } => "stamp moment",
-        Visit::Judge { .. } => "judge",
+        Visit::Judge { replace: None, .. } => "judge",
+        Visit::Judge {
+            replace: Some(_),
+            ..
+        } => "judge by test",
         Visit::Holds { .. } => "holds",
         Visit::WaitOrOwn { .. } => "wait or own",
         Visit::ReadSettled { .. } => "read settled",
-        Visit::Settle { .. } => "settle",
-        Visit::OpenAsk { .. } => "open ask",
+        Visit::Settle { with, .. } => settled_name(with),
+        Visit::OpenAsk { takes, .. } => takes_name(*takes),
         Visit::TakeTold { .. } => "take told",
         Visit::PostWrite { .. } => "post write",
         Visit::TakeTurn { .. } => "take turn",
@@ -94,7 +103,25 @@ fn visit_name(visit: &Visit<u32, u32>) -> &'static str {
     }
 }
 
-fn turn_name(turn: &Turn<u32, u32>) -> &'static str {
+fn settled_name(settled: &Settled<u32, u32>) -> &'static str {
+    match settled {
+        Settled::NotYet => "settle not yet",
+        Settled::Ready(_) => "settle",
+        Settled::Err(_) => "settle error",
+        Settled::Nothing => "settle nothing",
+        Settled::Aborted => "settle aborted",
+    }
+}
+
+fn takes_name(takes: Takes) -> &'static str {
+    match takes {
+        Takes::Value => "ask value",
+        Takes::Optional => "ask optional",
+        Takes::Try => "ask try",
+    }
+}
+
+fn turn_name(turn: &Turn<u32, u32, u32>) -> &'static str {
     match turn {
         Turn::Going => "going",
         Turn::Wait => "wait",
@@ -110,13 +137,15 @@ fn ask_name(ask: &Ask<u32, u32>) -> &'static str {
     }
 }
 
-fn answer_name(answer: &Answer<u32>) -> &'static str {
+fn answer_name(answer: &Answer<u32, u32>) -> &'static str {
     match answer {
         Answer::Done => "done",
         Answer::Found(None) => "nothing",
         Answer::Found(Some(_)) => "found",
         Answer::Loaded { fresh: true, .. } => "fresh",
         Answer::Loaded { fresh: false, .. } => "loaded",
+        Answer::Nothing => "neither",
+        Answer::InitErr(_) => "error",
         Answer::RetriesExhausted => "exhausted",
         Answer::Evicted => "evicted",
         Answer::Kept => "kept",
@@ -124,7 +153,7 @@ fn answer_name(answer: &Answer<u32>) -> &'static str {
 }
 
 // Whether the answer is of the form that belongs to what was wanted.
-fn does_fit(want: &Want<u32, u32>, given: &Got<u32, u32>) -> bool
+fn does_fit(want: &Want<u32, u32, u32>, given: &Got<u32, u32, u32>) -> bool
     ensures { OnTrue result (FitsWant want.now given.now) }
 {
     match want {
@@ -137,7 +166,7 @@ fn does_fit(want: &Want<u32, u32>, given: &Got<u32, u32>) -> bool
     }
 }
 
-fn is_found_by(visit: &Visit<u32, u32>, found: &Found<u32>) -> bool
+fn is_found_by(visit: &Visit<u32, u32, u32>, found: &Found<u32, u32>) -> bool
     ensures { OnTrue result (IsFoundBy visit.now found.now) }
 {
     match visit {
@@ -165,10 +194,10 @@ fn is_found_by(visit: &Visit<u32, u32>, found: &Found<u32>) -> bool
 // One step of the flow: the access that it wants, and what that gives.
 pub(crate) fn stepped(
     rt: &impl Abort,
-    flow: &mut Flow<u32, u32>,
+    flow: &mut Flow<u32, u32, u32>,
     access: &'static str,
-    given: Got<u32, u32>,
-) -> Result<Turn<u32, u32>, Fail> {
+    given: Got<u32, u32, u32>,
+) -> Result<Turn<u32, u32, u32>, Fail> {
     let live = !flow.has_answered();
     assert!(rt; live, "before {access}");
     let want = flow.want()?;
@@ -180,172 +209,112 @@ pub(crate) fn stepped(
 }
 
 // The same, and the turn then.
-pub(crate) fn goes(rt: &impl Abort, flow: &mut Flow<u32, u32>, row: Row) -> Result<(), Fail> {
+pub(crate) fn goes(rt: &impl Abort, flow: &mut Flow<u32, u32, u32>, row: Row) -> Result<(), Fail> {
     let (access, given, turn) = row;
     let left = stepped(rt, flow, access, given)?;
     assert_eq!(rt; turn_name(&left), turn, "after {access}");
     Ok(())
 }
 
+// One row after the other.
+pub(crate) fn plays(
+    rt: &impl Abort,
+    flow: &mut Flow<u32, u32, u32>,
+    rows: Vec<Row>,
+) -> Result<(), Fail> {
+    for row in rows {
+        goes(rt, flow, row)?;
+    }
+    Ok(())
+}
+
+// The rows of a fresh call, of the number 7.
+pub(crate) fn runs(
+    rt: &impl Abort,
+    start: Start<u32, u32>,
+    rules: Rules,
+    rows: Vec<Row>,
+) -> Result<(), Fail> {
+    let mut flow = Flow::new(start, 7, rules);
+    let played = plays(rt, &mut flow, rows);
+    drop(flow);
+    played
+}
+
 #[test]
 fn a_get_posts_what_is_owed_and_answers_what_is_found(rt: HostRuntime) -> Result<(), Fail> {
-    let mut flow = Flow::new(Start::Get { key: KEY }, 7, RULES);
     let owed = Owed {
         write: WRITE,
         notice: None,
     };
-    let rows = [
-        ("take owed", Got::Desk(Found::TakeOwed(Some(owed))), "going"),
-        ("post write", Got::Desk(Found::PostWrite(true)), "going"),
-        ("take owed", Got::Desk(Found::TakeOwed(None)), "going"),
-        ("get", undecided(), "going"),
-        ("table", decided(found()), "going"),
-        ("judge", Got::Desk(Found::Judge(true)), "found"),
-    ];
-    for row in rows {
-        goes(&rt, &mut flow, row)?;
-    }
-    let mut flow = Flow::new(Start::Get { key: KEY }, 8, RULES);
-    let rows = [
-        ("take owed", Got::Desk(Found::TakeOwed(None)), "going"),
-        ("get", decided(TableAnswer::None), "nothing"),
-    ];
-    for row in rows {
-        goes(&rt, &mut flow, row)?;
-    }
+    runs(
+        &rt,
+        Start::Get { key: KEY },
+        RULES,
+        vec![in rt.alloc();
+            ("take owed", Got::Desk(Found::TakeOwed(Some(owed))), "going"),
+            ("post write", Got::Desk(Found::PostWrite(true)), "going"),
+            ("take owed", Got::Desk(Found::TakeOwed(None)), "going"),
+            ("get", undecided(), "going"),
+            ("table", decided(found()), "going"),
+            ("judge", Got::Desk(Found::Judge(true)), "found"),
+        ]?,
+    )?;
+    runs(
+        &rt,
+        Start::Get { key: KEY },
+        RULES,
+        vec![in rt.alloc();
+            ("take owed", Got::Desk(Found::TakeOwed(None)), "going"),
+            ("get", decided(TableAnswer::None), "nothing"),
+        ]?,
+    )?;
     Ok(())
 }
 
 #[test]
 fn an_insert_waits_for_the_turn_and_empties_a_full_log(rt: HostRuntime) -> Result<(), Fail> {
-    let mut flow = Flow::new(Start::Insert { key: KEY, value: 5 }, 7, RULES);
-    let rows = [
-        ("take owed", Got::Desk(Found::TakeOwed(None)), "going"),
-        ("stamp moment", Got::Desk(Found::StampMoment(4)), "going"),
-        ("insert", undecided(), "going"),
-        ("table", decided(found()), "going"),
-        ("post write", Got::Desk(Found::PostWrite(false)), "going"),
-        ("take turn", Got::Desk(Found::TakeTurn(false)), "wait"),
-        ("take turn", Got::Desk(Found::TakeTurn(true)), "going"),
-        ("apply one", Got::Desk(Found::ApplyOne(true)), "going"),
-        ("apply one", Got::Desk(Found::ApplyOne(false)), "going"),
-        ("end turn", Got::Desk(Found::EndTurn), "going"),
-        ("post write", Got::Desk(Found::PostWrite(true)), "done"),
-    ];
-    for row in rows {
-        goes(&rt, &mut flow, row)?;
-    }
-    Ok(())
-}
-
-#[test]
-fn an_owner_looks_again_then_asks_stores_and_settles(rt: HostRuntime) -> Result<(), Fail> {
-    let mut flow = Flow::new(Start::GetWith { key: KEY }, 7, RULES);
-    let rows = [
-        ("take owed", Got::Desk(Found::TakeOwed(None)), "going"),
-        ("get", decided(TableAnswer::None), "going"),
-        (
-            "wait or own",
-            Got::Desk(Found::WaitOrOwn(Claim::Owner)),
-            "going",
-        ),
-        ("get", decided(found()), "going"),
-        ("judge", Got::Desk(Found::Judge(false)), "going"),
-        ("open ask", Got::Desk(Found::OpenAsk), "ask"),
-        ("take told", Got::Desk(Found::TakeTold(None)), "wait"),
-        (
-            "take told",
-            Got::Desk(Found::TakeTold(Some(Told::Value(9)))),
-            "going",
-        ),
-        ("take owed", Got::Desk(Found::TakeOwed(None)), "going"),
-        ("stamp moment", Got::Desk(Found::StampMoment(4)), "going"),
-        ("insert", decided(TableAnswer::None), "going"),
-        ("post write", Got::Desk(Found::PostWrite(true)), "going"),
-        ("settle", Got::Desk(Found::Settle), "fresh"),
-    ];
-    for row in rows {
-        goes(&rt, &mut flow, row)?;
-    }
-    Ok(())
-}
-
-#[test]
-fn a_waiter_owns_after_an_abort_and_settles_what_it_finds(rt: HostRuntime) -> Result<(), Fail> {
-    let mut flow = Flow::new(Start::GetWith { key: KEY }, 7, RULES);
-    let waits = Claim::Waits { owner: 2 };
-    let rows = [
-        ("take owed", Got::Desk(Found::TakeOwed(None)), "going"),
-        ("get", decided(TableAnswer::None), "going"),
-        ("wait or own", Got::Desk(Found::WaitOrOwn(waits)), "going"),
-        (
-            "read settled",
-            Got::Desk(Found::ReadSettled(Settled::NotYet)),
-            "wait",
-        ),
-        (
-            "read settled",
-            Got::Desk(Found::ReadSettled(Settled::Aborted)),
-            "going",
-        ),
-        (
-            "wait or own",
-            Got::Desk(Found::WaitOrOwn(Claim::Owner)),
-            "going",
-        ),
-        ("get", decided(found()), "going"),
-        ("judge", Got::Desk(Found::Judge(true)), "going"),
-        ("settle", Got::Desk(Found::Settle), "loaded"),
-    ];
-    for row in rows {
-        goes(&rt, &mut flow, row)?;
-    }
-    Ok(())
-}
-
-#[test]
-fn a_load_gives_up_at_the_200th_dropped_owner(rt: HostRuntime) -> Result<(), Fail> {
-    let mut flow = Flow::new(Start::GetWith { key: KEY }, 7, RULES);
-    goes(
+    runs(
         &rt,
-        &mut flow,
-        ("take owed", Got::Desk(Found::TakeOwed(None)), "going"),
+        Start::Insert { key: KEY, value: 5 },
+        RULES,
+        vec![in rt.alloc();
+            ("take owed", Got::Desk(Found::TakeOwed(None)), "going"),
+            ("stamp moment", Got::Desk(Found::StampMoment(4)), "going"),
+            ("insert", undecided(), "going"),
+            ("table", decided(found()), "going"),
+            ("post write", Got::Desk(Found::PostWrite(false)), "going"),
+            ("take turn", Got::Desk(Found::TakeTurn(false)), "wait"),
+            ("take turn", Got::Desk(Found::TakeTurn(true)), "going"),
+            ("apply one", Got::Desk(Found::ApplyOne(true)), "going"),
+            ("apply one", Got::Desk(Found::ApplyOne(false)), "going"),
+            ("end turn", Got::Desk(Found::EndTurn), "going"),
+            ("post write", Got::Desk(Found::PostWrite(true)), "done"),
+        ]?,
     )?;
-    goes(&rt, &mut flow, ("get", decided(TableAnswer::None), "going"))?;
-    for _ in 1..200 {
-        goes(&rt, &mut flow, ("wait or own", waits(), "going"))?;
-        goes(&rt, &mut flow, ("read settled", aborted(), "going"))?;
-    }
-    goes(&rt, &mut flow, ("wait or own", waits(), "going"))?;
-    goes(&rt, &mut flow, ("read settled", aborted(), "exhausted"))?;
-    assert!(rt; flow.has_answered());
-    assert!(rt; flow.held().is_none());
     Ok(())
 }
 
 // An insert under a listener that has committed the write, which replaced a record.
-fn committed(rt: &impl Abort) -> Result<Flow<u32, u32>, Fail> {
-    let rules = Rules {
-        listener: true,
-        ..RULES
-    };
-    let mut flow = Flow::new(Start::Insert { key: KEY, value: 5 }, 7, rules);
-    let rows = [
-        ("take owed", Got::Desk(Found::TakeOwed(None)), "going"),
-        ("lock key", Got::Desk(Found::LockKey(false)), "wait"),
-        ("lock key", Got::Desk(Found::LockKey(true)), "going"),
-        ("stamp moment", Got::Desk(Found::StampMoment(4)), "going"),
-        ("insert", decided(found()), "going"),
-    ];
-    for row in rows {
-        goes(rt, &mut flow, row)?;
-    }
+fn committed(rt: &impl Abort, alloc: Global) -> Result<Flow<u32, u32, u32>, Fail> {
+    let mut flow = Flow::new(Start::Insert { key: KEY, value: 5 }, 7, HEARD);
+    plays(
+        rt,
+        &mut flow,
+        vec![in alloc;
+            ("take owed", Got::Desk(Found::TakeOwed(None)), "going"),
+            ("lock key", Got::Desk(Found::LockKey(false)), "wait"),
+            ("lock key", Got::Desk(Found::LockKey(true)), "going"),
+            ("stamp moment", Got::Desk(Found::StampMoment(4)), "going"),
+            ("insert", decided(found()), "going"),
+        ]?,
+    )?;
     Ok(flow)
 }
 
 #[test]
 fn a_writer_tells_the_listener_and_hears_it_before_it_posts(rt: HostRuntime) -> Result<(), Fail> {
-    let mut flow = committed(&rt)?;
+    let mut flow = committed(&rt, rt.alloc())?;
     assert!(rt; flow.due()?.is_some());
     let cause = Some(Cause::Replaced);
     let opened = (
@@ -353,7 +322,7 @@ fn a_writer_tells_the_listener_and_hears_it_before_it_posts(rt: HostRuntime) -> 
         Got::Desk(Found::OpenNotice(cause)),
         "ask listener",
     );
-    goes(&rt, &mut flow, opened)?;
+    plays(&rt, &mut flow, Vec::from_array(rt.alloc(), [opened])?)?;
     assert!(rt; flow.due()?.is_none());
     let own = Write::Upsert {
         number: 7,
@@ -364,48 +333,51 @@ fn a_writer_tells_the_listener_and_hears_it_before_it_posts(rt: HostRuntime) -> 
         notice: Some(7),
     };
     assert!(rt; flow.held() == Some(owed));
-    let rows = [
-        ("notice ended", Got::Desk(Found::NoticeEnded(false)), "wait"),
-        ("notice ended", Got::Desk(Found::NoticeEnded(true)), "going"),
-        ("unlock key", Got::Desk(Found::UnlockKey), "going"),
-        ("post write", Got::Desk(Found::PostWrite(true)), "done"),
-    ];
-    for row in rows {
-        goes(&rt, &mut flow, row)?;
-    }
+    plays(
+        &rt,
+        &mut flow,
+        vec![in rt.alloc();
+            ("notice ended", Got::Desk(Found::NoticeEnded(false)), "wait"),
+            ("notice ended", Got::Desk(Found::NoticeEnded(true)), "going"),
+            ("unlock key", Got::Desk(Found::UnlockKey), "going"),
+            ("post write", Got::Desk(Found::PostWrite(true)), "done"),
+        ]?,
+    )?;
     Ok(())
 }
 
 #[test]
 fn a_listener_that_is_off_is_not_asked(rt: HostRuntime) -> Result<(), Fail> {
-    let mut flow = committed(&rt)?;
-    let rows = [
-        ("open notice", Got::Desk(Found::OpenNotice(None)), "going"),
-        ("unlock key", Got::Desk(Found::UnlockKey), "going"),
-        ("post write", Got::Desk(Found::PostWrite(true)), "done"),
-    ];
-    for row in rows {
-        goes(&rt, &mut flow, row)?;
-    }
+    let mut flow = committed(&rt, rt.alloc())?;
+    plays(
+        &rt,
+        &mut flow,
+        vec![in rt.alloc();
+            ("open notice", Got::Desk(Found::OpenNotice(None)), "going"),
+            ("unlock key", Got::Desk(Found::UnlockKey), "going"),
+            ("post write", Got::Desk(Found::PostWrite(true)), "done"),
+        ]?,
+    )?;
     Ok(())
 }
 
 #[test]
 fn an_owed_write_is_posted_once_its_notice_has_ended(rt: HostRuntime) -> Result<(), Fail> {
-    let mut flow = Flow::new(Start::Get { key: KEY }, 7, RULES);
     let owed = Owed {
         write: WRITE,
         notice: Some(2),
     };
-    let rows = [
-        ("take owed", Got::Desk(Found::TakeOwed(Some(owed))), "going"),
-        ("notice ended", Got::Desk(Found::NoticeEnded(false)), "wait"),
-        ("notice ended", Got::Desk(Found::NoticeEnded(true)), "going"),
-        ("post write", Got::Desk(Found::PostWrite(true)), "going"),
-        ("take owed", Got::Desk(Found::TakeOwed(None)), "going"),
-    ];
-    for row in rows {
-        goes(&rt, &mut flow, row)?;
-    }
+    runs(
+        &rt,
+        Start::Get { key: KEY },
+        RULES,
+        vec![in rt.alloc();
+            ("take owed", Got::Desk(Found::TakeOwed(Some(owed))), "going"),
+            ("notice ended", Got::Desk(Found::NoticeEnded(false)), "wait"),
+            ("notice ended", Got::Desk(Found::NoticeEnded(true)), "going"),
+            ("post write", Got::Desk(Found::PostWrite(true)), "going"),
+            ("take owed", Got::Desk(Found::TakeOwed(None)), "going"),
+        ]?,
+    )?;
     Ok(())
 }

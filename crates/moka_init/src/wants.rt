@@ -8,8 +8,8 @@ ghost use Rattle.moka_init.specs.PointPlan.{writing_plan, removing_plan, listeni
 ghost use Rattle.moka_init.specs.PointPlan.{is_copied};
 
 use crate::copies::{
-    key_locked, key_sought, takes_of, want_get, want_holds, want_judge, want_lock, want_notice,
-    want_out, want_own, want_settle, want_write,
+    key_locked, key_sought, replace_of, takes_of, want_get, want_holds, want_judge, want_lock,
+    want_notice, want_out, want_own, want_settle, want_write,
 };
 use crate::flow::Flow;
 use crate::points::{Listening, Loading, Looking, Point, Posted, Posting, Removing, Writing};
@@ -17,13 +17,14 @@ use moka_hist::{Stored, Visit, Want, Write};
 use std::alloc::AllocError;
 use std::mem;
 
-impl<K: Clone + Drop, V: Clone + Drop> Flow<K, V> {
+impl<K: Clone + Drop, V: Clone + Drop, E: Clone + Drop> Flow<K, V, E> {
     /// The flow's next access. It makes the clones that the access needs, and leaves the flow; but
     /// where a value is needed twice, for the listener and for the answer, the flow keeps a clone
     /// of it. Condition: the call has not answered.
-    pub fn want(&mut self) -> Result<Want<K, V>, AllocError>
+    pub fn want(&mut self) -> Result<Want<K, V, E>, AllocError>
         requires keys { IsExact K.is_clone }
         requires values { IsExact V.is_clone }
+        requires errors { IsExact E.is_clone }
         requires live { IsLive self.old }
         ensures want { IfOk result (λ want. want ≡ wish_of self.old) }
         ensures ready { OnOk result (IsReady self.new) }
@@ -77,27 +78,28 @@ impl<K: Clone + Drop, V: Clone + Drop> Flow<K, V> {
     {
         match old.value.clone() {
             Ok(value) => {
-                self.point = Point::Listening(Listening::Notice {
+                self.stands_at(Point::Listening(Listening::Notice {
                     key,
                     old,
                     cause: None,
                     upsert: false,
                     write,
                     then: Posted::Found(value),
-                });
+                }));
                 Ok(())
             }
             Err(error) => {
-                self.point = Point::Listening(Listening::Uncopied { key, old, write });
+                self.stands_at(Point::Listening(Listening::Uncopied { key, old, write }));
                 Err(error)
             }
         }
     }
 
     // The flow's next access, with the clones that it needs.
-    fn wanted(&self) -> Result<Want<K, V>, AllocError>
+    fn wanted(&self) -> Result<Want<K, V, E>, AllocError>
         requires keys { IsExact K.is_clone }
         requires values { IsExact V.is_clone }
+        requires errors { IsExact E.is_clone }
         requires live { IsLive self.now }
         ensures want { IfOk result (λ want. want ≡ wish_of self.now) }
         ensures err { OnErr result (TakesCopies (access_at self.now)) }
@@ -114,7 +116,7 @@ impl<K: Clone + Drop, V: Clone + Drop> Flow<K, V> {
         }
     }
 
-    fn want_posting(&self, posting: &Posting<K, V>) -> Want<K, V>
+    fn want_posting(&self, posting: &Posting<K, V>) -> Want<K, V, E>
         ensures { result ≡ wish_for self.now (posting_plan posting.now) }
     {
         let call = self.call;
@@ -130,7 +132,7 @@ impl<K: Clone + Drop, V: Clone + Drop> Flow<K, V> {
         }
     }
 
-    fn want_looking(&self, looking: &Looking<K, V>) -> Result<Want<K, V>, AllocError>
+    fn want_looking(&self, looking: &Looking<K, V>) -> Result<Want<K, V, E>, AllocError>
         requires keys { IsExact K.is_clone }
         requires values { IsExact V.is_clone }
         ensures want { IfOk result (λ want. want ≡ wish_for self.now (looking_plan looking.now)) }
@@ -138,21 +140,22 @@ impl<K: Clone + Drop, V: Clone + Drop> Flow<K, V> {
     {
         match looking {
             Looking::Get(look) => want_get(self.begun, key_sought(look)),
-            Looking::Judge { key, stored, .. } => want_judge(key, stored),
+            Looking::Judge { look, key, stored } => want_judge(replace_of(look), key, stored),
         }
     }
 
-    fn want_loading(&self, loading: &Loading<K, V>) -> Result<Want<K, V>, AllocError>
+    fn want_loading(&self, loading: &Loading<K, V, E>) -> Result<Want<K, V, E>, AllocError>
         requires keys { IsExact K.is_clone }
         requires values { IsExact V.is_clone }
+        requires errors { IsExact E.is_clone }
         ensures want { IfOk result (λ want. want ≡ wish_for self.now (loading_plan loading.now)) }
         ensures err { OnErr result (TakesCopies (access_from self.now (loading_plan loading.now))) }
     {
         let call = self.call;
         match loading {
-            Loading::Own(load) => want_own(call, load),
+            Loading::Own(sought) => want_own(call, &sought.load),
             Loading::Read(_) => Ok(Want::Desk(Visit::ReadSettled { call })),
-            Loading::Settle { value, .. } => want_settle(call, value),
+            Loading::Settle(ending) => want_settle(call, ending),
             Loading::Ask(load) => Ok(Want::Desk(Visit::OpenAsk {
                 call,
                 takes: takes_of(load.kind),
@@ -161,7 +164,7 @@ impl<K: Clone + Drop, V: Clone + Drop> Flow<K, V> {
         }
     }
 
-    fn want_writing(&self, writing: &Writing<K, V>) -> Result<Want<K, V>, AllocError>
+    fn want_writing(&self, writing: &Writing<K, V>) -> Result<Want<K, V, E>, AllocError>
         requires keys { IsExact K.is_clone }
         requires values { IsExact V.is_clone }
         ensures want { IfOk result (λ want. want ≡ wish_for self.now (writing_plan writing.now)) }
@@ -174,7 +177,7 @@ impl<K: Clone + Drop, V: Clone + Drop> Flow<K, V> {
         }
     }
 
-    fn want_removing(&self, removing: &Removing<K, V>) -> Result<Want<K, V>, AllocError>
+    fn want_removing(&self, removing: &Removing<K, V>) -> Result<Want<K, V, E>, AllocError>
         requires keys { IsExact K.is_clone }
         requires values { IsExact V.is_clone }
         ensures want { IfOk result (λ want.
@@ -196,7 +199,7 @@ impl<K: Clone + Drop, V: Clone + Drop> Flow<K, V> {
         }
     }
 
-    fn want_listening(&self, listening: &Listening<K, V>) -> Result<Want<K, V>, AllocError>
+    fn want_listening(&self, listening: &Listening<K, V>) -> Result<Want<K, V, E>, AllocError>
         requires keys { IsExact K.is_clone }
         requires values { IsExact V.is_clone }
         ensures want { IfOk result (λ want.

@@ -3,16 +3,20 @@ ghost use Rattle.std.specs.Prelude.{◌≡◌, true, ◌∷◌, None};
 ghost use Rattle.moka_hist.specs.Plan as plan;
 ghost use Rattle.moka_hist.specs.Step.{next_of, access_of};
 ghost use Rattle.moka_hist.specs.Writing.{after_moment, after_write, once_told, old_stamp};
-ghost use Rattle.moka_init.specs.PointPlan.{writing_plan, put_rest, posted_rest, stores};
+ghost use Rattle.moka_init.specs.PointPlan.{writing_plan, put_rest, posted_after, stores};
 ghost use Rattle.moka_init.specs.FlowPlan.{standing, mid, GoesOn};
 ghost use Rattle.moka_init.specs.Forms.{HasForm, IsFoundBy};
 
 use crate::flow::Flow;
-use crate::points::{Listening, Point, Posted, Posting, Put, Writing};
+use crate::points::{Listening, Point, Posted, Posting, Put, Then, Writing};
 use moka_hist::{Found, Got, Stored, TableAnswer, TableTurn, Turn, Visit, Write};
 
-impl<K: Drop, V: Drop> Flow<K, V> {
-    pub(crate) fn after_writing(&mut self, writing: Writing<K, V>, found: Found<V>) -> Turn<K, V>
+impl<K: Drop, V: Drop, E: Drop> Flow<K, V, E> {
+    pub(crate) fn after_writing(
+        &mut self,
+        writing: Writing<K, V>,
+        found: Found<V, E>,
+    ) -> Turn<K, V, E>
         requires form { HasForm
             (access_of self.old.call (standing self.old (writing_plan writing)))
             (Got.Desk found) }
@@ -26,7 +30,7 @@ impl<K: Drop, V: Drop> Flow<K, V> {
         }
     }
 
-    fn after_moment(&mut self, put: Put<K, V>, found: Found<V>) -> Turn<K, V>
+    fn after_moment(&mut self, put: Put<K, V>, found: Found<V, E>) -> Turn<K, V, E>
         requires form { IsFoundBy {K = K} (Visit.StampMoment self.old.call) found }
         ensures { GoesOn self.old
             (after_moment (standing self.old (stores put)) (plan.To_store put.key put.value)
@@ -43,7 +47,7 @@ impl<K: Drop, V: Drop> Flow<K, V> {
         put: Put<K, V>,
         moment: u64,
         turn: TableTurn<K, V>,
-    ) -> Turn<K, V>
+    ) -> Turn<K, V, E>
         ensures { GoesOn self.old
             (after_write self.old.call
             (standing self.old (plan.Write put.key put.value moment ∷ put_rest put))
@@ -57,7 +61,7 @@ impl<K: Drop, V: Drop> Flow<K, V> {
 
     // The write is committed, and to be posted, once the listener has heard of the record that was
     // replaced.
-    fn commits(&mut self, put: Put<K, V>, answer: TableAnswer<K, V>) -> Turn<K, V>
+    fn commits(&mut self, put: Put<K, V>, answer: TableAnswer<K, V>) -> Turn<K, V, E>
         ensures { GoesOn self.old
             (mid self.old (once_told self.old.rules.listener put.key answer
             (plan.Post (Write.Upsert self.old.call (old_stamp answer)) ∷ put_rest put)))
@@ -78,7 +82,7 @@ impl<K: Drop, V: Drop> Flow<K, V> {
     }
 
     // The listener hears of the record that was replaced, if any, before the key's lock is freed.
-    fn tells(&mut self, put: Put<K, V>, answer: TableAnswer<K, V>, write: Write) -> Turn<K, V>
+    fn tells(&mut self, put: Put<K, V>, answer: TableAnswer<K, V>, write: Write) -> Turn<K, V, E>
         ensures { GoesOn self.old
             (mid self.old (once_told true put.key answer (plan.Post write ∷ put_rest put)))
             result self.new }
@@ -93,15 +97,15 @@ impl<K: Drop, V: Drop> Flow<K, V> {
     }
 
     // The notice of the replaced record is due.
-    fn opens(&mut self, put: Put<K, V>, old: Stored<V>, write: Write) -> Turn<K, V>
+    fn opens(&mut self, put: Put<K, V>, old: Stored<V>, write: Write) -> Turn<K, V, E>
         ensures { GoesOn self.old
             (mid self.old
             (plan.Notice put.key old None true ∷ plan.Unlock true ∷ plan.Post write
             ∷ put_rest put))
             result self.new }
     {
-        let Put { key, value, loads } = put;
-        let then = posted_by(value, loads);
+        let Put { key, value, then } = put;
+        let then = then.posted(value);
         self.goes(Point::Listening(Listening::Notice {
             key,
             old,
@@ -116,21 +120,22 @@ impl<K: Drop, V: Drop> Flow<K, V> {
 impl<K: Drop, V: Drop> Put<K, V> {
     // What follows once the write is posted.
     fn posted(self) -> Posted<K, V>
-        ensures { posted_rest result ≡ put_rest self }
+        ensures { result ≡ posted_after self.then self.value }
     {
-        posted_by(self.value, self.loads)
+        self.then.posted(self.value)
     }
 }
 
-// What follows once the write of the value is posted.
-fn posted_by<K: Drop, V: Drop>(value: V, loads: bool) -> Posted<K, V>
-    ensures { (key : K) → posted_rest result
-        ≡ put_rest (record { key = key; value = value; loads = loads }) }
-{
-    if loads {
-        Posted::Settle(value)
-    } else {
-        Posted::Done
+impl Then {
+    // What follows once the write of the value is posted.
+    fn posted<K, V: Drop>(self, value: V) -> Posted<K, V>
+        ensures { result ≡ posted_after self value }
+    {
+        match self {
+            Then::Done => Posted::Done,
+            Then::Settle => Posted::Settle(value),
+            Then::Loaded => Posted::Loaded(value),
+        }
     }
 }
 

@@ -8,20 +8,23 @@ use Rattle.moka_hist.specs.Visits.{settlement_for, settled_with, settled_without
 use Rattle.moka_hist.specs.Next.{Next, goes}
 use Rattle.moka_hist.specs.Looking.{hits, misses, keeps, finds_pair}
 use Rattle.moka_hist.specs.Loading.{after_read, after_told, after_abort, retries}
-use Rattle.std.specs.Option.{option_and_then}
+use Rattle.std.specs.Option.{option_and_then, option_map_or}
+use Rattle.std.proofs.lemmas.Bool.{false≢true}
+use Rattle.moka_hist.specs.Telling.{does_take}
+use Rattle.moka_hist.specs.declared.visits.Takes.{Takes}
 use Rattle.moka_hist.specs.Step.{Step, state_after}
 use Rattle.moka_hist.specs.Run.{IsReached, fresh_call}
 use Rattle.moka_hist.specs.declared.rules.Rules.{Rules}
-use Rattle.moka_hist.specs.declared.events.Start.{Start}
 use Rattle.moka_hist.specs.declared.events.Told.{Told}
 use Rattle.moka_hist.specs.declared.events.Told.TheVariants as answer
 use Rattle.moka_hist.specs.declared.loads.Load.{Load}
+use Rattle.moka_hist.specs.declared.loads.Sought.{Sought}
 use Rattle.moka_hist.specs.declared.records.Stored.{Stored}
 use Rattle.moka_hist.specs.declared.visits.Settled.{Settled}
 use Rattle.moka_hist.specs.declared.visits.Settled.TheVariants as settled
 use Rattle.moka_hist.specs.declared.visits.Found.TheVariants as found
 use Rattle.moka_hist.specs.declared.accesses.Turn.{Turn}
-use Rattle.moka_laws.proofs.Rules.{loaded_plans, kept_next, chosen_next, IsFresh, Disabled, fresh_plan}
+use Rattle.moka_laws.proofs.Rules.{put_plans, loaded_plans, kept_next, chosen_next, IsFresh, Disabled, fresh_plan}
 use Rattle.moka_laws.proofs.Counting.{none_some, put_cases}
 use Rattle.moka_laws.proofs.Kept.{IsKept, in_reached}
 use Rattle.moka_laws.proofs.StepCases.{OnStep, step_cases}
@@ -31,29 +34,42 @@ kept_or : {A : Type 0} (b : Bool) (x y : A) (P : A → Type 0) → P x → P y �
 kept_or true x y P p q = p
 kept_or false x y P p q = q
 
--- what is told, if anything, is a value
-abbrev pub IsValue : {V : Type 0} → Option (Told V) → Type 0
-IsValue None = Unit {0}
-IsValue (Some (answer.Value value)) = Unit {0}
-IsValue (Some answer.Done) = ⊥
-IsValue (Some answer.Off) = ⊥
+-- what is told, if anything, is what an initializer gives
+abbrev pub IsGiven : {V E : Type 0} → Option (Told V E) → Type 0
+IsGiven None = Unit {0}
+IsGiven (Some (answer.Value value)) = Unit {0}
+IsGiven (Some answer.Nothing) = Unit {0}
+IsGiven (Some (answer.Err error)) = Unit {0}
+IsGiven (Some answer.Done) = ⊥
+IsGiven (Some answer.Off) = ⊥
 
-none_told : {V : Type 0} (x : ℕ) (f : ℕ → Option (Told V)) (n : ℕ) → IsValue (f x) → IsValue (put_at f n None x)
-none_told x f n h = kept_or (n == x) None (f x) IsValue tt h
+-- what a call's ask takes is what an initializer gives
+given_by : {V E : Type 0} (asked : Option Takes) (given : Told V E) →
+    option_map_or (λ a. does_take a given) asked false ≡ true → IsGiven (Some given)
+given_by asked (answer.Value value) e = tt
+given_by asked answer.Nothing e = tt
+given_by asked (answer.Err error) e = tt
+given_by None answer.Done e = absurd (false≢true e)
+given_by (Some a) answer.Done e = absurd (false≢true e)
+given_by None answer.Off e = absurd (false≢true e)
+given_by (Some a) answer.Off e = absurd (false≢true e)
+
+none_told : {V E : Type 0} (x : ℕ) (f : ℕ → Option (Told V E)) (n : ℕ) → IsGiven (f x) → IsGiven (put_at f n None x)
+none_told x f n h = kept_or (n == x) None (f x) IsGiven tt h
 
 -- no owner is kept as not yet settled, and no answer of a listener is told to a call
-pub record Answers {V : Type 0} (kept : ℕ → Option (Settled V)) (given : ℕ → Option (Told V)) : Type 0 where
+pub record Answers {V E : Type 0} (kept : ℕ → Option (Settled V E)) (given : ℕ → Option (Told V E)) : Type 0 where
   pub settled : (x : ℕ) → kept x ≢ Some settled.NotYet
-  pub told : (x : ℕ) → IsValue (given x)
+  pub told : (x : ℕ) → IsGiven (given x)
 
-module _ {K V : Type 0} where
+module _ {K V E : Type 0} where
   -- the plan ends with an item that answers or says how the call goes on, and all owners are settled with an answer
-  abbrev pub EndsWell : List (Item K V) → Type 0
+  abbrev pub EndsWell : List (Item K V E) → Type 0
   EndsWell [] = ⊥
   EndsWell (plan.Get aim key ∷ rest) = Unit {0}
   EndsWell (plan.Judge aim key stored ∷ rest) = Unit {0}
-  EndsWell (plan.Own load ∷ rest) = Unit {0}
-  EndsWell (plan.Read load ∷ rest) = Unit {0}
+  EndsWell (plan.Own sought ∷ rest) = Unit {0}
+  EndsWell (plan.Read sought ∷ rest) = Unit {0}
   EndsWell (plan.Ask load ∷ rest) = Unit {0}
   EndsWell (plan.Told load ∷ rest) = Unit {0}
   EndsWell (plan.Holds key stamp cause there stored ∷ rest) = Unit {0}
@@ -64,89 +80,96 @@ module _ {K V : Type 0} where
   EndsWell (_ ∷ rest) = EndsWell rest
 
   -- the same of a call that may have ended
-  abbrev LeftWell : Option (Call K V) → Type 0
+  abbrev LeftWell : Option (Call K V E) → Type 0
   LeftWell None = Unit {0}
   LeftWell (Some c) = EndsWell c.plan
 
   -- what the desk keeps for those that wait
-  abbrev pub HasAnswers : DeskPart K V → Type 0
+  abbrev pub HasAnswers : DeskPart K V E → Type 0
   HasAnswers d = Answers d.settled d.told
 
-  pub record IsAnswering (s : State K V) : Type 0 where
-    pub calls : (n : ℕ) (c : Call K V) → s.calls n ≡ Some c → EndsWell c.plan
+  pub record IsAnswering (s : State K V E) : Type 0 where
+    pub calls : (n : ℕ) (c : Call K V E) → s.calls n ≡ Some c → EndsWell c.plan
     pub desk : HasAnswers s.world.desk
 
-  goes_well : (c : Call K V) (rest : List (Item K V)) → EndsWell rest → LeftWell (goes c rest).left
+  goes_well : (c : Call K V E) (rest : List (Item K V E)) → EndsWell rest → LeftWell (goes c rest).left
   goes_well c (plan.Reply a ∷ []) h = tt
   goes_well c (plan.Reply a ∷ x ∷ rest) h = h
   goes_well c [] h = h
   goes_well c (_ ∷ rest) h = h
 
-  fresh_ends : (rules : Rules) (p : List (Item K V)) → IsFresh rules p → EndsWell p
-  fresh_ends rules p (Disabled a d) = tt
+  fresh_ends : (rules : Rules) (p : List (Item K V E)) → IsFresh rules p → EndsWell p
+  fresh_ends rules p (Disabled a d plain) = tt
   fresh_ends rules p _ = tt
 
-  fresh_well : (rules : Rules) (start : Start K V) → EndsWell (plan_of rules start)
-  fresh_well rules start = fresh_ends rules (plan_of rules start) (fresh_plan rules start)
-
-  keeps_well : (c : Call K V) → LeftWell (keeps c).left
+  keeps_well : (c : Call K V E) → LeftWell (keeps c).left
   keeps_well c = kept_next (λ v. LeftWell v.left) c (λ off. tt) (λ on. tt)
 
-  misses_well : (c : Call K V) (aim : Aim K) → LeftWell (misses c aim).left
+  misses_well : (c : Call K V E) (aim : Aim K V) → LeftWell (misses c aim).left
   misses_well c plan.To_answer = tt
-  misses_well c (plan.To_load load) = tt
-  misses_well c (plan.To_own load) = tt
+  misses_well c (plan.To_load sought) = tt
+  misses_well c (plan.To_own sought) = tt
+  misses_well c (plan.To_insert key value) =
+      put_plans (λ p. LeftWell (goes c p).left) c.rules key value _ tt tt
   misses_well c (plan.To_evict key stamp cause) = keeps_well c
 
-  finds_well : (c : Call K V) (aim : Aim K) (k : K) (stored : Stored V) →
+  finds_well : (c : Call K V E) (aim : Aim K V) (k : K) (stored : Stored V) →
       LeftWell (finds_pair c aim k stored).left
   finds_well c plan.To_answer k stored = tt
-  finds_well c (plan.To_load load) k stored = tt
-  finds_well c (plan.To_own load) k stored = tt
+  finds_well c (plan.To_load sought) k stored = tt
+  finds_well c (plan.To_insert under new) k stored = tt
+  finds_well c (plan.To_own sought) k stored = tt
   finds_well c (plan.To_evict key stamp cause) k stored =
       chosen_next (λ v. LeftWell v.left) c key stamp cause k stored (λ off. tt) (λ on. tt) tt
 
-  hits_well : (c : Call K V) (aim : Aim K) (value : V) → EndsWell c.plan →
+  hits_well : (c : Call K V E) (aim : Aim K V) (value : V) → EndsWell c.plan →
       LeftWell (hits c aim value).left
   hits_well c plan.To_answer value h = tt
-  hits_well c (plan.To_load load) value h = tt
-  hits_well c (plan.To_own load) value h = tt
+  hits_well c (plan.To_load sought) value h = tt
+  hits_well c (plan.To_insert under new) value h = tt
+  hits_well c (plan.To_own sought) value h = tt
   hits_well c (plan.To_evict key stamp cause) value h = h
 
-  read_well : (c : Call K V) (load : Load K) (with : Settled V) → EndsWell c.plan →
-      LeftWell (after_read c load (found.ReadSettled with)).left
-  read_well c load (settled.Ready value) h = tt
-  read_well c load settled.NotYet h = h
-  read_well c load settled.Aborted h = by (c.aborts + 1 == retries) refl
+  read_well : (c : Call K V E) (sought : Sought K) (with : Settled V E) → EndsWell c.plan →
+      LeftWell (after_read c sought (found.ReadSettled with)).left
+  read_well c sought (settled.Ready value) h = tt
+  read_well c sought (settled.Err error) h = tt
+  read_well c sought settled.Nothing h = tt
+  read_well c sought settled.NotYet h = h
+  read_well c sought settled.Aborted h = by (c.aborts + 1 == retries) refl
     where
-      by : (b : Bool) → (c.aborts + 1 == retries) ≡ b → LeftWell (after_abort c load).left
+      by : (b : Bool) → (c.aborts + 1 == retries) ≡ b → LeftWell (after_abort c sought).left
       by true e = rw e tt
       by false e = rw e tt
 
-  told_well : (c : Call K V) (load : Load K) (given : Told V) → EndsWell c.plan →
+  told_well : (c : Call K V E) (load : Load K) (given : Told V E) → EndsWell c.plan →
       LeftWell (after_told c load (found.TakeTold (Some given))).left
   told_well c load (answer.Value value) h =
       loaded_plans (λ p. LeftWell (goes c p).left) c.rules load value tt tt tt
+  told_well c load answer.Nothing h = tt
+  told_well c load (answer.Err error) h = tt
   told_well c load answer.Done h = h
   told_well c load answer.Off h = h
 
   -- ---- what is told and settled
 
-  pub some_ready : (with : Settled V) (rest : List (Item K V)) → EndsWell (plan.Settle with ∷ rest) →
+  pub some_ready : (with : Settled V E) (rest : List (Item K V E)) → EndsWell (plan.Settle with ∷ rest) →
       (Some with ≢ Some settled.NotYet) × EndsWell rest
   some_ready settled.NotYet rest h = absurd h
   some_ready settled.Aborted rest h = (λ e. cc, h)
   some_ready (settled.Ready value) rest h = (λ e. cc, h)
+  some_ready (settled.Err error) rest h = (λ e. cc, h)
+  some_ready settled.Nothing rest h = (λ e. cc, h)
 
-  settles_with : (d : DeskPart K V) (n : ℕ) (with : Settled V) (kept : ℕ → Option (Settled V)) (x : ℕ) → Some with ≢ Some settled.NotYet →
+  settles_with : (d : DeskPart K V E) (n : ℕ) (with : Settled V E) (kept : ℕ → Option (Settled V E)) (x : ℕ) → Some with ≢ Some settled.NotYet →
       kept x ≢ Some settled.NotYet → settled_with d n with kept x ≢ Some settled.NotYet
   settles_with d n with kept x h k = kept_or _ (Some with) (kept x) (λ v. v ≢ Some settled.NotYet) h k
 
-  settles_without : (d : DeskPart K V) (n : ℕ) (x : ℕ) → d.settled x ≢ Some settled.NotYet → settled_without d n x ≢ Some settled.NotYet
+  settles_without : (d : DeskPart K V E) (n : ℕ) (x : ℕ) → d.settled x ≢ Some settled.NotYet → settled_without d n x ≢ Some settled.NotYet
   settles_without d n x h = kept_or _ None (d.settled x) (λ v. v ≢ Some settled.NotYet) none_some h
 
   -- an owner's settlement is an answer
-  pub settlement_ready : (d : DeskPart K V) (n : ℕ) (with : Settled V) → HasAnswers d → settlement_for d n ≡ Some with →
+  pub settlement_ready : (d : DeskPart K V E) (n : ℕ) (with : Settled V E) → HasAnswers d → settlement_for d n ≡ Some with →
       Some with ≢ Some settled.NotYet
   settlement_ready d n with has e = by (d.joined n) e
     where
@@ -155,11 +178,11 @@ module _ {K V : Type 0} where
       by (Some owner) e = λ h. has.settled owner (e ∙ h)
 
   -- what a step has to show
-  abbrev Leaves : World K V → Next K V → Type 0
+  abbrev Leaves : World K V E → Next K V E → Type 0
   Leaves new next = LeftWell next.left × HasAnswers new.desk
 
-  module _ (eq : K → K → Bool) (w : World K V) (n : ℕ) (c : Call K V) (d : HasAnswers w.desk) where
-    on_item : (item : Item K V) (rest : List (Item K V)) → EndsWell (item ∷ rest) → EndsWell c.plan → Outcomes eq Leaves w n c item rest
+  module _ (eq : K → K → Bool) (w : World K V E) (n : ℕ) (c : Call K V E) (d : HasAnswers w.desk) where
+    on_item : (item : Item K V E) (rest : List (Item K V E)) → EndsWell (item ∷ rest) → EndsWell c.plan → Outcomes eq Leaves w n c item rest
     on_item plan.Drain rest h p = (λ e. ((goes_well c rest h), d), (λ x xs e. (h, d)), λ x number xs e. (h, d))
     on_item (plan.Ended number) rest h p = ((λ e. (goes_well c rest h, d)), λ e. (p, d))
     on_item (plan.Lock key) rest h p = ((λ e. (goes_well c rest h, d)), λ e. (p, d))
@@ -176,11 +199,12 @@ module _ {K V : Type 0} where
       (λ none. (misses_well c aim, d)),
       λ k stored some. (finds_well c aim k stored, d),
     )
-    on_item (plan.Judge aim key stored) rest h p = (hits_well c aim stored.value p, d)
-    on_item (plan.Own load) rest h p = ((λ able e. (tt, d)), (λ not e. (tt, d)), λ owner e. (tt, d))
-    on_item (plan.Read load) rest h p = (
+    on_item (plan.Judge aim key stored) rest h p =
+        ((λ seen. (hits_well c aim stored.value p, d)), λ unseen. (misses_well c aim, d))
+    on_item (plan.Own sought) rest h p = ((λ able e. (tt, d)), (λ not e. (tt, d)), λ owner e. (tt, d))
+    on_item (plan.Read sought) rest h p = (
       λ e. (p, d),
-      λ with e. (read_well c load with p, record { settled = λ x. settles_without w.desk n x (d.settled x); told = d.told }),
+      λ with e. (read_well c sought with p, record { settled = λ x. settles_without w.desk n x (d.settled x); told = d.told }),
     )
     on_item (plan.Settle with) rest h p =
         let ready = some_ready with rest h in
@@ -205,12 +229,12 @@ module _ {K V : Type 0} where
     on_item plan.Idle rest h p = (goes_well c rest h, d)
     on_item (plan.Reply answer) rest h p = (tt, d)
 
-    on_plan : (plan : List (Item K V)) → c.plan ≡ plan → EndsWell c.plan → OnStep eq Leaves w n c plan
+    on_plan : (plan : List (Item K V E)) → c.plan ≡ plan → EndsWell c.plan → OnStep eq Leaves w n c plan
     on_plan [] e p = (p, d)
     on_plan (item ∷ rest) e p = outcomes eq Leaves w n c item rest (on_item item rest (rw e at p) p)
 
-module _ {K V : Type 0} (eq : K → K → Bool) where
-  leaves : (s : State K V) (n : ℕ) (w : World K V) (next : Next K V) → IsAnswering s → LeftWell next.left × HasAnswers w.desk →
+module _ {K V E : Type 0} (eq : K → K → Bool) where
+  leaves : (s : State K V E) (n : ℕ) (w : World K V E) (next : Next K V E) → IsAnswering s → LeftWell next.left × HasAnswers w.desk →
       IsAnswering (state_after s n w next)
   leaves s n w next i h = record {
     calls = λ m c live. put_cases s.calls n next.left m (Some c) (EndsWell c.plan) live (λ here is. subst LeftWell is h.0)
@@ -218,19 +242,19 @@ module _ {K V : Type 0} (eq : K → K → Bool) where
     desk = h.1;
   }
 
-  answering_step : (s t : State K V) (n : ℕ) (turn : Turn K V) → IsAnswering s → Step eq s n turn t → IsAnswering t
+  answering_step : (s t : State K V E) (n : ℕ) (turn : Turn K V E) → IsAnswering s → Step eq s n turn t → IsAnswering t
   answering_step s t n turn i step =
       step_cases eq Leaves (λ v _. IsAnswering v) s t n turn step
       (on_plan eq s.world n step.call i.desk step.call.plan refl (i.calls n step.call step.live)) (λ w next. leaves s n w next i)
 
-  pub answering_kept : IsKept eq (IsAnswering {K = K} {V = V})
+  pub answering_kept : IsKept eq (IsAnswering {K = K} {V = V} {E = E})
   answering_kept = record {
-    fresh = λ rules size has_log. record { calls = λ n c live. absurd (none_some live); desk = record { settled = λ x. none_some; told = λ x. tt } };
+    fresh = λ rules size tests has_log. record { calls = λ n c live. absurd (none_some live); desk = record { settled = λ x. none_some; told = λ x. tt } };
     at = λ s moment i. record { calls = i.calls; desk = i.desk };
     start = λ s start i. record {
       calls = λ n c live.
           put_cases s.calls (s.world.desk.last + 1) (Some (fresh_call s.world.desk.rules start)) n (Some c) (EndsWell c.plan) live
-          (λ here is. subst LeftWell is (fresh_well s.world.desk.rules start))
+          (λ here is. subst LeftWell is (fresh_ends s.world.desk.rules _ (fresh_plan s.world.desk.rules start)))
           (λ there is. i.calls n c is);
       desk = i.desk;
     };
@@ -239,7 +263,8 @@ module _ {K V : Type 0} (eq : K → K → Bool) where
       calls = i.calls;
       desk = record {
         settled = i.desk.settled;
-        told = λ x. kept_or (n == x) (Some (answer.Value given)) (s.world.desk.told x) IsValue tt (i.desk.told x);
+        told = λ x. kept_or (n == x) (Some given) (s.world.desk.told x) IsGiven
+            (given_by (s.world.desk.asks n) given asked) (i.desk.told x);
       };
     };
     hear = λ s n off running i. record { calls = i.calls; desk = i.desk };
@@ -254,8 +279,8 @@ module _ {K V : Type 0} (eq : K → K → Bool) where
     };
   }
 
-  pub answering : (s : State K V) → IsReached eq s → IsAnswering s
+  pub answering : (s : State K V E) → IsReached eq s → IsAnswering s
   answering s h = in_reached eq IsAnswering answering_kept s h
 
-  pub live_go_on : (s : State K V) (n : ℕ) (c : Call K V) → IsReached eq s → s.calls n ≡ Some c → c.plan ≢ []
+  pub live_go_on : (s : State K V E) (n : ℕ) (c : Call K V E) → IsReached eq s → s.calls n ≡ Some c → c.plan ≢ []
   live_go_on s n c h live e = subst EndsWell e ((answering s h).calls n c live)

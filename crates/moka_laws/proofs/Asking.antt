@@ -8,12 +8,13 @@ use Rattle.moka_hist.specs.Plan as plan
 use Rattle.moka_hist.specs.Next.{Next, goes}
 use Rattle.moka_hist.specs.Looking.{hits, misses, keeps, finds_pair}
 use Rattle.moka_hist.specs.Loading.{after_read, after_told, retries}
-use Rattle.moka_hist.specs.Telling.{is_asked, does_take}
+use Rattle.moka_hist.specs.Telling.{is_taken, does_take}
 use Rattle.moka_hist.specs.Dropping.{dropped}
 use Rattle.std.specs.Option.{option_map_or}
 use Rattle.moka_hist.specs.Step.{Step}
 use Rattle.moka_hist.specs.Run.{IsReached, started, fresh_call}
 use Rattle.moka_hist.specs.declared.loads.Load.{Load}
+use Rattle.moka_hist.specs.declared.loads.Sought.{Sought}
 use Rattle.moka_hist.specs.declared.records.Stored.{Stored}
 use Rattle.moka_hist.specs.declared.rules.Rules.{Rules}
 use Rattle.moka_hist.specs.declared.events.Start.{Start}
@@ -24,96 +25,102 @@ use Rattle.moka_hist.specs.declared.visits.Settled.{Settled}
 use Rattle.moka_hist.specs.declared.visits.Settled.TheVariants as settled
 use Rattle.moka_hist.specs.declared.visits.Found.TheVariants as found
 use Rattle.moka_hist.specs.declared.accesses.Turn.{Turn}
-use Rattle.moka_laws.proofs.Rules.{loaded_plans, kept_next, chosen_next, IsFresh, Disabled, fresh_plan}
+use Rattle.moka_laws.proofs.Rules.{put_plans, loaded_plans, kept_next, chosen_next, IsFresh, Disabled, fresh_plan}
 use Rattle.moka_laws.proofs.Counting.{put_here, put_there}
 use Rattle.moka_laws.proofs.Weights.{weigh, weigh_call, weigh_goes}
-use Rattle.moka_laws.proofs.Plans.{IsLook, IsTail, Answering, Settling, IsDrained, Looking, Owning, Putting, Removing, Locking_out, IsPosted, Draining, Ended, Locking, IsPlan, Posted, Drained, Posting, Hearing, Noticing, Listening, Unlocking, Turning, Applying, Ending, Judging, Reading, Asking, Telling, Writing, Choosing, Finding, Chosen, Taking, Freeing, Idling, IsKnown, known_kept}
+use Rattle.moka_laws.proofs.Plans.{IsLook, IsTail, Answering, Settling, IsDrained, Looking, Owning, Giving, Putting, Removing, Locking_out, IsPosted, Draining, Ended, Locking, IsPlan, Posted, Drained, Posting, Hearing, Noticing, Listening, Unlocking, Turning, Applying, Ending, Judging, Reading, Asking, Telling, Writing, Choosing, Finding, Chosen, Taking, Freeing, Idling, IsKnown, known_kept}
 use Rattle.moka_laws.proofs.Balance.{IsBalanced}
 use Rattle.moka_laws.proofs.Balanced.{balanced_kept, next_free}
 use Rattle.moka_laws.proofs.Kept.{IsKept, in_reached}
 use Rattle.moka_laws.proofs.StepCases.{OnStep, step_cases}
 use Rattle.moka_laws.proofs.Outcomes.{outcomes}
-use Rattle.moka_laws.proofs.Answering.{IsValue, IsAnswering, HasAnswers, answering_kept}
+use Rattle.moka_laws.proofs.Answering.{IsGiven, IsAnswering, HasAnswers, answering_kept}
 
 -- how many there are of an open ask and an answer
-abbrev pub opened : {V : Type 0} → Option Takes → Option (Told V) → ℕ
+abbrev pub opened : {V E : Type 0} → Option Takes → Option (Told V E) → ℕ
 opened ask told = cond (is_some ask) 1 0 + cond (is_some told) 1 0
 
-module _ {K V : Type 0} where
+module _ {K V E : Type 0} where
   -- the item takes the answer to an ask
-  abbrev pub takes_told : Item K V → ℕ
+  abbrev pub takes_told : Item K V E → ℕ
   takes_told (plan.Told load) = 1
   takes_told _ = 0
 
-  keeps_takes : (c : Call K V) → weigh_call takes_told (keeps c).left ≡ 0
+  keeps_takes : (c : Call K V E) → weigh_call takes_told (keeps c).left ≡ 0
   keeps_takes c = kept_next (λ v. weigh_call takes_told v.left ≡ 0) c (λ off. refl) (λ on. refl)
 
-  misses_takes : (c : Call K V) (aim : Aim K) → weigh_call takes_told (misses c aim).left ≡ 0
+  misses_takes : (c : Call K V E) (aim : Aim K V) → weigh_call takes_told (misses c aim).left ≡ 0
   misses_takes c plan.To_answer = refl
-  misses_takes c (plan.To_load load) = refl
-  misses_takes c (plan.To_own load) = refl
+  misses_takes c (plan.To_load sought) = refl
+  misses_takes c (plan.To_own sought) = refl
+  misses_takes c (plan.To_insert key value) =
+      put_plans (λ p. weigh_call takes_told (goes c p).left ≡ 0) c.rules key value _ refl refl
   misses_takes c (plan.To_evict key stamp cause) = keeps_takes c
 
-  finds_take : (c : Call K V) (aim : Aim K) (k : K) (stored : Stored V) →
+  finds_take : (c : Call K V E) (aim : Aim K V) (k : K) (stored : Stored V) →
       weigh_call takes_told (finds_pair c aim k stored).left ≡ 0
   finds_take c plan.To_answer k stored = refl
-  finds_take c (plan.To_load load) k stored = refl
-  finds_take c (plan.To_own load) k stored = refl
+  finds_take c (plan.To_load sought) k stored = refl
+  finds_take c (plan.To_insert under new) k stored = refl
+  finds_take c (plan.To_own sought) k stored = refl
   finds_take c (plan.To_evict key stamp cause) k stored =
       chosen_next (λ v. weigh_call takes_told v.left ≡ 0) c key stamp cause k stored (λ off. refl)
       (λ on. refl) refl
 
-  hits_takes : (c : Call K V) (aim : Aim K) (value : V) → IsLook aim →
+  hits_takes : (c : Call K V E) (aim : Aim K V) (value : V) → IsLook aim →
       weigh_call takes_told (hits c aim value).left ≡ 0
   hits_takes c plan.To_answer value l = refl
-  hits_takes c (plan.To_load load) value l = refl
-  hits_takes c (plan.To_own load) value l = refl
+  hits_takes c (plan.To_load sought) value l = refl
+  hits_takes c (plan.To_insert under new) value l = refl
+  hits_takes c (plan.To_own sought) value l = refl
   hits_takes c (plan.To_evict key stamp cause) value l = absurd l
 
-  either_takes : (b : Bool) (x y : Next K V) → weigh_call takes_told x.left ≡ 0 → weigh_call takes_told y.left ≡ 0 →
+  either_takes : (b : Bool) (x y : Next K V E) → weigh_call takes_told x.left ≡ 0 → weigh_call takes_told y.left ≡ 0 →
       weigh_call takes_told (cond b x y).left ≡ 0
   either_takes true x y h k = h
   either_takes false x y h k = k
 
-  reads_take : (c : Call K V) (load : Load K) (with : Settled V) → weigh takes_told c.plan ≡ 0 →
-      weigh_call takes_told (after_read c load (found.ReadSettled with)).left ≡ 0
-  reads_take c load (settled.Ready value) e = refl
-  reads_take c load settled.NotYet e = e
-  reads_take c load settled.Aborted e = either_takes (c.aborts + 1 == retries) _ _ refl refl
+  reads_take : (c : Call K V E) (sought : Sought K) (with : Settled V E) → weigh takes_told c.plan ≡ 0 →
+      weigh_call takes_told (after_read c sought (found.ReadSettled with)).left ≡ 0
+  reads_take c sought (settled.Ready value) e = refl
+  reads_take c sought (settled.Err error) e = refl
+  reads_take c sought settled.Nothing e = refl
+  reads_take c sought settled.NotYet e = e
+  reads_take c sought settled.Aborted e = either_takes (c.aborts + 1 == retries) _ _ refl refl
 
-  told_takes : (c : Call K V) (load : Load K) (given : Told V) → IsValue (Some given) →
+  told_takes : (c : Call K V E) (load : Load K) (given : Told V E) → IsGiven (Some given) →
       weigh_call takes_told (after_told c load (found.TakeTold (Some given))).left ≡ 0
   told_takes c load (answer.Value value) is =
       loaded_plans (λ p. weigh_call takes_told (goes c p).left ≡ 0)
       c.rules load value refl refl refl
+  told_takes c load answer.Nothing is = refl
+  told_takes c load (answer.Err error) is = refl
   told_takes c load answer.Done is = absurd is
   told_takes c load answer.Off is = absurd is
 
-  fresh_none : (rules : Rules) (p : List (Item K V)) → IsFresh rules p → weigh takes_told p ≡ 0
-  fresh_none rules p (Disabled a d) = refl
+  fresh_none : (rules : Rules) (p : List (Item K V E)) → IsFresh rules p → weigh takes_told p ≡ 0
+  fresh_none rules p (Disabled a d plain) = refl
   fresh_none rules p _ = refl
 
-  fresh_takes : (rules : Rules) (start : Start K V) → weigh takes_told (plan_of rules start) ≡ 0
-  fresh_takes rules start = fresh_none rules (plan_of rules start) (fresh_plan rules start)
-
   -- no plan takes two answers
-  tail_few : (p : List (Item K V)) → IsTail p → weigh takes_told p ≤ 1
+  tail_few : (p : List (Item K V E)) → IsTail p → weigh takes_told p ≤ 1
   tail_few p (Answering a) = omega arith
   tail_few p (Settling with a) = omega arith
 
-  drained_few : (p : List (Item K V)) → IsDrained p → weigh takes_told p ≤ 1
+  drained_few : (p : List (Item K V E)) → IsDrained p → weigh takes_told p ≤ 1
   drained_few p (Looking aim key l) = omega arith
-  drained_few p (Owning load) = omega arith
+  drained_few p (Owning sought) = omega arith
+  drained_few p (Giving a) = omega arith
   drained_few p (Removing removal key) = omega arith
   drained_few p (Locking_out removal key) = omega arith
   drained_few p (Putting key value rest t) = omega (arith, tail_few rest t)
   drained_few p (Locking key value rest t) = omega (arith, tail_few rest t)
 
-  posted_few : (p : List (Item K V)) → IsPosted p → weigh takes_told p ≤ 1
+  posted_few : (p : List (Item K V E)) → IsPosted p → weigh takes_told p ≤ 1
   posted_few p (Draining rest d) = omega (arith, drained_few rest d)
   posted_few p (Ended rest t) = tail_few rest t
 
-  pub plan_few : (p : List (Item K V)) → IsPlan p → weigh takes_told p ≤ 1
+  pub plan_few : (p : List (Item K V E)) → IsPlan p → weigh takes_told p ≤ 1
   plan_few p (Posted rest d) = posted_few rest d
   plan_few p (Drained rest d) = drained_few rest d
   plan_few p (Posting x rest d) = omega (arith, posted_few rest d)
@@ -126,7 +133,7 @@ module _ {K V : Type 0} where
   plan_few p (Ending x rest d) = omega (arith, posted_few rest d)
   plan_few p (Writing key value moment rest t) = omega (arith, tail_few rest t)
   plan_few p (Judging aim key stored l) = omega arith
-  plan_few p (Reading load) = omega arith
+  plan_few p (Reading sought) = omega arith
   plan_few p (Asking load) = omega arith
   plan_few p (Telling load) = omega arith
   plan_few p (Choosing key stamp cause) = omega arith
@@ -139,33 +146,33 @@ module _ {K V : Type 0} where
   -- ---- what a step has to show
 
   -- The call has an ask or an answer exactly where it is to take one, and the others' are as they were.
-  record Asks (d : DeskPart K V) (n : ℕ) (asks : ℕ → Option Takes) (told : ℕ → Option (Told V)) (left : Option (Call K V)) : Type 0 where
+  record Asks (d : DeskPart K V E) (n : ℕ) (asks : ℕ → Option Takes) (told : ℕ → Option (Told V E)) (left : Option (Call K V E)) : Type 0 where
     own : opened (asks n) (told n) ≡ weigh_call takes_told left
     others : (m : ℕ) → (n == m) ≡ false → (asks m ≡ d.asks m) × (told m ≡ d.told m)
 
-  module _ (eq : K → K → Bool) (w : World K V) (n : ℕ) (c : Call K V) (ready : HasAnswers w.desk)
+  module _ (eq : K → K → Bool) (w : World K V E) (n : ℕ) (c : Call K V E) (ready : HasAnswers w.desk)
       (was : opened (w.desk.asks n) (w.desk.told n) ≡ weigh takes_told c.plan) where
-    abbrev Leaves : World K V → Next K V → Type 0
+    abbrev Leaves : World K V E → Next K V E → Type 0
     Leaves new next = Asks w.desk n new.desk.asks new.desk.told next.left
 
     -- the asks are as they were, and the call's plan takes as many answers
-    still : {left : Option (Call K V)} → weigh_call takes_told left ≡ weigh takes_told c.plan → Asks w.desk n w.desk.asks w.desk.told left
+    still : {left : Option (Call K V E)} → weigh_call takes_told left ≡ weigh takes_told c.plan → Asks w.desk n w.desk.asks w.desk.told left
     still e = record { own = was ∙ sym e; others = λ m d. (refl, refl) }
 
-    goes_on : (rest : List (Item K V)) → weigh takes_told rest ≡ weigh takes_told c.plan → Asks w.desk n w.desk.asks w.desk.told (goes c rest).left
+    goes_on : (rest : List (Item K V E)) → weigh takes_told rest ≡ weigh takes_told c.plan → Asks w.desk n w.desk.asks w.desk.told (goes c rest).left
     goes_on rest e = still (weigh_goes takes_told c rest (λ a. refl) ∙ e)
 
-    on_tail : (p : List (Item K V)) → c.plan ≡ p → IsTail p → OnStep eq Leaves w n c p
+    on_tail : (p : List (Item K V E)) → c.plan ≡ p → IsTail p → OnStep eq Leaves w n c p
     on_tail p e (Answering a) = outcomes eq Leaves w n c (plan.Reply a) [] (still (omega (arith, ap (weigh takes_told) e)))
     on_tail p e (Settling with a) = outcomes eq Leaves w n c (plan.Settle with) (plan.Reply a ∷ []) (still (omega (arith, ap (weigh takes_told) e)))
 
-    on_drained : (p : List (Item K V)) → c.plan ≡ p → IsDrained p → OnStep eq Leaves w n c p
+    on_drained : (p : List (Item K V E)) → c.plan ≡ p → IsDrained p → OnStep eq Leaves w n c p
     on_drained p e (Looking aim key l) = outcomes eq Leaves w n c (plan.Get aim key) [] (
       (λ more. still refl),
       (λ none. still (omega (arith, misses_takes c aim, ap (weigh takes_told) e))),
       λ k stored some. still (omega (arith, finds_take c aim k stored, ap (weigh takes_told) e)),
     )
-    on_drained p e (Owning load) = outcomes eq Leaves w n c (plan.Own load) [] (
+    on_drained p e (Owning sought) = outcomes eq Leaves w n c (plan.Own sought) [] (
       (λ able none. still (omega (arith, ap (weigh takes_told) e))),
       (λ not none. still (omega (arith, ap (weigh takes_told) e))),
       λ owner some. still (omega (arith, ap (weigh takes_told) e)),
@@ -176,6 +183,8 @@ module _ {K V : Type 0} where
     on_drained p e (Locking key value rest t) =
         outcomes eq Leaves w n c (plan.Lock key) (plan.Moment (plan.To_store key value) ∷ rest)
         ((λ free. still (omega (arith, ap (weigh takes_told) e))), λ held. still refl)
+    on_drained p e (Giving a) = outcomes eq Leaves w n c (plan.Reply a) []
+        (still (omega (arith, ap (weigh takes_told) e)))
     on_drained p e (Removing removal key) =
         outcomes eq Leaves w n c (plan.Moment (plan.To_take_out removal key)) []
         (still (omega (arith, ap (weigh takes_told) e)))
@@ -183,7 +192,7 @@ module _ {K V : Type 0} where
         outcomes eq Leaves w n c (plan.Lock key) (plan.Moment (plan.To_take_out removal key) ∷ [])
         ((λ free. still (omega (arith, ap (weigh takes_told) e))), λ held. still refl)
 
-    on_posted : (p : List (Item K V)) → c.plan ≡ p → IsPosted p → OnStep eq Leaves w n c p
+    on_posted : (p : List (Item K V E)) → c.plan ≡ p → IsPosted p → OnStep eq Leaves w n c p
     on_posted p e (Draining rest d) = outcomes eq Leaves w n c plan.Drain rest (
       (λ none. goes_on rest (omega (arith, ap (weigh takes_told) e))),
       (λ x xs some. still (omega (arith, ap (weigh takes_told) e))),
@@ -191,7 +200,7 @@ module _ {K V : Type 0} where
     )
     on_posted p e (Ended rest t) = on_tail rest e t
 
-    on_plan : (p : List (Item K V)) → c.plan ≡ p → IsPlan p → OnStep eq Leaves w n c p
+    on_plan : (p : List (Item K V E)) → c.plan ≡ p → IsPlan p → OnStep eq Leaves w n c p
     on_plan p e (Posted rest d) = on_posted rest e d
     on_plan p e (Drained rest d) = on_drained rest e d
     on_plan p e (Posting x rest d) = outcomes eq Leaves w n c (plan.Post x) rest
@@ -212,13 +221,15 @@ module _ {K V : Type 0} where
     on_plan p e (Applying x rest d) = outcomes eq Leaves w n c plan.Apply (plan.End ∷ plan.Post x ∷ rest)
         ((λ none. still (omega (arith, ap (weigh takes_told) e))), λ y ys some. still (omega (arith, ap (weigh takes_told) e)))
     on_plan p e (Ending x rest d) = outcomes eq Leaves w n c plan.End (plan.Post x ∷ rest) (still (omega (arith, ap (weigh takes_told) e)))
-    on_plan p e (Judging aim key stored l) = outcomes eq Leaves w n c (plan.Judge aim key stored) []
-        (still (omega (arith, hits_takes c aim stored.value l, ap (weigh takes_told) e)))
-    on_plan p e (Reading load) = outcomes eq Leaves w n c (plan.Read load) [] (
+    on_plan p e (Judging aim key stored l) = outcomes eq Leaves w n c (plan.Judge aim key stored) [] (
+      (λ seen. still (omega (arith, hits_takes c aim stored.value l, ap (weigh takes_told) e))),
+      λ unseen. still (omega (arith, misses_takes c aim, ap (weigh takes_told) e)),
+    )
+    on_plan p e (Reading sought) = outcomes eq Leaves w n c (plan.Read sought) [] (
       λ none. still refl,
       λ with some.
           let zero : weigh takes_told c.plan ≡ 0 = ap (weigh takes_told) e in
-          still (reads_take c load with zero ∙ sym zero),
+          still (reads_take c sought with zero ∙ sym zero),
     )
     on_plan p e (Asking load) = outcomes eq Leaves w n c (plan.Ask load) [] (record {
       own = ap (λ a. opened a (put_at w.desk.told n None n)) (put_here w.desk.asks n _) ∙ ap (λ t. 1 + cond {A = ℕ} (is_some t) 1 0) (put_here w.desk.told n None);
@@ -231,7 +242,7 @@ module _ {K V : Type 0} where
           let told : cond {A = ℕ} (is_some (w.desk.told n)) 1 0 ≡ 1 = ap (λ t. cond {A = ℕ} (is_some t) 1 0) some in
           let gone : cond {A = ℕ} (is_some (put_at w.desk.told n None n)) 1 0 ≡ 0 = ap (λ t. cond {A = ℕ} (is_some t) 1 0) (put_here w.desk.told n None) in
           record {
-            own = omega (arith, was, told_takes c load given (subst IsValue some (ready.told n)));
+            own = omega (arith, was, told_takes c load given (subst IsGiven some (ready.told n)));
             others = λ m d. (refl, put_there w.desk.told n None m d);
           },
     )
@@ -276,13 +287,13 @@ module _ {K V : Type 0} where
   -- ---- of a state
 
   -- Each call has an ask or an answer exactly where it is to take one.
-  pub record IsAsking (s : State K V) : Type 0 where
+  pub record IsAsking (s : State K V E) : Type 0 where
     pub balanced : IsBalanced s
     pub answering : IsAnswering s
-    pub known : (n : ℕ) (c : Call K V) → s.calls n ≡ Some c → IsKnown c
+    pub known : (n : ℕ) (c : Call K V E) → s.calls n ≡ Some c → IsKnown c
     pub asked : (n : ℕ) → opened (s.world.desk.asks n) (s.world.desk.told n) ≡ weigh_call takes_told (s.calls n)
 
-  asks_on : (s : State K V) (n : ℕ) (w : World K V) (left : Option (Call K V)) → IsAsking s →
+  asks_on : (s : State K V E) (n : ℕ) (w : World K V E) (left : Option (Call K V E)) → IsAsking s →
       Asks s.world.desk n w.desk.asks w.desk.told left → (m : ℕ) →
       opened (w.desk.asks m) (w.desk.told m) ≡ weigh_call takes_told (put_at s.calls n left m)
   asks_on s n w left i b m = by (n == m) refl
@@ -296,17 +307,17 @@ module _ {K V : Type 0} where
           ap (λ a. opened a (w.desk.told m)) same.0 ∙ ap (λ t. opened (s.world.desk.asks m) t) same.1 ∙ i.asked m ∙ ap (weigh_call takes_told) (sym (put_there s.calls n left m e))
 
   -- an ask that takes the answer is open
-  is_open : (d : DeskPart K V) (n : ℕ) (value : V) → is_asked d n (answer.Value value) ≡ true → is_some (d.asks n) ≡ true
-  is_open d n value e = by (d.asks n) e
+  is_open : (d : DeskPart K V E) (n : ℕ) (given : Told V E) → is_taken d n given ≡ true → is_some (d.asks n) ≡ true
+  is_open d n given e = by (d.asks n) e
     where
-      by : (a : Option Takes) → option_map_or (λ t. does_take t (answer.Value value)) a false ≡ true → is_some a ≡ true
+      by : (a : Option Takes) → option_map_or (λ t. does_take t given) a false ≡ true → is_some a ≡ true
       by None e = e
       by (Some t) e = refl
 
-module _ {K V : Type 0} (eq : K → K → Bool) where
-  asking_step : (s t : State K V) (n : ℕ) (turn : Turn K V) → IsAsking s → Step eq s n turn t → IsAsking t
+module _ {K V E : Type 0} (eq : K → K → Bool) where
+  asking_step : (s t : State K V E) (n : ℕ) (turn : Turn K V E) → IsAsking s → Step eq s n turn t → IsAsking t
   asking_step s t n turn i step =
-      let c : Call K V = step.call in
+      let c : Call K V E = step.call in
       let was : opened (s.world.desk.asks n) (s.world.desk.told n) ≡ weigh takes_told c.plan = i.asked n ∙ ap (weigh_call takes_told) step.live in
       record {
         balanced = (balanced_kept eq).step s t n turn i.balanced step;
@@ -317,7 +328,7 @@ module _ {K V : Type 0} (eq : K → K → Bool) where
             (on_plan eq s.world n c i.answering.desk was c.plan refl (i.known n c step.live).plan) (λ w next b. asks_on s n w next.left i b);
       }
 
-  asking_start : (s : State K V) (start : Start K V) → IsAsking s → IsAsking (started s start)
+  asking_start : (s : State K V E) (start : Start K V) → IsAsking s → IsAsking (started s start)
   asking_start s start i =
       let new : ℕ = s.world.desk.last + 1 in
       record {
@@ -325,33 +336,33 @@ module _ {K V : Type 0} (eq : K → K → Bool) where
         answering = (answering_kept eq).start s start i.answering;
         known = (known_kept eq).start s start i.known;
         asked = asks_on s new s.world (Some (fresh_call s.world.desk.rules start)) i (record {
-          own = i.asked new ∙ ap (weigh_call takes_told) (next_free s i.balanced) ∙ sym (fresh_takes s.world.desk.rules start);
+          own = i.asked new ∙ ap (weigh_call takes_told) (next_free s i.balanced) ∙ sym (fresh_none s.world.desk.rules _ (fresh_plan s.world.desk.rules start));
           others = λ m d. (refl, refl);
         });
       }
 
-  asking_tell : (s : State K V) (n : ℕ) (given : V) → is_asked s.world.desk n (answer.Value given) ≡ true → IsAsking s → (m : ℕ) →
-      opened (put_at s.world.desk.asks n None m) (put_at s.world.desk.told n (Some (answer.Value given)) m) ≡ weigh_call takes_told (s.calls m)
+  asking_tell : (s : State K V E) (n : ℕ) (given : Told V E) → is_taken s.world.desk n given ≡ true → IsAsking s → (m : ℕ) →
+      opened (put_at s.world.desk.asks n None m) (put_at s.world.desk.told n (Some given) m) ≡ weigh_call takes_told (s.calls m)
   asking_tell s n given asked i m = by (n == m) refl
     where
       by : (b : Bool) → (n == m) ≡ b →
-          opened (cond b None (s.world.desk.asks m)) (cond b (Some (answer.Value given)) (s.world.desk.told m)) ≡ weigh_call takes_told (s.calls m)
+          opened (cond b None (s.world.desk.asks m)) (cond b (Some given) (s.world.desk.told m)) ≡ weigh_call takes_told (s.calls m)
       by false e = i.asked m
       by true e =
           let here : is_some (s.world.desk.asks m) ≡ true = subst (λ v. is_some (s.world.desk.asks v) ≡ true) (eqb-true n m e) (is_open s.world.desk n given asked) in
           let one : cond {A = ℕ} (is_some (s.world.desk.asks m)) 1 0 ≡ 1 = ap (λ b. cond {A = ℕ} b 1 0) here in
           omega (arith, i.asked m, few m (s.calls m) refl)
         where
-          few : (m : ℕ) (o : Option (Call K V)) → s.calls m ≡ o → weigh_call takes_told o ≤ 1
+          few : (m : ℕ) (o : Option (Call K V E)) → s.calls m ≡ o → weigh_call takes_told o ≤ 1
           few m None e = omega arith
           few m (Some c) e = plan_few c.plan (i.known m c e).plan
 
-  pub asking_kept : IsKept eq (IsAsking {K = K} {V = V})
+  pub asking_kept : IsKept eq (IsAsking {K = K} {V = V} {E = E})
   asking_kept = record {
-    fresh = λ rules size has_log. record {
-      balanced = (balanced_kept eq).fresh rules size has_log;
-      answering = (answering_kept eq).fresh rules size has_log;
-      known = (known_kept eq).fresh rules size has_log;
+    fresh = λ rules size tests has_log. record {
+      balanced = (balanced_kept eq).fresh rules size tests has_log;
+      answering = (answering_kept eq).fresh rules size tests has_log;
+      known = (known_kept eq).fresh rules size tests has_log;
       asked = λ n. refl;
     };
     at = λ s moment i. record {
@@ -379,24 +390,24 @@ module _ {K V : Type 0} (eq : K → K → Bool) where
       answering = (answering_kept eq).drop s n c live between i.answering;
       known = (known_kept eq).drop s n c live between i.known;
       asked = asks_on s n (dropped s n c).world None i (record {
-        own = ap (λ a. opened a (put_at s.world.desk.told n None n)) (put_here s.world.desk.asks n None) ∙ ap (λ t. opened {V = V} None t) (put_here s.world.desk.told n None);
+        own = ap (λ a. opened a (put_at s.world.desk.told n None n)) (put_here s.world.desk.asks n None) ∙ ap (λ t. opened {V = V} {E = E} None t) (put_here s.world.desk.told n None);
         others = λ m e. (put_there s.world.desk.asks n None m e, put_there s.world.desk.told n None m e);
       });
     };
   }
 
-  pub in_asking : (s : State K V) → IsReached eq s → IsAsking s
+  pub in_asking : (s : State K V E) → IsReached eq s → IsAsking s
   in_asking s h = in_reached eq IsAsking asking_kept s h
 
-module _ {K V : Type 0} where
+module _ {K V E : Type 0} where
   -- The call with this plan has an ask or an answer exactly where it is to take one, and it takes one at most.
-  pub record AsksWhole (d : DeskPart K V) (n : ℕ) (plan : List (Item K V)) : Type 0 where
+  pub record AsksWhole (d : DeskPart K V E) (n : ℕ) (plan : List (Item K V E)) : Type 0 where
     pub asked : opened (d.asks n) (d.told n) ≡ weigh takes_told plan
     pub few : weigh takes_told plan ≤ 1
 
-  module _ (d : DeskPart K V) (n : ℕ) where
+  module _ (d : DeskPart K V E) (n : ℕ) where
     -- where the answer isn't there the ask is open, and where it is the ask is closed
-    pub ask_open : (load : Load K) (rest : List (Item K V)) → AsksWhole d n (plan.Told load ∷ rest) → is_some (d.told n) ≡ false → IsSome (d.asks n)
+    pub ask_open : (load : Load K) (rest : List (Item K V E)) → AsksWhole d n (plan.Told load ∷ rest) → is_some (d.told n) ≡ false → IsSome (d.asks n)
     ask_open load rest a none = by (is_some (d.asks n)) refl
       where
         by : (b : Bool) → is_some (d.asks n) ≡ b → b ≡ true
@@ -406,14 +417,14 @@ module _ {K V : Type 0} where
             let told = ap (λ b. cond {A = ℕ} b 1 0) none in
             absurd (omega (arith, a.asked))
 
-    pub ask_closed : (load : Load K) (rest : List (Item K V)) → AsksWhole d n (plan.Told load ∷ rest) → is_some (d.told n) ≡ true → ¬ IsSome (d.asks n)
+    pub ask_closed : (load : Load K) (rest : List (Item K V E)) → AsksWhole d n (plan.Told load ∷ rest) → is_some (d.told n) ≡ true → ¬ IsSome (d.asks n)
     ask_closed load rest a some = λ opens.
         let ask = ap (λ b. cond {A = ℕ} b 1 0) opens in
         let told = ap (λ b. cond {A = ℕ} b 1 0) some in
         omega (arith, a.asked, a.few)
 
     -- a call that is to take none has neither
-    pub none_asked : (plan : List (Item K V)) → opened (d.asks n) (d.told n) ≡ weigh takes_told plan → weigh takes_told plan ≡ 0 →
+    pub none_asked : (plan : List (Item K V E)) → opened (d.asks n) (d.told n) ≡ weigh takes_told plan → weigh takes_told plan ≡ 0 →
         (is_some (d.asks n) ≡ false) × (is_some (d.told n) ≡ false)
     none_asked plan e zero = by (is_some (d.asks n)) (is_some (d.told n)) refl refl
       where
@@ -422,6 +433,6 @@ module _ {K V : Type 0} where
         by true t f g = let ask = ap (λ b. cond {A = ℕ} b 1 0) f in absurd (omega (arith, e))
         by false true f g = let told = ap (λ b. cond {A = ℕ} b 1 0) g in absurd (omega (arith, e))
 
-module _ {K V : Type 0} where
-  pub whole : (s : State K V) → IsAsking s → (n : ℕ) (c : Call K V) → s.calls n ≡ Some c → AsksWhole s.world.desk n c.plan
+module _ {K V E : Type 0} where
+  pub whole : (s : State K V E) → IsAsking s → (n : ℕ) (c : Call K V E) → s.calls n ≡ Some c → AsksWhole s.world.desk n c.plan
   whole s i n c live = record { asked = i.asked n ∙ ap (weigh_call takes_told) live; few = plan_few c.plan (i.known n c live).plan }

@@ -13,24 +13,25 @@ use Rattle.moka_laws.proofs.Posts.{may_write}
 use Rattle.moka_laws.proofs.Asking.{in_asking, takes_told}
 use Rattle.moka_laws.proofs.Replacing.{in_replacing, told_once, opened_committed}
 
-module _ {K V : Type 0} where
+module _ {K V E : Type 0} where
   -- a call that is to take an answer may still write
-  takes_may : (p : List (Item K V)) → weigh takes_told p ≤ weigh may_write p
+  takes_may : (p : List (Item K V E)) → weigh takes_told p ≤ weigh may_write p
   takes_may [] = omega arith
   takes_may (plan.Told load ∷ rest) = let e = takes_may rest in omega arith
   takes_may (_ ∷ rest) = let e = takes_may rest in omega arith
 
-  call_may : (o : Option (Call K V)) → 0 < weigh_call takes_told o → (c : Call K V) × (o ≡ Some c) × (0 < weigh may_write c.plan)
+  call_may : (o : Option (Call K V E)) → 0 < weigh_call takes_told o → (c : Call K V E) × (o ≡ Some c) × (0 < weigh may_write c.plan)
   call_may None h = absurd (omega arith)
   call_may (Some c) h = (c, refl, omega (arith, takes_may c.plan))
 
+module _ {K V : Type 0} where
   -- a notice that runs was opened
   runs_there : (o : Option (Notice K V)) → option_map_or (λ x. runs x.state) o false ≡ true → told_once o ≡ 1
   runs_there None h = absurd (false≢true h)
   runs_there (Some x) h = refl
 
-module _ {K V : Type 0} (eq : K → K → Bool) where
-  pub asks_one : AsksAreOne K V eq
+module _ {K V E : Type 0} (eq : K → K → Bool) where
+  pub asks_one : AsksAreOne K V E eq
   asks_one s n h some run =
       let a = in_asking eq s h in
       let i = in_replacing eq s h in

@@ -49,29 +49,29 @@ pub owed_numbers : (owed : List Owed) → map number_of (map (λ o. o.write) owe
 owed_numbers [] = refl
 owed_numbers (o ∷ owed) = ap (λ v. number_of o.write ∷ v) (owed_numbers owed)
 
-module _ {K V : Type 0} where
+module _ {K V E : Type 0} where
   -- how often the write of the number stands with the desk: owed, logged or applied
-  abbrev pub on_desk : ℕ → DeskPart K V → ℕ
+  abbrev pub on_desk : ℕ → DeskPart K V E → ℕ
   on_desk x d = among_owed x d.owed + among x d.log + among x d.applied
 
   -- how often live calls hold the write of the number
-  abbrev pub with_calls : ℕ → State K V → ℕ
+  abbrev pub with_calls : ℕ → State K V E → ℕ
   with_calls x s = sum_to s.world.desk.last (λ n. weigh_call (post_of x) (s.calls n))
 
   -- What is counted of a state.
-  pub record IsBalanced (s : State K V) : Type 0 where
+  pub record IsBalanced (s : State K V E) : Type 0 where
     -- each live call has a number that was given out; it holds its one write where it can be found
-    pub numbered : (n : ℕ) (c : Call K V) → s.calls n ≡ Some c → n ≤ s.world.desk.last
-    pub tidy : (n : ℕ) (c : Call K V) → s.calls n ≡ Some c → late c.plan ≡ 0
+    pub numbered : (n : ℕ) (c : Call K V E) → s.calls n ≡ Some c → n ≤ s.world.desk.last
+    pub tidy : (n : ℕ) (c : Call K V E) → s.calls n ≡ Some c → late c.plan ≡ 0
     -- a call that may still write has committed nothing, and nothing was committed by no call
-    pub unspent : (n : ℕ) (c : Call K V) → s.calls n ≡ Some c → times n s.world.table.committed + weigh may_write c.plan ≤ 1
+    pub unspent : (n : ℕ) (c : Call K V E) → s.calls n ≡ Some c → times n s.world.table.committed + weigh may_write c.plan ≤ 1
     pub unborn : (n : ℕ) → s.world.desk.last < n → times n s.world.table.committed ≡ 0
     -- each write was committed at most once, and stands as often as it was committed
     pub once : (x : ℕ) → times x s.world.table.committed ≤ 1
     pub balance : (x : ℕ) → with_calls x s + on_desk x s.world.desk ≡ times x s.world.table.committed
 
   -- what a step of a call with this plan has to show
-  pub record Balances (w : World K V) (n : ℕ) (plan : List (Item K V)) (new : World K V) (next : Next K V) : Type 0 where
+  pub record Balances (w : World K V E) (n : ℕ) (plan : List (Item K V E)) (new : World K V E) (next : Next K V E) : Type 0 where
     pub last : new.desk.last ≡ w.desk.last
     pub tidy : late_call next.left ≡ 0
     pub spent : times n new.table.committed + weigh_call may_write next.left ≤ 1
@@ -79,10 +79,10 @@ module _ {K V : Type 0} where
     pub balance : (x : ℕ) → weigh_call (post_of x) next.left + on_desk x new.desk + times x w.table.committed ≡ weigh
         (post_of x) plan + on_desk x w.desk + times x new.table.committed
 
-  module _ (w : World K V) (n : ℕ) (plan : List (Item K V)) where
+  module _ (w : World K V E) (n : ℕ) (plan : List (Item K V E)) where
     -- the world and the call's plan are as they were, but for how long an operation has stayed undecided
-    stays_put : (stay : Stay) (c : Call K V) → c.plan ≡ plan → late plan ≡ 0 → times n w.table.committed + weigh may_write plan ≤ 1 →
-        (mode : Mode) (turn : Turn K V) → Balances w n plan (record w { stay = stay }) (record { left = Some (record c { mode = mode }); turn = turn })
+    stays_put : (stay : Stay) (c : Call K V E) → c.plan ≡ plan → late plan ≡ 0 → times n w.table.committed + weigh may_write plan ≤ 1 →
+        (mode : Mode) (turn : Turn K V E) → Balances w n plan (record w { stay = stay }) (record { left = Some (record c { mode = mode }); turn = turn })
     stays_put stay c e t spent mode turn = record {
       last = refl;
       tidy = ap late e ∙ t;
@@ -92,7 +92,7 @@ module _ {K V : Type 0} where
     }
 
     -- a call with nothing to post is clear
-    was_clear : (c : Call K V) → c.plan ≡ plan → late plan ≡ 0 → times n w.table.committed + weigh may_write plan ≤ 1 →
+    was_clear : (c : Call K V E) → c.plan ≡ plan → late plan ≡ 0 → times n w.table.committed + weigh may_write plan ≤ 1 →
         ((x : ℕ) → weigh (post_of x) plan ≡ 0) → IsClear (Some c)
     was_clear c e t spent posts = record {
       late = ap late e ∙ t;
@@ -102,7 +102,7 @@ module _ {K V : Type 0} where
     }
 
     -- the call goes on, or has ended, with no write of its own
-    clears : {new : World K V} {next : Next K V} → new.desk.last ≡ w.desk.last → new.table.committed ≡ w.table.committed →
+    clears : {new : World K V E} {next : Next K V E} → new.desk.last ≡ w.desk.last → new.table.committed ≡ w.table.committed →
         ((x : ℕ) → on_desk x new.desk ≡ on_desk x w.desk) → IsClear next.left → ((x : ℕ) → weigh (post_of x) plan ≡ 0) →
         times n w.table.committed + 1 ≤ 1 → Balances w n plan new next
     clears l t d clear posts spent = record {
@@ -113,9 +113,9 @@ module _ {K V : Type 0} where
       balance = λ x. omega (arith, clear.posts x, posts x, d x, ap (times x) t);
     }
 
-  module _ (w : World K V) (n : ℕ) (c : Call K V) (item : Item K V) (rest : List (Item K V)) where
+  module _ (w : World K V E) (n : ℕ) (c : Call K V E) (item : Item K V E) (rest : List (Item K V E)) where
     -- the call goes on with the rest of its plan, and the item had no part in its writes
-    goes_on : {new : World K V} → new.desk.last ≡ w.desk.last → new.table.committed ≡ w.table.committed →
+    goes_on : {new : World K V E} → new.desk.last ≡ w.desk.last → new.table.committed ≡ w.table.committed →
         ((x : ℕ) → on_desk x new.desk ≡ on_desk x w.desk) → late rest ≡ 0 → ((x : ℕ) → post_of x item ≡ 0) →
         times n w.table.committed + weigh may_write rest ≤ 1 → Balances w n (item ∷ rest) new (goes c rest)
     goes_on l t d late posts spent = record {
@@ -126,8 +126,8 @@ module _ {K V : Type 0} where
       balance = λ x. omega (arith, weigh_goes (post_of x) c rest (λ a. refl), posts x, d x, ap (times x) t);
     }
 
-  module _ (eq : K → K → Bool) (w : World K V) (n : ℕ) (c : Call K V) where
-    on_item : (item : Item K V) (rest : List (Item K V)) → c.plan ≡ item ∷ rest → late (item ∷ rest) ≡ 0 →
+  module _ (eq : K → K → Bool) (w : World K V E) (n : ℕ) (c : Call K V E) where
+    on_item : (item : Item K V E) (rest : List (Item K V E)) → c.plan ≡ item ∷ rest → late (item ∷ rest) ≡ 0 →
         times n w.table.committed + weigh may_write (item ∷ rest) ≤ 1 → Outcomes eq (Balances w n (item ∷ rest)) w n c item rest
     on_item plan.Drain rest e t sp = (
       λ none. goes_on w n c plan.Drain rest refl refl (λ x. refl) (late_none rest t) (λ x. refl) (omega arith),
@@ -204,27 +204,31 @@ module _ {K V : Type 0} where
           (finds_clear c aim k stored)
           (λ x. omega (arith, posts_none x rest t)) (omega arith),
     )
-    on_item (plan.Judge aim key stored) rest e t sp =
-        clears w n (plan.Judge aim key stored ∷ rest) refl refl (λ x. refl)
-        (hits_clear c aim stored.value
-        (was_clear w n (plan.Judge aim key stored ∷ rest) c e t sp
-        (λ x. omega (arith, posts_none x rest t))))
-        (λ x. omega (arith, posts_none x rest t)) (omega arith)
-    on_item (plan.Own load) rest e t sp = (
-      λ able none. clears w n (plan.Own load ∷ rest) refl refl (λ x. refl)
+    on_item (plan.Judge aim key stored) rest e t sp = (
+      λ seen. clears w n (plan.Judge aim key stored ∷ rest) refl refl (λ x. refl)
+          (hits_clear c aim stored.value
+          (was_clear w n (plan.Judge aim key stored ∷ rest) c e t sp
+          (λ x. omega (arith, posts_none x rest t))))
+          (λ x. omega (arith, posts_none x rest t)) (omega arith),
+      λ unseen. clears w n (plan.Judge aim key stored ∷ rest) refl refl (λ x. refl)
+          (misses_clear c aim)
+          (λ x. omega (arith, posts_none x rest t)) (omega arith),
+    )
+    on_item (plan.Own sought) rest e t sp = (
+      λ able none. clears w n (plan.Own sought ∷ rest) refl refl (λ x. refl)
           (record { late = refl; posts = λ x. refl; may = omega arith })
           (λ x. omega (arith, posts_none x rest t)) (omega arith),
-      λ not none. clears w n (plan.Own load ∷ rest) refl refl (λ x. refl)
+      λ not none. clears w n (plan.Own sought ∷ rest) refl refl (λ x. refl)
           (record { late = refl; posts = λ x. refl; may = omega arith })
           (λ x. omega (arith, posts_none x rest t)) (omega arith),
-      λ owner some. clears w n (plan.Own load ∷ rest) refl refl (λ x. refl)
+      λ owner some. clears w n (plan.Own sought ∷ rest) refl refl (λ x. refl)
           (record { late = refl; posts = λ x. refl; may = omega arith })
           (λ x. omega (arith, posts_none x rest t)) (omega arith),
     )
-    on_item (plan.Read load) rest e t sp = (
-      λ none. stays_put w n (plan.Read load ∷ rest) w.stay c e t sp mode.Parked turn.Wait,
-      λ with some. clears w n (plan.Read load ∷ rest) refl refl (λ x. refl)
-          (read_clear c load with (was_clear w n (plan.Read load ∷ rest) c e t sp (λ x. omega (arith, posts_none x rest t))))
+    on_item (plan.Read sought) rest e t sp = (
+      λ none. stays_put w n (plan.Read sought ∷ rest) w.stay c e t sp mode.Parked turn.Wait,
+      λ with some. clears w n (plan.Read sought ∷ rest) refl refl (λ x. refl)
+          (read_clear c sought with (was_clear w n (plan.Read sought ∷ rest) c e t sp (λ x. omega (arith, posts_none x rest t))))
           (λ x. omega (arith, posts_none x rest t)) (omega arith),
     )
     on_item (plan.Settle with) rest e t sp = goes_on w n c (plan.Settle with) rest refl refl (λ x. refl) (late_none rest t) (λ x. refl) (omega arith)
@@ -273,7 +277,7 @@ module _ {K V : Type 0} where
     )
       where
         -- the write is committed, and the call goes on with a plan that posts it
-        commits : (p : List (Item K V)) → late p ≡ 0 → weigh may_write p ≡ weigh may_write rest →
+        commits : (p : List (Item K V E)) → late p ≡ 0 → weigh may_write p ≡ weigh may_write rest →
             ((x : ℕ) → weigh (post_of x) p ≡ once x n + weigh (post_of x) rest) →
             Balances w n (plan.Write key value moment ∷ rest)
             (record w { table = written eq n w.table key (record { value = value; stamp = n; modified = moment }); stay = decided_by n })
@@ -302,7 +306,7 @@ module _ {K V : Type 0} where
     )
       where
         -- the removal is committed, and the call goes on with a plan that posts it
-        commits : (p : List (Item K V)) → late p ≡ 0 → weigh may_write p ≡ 0 →
+        commits : (p : List (Item K V E)) → late p ≡ 0 → weigh may_write p ≡ 0 →
             ((x : ℕ) → weigh (post_of x) p ≡ once x n) →
             Balances w n (plan.Out removal key ∷ rest)
             (record w { table = removed eq n w.table key; stay = decided_by n })
@@ -337,7 +341,7 @@ module _ {K V : Type 0} where
       balance = λ x. omega (arith, posts_none x rest t);
     }
 
-    pub on_plan : (plan : List (Item K V)) → c.plan ≡ plan → late plan ≡ 0 → times n w.table.committed + weigh may_write plan ≤ 1 →
+    pub on_plan : (plan : List (Item K V E)) → c.plan ≡ plan → late plan ≡ 0 → times n w.table.committed + weigh may_write plan ≤ 1 →
         OnStep eq (Balances w n plan) w n c plan
     on_plan [] e t sp = record {
       last = refl;

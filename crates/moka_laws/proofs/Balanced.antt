@@ -20,19 +20,19 @@ use Rattle.moka_laws.proofs.Kept.{IsKept, in_reached}
 use Rattle.moka_laws.proofs.StepCases.{step_cases}
 use Rattle.moka_laws.proofs.Balance.{IsBalanced, Balances, on_plan, owed_append}
 
-module _ {K V : Type 0} where
+module _ {K V E : Type 0} where
   -- the next number is that of no call
-  pub next_free : (s : State K V) → IsBalanced s → s.calls (s.world.desk.last + 1) ≡ None
+  pub next_free : (s : State K V E) → IsBalanced s → s.calls (s.world.desk.last + 1) ≡ None
   next_free s b = by (s.calls (s.world.desk.last + 1)) refl
     where
-      by : (o : Option (Call K V)) → s.calls (s.world.desk.last + 1) ≡ o → o ≡ None
+      by : (o : Option (Call K V E)) → s.calls (s.world.desk.last + 1) ≡ o → o ≡ None
       by None e = refl
       by (Some c) e = absurd (omega (arith, b.numbered (s.world.desk.last + 1) c e))
 
   -- ---- of a state
 
   -- a step that balances keeps what is counted
-  balanced : (s : State K V) (n : ℕ) (c : Call K V) → s.calls n ≡ Some c → IsBalanced s → (w : World K V) (next : Next K V) →
+  balanced : (s : State K V E) (n : ℕ) (c : Call K V E) → s.calls n ≡ Some c → IsBalanced s → (w : World K V E) (next : Next K V E) →
       Balances s.world n c.plan w next → IsBalanced (state_after s n w next)
   balanced s n c live i w next b = record {
     numbered = λ m d lives. put_cases s.calls n next.left m (Some d) (m ≤ w.desk.last) lives
@@ -62,16 +62,16 @@ module _ {K V : Type 0} where
       by_number x true e = subst (λ v. times v w.table.committed ≤ 1) (eqb-true n x e) (omega (arith, b.spent))
       by_number x false e = omega (arith, i.once x, b.others x e)
 
-module _ {K V : Type 0} (eq : K → K → Bool) where
-  balanced_step : (s t : State K V) (n : ℕ) (turn : Turn K V) → IsBalanced s → Step eq s n turn t → IsBalanced t
+module _ {K V E : Type 0} (eq : K → K → Bool) where
+  balanced_step : (s t : State K V E) (n : ℕ) (turn : Turn K V E) → IsBalanced s → Step eq s n turn t → IsBalanced t
   balanced_step s t n turn i step =
-      let c : Call K V = step.call in
+      let c : Call K V E = step.call in
       step_cases eq (Balances s.world n c.plan) (λ v _. IsBalanced v) s t n turn step
       (on_plan eq s.world n c c.plan refl (i.tidy n c step.live) (i.unspent n c step.live))
       (λ w next. balanced s n c step.live i w next)
 
   -- a new call has nothing to post, and the next number
-  balanced_start : (s : State K V) (start : Start K V) → IsBalanced s → IsBalanced (started s start)
+  balanced_start : (s : State K V E) (start : Start K V) → IsBalanced s → IsBalanced (started s start)
   balanced_start s start i =
       let new : ℕ = s.world.desk.last + 1 in
       let clear = fresh_clear s.world.desk.rules start in
@@ -98,14 +98,14 @@ module _ {K V : Type 0} (eq : K → K → Bool) where
       }
 
   -- what a dropped call leaves is the write that it held
-  pub gives_up : (s : State K V) (n : ℕ) (c : Call K V) (x : ℕ) (o : Option Write) →
+  pub gives_up : (s : State K V E) (n : ℕ) (c : Call K V E) (x : ℕ) (o : Option Write) →
       among_owed x (option_to_list (option_map (owed_with s.world.desk) (option_map (λ v. record { write = v; notice = hearing n c.plan }) o))) ≡
       among x (option_to_list o)
   gives_up s n c x None = refl
   gives_up s n c x (Some v) = refl
 
   -- a dropped call leaves the write that it holds
-  balanced_drop : (s : State K V) (n : ℕ) (c : Call K V) → s.calls n ≡ Some c → IsBalanced s → IsBalanced (dropped s n c)
+  balanced_drop : (s : State K V E) (n : ℕ) (c : Call K V E) → s.calls n ≡ Some c → IsBalanced s → IsBalanced (dropped s n c)
   balanced_drop s n c live i = record {
     numbered = λ m d lives. put_cases s.calls n None m (Some d) (m ≤ s.world.desk.last) lives (λ here is. absurd (none_some is))
         (λ there is. i.numbered m d is);
@@ -124,9 +124,9 @@ module _ {K V : Type 0} (eq : K → K → Bool) where
         omega (arith, i.balance x, posts_held x c.plan (i.tidy n c live), owed_append x s.world.desk.owed new, gives_up s n c x (held_by c.plan));
   }
 
-  pub balanced_kept : IsKept eq (IsBalanced {K = K} {V = V})
+  pub balanced_kept : IsKept eq (IsBalanced {K = K} {V = V} {E = E})
   balanced_kept = record {
-    fresh = λ rules size has_log. record {
+    fresh = λ rules size tests has_log. record {
       numbered = λ n c live. absurd (none_some live);
       tidy = λ n c live. absurd (none_some live);
       unspent = λ n c live. absurd (none_some live);
@@ -156,5 +156,5 @@ module _ {K V : Type 0} (eq : K → K → Bool) where
     drop = λ s n c live between i. balanced_drop s n c live i;
   }
 
-  pub in_balance : (s : State K V) → IsReached eq s → IsBalanced s
+  pub in_balance : (s : State K V E) → IsReached eq s → IsBalanced s
   in_balance s h = in_reached eq IsBalanced balanced_kept s h

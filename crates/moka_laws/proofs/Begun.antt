@@ -15,18 +15,18 @@ use Rattle.moka_laws.proofs.Following.{IsFollowed, follow, leads_more, no_leads}
 use Rattle.moka_laws.proofs.Reached.{fresh_reached, run_reached}
 use Rattle.moka_laws.proofs.Steady.{step_calls}
 
-module _ {K V : Type 0} (eq : K → K → Bool) where
+module _ {K V E : Type 0} (eq : K → K → Bool) where
   -- the state is reached, and each live call of it was started
-  record AreBegun (s : State K V) : Type 0 where
+  record AreBegun (s : State K V E) : Type 0 where
     reached : IsReached eq s
-    begun : (n : ℕ) (c : Call K V) → s.calls n ≡ Some c → (start : Start K V) ×
+    begun : (n : ℕ) (c : Call K V E) → s.calls n ≡ Some c → (start : Start K V) ×
         WasStarted eq start n s
 
-  on_reached : (s t : State K V) → IsReached eq s → Leads eq s t → IsReached eq t
+  on_reached : (s t : State K V E) → IsReached eq s → Leads eq s t → IsReached eq t
   on_reached s t h led = run_reached eq s t led.events led.replies h led.run
 
   -- a call that was started before was
-  begun_on : (s t : State K V) (n : ℕ) → Leads eq s t → (start : Start K V) ×
+  begun_on : (s t : State K V E) (n : ℕ) → Leads eq s t → (start : Start K V) ×
       WasStarted eq start n s →
       (start : Start K V) × WasStarted eq start n t
   begun_on s t n led h = (
@@ -40,7 +40,7 @@ module _ {K V : Type 0} (eq : K → K → Bool) where
     },
   )
 
-  begins_now : (s : State K V) (start : Start K V) → IsReached eq s →
+  begins_now : (s : State K V E) (start : Start K V) → IsReached eq s →
       (s.world.desk.last == last_call) ≡ false →
       WasStarted eq start (s.world.desk.last + 1) (started s start)
   begins_now s start h fits =
@@ -97,19 +97,19 @@ module _ {K V : Type 0} (eq : K → K → Bool) where
     };
   }
     where
-      was : (s t : State K V) (n : ℕ) (turn : Turn K V) → AreBegun s → Step eq s n turn t → (m : ℕ)
-          (c : Call K V) → t.calls m ≡ Some c →
+      was : (s t : State K V E) (n : ℕ) (turn : Turn K V E) → AreBegun s → Step eq s n turn t → (m : ℕ)
+          (c : Call K V E) → t.calls m ≡ Some c →
           (b : Bool) → (n == m) ≡ b → (other : Start K V) × WasStarted eq other m s
       was s t n turn i step m c live true e = i.begun m step.call
           (ap s.calls (sym (eqb-true n m e)) ∙ step.live)
       was s t n turn i step m c live false e = i.begun m c
           (sym (step_calls eq s t n m turn e step) ∙ live)
 
-  pub live_started : LiveWasStarted K V eq
+  pub live_started : LiveWasStarted K V E eq
   live_started s n c h live =
-      let first : AreBegun (fresh K V h.rules h.size) = record {
-        reached = fresh_reached eq h.rules h.size h.has_log;
+      let first : AreBegun (fresh K V E h.rules h.size h.tests) = record {
+        reached = fresh_reached eq h.rules h.size h.tests h.has_log;
         begun = λ m d lives. absurd (none_some lives);
       } in
       (follow eq AreBegun begun_followed
-      (fresh K V h.rules h.size) s h.events h.replies first h.run).begun n c live
+      (fresh K V E h.rules h.size h.tests) s h.events h.replies first h.run).begun n c live

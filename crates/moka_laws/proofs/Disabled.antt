@@ -20,6 +20,7 @@ use Rattle.moka_hist.specs.declared.accesses.Turn.{Turn}
 use Rattle.moka_hist.specs.declared.events.Told.{Told}
 use Rattle.moka_hist.specs.declared.events.Told.TheVariants as answer
 use Rattle.moka_hist.specs.declared.loads.Load.{Load}
+use Rattle.moka_hist.specs.declared.loads.Sought.{Sought}
 use Rattle.moka_hist.specs.declared.notices.Notice.{Notice}
 use Rattle.moka_hist.specs.declared.records.Stored.{Stored}
 use Rattle.moka_hist.specs.declared.rules.Rules.{Rules}
@@ -34,7 +35,7 @@ use Rattle.moka_laws.specs.Removals.{DisabledStoresNothing, StoresNothing}
 use Rattle.moka_laws.proofs.Counting.{none_some, put_cases, times_same}
 use Rattle.moka_laws.proofs.Weights.{weigh, weigh_call, weigh_goes}
 use Rattle.moka_laws.proofs.Locking.{IsLocking, locking_kept}
-use Rattle.moka_laws.proofs.Rules.{chosen_next, kept_next, loaded_plans_by, IsFresh, Disabled, Puts, Locks_and_puts, fresh_plan}
+use Rattle.moka_laws.proofs.Rules.{chosen_next, kept_next, loaded_plans_by, IsFresh, Disabled, Puts, Locks_and_puts, Finds_or_puts, fresh_plan}
 use Rattle.moka_laws.proofs.Kept.{IsKept, in_reached}
 use Rattle.moka_laws.proofs.Steady.{step_rules}
 use Rattle.moka_laws.proofs.StepCases.{OnStep, step_cases}
@@ -43,85 +44,102 @@ use Rattle.moka_laws.proofs.Outcomes.{Outcomes, outcomes}
 none_in : {A : Type 0} (xs : List A) (x : A) → xs ≡ [] → Contains xs x → ⊥
 none_in xs x e h = let k = subst (λ v. Contains v x) e h in omega (arith, k.1)
 
-module _ {K V : Type 0} where
-  -- the item stores a value, or is to
-  abbrev stores : Item K V → ℕ
-  stores (plan.Moment (plan.To_store key value)) = 1
-  stores (plan.Write key value moment) = 1
-  stores _ = 0
+-- a look for this stores a value where nothing is seen
+abbrev inserts : {K V : Type 0} → Aim K V → ℕ
+inserts (plan.To_insert key value) = 1
+inserts _ = 0
 
+module _ {K V : Type 0} where
   -- no record is stored, and none was
   record IsEmpty (t : TablePart K V) : Type 0 where
     stored : (q : K) → t.stored q ≡ None
     committed : t.committed ≡ []
 
+module _ {K V E : Type 0} where
+  -- the item stores a value, or may
+  abbrev stores : Item K V E → ℕ
+  stores (plan.Moment (plan.To_store key value)) = 1
+  stores (plan.Write key value moment) = 1
+  stores (plan.Get aim key) = inserts aim
+  stores (plan.Judge aim key found) = inserts aim
+  stores _ = 0
+
   -- what a step has to show
-  record Leaves (new : World K V) (next : Next K V) : Type 0 where
+  record Leaves (new : World K V E) (next : Next K V E) : Type 0 where
     empty : IsEmpty new.table
     calm : weigh_call stores next.left ≡ 0
 
-  keeps_calm : (c : Call K V) → weigh_call stores (keeps c).left ≡ 0
+  keeps_calm : (c : Call K V E) → weigh_call stores (keeps c).left ≡ 0
   keeps_calm c = kept_next (λ v. weigh_call stores v.left ≡ 0) c (λ off. refl) (λ on. refl)
 
-  misses_calm : (c : Call K V) (aim : Aim K) → weigh_call stores (misses c aim).left ≡ 0
-  misses_calm c plan.To_answer = refl
-  misses_calm c (plan.To_load load) = refl
-  misses_calm c (plan.To_own load) = refl
-  misses_calm c (plan.To_evict key stamp cause) = keeps_calm c
+  misses_calm : (c : Call K V E) (aim : Aim K V) → inserts aim ≡ 0 →
+      weigh_call stores (misses c aim).left ≡ 0
+  misses_calm c plan.To_answer h = refl
+  misses_calm c (plan.To_load sought) h = refl
+  misses_calm c (plan.To_own sought) h = refl
+  misses_calm c (plan.To_insert key value) h = absurd (omega (arith, h))
+  misses_calm c (plan.To_evict key stamp cause) h = keeps_calm c
 
-  finds_calm : (c : Call K V) (aim : Aim K) (there : K) (seen : Stored V) →
+  finds_calm : (c : Call K V E) (aim : Aim K V) (there : K) (seen : Stored V) → inserts aim ≡ 0 →
       weigh_call stores (finds_pair c aim there seen).left ≡ 0
-  finds_calm c plan.To_answer there seen = refl
-  finds_calm c (plan.To_load load) there seen = refl
-  finds_calm c (plan.To_own load) there seen = refl
-  finds_calm c (plan.To_evict key stamp cause) there seen =
+  finds_calm c plan.To_answer there seen h = refl
+  finds_calm c (plan.To_load sought) there seen h = refl
+  finds_calm c (plan.To_own sought) there seen h = refl
+  finds_calm c (plan.To_insert key value) there seen h = absurd (omega (arith, h))
+  finds_calm c (plan.To_evict key stamp cause) there seen h =
       chosen_next (λ v. weigh_call stores v.left ≡ 0) c key stamp cause there seen (λ off. refl)
       (λ on. refl) refl
 
-  hits_calm : (c : Call K V) (aim : Aim K) (value : V) → weigh stores c.plan ≡ 0 →
+  hits_calm : (c : Call K V E) (aim : Aim K V) (value : V) → weigh stores c.plan ≡ 0 →
       weigh_call stores (hits c aim value).left ≡ 0
   hits_calm c plan.To_answer value p = refl
-  hits_calm c (plan.To_load load) value p = refl
-  hits_calm c (plan.To_own load) value p = refl
+  hits_calm c (plan.To_load sought) value p = refl
+  hits_calm c (plan.To_insert under new) value p = refl
+  hits_calm c (plan.To_own sought) value p = refl
   hits_calm c (plan.To_evict key stamp cause) value p = p
 
-  either_calm : (b : Bool) (x y : Next K V) → weigh_call stores x.left ≡ 0 →
+  either_calm : (b : Bool) (x y : Next K V E) → weigh_call stores x.left ≡ 0 →
       weigh_call stores y.left ≡ 0 →
       weigh_call stores (cond b x y).left ≡ 0
   either_calm true x y h k = h
   either_calm false x y h k = k
 
-  read_calm : (c : Call K V) (load : Load K) (with : Settled V) → weigh stores c.plan ≡ 0 →
-      weigh_call stores (after_read c load (found.ReadSettled with)).left ≡ 0
-  read_calm c load (settled.Ready value) p = refl
-  read_calm c load settled.NotYet p = p
-  read_calm c load settled.Aborted p = either_calm (c.aborts + 1 == retries) _ _ refl refl
+  read_calm : (c : Call K V E) (sought : Sought K) (with : Settled V E) → weigh stores c.plan ≡ 0 →
+      weigh_call stores (after_read c sought (found.ReadSettled with)).left ≡ 0
+  read_calm c sought (settled.Ready value) p = refl
+  read_calm c sought (settled.Err error) p = refl
+  read_calm c sought settled.Nothing p = refl
+  read_calm c sought settled.NotYet p = p
+  read_calm c sought settled.Aborted p = either_calm (c.aborts + 1 == retries) _ _ refl refl
 
-  told_calm : (c : Call K V) (load : Load K) (given : Told V) → is_disabled c.rules ≡ true →
+  told_calm : (c : Call K V E) (load : Load K) (given : Told V E) → is_disabled c.rules ≡ true →
       weigh stores c.plan ≡ 0 →
       weigh_call stores (after_told c load (found.TakeTold (Some given))).left ≡ 0
   told_calm c load (answer.Value value) off p =
       loaded_plans_by (λ q. weigh_call stores (goes c q).left ≡ 0) c.rules load value (λ e. refl)
       (λ able e. absurd (false≢true (sym able ∙ off)))
       (λ able e. absurd (false≢true (sym able ∙ off)))
+  told_calm c load answer.Nothing off p = refl
+  told_calm c load (answer.Err error) off p = refl
   told_calm c load answer.Done off p = p
   told_calm c load answer.Off off p = p
 
-  form_calm : (rules : Rules) (p : List (Item K V)) → IsFresh rules p → is_disabled rules ≡ true →
+  form_calm : (rules : Rules) (p : List (Item K V E)) → IsFresh rules p → is_disabled rules ≡ true →
       weigh stores p ≡ 0
   form_calm rules p (Puts key value able e) off = absurd (false≢true (sym able ∙ off))
   form_calm rules p (Locks_and_puts key value able e) off = absurd (false≢true (sym able ∙ off))
-  form_calm rules p (Disabled a d) off = refl
+  form_calm rules p (Finds_or_puts key value able) off = absurd (false≢true (sym able ∙ off))
+  form_calm rules p (Disabled a d plain) off = refl
   form_calm rules p _ off = refl
 
-  module _ (eq : K → K → Bool) (w : World K V) (n : ℕ) (c : Call K V)
+  module _ (eq : K → K → Bool) (w : World K V E) (n : ℕ) (c : Call K V E)
       (off : is_disabled c.rules ≡ true) (empty : IsEmpty w.table)
       (p : weigh stores c.plan ≡ 0) where
-    goes_on : {new : World K V} (rest : List (Item K V)) → IsEmpty new.table → weigh stores rest ≡
+    goes_on : {new : World K V E} (rest : List (Item K V E)) → IsEmpty new.table → weigh stores rest ≡
         0 → Leaves new (goes c rest)
     goes_on rest none h = record { empty = none; calm = weigh_goes stores c rest (λ a. refl) ∙ h }
 
-    on_item : (item : Item K V) (rest : List (Item K V)) → weigh stores (item ∷ rest) ≡ 0 →
+    on_item : (item : Item K V E) (rest : List (Item K V E)) → weigh stores (item ∷ rest) ≡ 0 →
         Outcomes eq Leaves w n c item rest
     on_item plan.Drain rest q = (
       λ e. goes_on rest empty (omega (arith, q)),
@@ -167,20 +185,23 @@ module _ {K V : Type 0} where
     on_item plan.End rest q = goes_on rest empty (omega (arith, q))
     on_item (plan.Get aim key) rest q = (
       λ more. record { empty = empty; calm = p },
-      λ none. record { empty = empty; calm = misses_calm c aim },
-      λ there seen some. record { empty = empty; calm = finds_calm c aim there seen },
+      λ none. record { empty = empty; calm = misses_calm c aim (omega (arith, q)) },
+      λ there seen some. record
+          { empty = empty; calm = finds_calm c aim there seen (omega (arith, q)) },
     )
-    on_item (plan.Judge aim key seen) rest q = record
-        { empty = empty; calm = hits_calm c aim seen.value p }
-    on_item (plan.Own load) rest q = (
+    on_item (plan.Judge aim key found) rest q = (
+      λ seen. record { empty = empty; calm = hits_calm c aim found.value p },
+      λ unseen. record { empty = empty; calm = misses_calm c aim (omega (arith, q)) },
+    )
+    on_item (plan.Own sought) rest q = (
       λ able e. record { empty = empty; calm = refl },
       λ disabled e. record { empty = empty; calm = refl },
       λ owner e. record { empty = empty; calm = refl },
     )
-    on_item (plan.Read load) rest q = (
+    on_item (plan.Read sought) rest q = (
       λ e. record { empty = empty; calm = p },
       λ with e. record
-          { empty = empty; calm = read_calm c load with p },
+          { empty = empty; calm = read_calm c sought with p },
     )
     on_item (plan.Settle with) rest q = goes_on rest empty (omega (arith, q))
     on_item (plan.Ask load) rest q = record { empty = empty; calm = refl }
@@ -213,22 +234,22 @@ module _ {K V : Type 0} where
     on_item plan.Idle rest q = goes_on rest empty (omega (arith, q))
     on_item (plan.Reply a) rest q = record { empty = empty; calm = refl }
 
-    on_plan : (plan : List (Item K V)) → c.plan ≡ plan → OnStep eq Leaves w n c plan
+    on_plan : (plan : List (Item K V E)) → c.plan ≡ plan → OnStep eq Leaves w n c plan
     on_plan [] e = record { empty = empty; calm = p }
     on_plan (item ∷ rest) e = outcomes eq Leaves w n c item rest
         (on_item item rest (ap (weigh stores) (sym e) ∙ p))
 
 -- ---- of a state
 
-module _ {K V : Type 0} (eq : K → K → Bool) where
+module _ {K V E : Type 0} (eq : K → K → Bool) where
   -- where the cache is disabled no record is stored, and no call is to store one
-  record IsIdle (s : State K V) : Type 0 where
+  record IsIdle (s : State K V E) : Type 0 where
     locking : IsLocking s
     empty : is_disabled s.world.desk.rules ≡ true → IsEmpty s.world.table
-    calm : is_disabled s.world.desk.rules ≡ true → (n : ℕ) (c : Call K V) → s.calls n ≡ Some c →
+    calm : is_disabled s.world.desk.rules ≡ true → (n : ℕ) (c : Call K V E) → s.calls n ≡ Some c →
         weigh stores c.plan ≡ 0
 
-  idle_step : (s t : State K V) (n : ℕ) (turn : Turn K V) → IsIdle s → Step eq s n turn t → IsIdle t
+  idle_step : (s t : State K V E) (n : ℕ) (turn : Turn K V E) → IsIdle s → Step eq s n turn t → IsIdle t
   idle_step s t n turn i step = record {
     locking = (locking_kept eq).step s t n turn i.locking step;
     empty = λ off. (both (was off)).0;
@@ -239,11 +260,11 @@ module _ {K V : Type 0} (eq : K → K → Bool) where
       was off = ap is_disabled (sym (step_rules eq s t n turn step)) ∙ off
 
       both : is_disabled s.world.desk.rules ≡ true →
-          IsEmpty t.world.table × ((m : ℕ) (c : Call K V) → t.calls m ≡ Some c →
+          IsEmpty t.world.table × ((m : ℕ) (c : Call K V E) → t.calls m ≡ Some c →
           weigh stores c.plan ≡ 0)
       both off =
           step_cases eq Leaves (λ v _. IsEmpty v.world.table ×
-          ((m : ℕ) (c : Call K V) → v.calls m ≡ Some c → weigh stores c.plan ≡
+          ((m : ℕ) (c : Call K V E) → v.calls m ≡ Some c → weigh stores c.plan ≡
           0)) s t n turn step
           (on_plan eq s.world n step.call (ap is_disabled (i.locking.rules n step.call step.live) ∙
           off) (i.empty off)
@@ -257,8 +278,8 @@ module _ {K V : Type 0} (eq : K → K → Bool) where
 
   idle_kept : IsKept eq IsIdle
   idle_kept = record {
-    fresh = λ rules size has_log. record {
-      locking = (locking_kept eq).fresh rules size has_log;
+    fresh = λ rules size tests has_log. record {
+      locking = (locking_kept eq).fresh rules size tests has_log;
       empty = λ off. record { stored = λ q. refl; committed = refl };
       calm = λ off n c live. absurd (none_some live);
     };
@@ -299,11 +320,11 @@ module _ {K V : Type 0} (eq : K → K → Bool) where
 
   -- ---- what follows where nothing was committed
 
-  module _ (s : State K V) (lawful : IsLawful eq s) (none : s.world.table.committed ≡ []) where
+  module _ (s : State K V E) (lawful : IsLawful eq s) (none : s.world.table.committed ≡ []) where
     not_committed : (number : ℕ) → Contains s.world.table.committed number → ⊥
     not_committed number h = none_in s.world.table.committed number none h
 
-    none_held : (n : ℕ) (c : Call K V) → s.calls n ≡ Some c → (o : Option Write) → held_by c.plan ≡
+    none_held : (n : ℕ) (c : Call K V E) → s.calls n ≡ Some c → (o : Option Write) → held_by c.plan ≡
         o → o ≡ None
     none_held n c live None e = refl
     none_held n c live (Some w) e = absurd (not_committed (number_of w)
@@ -367,8 +388,8 @@ module _ {K V : Type 0} (eq : K → K → Bool) where
       unnoticed = λ n. none_noticed n (s.world.desk.notices n) refl;
     }
 
-  pub disabled_nothing : ((s : State K V) → IsReached eq s → IsLawful eq s) →
-      DisabledStoresNothing K V eq
+  pub disabled_nothing : ((s : State K V E) → IsReached eq s → IsLawful eq s) →
+      DisabledStoresNothing K V E eq
   disabled_nothing lawful s h zero =
       let i : IsIdle s = in_reached eq IsIdle idle_kept s h in
       let off : is_disabled s.world.desk.rules ≡ true = rw zero refl in

@@ -2,7 +2,7 @@
 use Rattle.std.proofs.Common.{◌≢◌, ◌≡◌, ℕ, zero, suc, Bool, true, false, List, [], ◌∷◌, ◌++◌, Option, Some, None, MatchOption, MatchBool, nat_lt, ◌==◌, refl, sym, subst}
 use Rattle.moka_hist.specs.State.{State, Call}
 use Rattle.moka_hist.specs.Dropping.{dropped}
-use Rattle.moka_hist.specs.Telling.{is_asked, heard}
+use Rattle.moka_hist.specs.Telling.{is_asked, heard, is_taken, told_call}
 use Rattle.moka_hist.specs.Telling.{told as tells}
 use Rattle.moka_hist.specs.Visits.{is_running}
 use Rattle.moka_hist.specs.Step.{Step}
@@ -19,23 +19,23 @@ use Rattle.moka_hist.specs.declared.replies.Reply.{Reply}
 use Rattle.moka_hist.specs.declared.accesses.Turn.{Turn}
 use Rattle.moka_laws.specs.Starting.{Leads}
 
-module _ {K V : Type 0} (eq : K → K → Bool) where
+module _ {K V E : Type 0} (eq : K → K → Bool) where
   -- one event leads on; so does a step; and what leads on from there leads on from here
-  pub one_leads : (s t : State K V) (e : Event K V) (r : Reply K V) → Happens eq Any s e r t →
+  pub one_leads : (s t : State K V E) (e : Event K V E) (r : Reply K V E) → Happens eq Any s e r t →
       Leads eq s t
   one_leads s t e r h = record { events = e ∷ []; replies = r ∷ []; run = (t, h, tt, refl) }
 
-  pub step_leads : (s t : State K V) (n : ℕ) (turn : Turn K V) → Step eq s n turn t → Leads eq s t
+  pub step_leads : (s t : State K V E) (n : ℕ) (turn : Turn K V E) → Step eq s n turn t → Leads eq s t
   step_leads s t n turn step =
       let steps : Steps eq s n (reply_of turn) t = record
       { turn = turn; step = step; reply = refl } in
       let happens : Happens eq Any s (event.Step n) (reply_of turn) t = rw step.live steps in
       one_leads s t (event.Step n) (reply_of turn) happens
 
-  pub no_leads : (s : State K V) → Leads eq s s
+  pub no_leads : (s : State K V E) → Leads eq s s
   no_leads s = record { events = []; replies = []; run = refl }
 
-  run_append : (s m t : State K V) (es fs : List (Event K V)) (rs qs : List (Reply K V)) →
+  run_append : (s m t : State K V E) (es fs : List (Event K V E)) (rs qs : List (Reply K V E)) →
       Run eq Any s es rs m → Run eq Any m fs qs t → Run eq Any s (es ++ fs) (rs ++ qs) t
   run_append s m t [] fs [] qs run more = subst (λ v. Run eq Any v fs qs t) run more
   run_append s m t (e ∷ es) fs (r ∷ rs) qs run more =
@@ -43,7 +43,7 @@ module _ {K V : Type 0} (eq : K → K → Bool) where
   run_append s m t [] fs (r ∷ rs) qs run more = absurd run
   run_append s m t (e ∷ es) fs [] qs run more = absurd run
 
-  pub leads_more : (s m t : State K V) → Leads eq s m → Leads eq m t → Leads eq s t
+  pub leads_more : (s m t : State K V E) → Leads eq s m → Leads eq m t → Leads eq s t
   leads_more s m t l k =
       record {
         events = l.events ++ k.events;
@@ -53,42 +53,41 @@ module _ {K V : Type 0} (eq : K → K → Bool) where
       }
 
   -- each event keeps it, as it leads on
-  pub record IsFollowed (I : State K V → Type 0) : Type 0 where
-    pub at : (s : State K V) (moment : ℕ) → Leads eq s (at_moment s moment) → I s → I
+  pub record IsFollowed (I : State K V E → Type 0) : Type 0 where
+    pub at : (s : State K V E) (moment : ℕ) → Leads eq s (at_moment s moment) → I s → I
         (at_moment s moment)
-    pub start : (s : State K V) (start : Start K V) → (s.world.desk.last == last_call) ≡ false →
+    pub start : (s : State K V E) (start : Start K V) → (s.world.desk.last == last_call) ≡ false →
         Leads eq s (started s start) → I s →
         I (started s start)
-    pub step : (s t : State K V) (n : ℕ) (turn : Turn K V) → Leads eq s t → I s →
+    pub step : (s t : State K V E) (n : ℕ) (turn : Turn K V E) → Leads eq s t → I s →
         Step eq s n turn t → I t
-    pub tell : (s : State K V) (n : ℕ) (value : V) → is_asked s.world.desk n (told.Value value) ≡
-        true →
-        Leads eq s (with_desk s (tells s.world.desk n (told.Value value))) → I s →
-        I (with_desk s (tells s.world.desk n (told.Value value)))
-    pub hear : (s : State K V) (n : ℕ) (off : Bool) → is_running s.world.desk n ≡ true →
+    pub tell : (s : State K V E) (n : ℕ) (given : Told V E) → is_taken s.world.desk n given ≡ true →
+        Leads eq s (with_desk s (told_call s.world.desk n given)) → I s →
+        I (with_desk s (told_call s.world.desk n given))
+    pub hear : (s : State K V E) (n : ℕ) (off : Bool) → is_running s.world.desk n ≡ true →
         Leads eq s (with_desk s (heard s.world.desk n off)) → I s → I
         (with_desk s (heard s.world.desk n off))
-    pub drop : (s : State K V) (n : ℕ) (c : Call K V) → s.calls n ≡ Some c → c.mode ≢ mode.Mid →
+    pub drop : (s : State K V E) (n : ℕ) (c : Call K V E) → s.calls n ≡ Some c → c.mode ≢ mode.Mid →
         Leads eq s (dropped s n c) → I s →
         I (dropped s n c)
 
-  module _ (I : State K V → Type 0) (kept : IsFollowed I) where
-    refused : (s t : State K V) (why : Refusal) (r : Reply K V) → I s → Refuses s why r t → I t
+  module _ (I : State K V E → Type 0) (kept : IsFollowed I) where
+    refused : (s t : State K V E) (why : Refusal) (r : Reply K V E) → I s → Refuses s why r t → I t
     refused s t why r i h = subst (λ v. I v) (sym h.same) i
 
-    becomes : (s next t : State K V) (answer r : Reply K V) → Leads eq s t →
+    becomes : (s next t : State K V E) (answer r : Reply K V E) → Leads eq s t →
         (Leads eq s next → I next) → Becomes next answer r t → I t
     becomes s next t answer r l f h = subst (λ v. I v) (sym h.after)
         (f (subst (Leads eq s) h.after l))
 
-    goings : (k : ℕ) (s t : State K V) (n : ℕ) → I s → Goings eq Any k s n t → I t
+    goings : (k : ℕ) (s t : State K V E) (n : ℕ) → I s → Goings eq Any k s n t → I t
     unfolding Goings
     goings zero s t n i going = subst (λ v. I v) (sym going) i
     goings (suc k) s t n i going =
         kept.step going.0 t n _ (step_leads going.0 t n _ going.2)
         (goings k s going.0 n i going.1) going.2
 
-    drops : (s t : State K V) (n : ℕ) (c : Call K V) (m : Mode) (r : Reply K V) → s.calls n ≡
+    drops : (s t : State K V E) (n : ℕ) (c : Call K V E) (m : Mode) (r : Reply K V E) → s.calls n ≡
         Some c → c.mode ≡ m → Leads eq s t → I s →
         Drops s n c m r t → I t
     drops s t n c mode.Mid r live e l i h = refused s t _ r i h
@@ -97,25 +96,27 @@ module _ {K V : Type 0} (eq : K → K → Bool) where
     drops s t n c mode.Parked r live e l i h = becomes s (dropped s n c) t _ r l
         (λ k. kept.drop s n c live (λ f. cc) k i) h
 
-    either : (t : State K V) (b : Bool) (P Q : Type 0) → (b ≡ true → P → I t) →
+    either : (t : State K V E) (b : Bool) (P Q : Type 0) → (b ≡ true → P → I t) →
         (b ≡ false → Q → I t) → MatchBool b P Q → I t
     either t true P Q on_true on_false h = on_true refl h
     either t false P Q on_true on_false h = on_false refl h
 
-    looked : (t : State K V) (o : Option (Call K V)) (P : Type 0) (Q : Call K V → Type 0) →
+    looked : (t : State K V E) (o : Option (Call K V E)) (P : Type 0) (Q : Call K V E → Type 0) →
         (P → I t) →
-        ((c : Call K V) → o ≡ Some c → Q c → I t) → MatchOption o P Q → I t
+        ((c : Call K V E) → o ≡ Some c → Q c → I t) → MatchOption o P Q → I t
     looked t None P Q none some h = none h
     looked t (Some c) P Q none some h = some c refl h
 
-    is_told : (s : State K V) (n : ℕ) (answer : Told V) → is_asked s.world.desk n answer ≡ true →
+    is_told : (s : State K V E) (n : ℕ) (answer : Told V E) → is_asked s.world.desk n answer ≡ true →
         Leads eq s (with_desk s (tells s.world.desk n answer)) → I s → I
         (with_desk s (tells s.world.desk n answer))
-    is_told s n (told.Value value) e l i = kept.tell s n value e l i
+    is_told s n (told.Value value) e l i = kept.tell s n (told.Value value) e l i
+    is_told s n told.Nothing e l i = kept.tell s n told.Nothing e l i
+    is_told s n (told.Err error) e l i = kept.tell s n (told.Err error) e l i
     is_told s n told.Done e l i = kept.hear s n false e l i
     is_told s n told.Off e l i = kept.hear s n true e l i
 
-    happens : (s t : State K V) (e : Event K V) (r : Reply K V) → I s → Leads eq s t →
+    happens : (s t : State K V E) (e : Event K V E) (r : Reply K V E) → I s → Leads eq s t →
         Happens eq Any s e r t → I t
     happens s t (event.At moment) r i l h =
         either t (nat_lt moment s.world.desk.clock) _ _ (λ _ b. refused s t _ r i b)
@@ -139,7 +140,7 @@ module _ {K V : Type 0} (eq : K → K → Bool) where
         looked t (s.calls n) _ (λ c. Drops s n c c.mode r t) (refused s t _ r i)
         (λ c e d. drops s t n c c.mode r e refl l i d) h
 
-    pub follow : (s t : State K V) (es : List (Event K V)) (rs : List (Reply K V)) → I s →
+    pub follow : (s t : State K V E) (es : List (Event K V E)) (rs : List (Reply K V E)) → I s →
         Run eq Any s es rs t → I t
     follow s t [] [] i run = subst (λ v. I v) (sym run) i
     follow s t (e ∷ es) (r ∷ rs) i run =

@@ -15,18 +15,19 @@ use Rattle.moka_hist.specs.Run.{Any, IsReached, fresh_call}
 use Rattle.moka_hist.specs.declared.accesses.Turn.{Turn}
 use Rattle.moka_hist.specs.declared.accesses.Turn.TheVariants as turn
 use Rattle.moka_hist.specs.declared.loads.Load.{Load}
+use Rattle.moka_hist.specs.declared.loads.Sought.{Sought}
 use Rattle.moka_hist.specs.declared.replies.Answer.{Answer}
-use Rattle.moka_hist.specs.declared.replies.Answer.TheVariants as answer
 use Rattle.moka_hist.specs.declared.visits.Found.TheVariants as found
 use Rattle.moka_hist.specs.declared.visits.Settled.{Settled}
 use Rattle.moka_hist.specs.declared.visits.Settled.TheVariants as settled
+use Rattle.moka_laws.specs.Loads.{said_of}
 use Rattle.moka_laws.specs.Readers.{Settles, WaitersAnswerSettled}
 use Rattle.moka_laws.proofs.Between.{run_more}
 use Rattle.moka_laws.proofs.Counting.{none_some, some_same, put_cases, put_here, put_there, same_number, differ}
 use Rattle.moka_laws.proofs.Kept.{IsStable, runs}
 use Rattle.moka_laws.proofs.Weights.{weigh}
 use Rattle.moka_laws.proofs.Owning.{plan_left}
-use Rattle.moka_laws.proofs.Plans.{IsTail, Answering, Settling, Looking, Owning, Putting, Removing, Locking_out, Draining, Ended, Locking, IsPlan, Posted, Drained, Posting, Hearing, Noticing, Listening, Unlocking, Turning, Applying, Ending, Judging, Reading, Asking, Telling, Writing, Choosing, Finding, Chosen, Taking, Freeing, Idling}
+use Rattle.moka_laws.proofs.Plans.{IsTail, Answering, Settling, Looking, Owning, Giving, Putting, Removing, Locking_out, Draining, Ended, Locking, IsPlan, Posted, Drained, Posting, Hearing, Noticing, Listening, Unlocking, Turning, Applying, Ending, Judging, Reading, Asking, Telling, Writing, Choosing, Finding, Chosen, Taking, Freeing, Idling}
 use Rattle.moka_laws.proofs.Reading.{OwnerOf, joins, joins_self, reader_joins}
 use Rattle.moka_laws.proofs.Reached.{step_reached}
 use Rattle.moka_laws.proofs.Roles.{Fits, awaited, owners}
@@ -48,19 +49,20 @@ not_none : {L : Type 0} (o : Option L) → is_some o ≡ true → o ≡ None →
 not_none None some none = false≢true some
 not_none (Some l) some none = none_some (sym none)
 
-module _ {K V : Type 0} where
+module _ {K V E : Type 0} where
   -- ---- plans of owners that settle, and of those that wait
 
   -- an owner that settles answers with that step
-  settles_tail : (with : Settled V) (rest p : List (Item K V)) → p ≡ plan.Settle with ∷ rest → IsTail p → (a : Answer V) × (rest ≡ plan.Reply a ∷ [])
+  settles_tail : (with : Settled V E) (rest p : List (Item K V E)) → p ≡ plan.Settle with ∷ rest → IsTail p → (a : Answer V E) × (rest ≡ plan.Reply a ∷ [])
   settles_tail with rest p e (Answering a) = cc
   settles_tail with rest p e (Settling other a) = (a, cc)
 
-  settles_form : (with : Settled V) (rest p : List (Item K V)) → p ≡ plan.Settle with ∷ rest → IsPlan p → (a : Answer V) × (rest ≡ plan.Reply a ∷ [])
+  pub settles_form : (with : Settled V E) (rest p : List (Item K V E)) → p ≡ plan.Settle with ∷ rest → IsPlan p → (a : Answer V E) × (rest ≡ plan.Reply a ∷ [])
   settles_form with rest p e (Posted q (Ended r t)) = settles_tail with rest p e t
   settles_form with rest p e (Posted q (Draining r d)) = cc
   settles_form with rest p e (Drained q (Looking aim key look)) = cc
-  settles_form with rest p e (Drained q (Owning load)) = cc
+  settles_form with rest p e (Drained q (Owning sought)) = cc
+  settles_form with rest p e (Drained q (Giving a)) = cc
   settles_form with rest p e (Drained q (Removing removal key)) = cc
   settles_form with rest p e (Drained q (Locking_out removal key)) = cc
   settles_form with rest p e (Drained q (Putting key value r t)) = cc
@@ -74,7 +76,7 @@ module _ {K V : Type 0} where
   settles_form with rest p e (Applying x q d) = cc
   settles_form with rest p e (Ending x q d) = cc
   settles_form with rest p e (Judging aim key stored look) = cc
-  settles_form with rest p e (Reading load) = cc
+  settles_form with rest p e (Reading sought) = cc
   settles_form with rest p e (Asking load) = cc
   settles_form with rest p e (Telling load) = cc
   settles_form with rest p e (Writing key value moment q t) = cc
@@ -86,8 +88,8 @@ module _ {K V : Type 0} where
   settles_form with rest p e (Idling a) = cc
 
   -- a call that waits reads next
-  reads_form : (p : List (Item K V)) → is_some (awaited p) ≡ true → IsPlan p → (load : Load K) × (p ≡ plan.Read load ∷ [])
-  reads_form p some (Reading load) = (load, refl)
+  pub reads_form : (p : List (Item K V E)) → is_some (awaited p) ≡ true → IsPlan p → (sought : Sought K) × (p ≡ plan.Read sought ∷ [])
+  reads_form p some (Reading sought) = (sought, refl)
   reads_form p some (Posted q d) = absurd (not_none (awaited q) some (posted_role q d))
   reads_form p some (Drained q d) = absurd (not_none (awaited q) some (drained_role q d))
   reads_form p some (Posting x q d) = absurd (not_none (awaited q) some (posted_role q d))
@@ -113,7 +115,7 @@ module _ {K V : Type 0} where
   -- ---- what is kept
 
   -- what is kept of an owner stays, as another call leaves it that was not the last to wait
-  stays_without : (d : DeskPart K V) (m o : ℕ) → joins o (d.joined m) + 1 ≤ d.readers o → settled_without d m o ≡ d.settled o
+  stays_without : (d : DeskPart K V E) (m o : ℕ) → joins o (d.joined m) + 1 ≤ d.readers o → settled_without d m o ≡ d.settled o
   stays_without d m o more = by (is_reader_of d m o) (d.readers o == 1) (reader_joins d m o) refl
     where
       by : (x y : Bool) → joins o (d.joined m) ≡ cond x 1 0 → (d.readers o == 1) ≡ y → cond (x && y) None (d.settled o) ≡ d.settled o
@@ -122,7 +124,7 @@ module _ {K V : Type 0} where
       by true true e f = absurd (omega (arith, eqb-true (d.readers o) 1 f))
 
   -- and as another call ends what it owns
-  stays_with : (d : DeskPart K V) (m o : ℕ) (with : Settled V) (kept : ℕ → Option (Settled V)) → (m == o) ≡ false → settled_with d m with kept o ≡ kept o
+  stays_with : (d : DeskPart K V E) (m o : ℕ) (with : Settled V E) (kept : ℕ → Option (Settled V E)) → (m == o) ≡ false → settled_with d m with kept o ≡ kept o
   stays_with d m o with kept apart = by (is_some (d.owning m)) (nat_lt 0 (d.readers m)) (m == o) apart
     where
       by : (x y z : Bool) → z ≡ false → cond (x && y && z) (Some with) (kept o) ≡ kept o
@@ -132,28 +134,28 @@ module _ {K V : Type 0} where
       by false false false e = refl
       by x y true e = absurd (false≢true (sym e))
 
-  module _ (o n : ℕ) (with : Settled V) where
+  module _ (o n : ℕ) (with : Settled V E) where
     -- while the call waits, it is kept how its owner ended
-    abbrev Keeps : DeskPart K V → Type 0
-    Keeps d = d.joined n ≡ Some o → d.settled o ≡ Some with
+    abbrev StillSettled : DeskPart K V E → Type 0
+    StillSettled d = d.joined n ≡ Some o → d.settled o ≡ Some with
 
-    record Leaves (w new : World K V) (next : Next K V) : Type 0 where
+    record Leaves (w new : World K V E) (next : Next K V E) : Type 0 where
       last : new.desk.last ≡ w.desk.last
-      kept : Keeps w.desk → Keeps new.desk
+      kept : StillSettled w.desk → StillSettled new.desk
 
     -- what is known of the desk as a call makes a step that isn't the owner
-    record Known (eq : K → K → Bool) (d : DeskPart K V) (m : ℕ) : Type 0 where
+    record Known (eq : K → K → Bool) (d : DeskPart K V E) (m : ℕ) : Type 0 where
       apart : (m == o) ≡ false
       idle : d.owning o ≡ None
       owner : (load : Load K) (who : ℕ) → d.owners load ≡ Some who → OwnerOf eq d.owning who load
       enough : (m == n) ≡ false → d.joined n ≡ Some o → joins o (d.joined m) + 1 ≤ d.readers o
 
-    module _ (eq : K → K → Bool) (w : World K V) (m : ℕ) (c : Call K V) (k : Known eq w.desk m) where
-      same : {new : World K V} {next : Next K V} → new.desk.last ≡ w.desk.last → new.desk.joined ≡ w.desk.joined → new.desk.settled ≡ w.desk.settled →
+    module _ (eq : K → K → Bool) (w : World K V E) (m : ℕ) (c : Call K V E) (k : Known eq w.desk m) where
+      same : {new : World K V E} {next : Next K V E} → new.desk.last ≡ w.desk.last → new.desk.joined ≡ w.desk.joined → new.desk.settled ≡ w.desk.settled →
           Leaves w new next
       same l j s = record { last = l; kept = λ keeps e. ap (λ f. f o) s ∙ keeps (ap (λ f. f n) (sym j) ∙ e) }
 
-      on_item : (item : Item K V) (rest : List (Item K V)) → Outcomes eq (Leaves w) w m c item rest
+      on_item : (item : Item K V E) (rest : List (Item K V E)) → Outcomes eq (Leaves w) w m c item rest
       on_item plan.Drain rest = (λ e. same refl refl refl, λ x xs e. same refl refl refl, λ x number xs e. same refl refl refl)
       on_item (plan.Ended number) rest = (λ e. same refl refl refl, λ e. same refl refl refl)
       on_item plan.Heard rest = (λ e. same refl refl refl, λ e. same refl refl refl)
@@ -170,20 +172,21 @@ module _ {K V : Type 0} where
         (λ none. same refl refl refl),
         λ q stored some. same refl refl refl,
       )
-      on_item (plan.Judge aim key stored) rest = same refl refl refl
-      on_item (plan.Own load) rest = (
+      on_item (plan.Judge aim key stored) rest =
+          ((λ seen. same refl refl refl), λ unseen. same refl refl refl)
+      on_item (plan.Own sought) rest = (
         λ able e. same refl refl refl,
         λ not e. same refl refl refl,
         λ who e. record {
           last = refl;
           kept = λ keeps j. put_cases w.desk.joined m (Some who) n (Some o) (w.desk.settled o ≡ Some with) j
               (λ here is.
-              let own = k.owner load who e in
+              let own = k.owner sought.load who e in
               absurd (none_some (sym k.idle ∙ ap w.desk.owning (sym (some_same is)) ∙ own.1)))
               (λ there is. keeps is);
         },
       )
-      on_item (plan.Read load) rest = (
+      on_item (plan.Read sought) rest = (
         λ e. same refl refl refl,
         λ given e. record {
           last = refl;
@@ -209,25 +212,25 @@ module _ {K V : Type 0} where
       on_item plan.Idle rest = same refl refl refl
       on_item (plan.Reply a) rest = same refl refl refl
 
-      on_plan : (plan : List (Item K V)) → OnStep eq (Leaves w) w m c plan
+      on_plan : (plan : List (Item K V E)) → OnStep eq (Leaves w) w m c plan
       on_plan [] = same refl refl refl
       on_plan (item ∷ rest) = outcomes eq (Leaves w) w m c item rest (on_item item rest)
 
     -- ---- of a state
 
     -- The owner has ended, and as long as the call waits for it, how it ended is kept.
-    record IsHeard (eq : K → K → Bool) (s : State K V) : Type 0 where
+    record IsHeard (eq : K → K → Bool) (s : State K V E) : Type 0 where
       well : IsWell eq s
       gone : s.calls o ≡ None
       given : o ≤ s.world.desk.last
-      kept : Keeps s.world.desk
+      kept : StillSettled s.world.desk
 
     module _ (eq : K → K → Bool) where
       -- a live call isn't the owner
-      apart_from : (s : State K V) (m : ℕ) (c : Call K V) → s.calls o ≡ None → s.calls m ≡ Some c → (m == o) ≡ false
+      apart_from : (s : State K V E) (m : ℕ) (c : Call K V E) → s.calls o ≡ None → s.calls m ≡ Some c → (m == o) ≡ false
       apart_from s m c gone live = differ m o (λ e. none_some (sym gone ∙ ap s.calls (sym e) ∙ live))
 
-      known : (s : State K V) (m : ℕ) (c : Call K V) → IsHeard eq s → s.calls m ≡ Some c → Known eq s.world.desk m
+      known : (s : State K V E) (m : ℕ) (c : Call K V E) → IsHeard eq s → s.calls m ≡ Some c → Known eq s.world.desk m
       known s m c i live = record {
         apart = apart_from s m c i.gone live;
         idle = no_load (s.world.desk.owning o) (subst (λ v. Fits (s.world.desk.owning o) (s.world.desk.joined o) (plan_left v)) i.gone (i.well.served.fits o)).owning;
@@ -246,8 +249,8 @@ module _ {K V : Type 0} where
         };
         step = λ s t m turn i step.
             let k = known s m step.call i step.live in
-            let shown : (o ≤ t.world.desk.last) × Keeps t.world.desk × (t.calls o ≡ None) =
-            step_cases eq (Leaves s.world) (λ v _. (o ≤ v.world.desk.last) × Keeps v.world.desk × (v.calls o ≡ None)) s t m turn step
+            let shown : (o ≤ t.world.desk.last) × StillSettled t.world.desk × (t.calls o ≡ None) =
+            step_cases eq (Leaves s.world) (λ v _. (o ≤ v.world.desk.last) × StillSettled v.world.desk × (v.calls o ≡ None)) s t m turn step
             (on_plan eq s.world m step.call k step.call.plan)
             (λ w next l. (omega (arith, l.last, i.given), l.kept i.kept, put_there s.calls m next.left o k.apart ∙ i.gone)) in
             record { well = (well_kept eq).step s t m turn i.well step; gone = shown.2; given = shown.0; kept = shown.1 };
@@ -266,34 +269,34 @@ module _ {K V : Type 0} where
             };
       }
 
-module _ {K V : Type 0} (eq : K → K → Bool) where
+module _ {K V E : Type 0} (eq : K → K → Bool) where
   -- ---- as the owner settles
 
-  settled_here : (d : DeskPart K V) (o : ℕ) (with : Settled V) → is_some (d.owning o) ≡ true → 0 < d.readers o → settled_with d o with d.settled o ≡ Some with
+  settled_here : (d : DeskPart K V E) (o : ℕ) (with : Settled V E) → is_some (d.owning o) ≡ true → 0 < d.readers o → settled_with d o with d.settled o ≡ Some with
   settled_here d o with own some =
       let waited : nat_lt 0 (d.readers o) ≡ true = grind (arith, nat_tests) in
       rw (own, waited, same_number o) refl
 
-  ended : (s t : State K V) (o n : ℕ) (value : V) → IsReached eq s → s.world.desk.joined n ≡ Some o → Settles eq s o value t →
-      IsHeard o n (settled.Ready value) eq t
-  ended s t o n value h j e =
+  ended : (s t : State K V E) (o n : ℕ) (with : Settled V E) → IsReached eq s → s.world.desk.joined n ≡ Some o → Settles eq s o with t →
+      IsHeard o n with eq t
+  ended s t o n with h j e =
       let well : IsWell eq s = in_well eq s h in
-      let c : Call K V = e.call in
-      let form = settles_form (settled.Ready value) e.rest c.plan e.settling (well.asking.known o c e.live).plan in
-      let fits : Fits (s.world.desk.owning o) (s.world.desk.joined o) (plan.Settle (settled.Ready value) ∷ e.rest) =
+      let c : Call K V E = e.call in
+      let form = settles_form with e.rest c.plan e.settling (well.asking.known o c e.live).plan in
+      let fits : Fits (s.world.desk.owning o) (s.world.desk.joined o) (plan.Settle with ∷ e.rest) =
       subst (Fits (s.world.desk.owning o) (s.world.desk.joined o)) e.settling
       (subst (λ v. Fits (s.world.desk.owning o) (s.world.desk.joined o) (plan_left v)) e.live (well.served.fits o)) in
       let own : is_some (s.world.desk.owning o) ≡ true = some_load (s.world.desk.owning o) (weigh owners e.rest) (omega (arith, fits.owning)) in
       let some : 0 < s.world.desk.readers o = omega
       (arith, enough_own eq s well.served n (joined_numbered eq s well.served n o j) o, joins_self o (s.world.desk.joined n) j) in
       let is : e.step.call ≡ c = some_same (sym e.step.live ∙ e.live) in
-      let shown : (o ≤ t.world.desk.last) × (t.world.desk.settled o ≡ Some (settled.Ready value)) × (t.calls o ≡ None) =
-      step_cases eq (λ new next. (new.desk.last ≡ s.world.desk.last) × (new.desk.settled o ≡ Some (settled.Ready value)) × (next.left ≡ None))
-      (λ v _. (o ≤ v.world.desk.last) × (v.world.desk.settled o ≡ Some (settled.Ready value)) × (v.calls o ≡ None)) s t o e.turn e.step
-      (subst (λ p. OnStep eq (λ new next. (new.desk.last ≡ s.world.desk.last) × (new.desk.settled o ≡ Some (settled.Ready value)) × (next.left ≡ None)) s.world o e.step.call p)
-      (sym (ap (λ (v : Call K V). v.plan) is ∙ e.settling ∙ ap (λ r. plan.Settle (settled.Ready value) ∷ r) form.1))
-      (outcomes eq (λ new next. (new.desk.last ≡ s.world.desk.last) × (new.desk.settled o ≡ Some (settled.Ready value)) × (next.left ≡ None)) s.world o e.step.call
-      (plan.Settle (settled.Ready value)) (plan.Reply form.0 ∷ []) (refl, settled_here s.world.desk o (settled.Ready value) own some, refl)))
+      let shown : (o ≤ t.world.desk.last) × (t.world.desk.settled o ≡ Some with) × (t.calls o ≡ None) =
+      step_cases eq (λ new next. (new.desk.last ≡ s.world.desk.last) × (new.desk.settled o ≡ Some with) × (next.left ≡ None))
+      (λ v _. (o ≤ v.world.desk.last) × (v.world.desk.settled o ≡ Some with) × (v.calls o ≡ None)) s t o e.turn e.step
+      (subst (λ p. OnStep eq (λ new next. (new.desk.last ≡ s.world.desk.last) × (new.desk.settled o ≡ Some with) × (next.left ≡ None)) s.world o e.step.call p)
+      (sym (ap (λ (v : Call K V E). v.plan) is ∙ e.settling ∙ ap (λ r. plan.Settle with ∷ r) form.1))
+      (outcomes eq (λ new next. (new.desk.last ≡ s.world.desk.last) × (new.desk.settled o ≡ Some with) × (next.left ≡ None)) s.world o e.step.call
+      (plan.Settle with) (plan.Reply form.0 ∷ []) (refl, settled_here s.world.desk o with own some, refl)))
       (λ w next l. (omega (arith, l.0, well.served.balanced.numbered o c e.live), l.1, put_here s.calls o next.left ∙ l.2)) in
       record {
         well = in_well eq t (step_reached eq s t o e.turn h e.step);
@@ -304,26 +307,36 @@ module _ {K V : Type 0} (eq : K → K → Bool) where
 
   -- ---- as the call reads
 
-  heard : (u v : State K V) (o n : ℕ) (value : V) (reply : Turn K V) → IsHeard o n (settled.Ready value) eq u → u.world.desk.joined n ≡ Some o → Step eq u n reply v →
-      reply ≡ turn.Answer (answer.Loaded value false)
-  heard u v o n value reply i j step =
-      let c : Call K V = step.call in
+  -- what an owner settled is answered by who reads it
+  read_says : (c : Call K V E) (sought : Sought K) (with : Settled V E) (said : Answer V E) →
+      said_of with false ≡ Some said → (after_read c sought (found.ReadSettled with)).turn ≡ turn.Answer said
+  read_says c sought (settled.Ready value) said e = ap (λ a. turn.Answer a) (some_same e)
+  read_says c sought (settled.Err error) said e = ap (λ a. turn.Answer a) (some_same e)
+  read_says c sought settled.Nothing said e = ap (λ a. turn.Answer a) (some_same e)
+  read_says c sought settled.NotYet said e = absurd (none_some e)
+  read_says c sought settled.Aborted said e = absurd (none_some e)
+
+  heard : (u v : State K V E) (o n : ℕ) (with : Settled V E) (said : Answer V E) (reply : Turn K V E) → IsHeard o n with eq u → said_of with false ≡ Some said → u.world.desk.joined n ≡ Some o → Step eq u n reply v →
+      reply ≡ turn.Answer said
+  heard u v o n with said reply i says j step =
+      let c : Call K V E = step.call in
       let fits : Fits (u.world.desk.owning n) (u.world.desk.joined n) c.plan =
       subst (λ v. Fits (u.world.desk.owning n) (u.world.desk.joined n) (plan_left v)) step.live (i.well.served.fits n) in
       let form = reads_form c.plan (sym fits.waiting ∙ ap is_some j) (i.well.asking.known n c step.live).plan in
-      let there : settlement_for u.world.desk n ≡ Some (settled.Ready value) = ap (option_and_then u.world.desk.settled) j ∙ i.kept j in
-      step_cases eq (λ new next. next.turn ≡ turn.Answer (answer.Loaded value false)) (λ v r. r ≡ turn.Answer (answer.Loaded value false)) u v n reply step
-      (subst (λ p. OnStep eq (λ new next. next.turn ≡ turn.Answer (answer.Loaded value false)) u.world n c p) (sym form.1)
-      (outcomes eq (λ new next. next.turn ≡ turn.Answer (answer.Loaded value false)) u.world n c (plan.Read form.0) [] (
+      let there : settlement_for u.world.desk n ≡ Some with = ap (option_and_then u.world.desk.settled) j ∙ i.kept j in
+      step_cases eq (λ new next. next.turn ≡ turn.Answer said) (λ v r. r ≡ turn.Answer said) u v n reply step
+      (subst (λ p. OnStep eq (λ new next. next.turn ≡ turn.Answer said) u.world n c p) (sym form.1)
+      (outcomes eq (λ new next. next.turn ≡ turn.Answer said) u.world n c (plan.Read form.0) [] (
         (λ none. absurd (none_some (sym none ∙ there))),
-        λ with some. ap (λ s. (after_read c form.0 (found.ReadSettled s)).turn) (some_same (sym some ∙ there)),
+        λ is some. ap (λ s. (after_read c form.0 (found.ReadSettled s)).turn) (some_same (sym some ∙ there))
+            ∙ read_says c form.0 with said says,
       )))
       (λ w next l. l)
 
-  pub waiters_hear : WaitersAnswerSettled K V eq
-  waiters_hear s t u v es rs o n value reply h j e run k step =
-      let start : IsHeard o n (settled.Ready value) eq t = ended s t o n value h j e in
+  pub waiters_hear : WaitersAnswerSettled K V E eq
+  waiters_hear s t u v es rs o n with said reply h j e says run k step =
+      let start : IsHeard o n with eq t = ended s t o n with h j e in
       let reached : IsReached eq t = step_reached eq s t o e.turn h e.step in
-      let after = runs eq (IsHeard o n (settled.Ready value) eq) (heard_stable o n (settled.Ready value) eq) t u es rs start
+      let after = runs eq (IsHeard o n with eq) (heard_stable o n with eq) t u es rs start
       (run_more eq (IsLawful eq) Any (λ v i p. tt) t u es rs reached run) in
-      heard u v o n value reply after k step
+      heard u v o n with said reply after says k step

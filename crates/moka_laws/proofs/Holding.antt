@@ -20,6 +20,7 @@ use Rattle.moka_hist.specs.declared.events.Start.{Start}
 use Rattle.moka_hist.specs.declared.events.Told.{Told}
 use Rattle.moka_hist.specs.declared.events.Told.TheVariants as answer
 use Rattle.moka_hist.specs.declared.loads.Load.{Load}
+use Rattle.moka_hist.specs.declared.loads.Sought.{Sought}
 use Rattle.moka_hist.specs.declared.records.Stored.{Stored}
 use Rattle.moka_hist.specs.declared.visits.Settled.{Settled}
 use Rattle.moka_hist.specs.declared.visits.Settled.TheVariants as settled
@@ -29,7 +30,7 @@ use Rattle.moka_hist.specs.declared.writes.Holding.{Holding}
 use Rattle.moka_hist.specs.declared.writes.Holding.TheVariants as holding
 use Rattle.moka_hist.specs.declared.writes.Write.{Write}
 use Rattle.moka_hist.specs.declared.writes.Write.TheVariants.{Remove, Upsert}
-use Rattle.moka_laws.proofs.Rules.{loaded_plans, kept_next, chosen_next, IsFresh, Disabled, fresh_plan}
+use Rattle.moka_laws.proofs.Rules.{put_plans, loaded_plans, kept_next, chosen_next, IsFresh, Disabled, fresh_plan}
 use Rattle.moka_laws.proofs.Counting.{none_some, some_same, put_here, put_there, same_number}
 use Rattle.moka_laws.proofs.Sums.{sum_holds}
 use Rattle.moka_laws.proofs.Weights.{weigh, weigh_call}
@@ -96,9 +97,9 @@ pub place_number : (x : Holding) (n : ℕ) (write : Write) → IsPlaceOf (Some x
 place_number (holding.Own pending) n write place = sym place
 place_number (holding.TookUp held) n write place = ap number_of (sym place)
 
-module _ {K V : Type 0} where
+module _ {K V E : Type 0} where
   -- the item needs the place of a write
-  abbrev held : Item K V → ℕ
+  abbrev held : Item K V E → ℕ
   held (plan.Post write) = 1
   held (plan.Write key value moment) = 1
   held (plan.Out removal key) = 1
@@ -108,7 +109,7 @@ module _ {K V : Type 0} where
   -- What the call with this plan holds: the place of the write that it is to post or make first,
   -- and else nothing. Where nothing was taken out it may still hold its own place, which it gives
   -- back.
-  abbrev pub HoldsAs : ℕ → Option Holding → List (Item K V) → Type 0
+  abbrev pub HoldsAs : ℕ → Option Holding → List (Item K V E) → Type 0
   HoldsAs n h [] = h ≡ None
   HoldsAs n h (plan.Post write ∷ rest) = IsPlaceOf h n write × (weigh held rest ≡ 0)
   HoldsAs n h (plan.Write key value moment ∷ rest) = IsOwn h × (weigh held rest ≡ 0)
@@ -126,37 +127,37 @@ module _ {K V : Type 0} where
 
   -- ---- plans that need no place
 
-  fresh_free : (rules : Rules) (p : List (Item K V)) → IsFresh rules p → weigh held p ≡ 0
-  fresh_free rules p (Disabled a d) = refl
+  fresh_free : (rules : Rules) (p : List (Item K V E)) → IsFresh rules p → weigh held p ≡ 0
+  fresh_free rules p (Disabled a d plain) = refl
   fresh_free rules p _ = refl
 
-  fresh_weighs : (rules : Rules) (start : Start K V) → weigh held (plan_of rules start) ≡ 0
-  fresh_weighs rules start = fresh_free rules (plan_of rules start) (fresh_plan rules start)
-
-  stays_weighs : (c : Call K V) → weigh_call held (stays c).left ≡ 0
+  stays_weighs : (c : Call K V E) → weigh_call held (stays c).left ≡ 0
   stays_weighs c = kept_next (λ v. weigh_call held v.left ≡ 0) c (λ off. refl) (λ on. refl)
 
-  misses_weigh : (c : Call K V) (aim : Aim K) → weigh_call held (misses c aim).left ≡ 0
+  misses_weigh : (c : Call K V E) (aim : Aim K V) → weigh_call held (misses c aim).left ≡ 0
   misses_weigh c plan.To_answer = refl
-  misses_weigh c (plan.To_load load) = refl
-  misses_weigh c (plan.To_own load) = refl
+  misses_weigh c (plan.To_load sought) = refl
+  misses_weigh c (plan.To_own sought) = refl
+  misses_weigh c (plan.To_insert key value) =
+      put_plans (λ p. weigh_call held (goes c p).left ≡ 0) c.rules key value _ refl refl
   misses_weigh c (plan.To_evict key stamp cause) = stays_weighs c
 
-  finds_weigh : (c : Call K V) (aim : Aim K) (k : K) (stored : Stored V) →
+  finds_weigh : (c : Call K V E) (aim : Aim K V) (k : K) (stored : Stored V) →
       weigh_call held (finds_pair c aim k stored).left ≡ 0
   finds_weigh c plan.To_answer k stored = refl
-  finds_weigh c (plan.To_load load) k stored = refl
-  finds_weigh c (plan.To_own load) k stored = refl
+  finds_weigh c (plan.To_load sought) k stored = refl
+  finds_weigh c (plan.To_insert under new) k stored = refl
+  finds_weigh c (plan.To_own sought) k stored = refl
   finds_weigh c (plan.To_evict key stamp cause) k stored =
       chosen_next (λ v. weigh_call held v.left ≡ 0) c key stamp cause k stored (λ off. refl)
       (λ on. refl) refl
 
-  either_weighs : (b : Bool) (x y : Next K V) → weigh_call held x.left ≡ 0 → weigh_call held y.left ≡ 0 → weigh_call held (cond b x y).left ≡ 0
+  either_weighs : (b : Bool) (x y : Next K V E) → weigh_call held x.left ≡ 0 → weigh_call held y.left ≡ 0 → weigh_call held (cond b x y).left ≡ 0
   either_weighs true x y h k = h
   either_weighs false x y h k = k
 
   module _ (n : ℕ) (h : Option Holding) where
-    free_holds : (rest : List (Item K V)) → weigh held rest ≡ 0 → h ≡ None → HoldsAs n h rest
+    free_holds : (rest : List (Item K V E)) → weigh held rest ≡ 0 → h ≡ None → HoldsAs n h rest
     free_holds [] e none = none
     free_holds (plan.Post write ∷ rest) e none = absurd (omega arith)
     free_holds (plan.Write key value moment ∷ rest) e none = absurd (omega arith)
@@ -172,41 +173,46 @@ module _ {K V : Type 0} where
     free_holds (plan.Idle ∷ rest) e none = absurd (omega arith)
     free_holds (_ ∷ rest) e none = (none, omega arith)
 
-    left_holds : (left : Option (Call K V)) → weigh_call held left ≡ 0 → h ≡ None → HoldsAs n h (plan_left left)
+    left_holds : (left : Option (Call K V E)) → weigh_call held left ≡ 0 → h ≡ None → HoldsAs n h (plan_left left)
     left_holds None e none = none
     left_holds (Some c) e none = free_holds c.plan e none
 
-    goes_holds : (c : Call K V) (rest : List (Item K V)) → HoldsAs n h rest → HoldsAs n h (plan_left (goes c rest).left)
+    goes_holds : (c : Call K V E) (rest : List (Item K V E)) → HoldsAs n h rest → HoldsAs n h (plan_left (goes c rest).left)
     goes_holds c (plan.Reply a ∷ []) q = q.0
     goes_holds c (plan.Reply a ∷ x ∷ rest) q = q
     goes_holds c [] q = q
     goes_holds c (_ ∷ rest) q = q
 
-    hits_holds : (c : Call K V) (aim : Aim K) (value : V) → HoldsAs n h c.plan → h ≡ None →
+    hits_holds : (c : Call K V E) (aim : Aim K V) (value : V) → HoldsAs n h c.plan → h ≡ None →
         HoldsAs n h (plan_left (hits c aim value).left)
     hits_holds c plan.To_answer value p none = none
-    hits_holds c (plan.To_load load) value p none = none
-    hits_holds c (plan.To_own load) value p none = (none, refl)
+    hits_holds c (plan.To_load sought) value p none = none
+    hits_holds c (plan.To_insert under new) value p none = none
+    hits_holds c (plan.To_own sought) value p none = (none, refl)
     hits_holds c (plan.To_evict key stamp cause) value p none = p
 
-    read_holds : (c : Call K V) (load : Load K) (with : Settled V) → HoldsAs n h c.plan → h ≡ None →
-        HoldsAs n h (plan_left (after_read c load (found.ReadSettled with)).left)
-    read_holds c load (settled.Ready value) p none = none
-    read_holds c load settled.NotYet p none = p
-    read_holds c load settled.Aborted p none =
+    read_holds : (c : Call K V E) (sought : Sought K) (with : Settled V E) → HoldsAs n h c.plan → h ≡ None →
+        HoldsAs n h (plan_left (after_read c sought (found.ReadSettled with)).left)
+    read_holds c sought (settled.Ready value) p none = none
+    read_holds c sought (settled.Err error) p none = none
+    read_holds c sought settled.Nothing p none = none
+    read_holds c sought settled.NotYet p none = p
+    read_holds c sought settled.Aborted p none =
         left_holds _ (either_weighs (c.aborts + 1 == retries) _ _ refl refl) none
 
-    told_holds : (c : Call K V) (load : Load K) (given : Told V) → HoldsAs n h c.plan → h ≡ None →
+    told_holds : (c : Call K V E) (load : Load K) (given : Told V E) → HoldsAs n h c.plan → h ≡ None →
         HoldsAs n h (plan_left (after_told c load (found.TakeTold (Some given))).left)
     told_holds c load (answer.Value value) p none =
         loaded_plans (λ p. HoldsAs n h (plan_left (goes c p).left)) c.rules load value (none, refl)
         (none, refl)
         (none, refl)
+    told_holds c load answer.Nothing p none = (none, refl)
+    told_holds c load (answer.Err error) p none = (none, refl)
     told_holds c load answer.Done p none = p
     told_holds c load answer.Off p none = p
 
   -- what a call holds is as much as before, once no moment is pending with it
-  still_holds : (n : ℕ) (h : Option Holding) (rest : List (Item K V)) → HoldsAs n h rest → HoldsAs n (option_map without_moment h) rest
+  still_holds : (n : ℕ) (h : Option Holding) (rest : List (Item K V E)) → HoldsAs n h rest → HoldsAs n (option_map without_moment h) rest
   still_holds n h [] q = ap (option_map without_moment) q
   still_holds n h (plan.Post write ∷ rest) q = (still_place h n write q.0, q.1)
   still_holds n h (plan.Write key value moment ∷ rest) q = ((None, ap (option_map without_moment) q.0.1), q.1)
@@ -223,26 +229,26 @@ module _ {K V : Type 0} where
   still_holds n h (_ ∷ rest) q = (ap (option_map without_moment) q.0, q.1)
 
   -- what a step has to show: what this call holds then, and that the others hold what they held
-  record Leaves (d : DeskPart K V) (n : ℕ) (held : ℕ → Option Holding) (left : Option (Call K V)) : Type 0 where
+  record Leaves (d : DeskPart K V E) (n : ℕ) (held : ℕ → Option Holding) (left : Option (Call K V E)) : Type 0 where
     own : HoldsAs n (held n) (plan_left left)
     others : (m : ℕ) → (n == m) ≡ false → held m ≡ d.holding m
 
-  module _ (d : DeskPart K V) (n : ℕ) where
+  module _ (d : DeskPart K V E) (n : ℕ) where
     -- nothing has changed of what calls hold, or of what this one holds alone
-    keeps : {left : Option (Call K V)} → HoldsAs n (d.holding n) (plan_left left) → Leaves d n d.holding left
+    keeps : {left : Option (Call K V E)} → HoldsAs n (d.holding n) (plan_left left) → Leaves d n d.holding left
     keeps q = record { own = q; others = λ m e. refl }
 
-    holds_now : {left : Option (Call K V)} (h : Option Holding) → HoldsAs n h (plan_left left) → Leaves d n (put_at d.holding n h) left
+    holds_now : {left : Option (Call K V E)} (h : Option Holding) → HoldsAs n h (plan_left left) → Leaves d n (put_at d.holding n h) left
     holds_now {left} h q = record {
       own = subst (λ v. HoldsAs n v (plan_left left)) (sym (put_here d.holding n h)) q;
       others = λ m e. put_there d.holding n h m e;
     }
 
-  module _ (eq : K → K → Bool) (w : World K V) (n : ℕ) (c : Call K V) where
-    abbrev After : World K V → Next K V → Type 0
+  module _ (eq : K → K → Bool) (w : World K V E) (n : ℕ) (c : Call K V E) where
+    abbrev After : World K V E → Next K V E → Type 0
     After new next = Leaves w.desk n new.desk.holding next.left
 
-    on_item : (item : Item K V) (rest : List (Item K V)) → HoldsAs n (w.desk.holding n) c.plan → HoldsAs n (w.desk.holding n) (item ∷ rest) →
+    on_item : (item : Item K V E) (rest : List (Item K V E)) → HoldsAs n (w.desk.holding n) c.plan → HoldsAs n (w.desk.holding n) (item ∷ rest) →
         Outcomes eq After w n c item rest
     on_item plan.Drain rest p q = (
       λ e. keeps w.desk n (goes_holds n _ c rest (free_holds n _ rest q.1 q.0)),
@@ -273,14 +279,16 @@ module _ {K V : Type 0} where
       (λ none. keeps w.desk n (left_holds n _ _ (misses_weigh c aim) q.0)),
       λ k stored some. keeps w.desk n (left_holds n _ _ (finds_weigh c aim k stored) q.0),
     )
-    on_item (plan.Judge aim key stored) rest p q =
-        keeps w.desk n (hits_holds n _ c aim stored.value p q.0)
-    on_item (plan.Own load) rest p q = (
+    on_item (plan.Judge aim key stored) rest p q = (
+      (λ seen. keeps w.desk n (hits_holds n _ c aim stored.value p q.0)),
+      λ unseen. keeps w.desk n (left_holds n _ _ (misses_weigh c aim) q.0),
+    )
+    on_item (plan.Own sought) rest p q = (
       (λ able e. keeps w.desk n (q.0, refl)),
       (λ not e. keeps w.desk n (q.0, refl)),
       λ owner e. keeps w.desk n (q.0, refl),
     )
-    on_item (plan.Read load) rest p q = (λ e. keeps w.desk n p, λ with e. keeps w.desk n (read_holds n _ c load with p q.0))
+    on_item (plan.Read sought) rest p q = (λ e. keeps w.desk n p, λ with e. keeps w.desk n (read_holds n _ c sought with p q.0))
     on_item (plan.Settle with) rest p q = keeps w.desk n (goes_holds n _ c rest (free_holds n _ rest q.1 q.0))
     on_item (plan.Ask load) rest p q = keeps w.desk n (q.0, refl)
     on_item (plan.Told load) rest p q = (λ e. keeps w.desk n p, λ given e. keeps w.desk n (told_holds n _ c load given p q.0))
@@ -311,19 +319,19 @@ module _ {K V : Type 0} where
         holds_now w.desk n None (goes_holds n None c rest (free_holds n None rest q.1 refl))
     on_item (plan.Reply answer) rest p q = holds_now w.desk n None refl
 
-    on_plan : (plan : List (Item K V)) → c.plan ≡ plan → HoldsAs n (w.desk.holding n) c.plan → OnStep eq After w n c plan
+    on_plan : (plan : List (Item K V E)) → c.plan ≡ plan → HoldsAs n (w.desk.holding n) c.plan → OnStep eq After w n c plan
     on_plan [] e p = holds_now w.desk n None (subst (HoldsAs n None) (sym e) refl)
     on_plan (item ∷ rest) e p = outcomes eq After w n c item rest (on_item item rest p (subst (HoldsAs n (w.desk.holding n)) e p))
 
   -- ---- of a state
 
   -- What each call holds is what its plan needs, and a call that isn't live holds nothing.
-  pub record IsHolding (s : State K V) : Type 0 where
+  pub record IsHolding (s : State K V E) : Type 0 where
     pub balanced : IsBalanced s
     pub holds : (n : ℕ) → HoldsAs n (s.world.desk.holding n) (plan_left (s.calls n))
 
-  holds_on : (s : State K V) (n : ℕ) (w : World K V) (left : Option (Call K V)) → IsHolding s → Leaves s.world.desk n w.desk.holding left →
-      let t : State K V = record { world = w; calls = put_at s.calls n left } in
+  holds_on : (s : State K V E) (n : ℕ) (w : World K V E) (left : Option (Call K V E)) → IsHolding s → Leaves s.world.desk n w.desk.holding left →
+      let t : State K V E = record { world = w; calls = put_at s.calls n left } in
       IsBalanced t → IsHolding t
   holds_on s n w left i l balanced = record { balanced = balanced; holds = λ m. by m (n == m) refl }
     where
@@ -335,18 +343,18 @@ module _ {K V : Type 0} where
           subst (λ v. HoldsAs m (w.desk.holding m) (plan_left v)) (sym (put_there s.calls n left m e))
           (subst (λ v. HoldsAs m v (plan_left (s.calls m))) (sym (l.others m e)) (i.holds m))
 
-module _ {K V : Type 0} where
+module _ {K V E : Type 0} where
   -- the numbers that stand with the desk
-  pub numbers_stand : (x : ℕ) (d : DeskPart K V) → times x (numbers_of d) ≡ on_desk x d
+  pub numbers_stand : (x : ℕ) (d : DeskPart K V E) → times x (numbers_of d) ≡ on_desk x d
   numbers_stand x d =
       let writes : List Write = map (λ o. o.write) d.owed in
       let all : times x (numbers_of d) ≡ among x (writes ++ d.log) + among x d.applied = among_append x (writes ++ d.log) d.applied in
       omega (arith, among_append x writes d.log, ap (times x) (owed_numbers d.owed))
 
-module _ {K V : Type 0} (eq : K → K → Bool) where
-  holding_step : (s t : State K V) (n : ℕ) (turn : Turn K V) → IsHolding s → Step eq s n turn t → IsHolding t
+module _ {K V E : Type 0} (eq : K → K → Bool) where
+  holding_step : (s t : State K V E) (n : ℕ) (turn : Turn K V E) → IsHolding s → Step eq s n turn t → IsHolding t
   holding_step s t n turn i step =
-      let c : Call K V = step.call in
+      let c : Call K V E = step.call in
       let p : HoldsAs n (s.world.desk.holding n) c.plan =
       subst (λ v. HoldsAs n (s.world.desk.holding n) (plan_left v)) step.live (i.holds n) in
       let kept : IsBalanced t → IsHolding t =
@@ -355,11 +363,11 @@ module _ {K V : Type 0} (eq : K → K → Bool) where
       kept ((balanced_kept eq).step s t n turn i.balanced step)
 
   -- a step leaves what other calls hold
-  pub others_hold : (s t : State K V) (n : ℕ) (turn : Turn K V) → IsHolding s → Step eq s n turn t →
+  pub others_hold : (s t : State K V E) (n : ℕ) (turn : Turn K V E) → IsHolding s → Step eq s n turn t →
       (m : ℕ) → (n == m) ≡ false →
       t.world.desk.holding m ≡ s.world.desk.holding m
   others_hold s t n turn i step =
-      let c : Call K V = step.call in
+      let c : Call K V E = step.call in
       let p : HoldsAs n (s.world.desk.holding n) c.plan =
       subst (λ v. HoldsAs n (s.world.desk.holding n) (plan_left v)) step.live (i.holds n) in
       step_cases eq (λ new next. Leaves s.world.desk n new.desk.holding next.left)
@@ -367,17 +375,17 @@ module _ {K V : Type 0} (eq : K → K → Bool) where
       s.world.desk.holding m) s t n turn step
       (on_plan eq s.world n c c.plan refl p) (λ w next l. l.others)
 
-  holding_start : (s : State K V) (start : Start K V) → IsHolding s → IsHolding (started s start)
+  holding_start : (s : State K V E) (start : Start K V) → IsHolding s → IsHolding (started s start)
   holding_start s start i =
       let new : ℕ = s.world.desk.last + 1 in
       let none : s.world.desk.holding new ≡ None =
       subst (λ v. HoldsAs new (s.world.desk.holding new) (plan_left v)) (next_free s i.balanced) (i.holds new) in
-      holds_on s new _ (Some (fresh_call s.world.desk.rules start)) i (record { own = free_holds new _ (plan_of s.world.desk.rules start) (fresh_weighs s.world.desk.rules start) none; others = λ m e. refl })
+      holds_on s new _ (Some (fresh_call s.world.desk.rules start)) i (record { own = free_holds new _ (plan_of s.world.desk.rules start) (fresh_free s.world.desk.rules _ (fresh_plan s.world.desk.rules start)) none; others = λ m e. refl })
       ((balanced_kept eq).start s start i.balanced)
 
-  pub holding_kept : IsKept eq (IsHolding {K = K} {V = V})
+  pub holding_kept : IsKept eq (IsHolding {K = K} {V = V} {E = E})
   holding_kept = record {
-    fresh = λ rules size has_log. record { balanced = (balanced_kept eq).fresh rules size has_log; holds = λ n. refl };
+    fresh = λ rules size tests has_log. record { balanced = (balanced_kept eq).fresh rules size tests has_log; holds = λ n. refl };
     at = λ s moment i. record { balanced = (balanced_kept eq).at s moment i.balanced; holds = i.holds };
     start = holding_start;
     step = holding_step;
@@ -388,18 +396,18 @@ module _ {K V : Type 0} (eq : K → K → Bool) where
         ((balanced_kept eq).drop s n c live between i.balanced);
   }
 
-  pub in_holding : (s : State K V) → IsReached eq s → IsHolding s
+  pub in_holding : (s : State K V E) → IsReached eq s → IsHolding s
   in_holding s h = in_reached eq IsHolding holding_kept s h
 
   -- ---- what follows
 
-  free_by : (rest : List (Item K V)) → weigh held rest ≡ 0 → held_by rest ≡ None
+  free_by : (rest : List (Item K V E)) → weigh held rest ≡ 0 → held_by rest ≡ None
   free_by [] e = refl
   free_by (plan.Post write ∷ rest) e = absurd (omega arith)
   free_by (plan.Write key value moment ∷ rest) e = absurd (omega arith)
   free_by (_ ∷ rest) e = free_by rest (omega arith)
 
-  place_of : (n : ℕ) (h : Option Holding) (write : Write) (plan : List (Item K V)) → HoldsAs n h plan → held_by plan ≡ Some write → IsPlaceOf h n write
+  place_of : (n : ℕ) (h : Option Holding) (write : Write) (plan : List (Item K V E)) → HoldsAs n h plan → held_by plan ≡ Some write → IsPlaceOf h n write
   place_of n h write [] q e = absurd (none_some e)
   place_of n h write (plan.Post held ∷ rest) q e = subst (IsPlaceOf h n) (some_same e) q.0
   place_of n h write (plan.Turn ∷ rest) q e = place_of n h write rest q e
@@ -412,7 +420,7 @@ module _ {K V : Type 0} (eq : K → K → Bool) where
   place_of n h write (_ ∷ rest) q e = absurd (none_some (sym (free_by rest q.1) ∙ e))
 
   -- a call whose plan posts no write took none up
-  leaves_none : (n : ℕ) (h : Option Holding) (plan : List (Item K V)) → HoldsAs n h plan → held_by plan ≡ None → MayLeaveWith h n None
+  leaves_none : (n : ℕ) (h : Option Holding) (plan : List (Item K V E)) → HoldsAs n h plan → held_by plan ≡ None → MayLeaveWith h n None
   leaves_none n h [] q e = subst (λ v. MayLeaveWith v n None) (sym q) tt
   leaves_none n h (plan.Post held ∷ rest) q e = absurd (none_some (sym e))
   leaves_none n h (plan.Write key value moment ∷ rest) q e = own_leaves h n q.0
@@ -428,31 +436,31 @@ module _ {K V : Type 0} (eq : K → K → Bool) where
   leaves_none n h (plan.Idle ∷ rest) q e = own_leaves h n q.0
   leaves_none n h (_ ∷ rest) q e = subst (λ v. MayLeaveWith v n None) (sym q.0) tt
 
-  pub none_left : (s : State K V) → IsHolding s → (n : ℕ) (c : Call K V) → s.calls n ≡ Some c → held_by c.plan ≡ None →
+  pub none_left : (s : State K V E) → IsHolding s → (n : ℕ) (c : Call K V E) → s.calls n ≡ Some c → held_by c.plan ≡ None →
       MayLeaveWith (s.world.desk.holding n) n None
   none_left s i n c live e =
       leaves_none n (s.world.desk.holding n) c.plan (subst (λ v. HoldsAs n (s.world.desk.holding n) (plan_left v)) live (i.holds n)) e
 
   -- the desk knows each write that a live call holds
-  pub known_held : (s : State K V) → IsHolding s → HeldAreKnown s
+  pub known_held : (s : State K V E) → IsHolding s → HeldAreKnown s
   known_held s i n c write live e =
       place_of n (s.world.desk.holding n) write c.plan
       (subst (λ v. HoldsAs n (s.world.desk.holding n) (plan_left v)) live (i.holds n)) e
 
   -- a live call may leave what it holds
-  may_leave_it : (s : State K V) → IsHolding s → (n : ℕ) (c : Call K V) → s.calls n ≡ Some c → (o : Option Write) → held_by c.plan ≡ o →
+  may_leave_it : (s : State K V E) → IsHolding s → (n : ℕ) (c : Call K V E) → s.calls n ≡ Some c → (o : Option Write) → held_by c.plan ≡ o →
       MayLeave s.world.desk n o
   may_leave_it s i n c live None e = none_left s i n c live e
   may_leave_it s i n c live (Some write) e = known_held s i n c write live e
 
-  pub all_leave : (s : State K V) → IsReached eq s → MayAllLeave s
+  pub all_leave : (s : State K V E) → IsReached eq s → MayAllLeave s
   all_leave s h n c live = may_leave_it s (in_holding s h) n c live (held_by c.plan) refl
 
-  pub held_known : (s : State K V) → IsReached eq s → HeldAreKnown s
+  pub held_known : (s : State K V E) → IsReached eq s → HeldAreKnown s
   held_known s h = known_held s (in_holding s h)
 
   -- what the rest of a plan posts, the plan does
-  later : (n : ℕ) (x : Holding) (rest : List (Item K V)) (item : Item K V) →
+  later : (n : ℕ) (x : Holding) (rest : List (Item K V E)) (item : Item K V E) →
       weigh (post_of (held_number n x)) rest ≤ weigh (post_of (held_number n x)) (item ∷ rest) →
       (0 < weigh (post_of (held_number n x)) rest) ⊎ (held_number n x ≡ n) →
       (0 < weigh (post_of (held_number n x)) (item ∷ rest)) ⊎ (held_number n x ≡ n)
@@ -460,7 +468,7 @@ module _ {K V : Type 0} (eq : K → K → Bool) where
   later n x rest item posts (inr h) = inr h
 
   -- a call that holds something posts the write of that number, or holds the place of its own
-  held_way : (n : ℕ) (x : Holding) (plan : List (Item K V)) → HoldsAs n (Some x) plan →
+  held_way : (n : ℕ) (x : Holding) (plan : List (Item K V E)) → HoldsAs n (Some x) plan →
       (0 < weigh (post_of (held_number n x)) plan) ⊎ (held_number n x ≡ n)
   held_way n x [] q = absurd (none_some (sym q))
   held_way n x (plan.Post write ∷ rest) q =
@@ -484,22 +492,22 @@ module _ {K V : Type 0} (eq : K → K → Bool) where
   held_way n x (_ ∷ rest) q = absurd (none_some (sym q.0))
 
   -- a call that gives its place back has taken up no write
-  pub idle_free : (n : ℕ) (h : Option Holding) (rest : List (Item K V)) (write : Write) →
+  pub idle_free : (n : ℕ) (h : Option Holding) (rest : List (Item K V E)) (write : Write) →
       HoldsAs n h (plan.Idle ∷ rest) → h ≢ Some (holding.TookUp write)
   idle_free n h rest write q = own_not h write q.0
 
-  pub freeing_free : (n : ℕ) (h : Option Holding) (rest : List (Item K V)) (write : Write) →
+  pub freeing_free : (n : ℕ) (h : Option Holding) (rest : List (Item K V E)) (write : Write) →
       HoldsAs n h (plan.Unlock false ∷ rest) → h ≢ Some (holding.TookUp write)
   freeing_free n h rest write q = may_not h write q.0
 
-  module _ (s : State K V) (i : IsHolding s) where
-    live_posts : (m x : ℕ) (o : Option (Call K V)) → s.calls m ≡ o → 0 < weigh (post_of x) (plan_left o) → 0 < weigh_call (post_of x) (s.calls m) × (m ≤ s.world.desk.last)
+  module _ (s : State K V E) (i : IsHolding s) where
+    live_posts : (m x : ℕ) (o : Option (Call K V E)) → s.calls m ≡ o → 0 < weigh (post_of x) (plan_left o) → 0 < weigh_call (post_of x) (s.calls m) × (m ≤ s.world.desk.last)
     live_posts m x None e h = absurd (omega arith)
     live_posts m x (Some c) e h = (omega (arith, h, ap (weigh_call (post_of x)) e), i.balanced.numbered m c e)
 
     -- a call that is to take the moment of its write holds none, and no write of its number is
     -- anywhere
-    pub is_unused : (n : ℕ) (c : Call K V) (change : Change K V) (rest : List (Item K V)) →
+    pub is_unused : (n : ℕ) (c : Call K V E) (change : Change K V) (rest : List (Item K V E)) →
         s.calls n ≡ Some c → c.plan ≡ plan.Moment change ∷ rest →
         (s.world.desk.holding n ≡ None) × IsUnused s.world.desk n
     is_unused n c change rest live e =

@@ -2,8 +2,11 @@
 use Rattle.std.proofs.Common.{◌≡◌, ◌⊎◌, inl, inr, ℕ, ◌+◌, ◌<◌, ◌==◌, Bool, true, false, cond, List, [], ◌∷◌, Option, Some, None, refl, sym, ap, ◌∙◌, subst, arith}
 use Rattle.std.proofs.lemmas.Bool.{eqb-true, false≢true}
 use Rattle.std.specs.Prelude.{IsSomeAnd}
+use Rattle.moka_hist.specs.Plan.{or_insert_plan, seek}
+use Rattle.moka_hist.specs.Step.{replace_of}
+use Rattle.moka_hist.specs.Visits.{is_seen}
 use Rattle.moka_hist.specs.Finite.{put_at}
-use Rattle.moka_hist.specs.State.{State, World, Call}
+use Rattle.moka_hist.specs.State.{DeskPart, State, World, Call}
 use Rattle.moka_hist.specs.Plan.{Item, Aim, Removal, get_plan, insert_plan, is_disabled, load_plan, plan_of, under_lock}
 use Rattle.moka_hist.specs.Plan as plan
 use Rattle.moka_hist.specs.Next.{Next, goes, waits}
@@ -19,6 +22,7 @@ use Rattle.moka_hist.specs.declared.events.Start.TheVariants as start
 use Rattle.moka_hist.specs.declared.events.Told.{Told}
 use Rattle.moka_hist.specs.declared.events.Told.TheVariants as told
 use Rattle.moka_hist.specs.declared.loads.Load.{Load}
+use Rattle.moka_hist.specs.declared.loads.Sought.{Sought}
 use Rattle.moka_hist.specs.declared.loads.Kind.TheVariants as kind
 use Rattle.moka_hist.specs.declared.records.Mode.TheVariants as mode
 use Rattle.moka_hist.specs.declared.records.Stored.{Stored}
@@ -37,57 +41,57 @@ use Rattle.moka_laws.proofs.StepCases.{OnStep, more_step, step_cases}
 use Rattle.moka_laws.proofs.Outcomes.{Outcomes, outcomes}
 
 -- 1 where the answer is that the record was kept
-abbrev kept : {V : Type 0} → Answer V → ℕ
+abbrev kept : {V E : Type 0} → Answer V E → ℕ
 kept answer.Kept = 1
 kept _ = 0
 
-same_answer : {K V : Type 0} (a b : Answer V) → ◌≡◌ {A = Turn K V} (turn.Answer a) (turn.Answer b) →
+same_answer : {K V E : Type 0} (a b : Answer V E) → ◌≡◌ {A = Turn K V E} (turn.Answer a) (turn.Answer b) →
     a ≡ b
 same_answer a b e = cc
 
-module _ {K V : Type 0} where
+module _ {K V E : Type 0} where
   -- the item answers that the record was kept, or judges a chosen one as if it were to be seen
-  abbrev keeping : Item K V → ℕ
+  abbrev keeping : Item K V E → ℕ
   keeping (plan.Reply a) = kept a
   keeping (plan.Judge (plan.To_evict key stamp cause) at found) = 1
   keeping _ = 0
 
-  to_keep : (p : List (Item K V)) → IsToKeep p → 0 < weigh keeping p
+  to_keep : (p : List (Item K V E)) → IsToKeep p → 0 < weigh keeping p
   to_keep (plan.Unlock false ∷ plan.Reply answer.Kept ∷ []) h = omega arith
   to_keep (plan.Idle ∷ plan.Reply answer.Kept ∷ []) h = omega arith
   to_keep [] h = absurd h
   to_keep (_ ∷ rest) h = absurd h
 
   -- the call that is left has nothing to do but to answer so; and so by this step
-  abbrev LeftKeeps : Option (Call K V) → Type 0
+  abbrev LeftKeeps : Option (Call K V E) → Type 0
   LeftKeeps left = IsSomeAnd left (λ c. IsToKeep c.plan)
 
-  abbrev NextKeeps : Next K V → Type 0
+  abbrev NextKeeps : Next K V E → Type 0
   NextKeeps next = (next.turn ≡ turn.Answer answer.Kept) ⊎ LeftKeeps next.left
 
-  left_keeps : (left : Option (Call K V)) → LeftKeeps left → 0 < weigh_call keeping left
+  left_keeps : (left : Option (Call K V E)) → LeftKeeps left → 0 < weigh_call keeping left
   left_keeps None h = absurd h
   left_keeps (Some c) h = to_keep c.plan h
 
   -- what goes on otherwise
-  record Quiet (next : Next K V) : Type 0 where
+  record Quiet (next : Next K V E) : Type 0 where
     left : weigh_call keeping next.left ≡ 0
     turn : next.turn ≡ turn.Answer answer.Kept → ⊥
 
-  not_keeps : (next : Next K V) → Quiet next → NextKeeps next → ⊥
+  not_keeps : (next : Next K V E) → Quiet next → NextKeeps next → ⊥
   not_keeps next q (inl e) = q.turn e
   not_keeps next q (inr h) = omega (arith, q.left, left_keeps next.left h)
 
-  answers_quiet : (a : Answer V) → kept a ≡ 0 → ◌≡◌ {A = Turn K V} (turn.Answer a)
+  answers_quiet : (a : Answer V E) → kept a ≡ 0 → ◌≡◌ {A = Turn K V E} (turn.Answer a)
       (turn.Answer answer.Kept) → ⊥
   answers_quiet a none e = omega (
     arith,
     none,
     ap kept (same_answer {K = K}
-        {V = V} a answer.Kept e),
+        {V = V} {E = E} a answer.Kept e),
   )
 
-  goes_quiet : (c : Call K V) (rest : List (Item K V)) → weigh keeping rest ≡ 0 → Quiet
+  goes_quiet : (c : Call K V E) (rest : List (Item K V E)) → weigh keeping rest ≡ 0 → Quiet
       (goes c rest)
   goes_quiet c (plan.Reply a ∷ []) h = record
       { left = refl; turn = answers_quiet a (omega (arith, h)) }
@@ -95,91 +99,120 @@ module _ {K V : Type 0} where
   goes_quiet c [] h = record { left = h; turn = λ e. cc }
   goes_quiet c (_ ∷ rest) h = record { left = h; turn = λ e. cc }
 
-  hits_quiet : (c : Call K V) (aim : Aim K) (key : K) (seen : Stored V) → keeping
+  hits_quiet : (c : Call K V E) (aim : Aim K V) (key : K) (seen : Stored V) → keeping
       (plan.Judge aim key seen) ≡ 0 → Quiet (hits c aim seen.value)
   hits_quiet c plan.To_answer key seen h = record
       { left = refl; turn = answers_quiet (answer.Found (Some seen.value)) refl }
-  hits_quiet c (plan.To_load load) key seen h = record
+  hits_quiet c (plan.To_load sought) key seen h = record
       { left = refl; turn = answers_quiet (answer.Loaded seen.value false) refl }
-  hits_quiet c (plan.To_own load) key seen h = record { left = refl; turn = λ e. cc }
+  hits_quiet c (plan.To_insert under new) key seen h = record
+      { left = refl; turn = answers_quiet (answer.Loaded seen.value false) refl }
+  hits_quiet c (plan.To_own sought) key seen h = record { left = refl; turn = λ e. cc }
   hits_quiet c (plan.To_evict own stamp cause) key seen h = absurd (omega (arith, h))
 
-  read_quiet : (c : Call K V) (load : Load K) (with : Settled V) → weigh keeping c.plan ≡ 0 → Quiet
-      (after_read c load (found.ReadSettled with))
-  read_quiet c load (settled.Ready value) p = record
+  -- a record that is not seen by its replace test is loaded
+  unseen_quiet : (c : Call K V E) (d : DeskPart K V E) (aim : Aim K V) (key : K) (found : Stored V) →
+      is_seen d (replace_of aim) key found ≡ false → Quiet (misses c aim)
+  unseen_quiet c d (plan.To_load sought) key found e = record { left = refl; turn = λ f. cc }
+  unseen_quiet c d (plan.To_own sought) key found e = record { left = refl; turn = λ f. cc }
+  unseen_quiet c d _ key found e = absurd (false≢true (sym e))
+
+  read_quiet : (c : Call K V E) (sought : Sought K) (with : Settled V E) → weigh keeping c.plan ≡ 0 → Quiet
+      (after_read c sought (found.ReadSettled with))
+  read_quiet c sought (settled.Ready value) p = record
       { left = refl; turn = answers_quiet (answer.Loaded value false) refl }
-  read_quiet c load settled.NotYet p = record { left = p; turn = λ e. cc }
-  read_quiet c load settled.Aborted p = by (c.aborts + 1 == retries) refl
+  read_quiet c sought (settled.Err error) p = record
+      { left = refl; turn = answers_quiet (answer.InitErr error) refl }
+  read_quiet c sought settled.Nothing p = record
+      { left = refl; turn = answers_quiet answer.Nothing refl }
+  read_quiet c sought settled.NotYet p = record { left = p; turn = λ e. cc }
+  read_quiet c sought settled.Aborted p = by (c.aborts + 1 == retries) refl
     where
-      by : (b : Bool) → (c.aborts + 1 == retries) ≡ b → Quiet (after_abort c load)
+      by : (b : Bool) → (c.aborts + 1 == retries) ≡ b → Quiet (after_abort c sought)
       by true e = rw e (record { left = refl; turn = answers_quiet answer.RetriesExhausted refl })
       by false e = rw e (record { left = refl; turn = λ f. cc })
 
-  told_quiet : (c : Call K V) (load : Load K) (given : Told V) → weigh keeping c.plan ≡ 0 → Quiet
+  told_quiet : (c : Call K V E) (load : Load K) (given : Told V E) → weigh keeping c.plan ≡ 0 → Quiet
       (after_told c load (found.TakeTold (Some given)))
   told_quiet c load (told.Value value) p =
       loaded_plans (λ q. Quiet (goes c q)) c.rules load value
       (record { left = refl; turn = λ e. cc })
       (record { left = refl; turn = λ e. cc }) (record { left = refl; turn = λ e. cc })
+  told_quiet c load told.Nothing p = record { left = refl; turn = λ e. cc }
+  told_quiet c load (told.Err error) p = record { left = refl; turn = λ e. cc }
   told_quiet c load told.Done p = record { left = p; turn = λ e. cc }
   told_quiet c load told.Off p = record { left = p; turn = λ e. cc }
 
-  keeps_next : (c : Call K V) → NextKeeps (keeps c)
+  keeps_next : (c : Call K V E) → NextKeeps (keeps c)
   keeps_next c = kept_next NextKeeps c (λ off. inl refl) (λ on. inr tt)
 
   -- a plan has no such item, or nothing else is left
-  abbrev Calm : List (Item K V) → Type 0
+  abbrev Calm : List (Item K V E) → Type 0
   Calm p = (weigh keeping p ≡ 0) ⊎ IsToKeep p
 
-  abbrev CalmIf : Option (Call K V) → Type 0
+  abbrev CalmIf : Option (Call K V E) → Type 0
   CalmIf None = Unit {0}
   CalmIf (Some c) = Calm c.plan
 
-  quiet_calm : (left : Option (Call K V)) → weigh_call keeping left ≡ 0 → CalmIf left
+  quiet_calm : (left : Option (Call K V E)) → weigh_call keeping left ≡ 0 → CalmIf left
   quiet_calm None h = tt
   quiet_calm (Some c) h = inl h
 
-  keeps_calm : (c : Call K V) → CalmIf (keeps c).left
+  keeps_calm : (c : Call K V E) → CalmIf (keeps c).left
   keeps_calm c = kept_next (λ v. CalmIf v.left) c (λ off. tt) (λ on. inr tt)
 
-  fresh_calm : (rules : Rules) (start : Start K V) → weigh keeping (plan_of rules start) ≡ 0
+-- ---- fresh calls
+
+module _ {K : Type 0} (V E : Type 0) where
+  load_calm : (b : Bool) (sought : Sought K) →
+      weigh keeping (load_plan {V = V} {E = E} b sought) ≡ 0
+  load_calm true sought = refl
+  load_calm false sought = refl
+
+module _ {K V : Type 0} (E : Type 0) where
+  fresh_calm : (rules : Rules) (start : Start K V) →
+      weigh keeping (plan_of {E = E} rules start) ≡ 0
   fresh_calm rules (start.Get key) = by (is_disabled rules)
     where
-      by : (b : Bool) → weigh keeping (get_plan {V = V} b key) ≡ 0
+      by : (b : Bool) → weigh keeping (get_plan {V = V} {E = E} b key) ≡ 0
       by true = refl
       by false = refl
   fresh_calm rules (start.Insert key value) = by (is_disabled rules)
     where
-      by : (b : Bool) → weigh keeping (insert_plan b rules key value) ≡ 0
+      by : (b : Bool) → weigh keeping (insert_plan {E = E} b rules key value) ≡ 0
       by true = refl
       by false = put_plans (λ p. weigh keeping p ≡ 0) rules key value
           (plan.Reply answer.Done ∷ []) refl refl
-  fresh_calm rules (start.GetWith key) = by (is_disabled rules)
+  fresh_calm rules (start.GetWith key replace) =
+      load_calm V E (is_disabled rules) (seek kind.GetWith key replace)
+  fresh_calm rules (start.Optional key) =
+      load_calm V E (is_disabled rules) (seek kind.Optional key None)
+  fresh_calm rules (start.Try key) = load_calm V E (is_disabled rules) (seek kind.Try key None)
+  fresh_calm rules (start.OrInsert key value) = by (is_disabled rules)
     where
-      by : (b : Bool) → weigh keeping (load_plan {K = K} {V = V} b
-          (record { key = key; kind = kind.GetWith })) ≡ 0
+      by : (b : Bool) → weigh keeping (or_insert_plan {V = V} {E = E} b key value) ≡ 0
       by true = refl
       by false = refl
   fresh_calm rules (start.Invalidate key) = by rules.listener
     where
-      by : (b : Bool) → weigh keeping (plan.Drain ∷ under_lock {V = V} b key
+      by : (b : Bool) → weigh keeping (plan.Drain ∷ under_lock {V = V} {E = E} b key
           (plan.Moment (plan.To_take_out plan.To_invalidate key) ∷ [])) ≡ 0
       by true = refl
       by false = refl
   fresh_calm rules (start.Remove key) = by rules.listener
     where
-      by : (b : Bool) → weigh keeping (plan.Drain ∷ under_lock {V = V} b key
+      by : (b : Bool) → weigh keeping (plan.Drain ∷ under_lock {V = V} {E = E} b key
           (plan.Moment (plan.To_take_out plan.To_remove key) ∷ [])) ≡ 0
       by true = refl
       by false = refl
   fresh_calm rules (start.Evict key stamp cause) = by rules.listener
     where
-      by : (b : Bool) → weigh keeping (under_lock {V = V} b key
+      by : (b : Bool) → weigh keeping (under_lock {V = V} {E = E} b key
           (plan.Get (plan.To_evict key stamp cause) key ∷ [])) ≡ 0
       by true = refl
       by false = refl
 
-module _ {K V : Type 0} (s : State K V) where
+module _ {K V E : Type 0} (s : State K V E) where
   -- what stands under the key is what is taken out
   stands_by : (o : Option (K × Stored V)) (stamp : ℕ) (pair : K × Stored V) → taken_by
       (Some stamp) o ≡ Some pair →
@@ -201,14 +234,14 @@ module _ {K V : Type 0} (s : State K V) where
       by true is e = none_some (sym e)
       by false is e = differ_not p.1.stamp stamp is h
 
-  module _ (c : Call K V) where
+  module _ (c : Call K V E) where
     -- what a step has to show whose first item is this
-    record Decides (item : Item K V) (next : Next K V) : Type 0 where
+    record Decides (item : Item K V E) (next : Next K V E) : Type 0 where
       only : NextKeeps next → IsKept s item
       each : IsKept s item → NextKeeps next ⊎ (next.left ≡ Some (record c { mode = mode.Mid }))
       calm : CalmIf next.left
 
-    quiet : (item : Item K V) (next : Next K V) → (IsKept s item → ⊥) → Quiet next →
+    quiet : (item : Item K V E) (next : Next K V E) → (IsKept s item → ⊥) → Quiet next →
         Decides item next
     quiet item next never q = record {
       only = λ h. absurd (not_keeps next q h);
@@ -216,7 +249,7 @@ module _ {K V : Type 0} (s : State K V) where
       calm = quiet_calm next.left q.left;
     }
 
-    keeps_by : (item : Item K V) → IsKept s item → Decides item (keeps c)
+    keeps_by : (item : Item K V E) → IsKept s item → Decides item (keeps c)
     keeps_by item why = record {
       only = λ h. why;
       each = λ h. inl (keeps_next c);
@@ -225,7 +258,7 @@ module _ {K V : Type 0} (s : State K V) where
     }
 
     -- the operation stays undecided
-    undecided : (item : Item K V) (next : Next K V) → next.left ≡ Some
+    undecided : (item : Item K V E) (next : Next K V E) → next.left ≡ Some
         (record c { mode = mode.Mid }) → Quiet next → Decides item next
     undecided item next e q =
         record {
@@ -235,26 +268,32 @@ module _ {K V : Type 0} (s : State K V) where
               quiet_calm next.left q.left;
         }
 
-    misses_by : (aim : Aim K) (key : K) → s.world.table.stored key ≡ None → Decides
+    misses_by : (aim : Aim K V) (key : K) → s.world.table.stored key ≡ None → Decides
         (plan.Get aim key) (misses c aim)
     misses_by plan.To_answer key none = quiet (plan.Get plan.To_answer key) _ (λ h. h)
         (record { left = refl; turn = answers_quiet (answer.Found None) refl })
-    misses_by (plan.To_load load) key none = quiet (plan.Get (plan.To_load load) key) _ (λ h. h)
+    misses_by (plan.To_load sought) key none = quiet (plan.Get (plan.To_load sought) key) _ (λ h. h)
         (record { left = refl; turn = λ e. cc })
-    misses_by (plan.To_own load) key none = quiet (plan.Get (plan.To_own load) key) _ (λ h. h)
+    misses_by (plan.To_own sought) key none = quiet (plan.Get (plan.To_own sought) key) _ (λ h. h)
         (record { left = refl; turn = λ e. cc })
+    misses_by (plan.To_insert under new) key none = quiet (plan.Get (plan.To_insert under new) key)
+        _ (λ h. h)
+        (put_plans (λ q. Quiet (goes c q)) c.rules under new _
+        (record { left = refl; turn = λ e. cc }) (record { left = refl; turn = λ e. cc }))
     misses_by (plan.To_evict own stamp cause) key none = keeps_by
         (plan.Get (plan.To_evict own stamp cause) key)
         (λ h. subst (λ o. IsSomeAnd o (λ p. p.1.stamp ≡ stamp)) none h)
 
-    finds_by : (aim : Aim K) (key there : K) (seen : Stored V) → s.world.table.stored key ≡ Some
+    finds_by : (aim : Aim K V) (key there : K) (seen : Stored V) → s.world.table.stored key ≡ Some
         (there, seen) →
         Decides (plan.Get aim key) (finds_pair c aim there seen)
     finds_by plan.To_answer key there seen some = quiet (plan.Get plan.To_answer key) _ (λ h. h)
         (record { left = refl; turn = λ e. cc })
-    finds_by (plan.To_load load) key there seen some = quiet (plan.Get (plan.To_load load) key) _
+    finds_by (plan.To_load sought) key there seen some = quiet (plan.Get (plan.To_load sought) key) _
         (λ h. h) (record { left = refl; turn = λ e. cc })
-    finds_by (plan.To_own load) key there seen some = quiet (plan.Get (plan.To_own load) key) _
+    finds_by (plan.To_insert under new) key there seen some = quiet (plan.Get (plan.To_insert under new) key) _
+        (λ h. h) (record { left = refl; turn = λ e. cc })
+    finds_by (plan.To_own sought) key there seen some = quiet (plan.Get (plan.To_own sought) key) _
         (λ h. h) (record { left = refl; turn = λ e. cc })
     finds_by (plan.To_evict own stamp cause) key there seen some =
         chosen_by (Decides
@@ -267,7 +306,7 @@ module _ {K V : Type 0} (s : State K V) where
         (record { left = refl; turn = λ e. cc }))
 
     out_by : (removal : Removal) (key : K) → weigh keeping c.plan ≡ 0 → (eq : K → K → Bool) (n : ℕ)
-        (rest : List (Item K V)) →
+        (rest : List (Item K V E)) →
         Outcomes eq (λ new next. Decides (plan.Out removal key) next) s.world n c
         (plan.Out removal key) rest
     out_by plan.To_invalidate key p eq n rest = (
@@ -306,11 +345,11 @@ module _ {K V : Type 0} (s : State K V) where
           (record { left = refl; turn = λ e. cc }),
     )
       where
-        calm_left : (left : Option (Call K V)) → LeftKeeps left → CalmIf left
+        calm_left : (left : Option (Call K V E)) → LeftKeeps left → CalmIf left
         calm_left None h = tt
         calm_left (Some d) h = inr h
 
-        kept_out : (next : Next K V) → taken_by (Some stamp) (s.world.table.stored key) ≡ None →
+        kept_out : (next : Next K V E) → taken_by (Some stamp) (s.world.table.stored key) ≡ None →
             LeftKeeps next.left →
             Decides (plan.Out (plan.To_evict_chosen stamp cause) key) next
         kept_out next none is = record {
@@ -320,10 +359,10 @@ module _ {K V : Type 0} (s : State K V) where
         }
 
     module _ (eq : K → K → Bool) (n : ℕ) (p : weigh keeping c.plan ≡ 0) where
-      abbrev After : Item K V → World K V → Next K V → Type 0
+      abbrev After : Item K V E → World K V E → Next K V E → Type 0
       After item new next = Decides item next
 
-      on_item : (item : Item K V) (rest : List (Item K V)) → weigh keeping (item ∷ rest) ≡ 0 →
+      on_item : (item : Item K V E) (rest : List (Item K V E)) → weigh keeping (item ∷ rest) ≡ 0 →
           Outcomes eq (After item) s.world n c item rest
       on_item plan.Drain rest q = (
         λ e. quiet plan.Drain _ (λ h. h) (goes_quiet c rest (omega (arith, q))),
@@ -370,16 +409,20 @@ module _ {K V : Type 0} (s : State K V) where
         λ none. misses_by aim key none,
         λ there seen some. finds_by aim key there seen some,
       )
-      on_item (plan.Judge aim key seen) rest q = quiet (plan.Judge aim key seen) _ (λ h. h)
-          (hits_quiet c aim key seen (omega (arith, q)))
-      on_item (plan.Own load) rest q = (
-        λ able e. quiet (plan.Own load) _ (λ h. h) (record { left = refl; turn = λ f. cc }),
-        λ disabled e. quiet (plan.Own load) _ (λ h. h) (record { left = refl; turn = λ f. cc }),
-        λ owner e. quiet (plan.Own load) _ (λ h. h) (record { left = refl; turn = λ f. cc }),
+      on_item (plan.Judge aim key found) rest q = (
+        λ seen. quiet (plan.Judge aim key found) _ (λ h. h)
+            (hits_quiet c aim key found (omega (arith, q))),
+        λ unseen. quiet (plan.Judge aim key found) _ (λ h. h)
+            (unseen_quiet c s.world.desk aim key found unseen),
       )
-      on_item (plan.Read load) rest q = (
-        λ e. quiet (plan.Read load) _ (λ h. h) (record { left = p; turn = λ f. cc }),
-        λ with e. quiet (plan.Read load) _ (λ h. h) (read_quiet c load with p),
+      on_item (plan.Own sought) rest q = (
+        λ able e. quiet (plan.Own sought) _ (λ h. h) (record { left = refl; turn = λ f. cc }),
+        λ disabled e. quiet (plan.Own sought) _ (λ h. h) (record { left = refl; turn = λ f. cc }),
+        λ owner e. quiet (plan.Own sought) _ (λ h. h) (record { left = refl; turn = λ f. cc }),
+      )
+      on_item (plan.Read sought) rest q = (
+        λ e. quiet (plan.Read sought) _ (λ h. h) (record { left = p; turn = λ f. cc }),
+        λ with e. quiet (plan.Read sought) _ (λ h. h) (read_quiet c sought with p),
       )
       on_item (plan.Settle with) rest q = quiet (plan.Settle with) _ (λ h. h)
           (goes_quiet c rest (omega (arith, q)))
@@ -420,18 +463,18 @@ module _ {K V : Type 0} (s : State K V) where
           })
 
     -- of a plan: why its first item keeps the record
-    abbrev KeptAt : List (Item K V) → Type 0
+    abbrev KeptAt : List (Item K V E) → Type 0
     KeptAt [] = ⊥
     KeptAt (item ∷ rest) = IsKept s item
 
-    record Outcome (p : List (Item K V)) (next : Next K V) : Type 0 where
+    record Outcome (p : List (Item K V E)) (next : Next K V E) : Type 0 where
       only : NextKeeps next → KeptAt p ⊎ IsToKeep p
       each : KeptAt p → NextKeeps next ⊎ (next.left ≡ Some (record c { mode = mode.Mid }))
       told : IsToKeep p → next.turn ≡ turn.Answer answer.Kept
       calm : CalmIf next.left
 
-    so_decided : (item : Item K V) (rest : List (Item K V)) → weigh keeping (item ∷ rest) ≡ 0 →
-        (next : Next K V) → Decides item next →
+    so_decided : (item : Item K V E) (rest : List (Item K V E)) → weigh keeping (item ∷ rest) ≡ 0 →
+        (next : Next K V E) → Decides item next →
         Outcome (item ∷ rest) next
     so_decided item rest q next d = record {
       only = λ h. inl (d.only h);
@@ -441,10 +484,10 @@ module _ {K V : Type 0} (s : State K V) where
     }
 
     module _ (eq : K → K → Bool) (n : ℕ) where
-      abbrev Made : List (Item K V) → World K V → Next K V → Type 0
+      abbrev Made : List (Item K V E) → World K V E → Next K V E → Type 0
       Made p new next = Outcome p next
 
-      on_calm : (p : List (Item K V)) → c.plan ≡ p → weigh keeping p ≡ 0 → OnStep eq
+      on_calm : (p : List (Item K V E)) → c.plan ≡ p → weigh keeping p ≡ 0 → OnStep eq
           (Made p) s.world n c p
       on_calm [] e q = record {
         only = λ h. absurd (not_keeps (waits c) (record {
@@ -462,7 +505,7 @@ module _ {K V : Type 0} (s : State K V) where
           (item ∷ rest) (outcomes eq (λ new next. Decides item next) s.world n c item rest
           (on_item eq n (ap (weigh keeping) e ∙ q) item rest q))
 
-      on_keeping : (p : List (Item K V)) → IsToKeep p → OnStep eq (Made p) s.world n c p
+      on_keeping : (p : List (Item K V E)) → IsToKeep p → OnStep eq (Made p) s.world n c p
       on_keeping (plan.Unlock false ∷ plan.Reply answer.Kept ∷ []) h =
           outcomes eq (Made (plan.Unlock false ∷ plan.Reply answer.Kept ∷ [])) s.world n c
           (plan.Unlock false) (plan.Reply answer.Kept ∷ [])
@@ -474,17 +517,17 @@ module _ {K V : Type 0} (s : State K V) where
       on_keeping [] h = absurd h
       on_keeping (_ ∷ rest) h = absurd h
 
-      on_plan : (p : List (Item K V)) → c.plan ≡ p → Calm p → OnStep eq (Made p) s.world n c p
+      on_plan : (p : List (Item K V E)) → c.plan ≡ p → Calm p → OnStep eq (Made p) s.world n c p
       on_plan p e (inl q) = on_calm p e q
       on_plan p e (inr h) = on_keeping p h
 
 -- ---- of a state
 
-module _ {K V : Type 0} (eq : K → K → Bool) where
-  abbrev AreCalm : State K V → Type 0
-  AreCalm s = (n : ℕ) (c : Call K V) → s.calls n ≡ Some c → Calm c.plan
+module _ {K V E : Type 0} (eq : K → K → Bool) where
+  abbrev AreCalm : State K V E → Type 0
+  AreCalm s = (n : ℕ) (c : Call K V E) → s.calls n ≡ Some c → Calm c.plan
 
-  calm_step : (s t : State K V) (n : ℕ) (turn : Turn K V) → AreCalm s → Step eq s n turn t →
+  calm_step : (s t : State K V E) (n : ℕ) (turn : Turn K V E) → AreCalm s → Step eq s n turn t →
       AreCalm t
   calm_step s t n turn i step =
       step_cases eq (λ new next. Outcome s step.call step.call.plan next)
@@ -495,12 +538,12 @@ module _ {K V : Type 0} (eq : K → K → Bool) where
 
   calm_kept : events.IsKept eq AreCalm
   calm_kept = record {
-    fresh = λ rules size has_log n c live. absurd (none_some live);
+    fresh = λ rules size tests has_log n c live. absurd (none_some live);
     at = λ s moment i. i;
     start = λ s start i n c live.
         put_cases s.calls (s.world.desk.last + 1) (Some (fresh_call s.world.desk.rules start)) n
         (Some c) (Calm c.plan) live
-        (λ here is. subst CalmIf is (inl (fresh_calm s.world.desk.rules start)))
+        (λ here is. subst CalmIf is (inl (fresh_calm E s.world.desk.rules start)))
         (λ there is. i n c is);
     step = calm_step;
     tell = λ s n given asked i. i;
@@ -510,32 +553,32 @@ module _ {K V : Type 0} (eq : K → K → Bool) where
         (λ there is. i m d is);
   }
 
-  pub kept_by_cause : KeptByCause K V eq
+  pub kept_by_cause : KeptByCause K V E eq
   kept_by_cause s t n c item rest reply h live e step =
       let i : AreCalm s = events.in_reached eq AreCalm calm_kept s h in
       let is : step.call ≡ c = some_same (sym step.live ∙ live) in
       step_cases eq (λ new next. Outcome s c (item ∷ rest) next)
       (λ v r. KeepsByCause s n c item rest r v) s t n reply step
-      (subst (λ (d : Call K V). OnStep eq (λ new next. Outcome s c
+      (subst (λ (d : Call K V E). OnStep eq (λ new next. Outcome s c
       (item ∷ rest) next) s.world n d d.plan) (sym is)
       (subst (λ p. OnStep eq (λ new next. Outcome s c (item ∷ rest) next) s.world n c p) (sym e)
       (on_plan s c eq n (item ∷ rest) e (subst Calm e (i n c live)))))
       (λ w next o. so_kept w next o)
     where
-      there : (left : Option (Call K V)) → put_at s.calls n left n ≡ left
+      there : (left : Option (Call K V E)) → put_at s.calls n left n ≡ left
       there left = put_here s.calls n left
 
-      was : (next : Next K V) → (next.turn ≡ turn.Answer answer.Kept) ⊎ IsSomeAnd
+      was : (next : Next K V E) → (next.turn ≡ turn.Answer answer.Kept) ⊎ IsSomeAnd
           (put_at s.calls n next.left n) (λ d. IsToKeep d.plan) → NextKeeps next
       was next (inl k) = inl k
       was next (inr k) = inr (subst LeftKeeps (there next.left) k)
 
-      now : (next : Next K V) → NextKeeps next → (next.turn ≡ turn.Answer answer.Kept) ⊎ IsSomeAnd
+      now : (next : Next K V E) → NextKeeps next → (next.turn ≡ turn.Answer answer.Kept) ⊎ IsSomeAnd
           (put_at s.calls n next.left n) (λ d. IsToKeep d.plan)
       now next (inl k) = inl k
       now next (inr k) = inr (subst LeftKeeps (sym (there next.left)) k)
 
-      each_now : (next : Next K V) → NextKeeps next ⊎
+      each_now : (next : Next K V E) → NextKeeps next ⊎
           (next.left ≡ Some (record c { mode = mode.Mid })) →
           ((next.turn ≡ turn.Answer answer.Kept) ⊎ IsSomeAnd (put_at s.calls n next.left n)
           (λ d. IsToKeep d.plan)) ⊎
@@ -543,7 +586,7 @@ module _ {K V : Type 0} (eq : K → K → Bool) where
       each_now next (inl k) = inl (now next k)
       each_now next (inr k) = inr (there next.left ∙ k)
 
-      so_kept : (w : World K V) (next : Next K V) → Outcome s c (item ∷ rest) next →
+      so_kept : (w : World K V E) (next : Next K V E) → Outcome s c (item ∷ rest) next →
           KeepsByCause s n c item rest next.turn (state_after s n w next)
       so_kept w next o = record {
         only = λ k. o.only (was next k);

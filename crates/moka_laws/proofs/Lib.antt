@@ -21,6 +21,7 @@ pub mod Reading
 pub mod Serving
 pub mod ServingSteps
 pub mod Served
+pub mod Fitting
 pub mod Turns
 pub mod Asking
 pub mod Coming
@@ -33,6 +34,12 @@ pub mod Safe
 pub mod SoundReached
 pub mod Unread
 pub mod Hearing
+pub mod Sources
+pub mod Opening
+pub mod Since
+pub mod AlongRuns
+pub mod KindsOfEnds
+pub mod AnswersFit
 pub mod Undisturbed
 pub mod Storing
 pub mod Parting

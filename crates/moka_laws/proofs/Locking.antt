@@ -1,9 +1,12 @@
 -- A call holds a lock exactly between its locking and its freeing, where a listener is set.
 use Rattle.std.proofs.Common.{◌≡◌, ℕ, ◌+◌, ◌==◌, Bool, true, false, cond, List, [], ◌∷◌, Option, Some, None, is_some, IsSome, IsNone, refl, sym, ap, ◌∙◌, subst, arith}
 use Rattle.std.proofs.lemmas.Bool.{eqb-true, false≢true}
+use Rattle.moka_hist.specs.declared.replies.Answer.TheVariants as reply
+use Rattle.moka_hist.specs.Step.{replace_of}
+use Rattle.moka_hist.specs.Visits.{is_seen}
 use Rattle.moka_hist.specs.Finite.{put_at}
 use Rattle.moka_hist.specs.State.{State, World, Call, DeskPart}
-use Rattle.moka_hist.specs.Plan.{Item, Aim, Removal, plan_of, told_on}
+use Rattle.moka_hist.specs.Plan.{end_load, Item, Aim, Removal, plan_of, told_on}
 use Rattle.moka_hist.specs.Plan as plan
 use Rattle.moka_hist.specs.Next.{Next, goes}
 use Rattle.moka_hist.specs.Looking.{hits, misses, keeps as stays, finds_pair}
@@ -16,20 +19,20 @@ use Rattle.moka_hist.specs.declared.events.Told.{Told}
 use Rattle.moka_hist.specs.declared.events.Told.TheVariants as answer
 use Rattle.moka_hist.specs.declared.records.Stored.{Stored}
 use Rattle.moka_hist.specs.declared.replies.Answer.{Answer}
-use Rattle.moka_hist.specs.declared.rules.Cause.{Cause}
 use Rattle.moka_hist.specs.declared.loads.Load.{Load}
+use Rattle.moka_hist.specs.declared.loads.Sought.{Sought}
 use Rattle.moka_hist.specs.declared.rules.Rules.{Rules}
 use Rattle.moka_hist.specs.declared.visits.Settled.{Settled}
 use Rattle.moka_hist.specs.declared.visits.Settled.TheVariants as settled
 use Rattle.moka_hist.specs.declared.visits.Found.TheVariants as found
 use Rattle.moka_hist.specs.declared.accesses.Turn.{Turn}
-use Rattle.moka_laws.specs.Listening.{changed_key, key_of}
+use Rattle.moka_laws.specs.Listening.{changed_key, locked_key}
 use Rattle.moka_laws.proofs.Counting.{none_some, some_same, put_cases, put_here, put_there}
 use Rattle.moka_laws.proofs.Weights.{weigh}
 use Rattle.moka_laws.proofs.Balance.{IsBalanced}
 use Rattle.moka_laws.proofs.Balanced.{balanced_kept, next_free}
 use Rattle.moka_laws.proofs.Owning.{plan_left}
-use Rattle.moka_laws.proofs.Rules.{loaded_plans_by, kept_next, chosen_by, IsFresh, Disabled, Gets, Loads, Owns, Puts, Locks_and_puts, Takes_out, Locks_and_takes_out, Evicts, Locks_and_evicts, fresh_plan}
+use Rattle.moka_laws.proofs.Rules.{put_plans_by, Finds_or_puts, Gives_back, loaded_plans_by, kept_next, chosen_by, IsFresh, Disabled, Gets, Loads, Owns, Puts, Locks_and_puts, Takes_out, Locks_and_takes_out, Evicts, Locks_and_evicts, fresh_plan}
 use Rattle.moka_laws.proofs.Kept.{IsKept, in_reached}
 use Rattle.moka_laws.proofs.StepCases.{OnStep, step_cases}
 use Rattle.moka_laws.proofs.Outcomes.{Outcomes, outcomes}
@@ -37,9 +40,9 @@ use Rattle.moka_laws.proofs.Outcomes.{Outcomes, outcomes}
 true_false : true ≡ false → ⊥
 true_false e = false≢true (sym e)
 
-module _ {K V : Type 0} where
+module _ {K V E : Type 0} where
   -- the item is one of a change under a lock
-  abbrev of_lock : Item K V → ℕ
+  abbrev of_lock : Item K V E → ℕ
   of_lock (plan.Lock key) = 1
   of_lock (plan.Unlock wrote) = 1
   of_lock (plan.Notice key old cause upsert) = 1
@@ -52,7 +55,7 @@ module _ {K V : Type 0} where
   of_lock _ = 0
 
   -- it locks, frees, or stands between a write and the freeing
-  abbrev pub of_key : Item K V → ℕ
+  abbrev pub of_key : Item K V E → ℕ
   of_key (plan.Lock key) = 1
   of_key (plan.Unlock wrote) = 1
   of_key (plan.Notice key old cause upsert) = 1
@@ -60,12 +63,12 @@ module _ {K V : Type 0} where
   of_key _ = 0
 
   -- the plan frees the lock next
-  abbrev pub Freeing : List (Item K V) → Type 0
+  abbrev pub Freeing : List (Item K V E) → Type 0
   Freeing (plan.Unlock wrote ∷ rest) = weigh of_lock rest ≡ 0
   Freeing _ = ⊥
 
   -- the plan of a call that holds the lock of this key
-  abbrev pub Inside : K → List (Item K V) → Type 0
+  abbrev pub Inside : K → List (Item K V E) → Type 0
   Inside k (plan.Get (plan.To_evict key stamp cause) at ∷ rest) =
       (k ≡ key) × (k ≡ at) × (weigh of_lock rest ≡ 0)
   Inside k (plan.Holds key stamp cause there stored ∷ rest) = (k ≡ key) × (weigh of_lock rest ≡ 0)
@@ -78,7 +81,7 @@ module _ {K V : Type 0} where
   Inside k _ = ⊥
 
   -- the plan of a call that holds no lock, and may come to take one
-  abbrev pub Outside : List (Item K V) → Type 0
+  abbrev pub Outside : List (Item K V E) → Type 0
   Outside [] = Unit {0}
   Outside (plan.Lock key ∷ rest) = Inside key rest
   Outside (plan.Drain ∷ rest) = Outside rest
@@ -98,14 +101,14 @@ module _ {K V : Type 0} where
   Outside (_ ∷ rest) = weigh of_lock rest ≡ 0
 
   -- The plan is that of a call that holds this lock, if any: without a listener no call holds one.
-  pub record Locks (listener : Bool) (locked : Option K) (plan : List (Item K V)) : Type 0 where
+  pub record Locks (listener : Bool) (locked : Option K) (plan : List (Item K V E)) : Type 0 where
     pub none : listener ≡ false → (locked ≡ None) × (weigh of_key plan ≡ 0)
     pub outside : listener ≡ true → locked ≡ None → Outside plan
     pub inside : listener ≡ true → (k : K) → locked ≡ Some k → Inside k plan
 
   -- ---- plans with no part in it
 
-  calm_outside : (p : List (Item K V)) → weigh of_lock p ≡ 0 → Outside p
+  calm_outside : (p : List (Item K V E)) → weigh of_lock p ≡ 0 → Outside p
   calm_outside [] h = tt
   calm_outside (plan.Lock key ∷ rest) h = absurd (omega arith)
   calm_outside (plan.Get (plan.To_evict key stamp cause) at ∷ rest) h = absurd (omega arith)
@@ -124,7 +127,7 @@ module _ {K V : Type 0} where
   calm_outside (plan.End ∷ rest) h = calm_outside rest (omega arith)
   calm_outside (_ ∷ rest) h = omega arith
 
-  calm_key : (p : List (Item K V)) → weigh of_lock p ≡ 0 → weigh of_key p ≡ 0
+  calm_key : (p : List (Item K V E)) → weigh of_lock p ≡ 0 → weigh of_key p ≡ 0
   calm_key [] h = refl
   calm_key (plan.Lock key ∷ rest) h = absurd (omega arith)
   calm_key (plan.Notice key old cause upsert ∷ rest) h = absurd (omega arith)
@@ -134,7 +137,7 @@ module _ {K V : Type 0} where
 
   module _ (b : Bool) (l : Option K) where
     -- a plan that locks as another does
-    like : {old new : List (Item K V)} → Locks b l old → (weigh of_key old ≡ 0 → weigh of_key new ≡ 0) → (Outside old → Outside new) →
+    like : {old new : List (Item K V E)} → Locks b l old → (weigh of_key old ≡ 0 → weigh of_key new ≡ 0) → (Outside old → Outside new) →
         ((k : K) → Inside k old → Inside k new) → Locks b l new
     like q key out inner = record {
       none = λ e. let n = q.none e in (n.0, key n.1);
@@ -143,50 +146,50 @@ module _ {K V : Type 0} where
     }
 
     -- one that has no part in locks any more
-    calm : {old : List (Item K V)} (new : List (Item K V)) → Locks b l old → ((k : K) → Inside k old → ⊥) → weigh of_lock new ≡ 0 → Locks b l new
+    calm : {old : List (Item K V E)} (new : List (Item K V E)) → Locks b l old → ((k : K) → Inside k old → ⊥) → weigh of_lock new ≡ 0 → Locks b l new
     calm new q not h = like q (λ e. calm_key new h) (λ o. calm_outside new h) (λ k i. absurd (not k i))
 
   -- ---- how a call goes on, with the rules that it has
 
   -- the call, if it is still live, has its rules still
-  abbrev SameRules : Call K V → Option (Call K V) → Type 0
+  abbrev SameRules : Call K V E → Option (Call K V E) → Type 0
   SameRules c None = Unit {0}
   SameRules c (Some d) = d.rules ≡ c.rules
 
-  goes_rules : (c : Call K V) (rest : List (Item K V)) → SameRules c (goes c rest).left
+  goes_rules : (c : Call K V E) (rest : List (Item K V E)) → SameRules c (goes c rest).left
   goes_rules c (plan.Reply a ∷ []) = tt
   goes_rules c (plan.Reply a ∷ x ∷ rest) = refl
   goes_rules c [] = refl
   goes_rules c (_ ∷ rest) = refl
 
-  goes_locks : (b : Bool) (l : Option K) (c : Call K V) (rest : List (Item K V)) → Locks b l rest → Locks b l (plan_left (goes c rest).left)
+  goes_locks : (b : Bool) (l : Option K) (c : Call K V E) (rest : List (Item K V E)) → Locks b l rest → Locks b l (plan_left (goes c rest).left)
   goes_locks b l c (plan.Reply a ∷ []) q = like b l q (λ e. refl) (λ o. tt) (λ k i. i)
   goes_locks b l c (plan.Reply a ∷ x ∷ rest) q = q
   goes_locks b l c [] q = q
   goes_locks b l c (_ ∷ rest) q = q
 
   -- What a step has to show: what this call locks then, and that the others' locks are as they were.
-  record Leaves (d : DeskPart K V) (n : ℕ) (c : Call K V) (rules : Rules) (locked : ℕ → Option K) (left : Option (Call K V)) : Type 0 where
+  record Leaves (d : DeskPart K V E) (n : ℕ) (c : Call K V E) (rules : Rules) (locked : ℕ → Option K) (left : Option (Call K V E)) : Type 0 where
     desk : rules ≡ d.rules
     call : SameRules c left
     own : Locks d.rules.listener (locked n) (plan_left left)
     others : (m : ℕ) → (n == m) ≡ false → locked m ≡ d.locked m
 
-  module _ (d : DeskPart K V) (n : ℕ) (c : Call K V) where
+  module _ (d : DeskPart K V E) (n : ℕ) (c : Call K V E) where
     -- no lock has changed
-    keeps : {left : Option (Call K V)} → SameRules c left → Locks d.rules.listener (d.locked n) (plan_left left) → Leaves d n c d.rules d.locked left
+    keeps : {left : Option (Call K V E)} → SameRules c left → Locks d.rules.listener (d.locked n) (plan_left left) → Leaves d n c d.rules d.locked left
     keeps r q = record { desk = refl; call = r; own = q; others = λ m e. refl }
 
-    goes_on : (rest : List (Item K V)) → Locks d.rules.listener (d.locked n) rest → Leaves d n c d.rules d.locked (goes c rest).left
+    goes_on : (rest : List (Item K V E)) → Locks d.rules.listener (d.locked n) rest → Leaves d n c d.rules d.locked (goes c rest).left
     goes_on rest q = keeps (goes_rules c rest) (goes_locks d.rules.listener (d.locked n) c rest q)
 
-    either : (b : Bool) (x y : Next K V) → Leaves d n c d.rules d.locked x.left → Leaves d n c d.rules d.locked y.left →
+    either : (b : Bool) (x y : Next K V E) → Leaves d n c d.rules d.locked x.left → Leaves d n c d.rules d.locked y.left →
         Leaves d n c d.rules d.locked (cond b x y).left
     either true x y h k = h
     either false x y h k = k
 
     -- this call alone locks or frees
-    locks_now : {left : Option (Call K V)} (l : Option K) → SameRules c left → Locks d.rules.listener l (plan_left left) →
+    locks_now : {left : Option (Call K V E)} (l : Option K) → SameRules c left → Locks d.rules.listener l (plan_left left) →
         Leaves d n c d.rules (put_at d.locked n l) left
     locks_now {left} l r q = record {
       desk = refl;
@@ -195,14 +198,14 @@ module _ {K V : Type 0} where
       others = λ m e. put_there d.locked n l m e;
     }
 
-  module _ (eq : K → K → Bool) (w : World K V) (n : ℕ) (c : Call K V) (rules : c.rules ≡ w.desk.rules) where
-    abbrev After : World K V → Next K V → Type 0
+  module _ (eq : K → K → Bool) (w : World K V E) (n : ℕ) (c : Call K V E) (rules : c.rules ≡ w.desk.rules) where
+    abbrev After : World K V E → Next K V E → Type 0
     After new next = Leaves w.desk n c new.desk.rules new.desk.locked next.left
 
-    abbrev Now : List (Item K V) → Type 0
+    abbrev Now : List (Item K V E) → Type 0
     Now p = Locks w.desk.rules.listener (w.desk.locked n) p
 
-    free : (p : List (Item K V)) → weigh of_lock p ≡ 0 → {item : Item K V} {rest : List (Item K V)} → Now (item ∷ rest) → ((k : K) → Inside k (item ∷ rest) → ⊥) → Now p
+    free : (p : List (Item K V E)) → weigh of_lock p ≡ 0 → {item : Item K V E} {rest : List (Item K V E)} → Now (item ∷ rest) → ((k : K) → Inside k (item ∷ rest) → ⊥) → Now p
     free p h q not = calm _ _ p q not h
 
     is_on : c.rules.listener ≡ true → w.desk.rules.listener ≡ true
@@ -212,7 +215,7 @@ module _ {K V : Type 0} where
     is_off off = ap (λ v. v.listener) (sym rules) ∙ off
 
     -- the call frees its lock next, with nothing written under it
-    frees : (a : Answer V) {old : List (Item K V)} → (Outside old → ⊥) → Now old →
+    frees : (a : Answer V E) {old : List (Item K V E)} → (Outside old → ⊥) → Now old →
         c.rules.listener ≡ true →
         Now (plan.Unlock false ∷ plan.Reply a ∷ [])
     frees a out q on = record {
@@ -221,17 +224,19 @@ module _ {K V : Type 0} where
       inside = λ e k f. refl;
     }
 
-    reads : (load : Load K) (rest : List (Item K V)) (with : Settled V) → Now c.plan → Now (plan.Read load ∷ rest) →
-        Leaves w.desk n c w.desk.rules w.desk.locked (after_read c load (found.ReadSettled with)).left
-    reads load rest (settled.Ready value) p q = keeps w.desk n c tt (free [] refl q (λ k i. i))
-    reads load rest settled.NotYet p q = keeps w.desk n c refl p
-    reads load rest settled.Aborted p q = either w.desk n c (c.aborts + 1 == retries) _ _ (keeps w.desk n c tt (free [] refl q (λ k i. i)))
-        (keeps w.desk n c refl (free (plan.Own load ∷ []) refl q (λ k i. i)))
+    reads : (sought : Sought K) (rest : List (Item K V E)) (with : Settled V E) → Now c.plan → Now (plan.Read sought ∷ rest) →
+        Leaves w.desk n c w.desk.rules w.desk.locked (after_read c sought (found.ReadSettled with)).left
+    reads sought rest (settled.Ready value) p q = keeps w.desk n c tt (free [] refl q (λ k i. i))
+    reads sought rest (settled.Err error) p q = keeps w.desk n c tt (free [] refl q (λ k i. i))
+    reads sought rest settled.Nothing p q = keeps w.desk n c tt (free [] refl q (λ k i. i))
+    reads sought rest settled.NotYet p q = keeps w.desk n c refl p
+    reads sought rest settled.Aborted p q = either w.desk n c (c.aborts + 1 == retries) _ _ (keeps w.desk n c tt (free [] refl q (λ k i. i)))
+        (keeps w.desk n c refl (free (plan.Own sought ∷ []) refl q (λ k i. i)))
 
-    told : (load : Load K) (rest : List (Item K V)) (given : Told V) → Now c.plan → Now (plan.Told load ∷ rest) →
+    told : (load : Load K) (rest : List (Item K V E)) (given : Told V E) → Now c.plan → Now (plan.Told load ∷ rest) →
         Leaves w.desk n c w.desk.rules w.desk.locked (after_told c load (found.TakeTold (Some given))).left
     told load rest (answer.Value value) p q =
-        let after : List (Item K V) = told_on value in
+        let after : List (Item K V E) = told_on value in
         loaded_plans_by (λ v. Leaves w.desk n c w.desk.rules w.desk.locked (goes c v).left)
         c.rules load value
         (λ not. goes_on w.desk n c after (free after refl q (λ k i. i)))
@@ -248,11 +253,16 @@ module _ {K V : Type 0} where
           outside = λ e f. (refl, refl);
           inside = λ e k f. absurd (q.inside e k f);
         }))
+    told load rest answer.Nothing p q =
+        goes_on w.desk n c _ (free (end_load settled.Nothing reply.Nothing) refl q (λ k i. i))
+    told load rest (answer.Err error) p q =
+        goes_on w.desk n c _
+        (free (end_load (settled.Err error) (reply.InitErr error)) refl q (λ k i. i))
     told load rest answer.Done p q = keeps w.desk n c refl p
     told load rest answer.Off p q = keeps w.desk n c refl p
 
     -- the chosen record stays: the lock is to be freed, where a listener is set
-    kept : (old : List (Item K V)) → (Outside old → ⊥) → Now old →
+    kept : (old : List (Item K V E)) → (Outside old → ⊥) → Now old →
         Leaves w.desk n c w.desk.rules w.desk.locked (stays c).left
     kept old out q = kept_next (λ v. Leaves w.desk n c w.desk.rules w.desk.locked v.left) c
         (λ off. keeps w.desk n c tt (record {
@@ -262,20 +272,46 @@ module _ {K V : Type 0} where
         }))
         (λ on. keeps w.desk n c refl (frees _ out q on))
 
-    missed : (aim : Aim K) (key : K) (rest : List (Item K V)) → Now (plan.Get aim key ∷ rest) →
+    missed : (aim : Aim K V) (key : K) (rest : List (Item K V E)) → Now (plan.Get aim key ∷ rest) →
         Leaves w.desk n c w.desk.rules w.desk.locked (misses c aim).left
     missed plan.To_answer key rest q = keeps w.desk n c tt (free _ refl q (λ k i. i))
-    missed (plan.To_load load) key rest q = keeps w.desk n c refl (free _ refl q (λ k i. i))
-    missed (plan.To_own load) key rest q = keeps w.desk n c refl (free _ refl q (λ k i. i))
+    missed (plan.To_load sought) key rest q = keeps w.desk n c refl (free _ refl q (λ k i. i))
+    missed (plan.To_own sought) key rest q = keeps w.desk n c refl (free _ refl q (λ k i. i))
+    missed (plan.To_insert there value) key rest q =
+        put_plans_by (λ v. Leaves w.desk n c w.desk.rules w.desk.locked (goes c v).left)
+        c.rules there value _
+        (λ off. goes_on w.desk n c (plan.Drain ∷ plan.Moment (plan.To_store there value) ∷ _) (record {
+          none = λ e. ((q.none e).0, refl);
+          outside = λ e f. absurd (true_false (sym e ∙ is_off off));
+          inside = λ e k f. absurd (q.inside e k f);
+        }))
+        (λ on. goes_on w.desk n c
+        (plan.Drain ∷ plan.Lock there ∷ plan.Moment (plan.To_store there value) ∷ _) (record {
+          none = λ e. absurd (true_false (sym (is_on on) ∙ e));
+          outside = λ e f. (refl, refl);
+          inside = λ e k f. absurd (q.inside e k f);
+        }))
     missed (plan.To_evict there stamp cause) key rest q = kept _ (λ o. o) q
 
-    has_found : (aim : Aim K) (key k : K) (stored : Stored V) (rest : List (Item K V)) →
+    -- a record that is not seen by its replace test is loaded
+    unseen : (aim : Aim K V) (key : K) (stored : Stored V) (rest : List (Item K V E)) →
+        is_seen w.desk (replace_of aim) key stored ≡ false → Now (plan.Judge aim key stored ∷ rest) →
+        Leaves w.desk n c w.desk.rules w.desk.locked (misses c aim).left
+    unseen (plan.To_load sought) key stored rest e q =
+        keeps w.desk n c refl (free _ refl q (λ k i. i))
+    unseen (plan.To_own sought) key stored rest e q =
+        keeps w.desk n c refl (free _ refl q (λ k i. i))
+    unseen _ key stored rest e q = absurd (true_false e)
+
+    has_found : (aim : Aim K V) (key k : K) (stored : Stored V) (rest : List (Item K V E)) →
         Now (plan.Get aim key ∷ rest) →
         Leaves w.desk n c w.desk.rules w.desk.locked (finds_pair c aim k stored).left
     has_found plan.To_answer key k stored rest q = keeps w.desk n c refl (free _ refl q (λ l i. i))
-    has_found (plan.To_load load) key k stored rest q =
+    has_found (plan.To_load sought) key k stored rest q =
         keeps w.desk n c refl (free _ refl q (λ l i. i))
-    has_found (plan.To_own load) key k stored rest q =
+    has_found (plan.To_insert under new) key k stored rest q =
+        keeps w.desk n c refl (free _ refl q (λ l i. i))
+    has_found (plan.To_own sought) key k stored rest q =
         keeps w.desk n c refl (free _ refl q (λ l i. i))
     has_found (plan.To_evict there stamp cause) key k stored rest q =
         chosen_by (λ v. Leaves w.desk n c w.desk.rules w.desk.locked v.left)
@@ -284,16 +320,17 @@ module _ {K V : Type 0} where
         (λ same. keeps w.desk n c refl
         (like _ _ q (λ h. refl) (λ o. absurd o) (λ l i. (i.0, refl))))
 
-    hit : (aim : Aim K) (key : K) (stored : Stored V) (rest : List (Item K V)) → Now c.plan →
+    hit : (aim : Aim K V) (key : K) (stored : Stored V) (rest : List (Item K V E)) → Now c.plan →
         Now (plan.Judge aim key stored ∷ rest) →
         Leaves w.desk n c w.desk.rules w.desk.locked (hits c aim stored.value).left
     hit plan.To_answer key stored rest p q = keeps w.desk n c tt (free _ refl q (λ k i. i))
-    hit (plan.To_load load) key stored rest p q = keeps w.desk n c tt (free _ refl q (λ k i. i))
-    hit (plan.To_own load) key stored rest p q = keeps w.desk n c refl (free _ refl q (λ k i. i))
+    hit (plan.To_load sought) key stored rest p q = keeps w.desk n c tt (free _ refl q (λ k i. i))
+    hit (plan.To_insert under new) key stored rest p q = keeps w.desk n c tt (free _ refl q (λ k i. i))
+    hit (plan.To_own sought) key stored rest p q = keeps w.desk n c refl (free _ refl q (λ k i. i))
     hit (plan.To_evict there stamp cause) key stored rest p q = keeps w.desk n c refl p
 
     -- after a removal, the lock is to be freed where a listener is set
-    took : (removal : Removal) (key : K) (rest new : List (Item K V)) →
+    took : (removal : Removal) (key : K) (rest new : List (Item K V E)) →
         (c.rules.listener ≡ false → weigh of_key new ≡ 0) →
         (c.rules.listener ≡ true → (k : K) → k ≡ key → Inside k new) →
         Now (plan.Out removal key ∷ rest) → Now new
@@ -304,7 +341,7 @@ module _ {K V : Type 0} where
     }
 
     -- after a write, the lock is to be freed where a listener is set
-    wrote : (key : K) (value : V) (moment : ℕ) (rest new : List (Item K V)) → (c.rules.listener ≡ false → weigh of_key rest ≡ 0 → weigh of_key new ≡ 0) →
+    wrote : (key : K) (value : V) (moment : ℕ) (rest new : List (Item K V E)) → (c.rules.listener ≡ false → weigh of_key rest ≡ 0 → weigh of_key new ≡ 0) →
         (c.rules.listener ≡ true → (k : K) → (k ≡ key) × (weigh of_lock rest ≡ 0) → Inside k new) → Now (plan.Write key value moment ∷ rest) → Now new
     wrote key value moment rest new off on q = record {
       none = λ e. let h = q.none e in (h.0, off (ap (λ v. v.listener) rules ∙ e) (omega arith));
@@ -312,7 +349,7 @@ module _ {K V : Type 0} where
       inside = λ e k f. on (ap (λ v. v.listener) rules ∙ e) k (q.inside e k f);
     }
 
-    on_item : (item : Item K V) (rest : List (Item K V)) → Now c.plan → Now (item ∷ rest) → Outcomes eq After w n c item rest
+    on_item : (item : Item K V E) (rest : List (Item K V E)) → Now c.plan → Now (item ∷ rest) → Outcomes eq After w n c item rest
     on_item plan.Drain rest p q = (
       λ e. goes_on w.desk n c rest (like _ _ q (λ h. omega arith) (λ h. h) (λ k i. absurd i)),
       λ x xs e. keeps w.desk n c refl (like _ _ q (λ h. omega arith) (λ h. h) (λ k i. absurd i)),
@@ -333,13 +370,14 @@ module _ {K V : Type 0} where
       (λ none. missed aim key rest q),
       λ k stored some. has_found aim key k stored rest q,
     )
-    on_item (plan.Judge aim key stored) rest p q = hit aim key stored rest p q
-    on_item (plan.Own load) rest p q = (
+    on_item (plan.Judge aim key stored) rest p q =
+        ((λ seen. hit aim key stored rest p q), λ e. unseen aim key stored rest e q)
+    on_item (plan.Own sought) rest p q = (
       (λ able e. keeps w.desk n c refl (free _ refl q (λ k i. i))),
       (λ not e. keeps w.desk n c refl (free _ refl q (λ k i. i))),
       λ owner e. keeps w.desk n c refl (free _ refl q (λ k i. i)),
     )
-    on_item (plan.Read load) rest p q = ((λ e. keeps w.desk n c refl p), λ with e. reads load rest with p q)
+    on_item (plan.Read sought) rest p q = ((λ e. keeps w.desk n c refl p), λ with e. reads sought rest with p q)
     on_item (plan.Settle with) rest p q = goes_on w.desk n c rest (like _ _ q (λ h. omega arith) (λ h. calm_outside rest h) (λ k i. absurd i))
     on_item (plan.Ask load) rest p q = keeps w.desk n c refl (free _ refl q (λ k i. i))
     on_item (plan.Told load) rest p q = ((λ e. keeps w.desk n c refl p), λ given e. told load rest given p q)
@@ -370,7 +408,7 @@ module _ {K V : Type 0} where
       λ e. keeps w.desk n c refl (like _ _ q (λ h. absurd (omega arith)) (λ o. absurd o) (λ k i. i.1)),
     )
       where
-        freeing : (k : K) (p : List (Item K V)) → Freeing p → Inside k p
+        freeing : (k : K) (p : List (Item K V E)) → Freeing p → Inside k p
         freeing k (plan.Unlock wrote ∷ more) h = h
         freeing k [] h = absurd h
         freeing k (_ ∷ more) h = absurd h
@@ -379,7 +417,7 @@ module _ {K V : Type 0} where
       λ e. keeps w.desk n c refl p,
     )
       where
-        freeing : (k : K) (p : List (Item K V)) → Freeing p → Inside k p
+        freeing : (k : K) (p : List (Item K V E)) → Freeing p → Inside k p
         freeing k (plan.Unlock wrote ∷ more) h = h
         freeing k [] h = absurd h
         freeing k (_ ∷ more) h = absurd h
@@ -427,25 +465,25 @@ module _ {K V : Type 0} where
         (like _ _ q (λ h. omega arith) (λ h. calm_outside rest h) (λ k i. absurd i))
     on_item (plan.Reply a) rest p q = keeps w.desk n c tt (free _ refl q (λ k i. i))
 
-    on_plan : (p : List (Item K V)) → c.plan ≡ p → Now c.plan → OnStep eq After w n c p
+    on_plan : (p : List (Item K V E)) → c.plan ≡ p → Now c.plan → OnStep eq After w n c p
     on_plan [] e q = keeps w.desk n c refl q
     on_plan (item ∷ rest) e q = outcomes eq After w n c item rest (on_item item rest q (subst Now e q))
 
   -- ---- of a state
 
   -- Each call locks what its plan says, by the rules of its cache.
-  pub record IsLocking (s : State K V) : Type 0 where
+  pub record IsLocking (s : State K V E) : Type 0 where
     pub balanced : IsBalanced s
-    pub rules : (n : ℕ) (c : Call K V) → s.calls n ≡ Some c → c.rules ≡ s.world.desk.rules
+    pub rules : (n : ℕ) (c : Call K V E) → s.calls n ≡ Some c → c.rules ≡ s.world.desk.rules
     pub locks : (n : ℕ) → Locks s.world.desk.rules.listener (s.world.desk.locked n) (plan_left (s.calls n))
 
-  none_locked : (b : Bool) (l : Option K) (p : List (Item K V)) → Locks b l p → p ≡ [] → l ≡ None
+  none_locked : (b : Bool) (l : Option K) (p : List (Item K V E)) → Locks b l p → p ≡ [] → l ≡ None
   none_locked b None p q e = refl
   none_locked false (Some k) p q e = (q.none refl).0
   none_locked true (Some k) p q e = absurd (subst (Inside k) e (q.inside refl k refl))
 
   -- a fresh plan without the lock, and with it
-  starts : (listener : Bool) (p : List (Item K V)) → weigh of_key p ≡ 0 →
+  starts : (listener : Bool) (p : List (Item K V E)) → weigh of_key p ≡ 0 →
       (listener ≡ true → Outside p) →
       Locks listener None p
   starts listener p zero out =
@@ -456,7 +494,7 @@ module _ {K V : Type 0} where
             (none_some f);
       }
 
-  starts_locked : (listener : Bool) (p : List (Item K V)) → listener ≡ true → Outside p →
+  starts_locked : (listener : Bool) (p : List (Item K V E)) → listener ≡ true → Outside p →
       Locks listener None p
   starts_locked listener p on out = record {
     none = λ e. absurd (true_false (sym on ∙ e));
@@ -464,11 +502,13 @@ module _ {K V : Type 0} where
     inside = λ e k f. absurd (none_some f);
   }
 
-  fresh_form : (rules : Rules) (p : List (Item K V)) → IsFresh rules p → Locks rules.listener None p
-  fresh_form rules p (Disabled a d) = starts rules.listener _ refl (λ e. refl)
+  fresh_form : (rules : Rules) (p : List (Item K V E)) → IsFresh rules p → Locks rules.listener None p
+  fresh_form rules p (Disabled a d plain) = starts rules.listener _ refl (λ e. refl)
   fresh_form rules p (Gets key d) = starts rules.listener _ refl (λ e. refl)
-  fresh_form rules p (Loads load d) = starts rules.listener _ refl (λ e. refl)
-  fresh_form rules p (Owns load d) = starts rules.listener _ refl (λ e. refl)
+  fresh_form rules p (Loads sought d) = starts rules.listener _ refl (λ e. refl)
+  fresh_form rules p (Owns sought d) = starts rules.listener _ refl (λ e. refl)
+  fresh_form rules p (Finds_or_puts key value d) = starts rules.listener _ refl (λ e. refl)
+  fresh_form rules p (Gives_back a d plain) = starts rules.listener _ refl (λ e. refl)
   fresh_form rules p (Puts key value d off) =
       starts rules.listener _ refl (λ e. absurd (true_false (sym e ∙ off)))
   fresh_form rules p (Locks_and_puts key value d on) =
@@ -485,10 +525,10 @@ module _ {K V : Type 0} where
   fresh_locks : (rules : Rules) (start : Start K V) → Locks rules.listener None (plan_of rules start)
   fresh_locks rules start = fresh_form rules (plan_of rules start) (fresh_plan rules start)
 
-module _ {K V : Type 0} (eq : K → K → Bool) where
-  locks_on : (s : State K V) (n : ℕ) (c : Call K V) (w : World K V) (left : Option (Call K V)) → IsLocking s →
+module _ {K V E : Type 0} (eq : K → K → Bool) where
+  locks_on : (s : State K V E) (n : ℕ) (c : Call K V E) (w : World K V E) (left : Option (Call K V E)) → IsLocking s →
       c.rules ≡ s.world.desk.rules → Leaves s.world.desk n c w.desk.rules w.desk.locked left →
-      let t : State K V = record { world = w; calls = put_at s.calls n left } in
+      let t : State K V E = record { world = w; calls = put_at s.calls n left } in
       IsBalanced t → IsLocking t
   locks_on s n c w left i rules b balanced = record {
     balanced = balanced;
@@ -505,9 +545,9 @@ module _ {K V : Type 0} (eq : K → K → Bool) where
           subst (λ v. Locks s.world.desk.rules.listener v (plan_left (put_at s.calls n left m))) (sym (b.others m e))
           (subst (λ v. Locks s.world.desk.rules.listener (s.world.desk.locked m) (plan_left v)) (sym (put_there s.calls n left m e)) (i.locks m))
 
-  locking_step : (s t : State K V) (n : ℕ) (turn : Turn K V) → IsLocking s → Step eq s n turn t → IsLocking t
+  locking_step : (s t : State K V E) (n : ℕ) (turn : Turn K V E) → IsLocking s → Step eq s n turn t → IsLocking t
   locking_step s t n turn i step =
-      let c : Call K V = step.call in
+      let c : Call K V E = step.call in
       let rules : c.rules ≡ s.world.desk.rules = i.rules n c step.live in
       let q : Locks s.world.desk.rules.listener (s.world.desk.locked n) c.plan =
       subst (λ v. Locks s.world.desk.rules.listener (s.world.desk.locked n) (plan_left v)) step.live (i.locks n) in
@@ -516,21 +556,22 @@ module _ {K V : Type 0} (eq : K → K → Bool) where
       (on_plan eq s.world n c rules c.plan refl q) (λ w next l. locks_on s n c w next.left i rules l) in
       kept ((balanced_kept eq).step s t n turn i.balanced step)
 
-  locking_start : (s : State K V) (start : Start K V) → IsLocking s → IsLocking (started s start)
+  locking_start : (s : State K V E) (start : Start K V) → IsLocking s → IsLocking (started s start)
   locking_start s start i =
       let new : ℕ = s.world.desk.last + 1 in
       let none : s.world.desk.locked new ≡ None = none_locked _ _ _ (i.locks new) (ap plan_left (next_free s i.balanced)) in
       locks_on s new (fresh_call s.world.desk.rules start) _ (Some (fresh_call s.world.desk.rules start)) i refl (record {
         desk = refl;
         call = refl;
-        own = subst (λ v. Locks s.world.desk.rules.listener v (plan_of s.world.desk.rules start)) (sym none) (fresh_locks s.world.desk.rules start);
+        own = subst (λ v. Locks s.world.desk.rules.listener v (plan_of {E = E} s.world.desk.rules start)) (sym none)
+            (fresh_locks s.world.desk.rules start);
         others = λ m e. refl;
       }) ((balanced_kept eq).start s start i.balanced)
 
-  pub locking_kept : IsKept eq (IsLocking {K = K} {V = V})
+  pub locking_kept : IsKept eq (IsLocking {K = K} {V = V} {E = E})
   locking_kept = record {
-    fresh = λ rules size has_log. record {
-      balanced = (balanced_kept eq).fresh rules size has_log;
+    fresh = λ rules size tests has_log. record {
+      balanced = (balanced_kept eq).fresh rules size tests has_log;
       rules = λ n c live. absurd (none_some live);
       locks = λ n. record { none = λ e. (refl, refl); outside = λ e f. tt; inside = λ e k f. absurd (none_some f) };
     };
@@ -544,31 +585,31 @@ module _ {K V : Type 0} (eq : K → K → Bool) where
         locks_on s n c _ None i (i.rules n c live) (record {
           desk = refl;
           call = tt;
-          own = subst (λ v. Locks {V = V} s.world.desk.rules.listener v []) (sym (put_here s.world.desk.locked n None))
+          own = subst (λ v. Locks {V = V} {E = E} s.world.desk.rules.listener v []) (sym (put_here s.world.desk.locked n None))
               (record { none = λ e. (refl, refl); outside = λ e f. tt; inside = λ e k f. absurd (none_some f) });
           others = λ m e. put_there s.world.desk.locked n None m e;
         }) ((balanced_kept eq).drop s n c live between i.balanced);
   }
 
-  pub in_locking : (s : State K V) → IsReached eq s → IsLocking s
+  pub in_locking : (s : State K V E) → IsReached eq s → IsLocking s
   in_locking s h = in_reached eq IsLocking locking_kept s h
 
-module _ {K V : Type 0} where
+module _ {K V E : Type 0} where
   -- ---- what follows
 
   -- what a call that is about to lock, or to free, holds
-  pub lock_free : (b : Bool) (l : Option K) (key : K) (rest : List (Item K V)) → Locks b l (plan.Lock key ∷ rest) → IsNone l
+  pub lock_free : (b : Bool) (l : Option K) (key : K) (rest : List (Item K V E)) → Locks b l (plan.Lock key ∷ rest) → IsNone l
   lock_free b None key rest q = refl
   lock_free false (Some k) key rest q = absurd (none_some (sym (q.none refl).0))
   lock_free true (Some k) key rest q = absurd (q.inside refl k refl)
 
-  pub lock_held : (b : Bool) (l : Option K) (wrote : Bool) (rest : List (Item K V)) →
+  pub lock_held : (b : Bool) (l : Option K) (wrote : Bool) (rest : List (Item K V E)) →
       Locks b l (plan.Unlock wrote ∷ rest) → IsSome l
   lock_held b (Some k) wrote rest q = refl
   lock_held false None wrote rest q = absurd (let h = (q.none refl).1 in omega arith)
   lock_held true None wrote rest q = absurd (q.outside refl refl)
 
-  inside_under : (k : K) (p : List (Item K V)) → Inside k p → IsUnderLock p
+  inside_under : (k : K) (p : List (Item K V E)) → Inside k p → IsUnderLock p
   inside_under k (plan.Get (plan.To_evict key stamp cause) at ∷ rest) h = tt
   inside_under k (plan.Holds key stamp cause there stored ∷ rest) h = tt
   inside_under k (plan.Moment change ∷ rest) h = tt
@@ -580,7 +621,7 @@ module _ {K V : Type 0} where
   inside_under k [] h = absurd h
   inside_under k (_ ∷ rest) h = absurd h
 
-  under_not : (p : List (Item K V)) → IsUnderLock p → Outside p → ⊥
+  under_not : (p : List (Item K V E)) → IsUnderLock p → Outside p → ⊥
   under_not (plan.Get (plan.To_evict key stamp cause) at ∷ rest) u o = o
   under_not (plan.Holds key stamp cause there stored ∷ rest) u o = o
   under_not (plan.Moment change ∷ rest) u o = o
@@ -592,7 +633,7 @@ module _ {K V : Type 0} where
   under_not [] u o = u
   under_not (_ ∷ rest) u o = u
 
-  inside_key : (k key : K) (p : List (Item K V)) → Inside k p → key_of p ≡ Some key → k ≡ key
+  inside_key : (k key : K) (p : List (Item K V E)) → Inside k p → locked_key p ≡ Some key → k ≡ key
   inside_key k key (plan.Get (plan.To_evict there stamp cause) at ∷ rest) h e = h.1 ∙ some_same e
   inside_key k key (plan.Holds at stamp cause there stored ∷ rest) h e = h.0 ∙ some_same e
   inside_key k key (plan.Moment change ∷ rest) h e = h.0 ∙ some_same e
@@ -602,7 +643,7 @@ module _ {K V : Type 0} where
   inside_key k key [] h e = absurd h
   inside_key k key (_ ∷ rest) h e = absurd (none_some e)
 
-  key_under : (key : K) (p : List (Item K V)) → key_of p ≡ Some key → IsUnderLock p
+  key_under : (key : K) (p : List (Item K V E)) → locked_key p ≡ Some key → IsUnderLock p
   key_under key (plan.Get (plan.To_evict there stamp cause) at ∷ rest) e = tt
   key_under key (plan.Holds at stamp cause there stored ∷ rest) e = tt
   key_under key (plan.Moment change ∷ rest) e = tt
@@ -612,9 +653,9 @@ module _ {K V : Type 0} where
   key_under key [] e = absurd (none_some e)
   key_under key (_ ∷ rest) e = absurd (none_some e)
 
-  module _ (s : State K V) (i : IsLocking s) where
+  module _ (s : State K V E) (i : IsLocking s) where
     -- the key that a call is to write or to tell of is locked by it
-    pub key_locked : (n : ℕ) (c : Call K V) (key : K) → s.world.desk.rules.listener ≡ true → s.calls n ≡ Some c → key_of c.plan ≡ Some key →
+    pub key_locked : (n : ℕ) (c : Call K V E) (key : K) → s.world.desk.rules.listener ≡ true → s.calls n ≡ Some c → locked_key c.plan ≡ Some key →
         s.world.desk.locked n ≡ Some key
     key_locked n c key on live e = by (s.world.desk.locked n) refl
       where
@@ -626,7 +667,7 @@ module _ {K V : Type 0} where
     pub locker_live : (n : ℕ) (k : K) → s.world.desk.rules.listener ≡ true → s.world.desk.locked n ≡ Some k → HoldsLock s n
     locker_live n k on e = by (s.calls n) refl ((i.locks n).inside on k e)
       where
-        by : (o : Option (Call K V)) → s.calls n ≡ o → Inside k (plan_left o) → HoldsLock s n
+        by : (o : Option (Call K V E)) → s.calls n ≡ o → Inside k (plan_left o) → HoldsLock s n
         by None is h = absurd h
         by (Some c) is h = record { call = c; live = is; under = inside_under k c.plan h }
 

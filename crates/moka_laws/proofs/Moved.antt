@@ -23,14 +23,14 @@ put_twice f n v w = λ i m. (at m (n == m)) i
     at m false = refl
 
 -- a step that isn't Going has not that reply
-not_going : {K V : Type 0} (t : Turn K V) → t ≢ turn.Going → reply_of t ≢ reply.Going
+not_going : {K V E : Type 0} (t : Turn K V E) → t ≢ turn.Going → reply_of t ≢ reply.Going
 not_going turn.Going h = absurd (h refl)
 not_going turn.Wait h = λ e. cc
 not_going (turn.Ask ask) h = λ e. cc
 not_going (turn.Answer answer) h = λ e. cc
 
-module _ {K V : Type 0} (eq : K → K → Bool) where
-  pub move_step : MoveIsStep K V eq
+module _ {K V E : Type 0} (eq : K → K → Bool) where
+  pub move_step : MoveIsStep K V E eq
   move_step s n c next new live m = record {
     call = c;
     live = live;
@@ -42,7 +42,7 @@ module _ {K V : Type 0} (eq : K → K → Bool) where
   }
 
   -- a step of the call that has gone on so far
-  goes_on : (s : State K V) (n : ℕ) (b : Call K V) (mid new : World K V) (next : Next K V) → Moves eq n b mid next new →
+  goes_on : (s : State K V E) (n : ℕ) (b : Call K V E) (mid new : World K V E) (next : Next K V E) → Moves eq n b mid next new →
       Step eq (gone_on s n b mid) n next.turn (state_after s n new next)
   goes_on s n b mid new next m =
       let twice : state_after (gone_on s n b mid) n new next ≡ state_after s n new next =
@@ -50,14 +50,14 @@ module _ {K V : Type 0} (eq : K → K → Bool) where
       subst (λ v. Step eq (gone_on s n b mid) n next.turn v) twice
       (move_step (gone_on s n b mid) n b next new (put_here s.calls n (Some b)) m)
 
-  pub moves_steps : MovesAreSteps K V eq
+  pub moves_steps : MovesAreSteps K V E eq
   unfolding MovesOn Goings
   moves_steps s n zero c d new live m =
       ap (λ v. gone_on s n v new) m.0 ∙ ap (λ v. gone_on s n c v) m.1 ∙ ap (λ v. record s { calls = v }) (put_same s.calls n (Some c) live)
   moves_steps s n (suc k) c d new live m =
       (gone_on s n m.0 m.1, moves_steps s n k c m.0 m.1 live m.2, goes_on s n m.0 m.1 new _ m.3, tt)
 
-  pub moved_poll : PolledIsPoll K V eq
+  pub moved_poll : PolledIsPoll K V E eq
   moved_poll s n c next new live p =
       let polls : Polls eq Any s n (reply_of next.turn) (state_after s n new next) = record {
         going = p.going;
@@ -68,8 +68,8 @@ module _ {K V : Type 0} (eq : K → K → Bool) where
       } in
       rw live polls
 
-  pub safe_calls : CallsAreSafe K V eq
+  pub safe_calls : CallsAreSafe K V E eq
   safe_calls s n c h live k d mid m =
-      let t : State K V = gone_on s n d mid in
+      let t : State K V E = gone_on s n d mid in
       let reached : IsReached eq t = steps_reached eq Any k s t n h (moves_steps s n k c d mid live m) in
       may_step eq t (in_well eq t reached) n d (put_here s.calls n (Some d))

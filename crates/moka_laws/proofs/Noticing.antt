@@ -2,6 +2,7 @@
 use Rattle.std.proofs.Common.{◌≡◌, ◌≢◌, ◌⊎◌, inl, inr, ℕ, ◌+◌, ◌≤◌, ◌==◌, ◌||◌, Bool, true, false, cond, List, [], ◌∷◌, ◌++◌, map, Option, Some, None, is_some, IsSome, refl, sym, ap, ◌∙◌, subst, arith}
 use Rattle.std.proofs.lemmas.Bool.{eqb-true, false≢true}
 use Rattle.std.specs.Option.{option_map, option_map_or, option_to_list}
+use Rattle.moka_hist.specs.declared.replies.Answer.TheVariants as reply
 use Rattle.moka_hist.specs.Finite.{put_at, times}
 use Rattle.moka_hist.specs.State.{State, World, Call, DeskPart}
 use Rattle.moka_hist.specs.Plan.{Item, Aim, held_by, hearing, plan_of}
@@ -18,6 +19,7 @@ use Rattle.moka_hist.specs.declared.events.Start.{Start}
 use Rattle.moka_hist.specs.declared.events.Told.{Told}
 use Rattle.moka_hist.specs.declared.events.Told.TheVariants as answer
 use Rattle.moka_hist.specs.declared.loads.Load.{Load}
+use Rattle.moka_hist.specs.declared.loads.Sought.{Sought}
 use Rattle.moka_hist.specs.declared.notices.Notice.{Notice}
 use Rattle.moka_hist.specs.declared.notices.NoticeState.{NoticeState}
 use Rattle.moka_hist.specs.declared.notices.NoticeState.TheVariants as notice
@@ -37,9 +39,9 @@ use Rattle.moka_laws.proofs.Weights.{weigh_call}
 use Rattle.moka_laws.proofs.Posts.{once, among, among_owed, post_of, posts_held}
 use Rattle.moka_laws.proofs.Balance.{times_first, times_last}
 use Rattle.moka_laws.proofs.Owning.{plan_left}
-use Rattle.moka_laws.proofs.Plans.{IsTail, Answering, Settling, IsDrained, Looking, Putting, IsPosted, Draining, Ended, Locking, IsPlan, Posted, Drained, Posting, Hearing, Noticing, Listening, Unlocking, Turning, Applying, Ending, Judging, Owning, Reading, Asking, Telling, Writing, IsLook, Removing, Locking_out, Choosing, Finding, Chosen, Taking, Freeing, Idling}
+use Rattle.moka_laws.proofs.Plans.{IsTail, Answering, Settling, IsDrained, Looking, Putting, IsPosted, Draining, Ended, Locking, IsPlan, Posted, Drained, Posting, Hearing, Noticing, Listening, Unlocking, Turning, Applying, Ending, Judging, Owning, Giving, Reading, Asking, Telling, Writing, IsLook, Removing, Locking_out, Choosing, Finding, Chosen, Taking, Freeing, Idling}
 use Rattle.moka_laws.proofs.Replacing.{IsReplacing, replacing_kept, not_opened}
-use Rattle.moka_laws.proofs.Rules.{loaded_plans, kept_next, chosen_next, IsFresh, Disabled, fresh_plan}
+use Rattle.moka_laws.proofs.Rules.{put_plans, loaded_plans, kept_next, chosen_next, IsFresh, Disabled, fresh_plan}
 use Rattle.moka_laws.proofs.Kept.{IsKept, in_reached}
 use Rattle.moka_laws.proofs.StepCases.{OnStep, step_cases}
 use Rattle.moka_laws.proofs.Outcomes.{outcomes}
@@ -78,97 +80,104 @@ guards_few x (o ∷ os) h =
     one None e = omega (arith, ap (guards x) e)
     one (Some y) e = omega (arith, ap (guards x) e, ap (once x) (h.0 y e))
 
-module _ {K V : Type 0} where
+module _ {K V E : Type 0} where
   -- the notice that the plan is to open, or hears
-  abbrev pub naming : ℕ → List (Item K V) → Option ℕ
+  abbrev pub naming : ℕ → List (Item K V E) → Option ℕ
   naming n (plan.Notice key old cause upsert ∷ rest) = Some n
   naming n (plan.Heard ∷ rest) = Some n
   naming n (plan.Ended number ∷ rest) = Some number
   naming n _ = None
 
   -- that is the notice of the write that the plan posts
-  abbrev IsNamed : ℕ → List (Item K V) → Type 0
+  abbrev IsNamed : ℕ → List (Item K V E) → Type 0
   IsNamed n p = (y : ℕ) (v : Write) → naming n p ≡ Some y → held_by p ≡ Some v → number_of v ≡ y
 
-  hearing_named : (n y : ℕ) (p : List (Item K V)) → hearing n p ≡ Some y → naming n p ≡ Some y
+  hearing_named : (n y : ℕ) (p : List (Item K V E)) → hearing n p ≡ Some y → naming n p ≡ Some y
   hearing_named n y (plan.Heard ∷ rest) e = e
   hearing_named n y (plan.Ended number ∷ rest) e = e
   hearing_named n y [] e = absurd (none_some e)
   hearing_named n y (_ ∷ rest) e = absurd (none_some e)
 
-  unnamed : (n : ℕ) (p : List (Item K V)) → naming n p ≡ None → IsNamed n p
+  unnamed : (n : ℕ) (p : List (Item K V E)) → naming n p ≡ None → IsNamed n p
   unnamed n p none y v e f = absurd (none_some (sym none ∙ e))
 
-  pub tail_none : (n : ℕ) (c : Call K V) (p : List (Item K V)) → IsTail p → naming n (plan_left (goes c p).left) ≡ None
+  pub tail_none : (n : ℕ) (c : Call K V E) (p : List (Item K V E)) → IsTail p → naming n (plan_left (goes c p).left) ≡ None
   tail_none n c p (Answering a) = refl
   tail_none n c p (Settling with a) = refl
 
-  pub drained_none : (n : ℕ) (c : Call K V) (p : List (Item K V)) → IsDrained p → naming n (plan_left (goes c p).left) ≡ None
+  pub drained_none : (n : ℕ) (c : Call K V E) (p : List (Item K V E)) → IsDrained p → naming n (plan_left (goes c p).left) ≡ None
   drained_none n c p (Looking aim key l) = refl
-  drained_none n c p (Owning load) = refl
+  drained_none n c p (Owning sought) = refl
+  drained_none n c p (Giving a) = refl
   drained_none n c p (Removing removal key) = refl
   drained_none n c p (Locking_out removal key) = refl
   drained_none n c p (Putting key value rest t) = refl
   drained_none n c p (Locking key value rest t) = refl
 
-  pub posted_none : (n : ℕ) (c : Call K V) (p : List (Item K V)) → IsPosted p → naming n (plan_left (goes c p).left) ≡ None
+  pub posted_none : (n : ℕ) (c : Call K V E) (p : List (Item K V E)) → IsPosted p → naming n (plan_left (goes c p).left) ≡ None
   posted_none n c p (Draining rest d) = refl
   posted_none n c p (Ended rest t) = tail_none n c rest t
 
-  pub keeps_none : (n : ℕ) (c : Call K V) → naming n (plan_left (keeps c).left) ≡ None
+  pub keeps_none : (n : ℕ) (c : Call K V E) → naming n (plan_left (keeps c).left) ≡ None
   keeps_none n c = kept_next (λ v. naming n (plan_left v.left) ≡ None) c (λ off. refl) (λ on. refl)
 
-  pub misses_none : (n : ℕ) (c : Call K V) (aim : Aim K) → naming n (plan_left (misses c aim).left) ≡ None
+  pub misses_none : (n : ℕ) (c : Call K V E) (aim : Aim K V) → naming n (plan_left (misses c aim).left) ≡ None
   misses_none n c plan.To_answer = refl
-  misses_none n c (plan.To_load load) = refl
-  misses_none n c (plan.To_own load) = refl
+  misses_none n c (plan.To_load sought) = refl
+  misses_none n c (plan.To_own sought) = refl
+  misses_none n c (plan.To_insert key value) =
+      put_plans (λ p. naming n (plan_left (goes c p).left) ≡ None) c.rules key value
+      (plan.Reply (reply.Loaded value true) ∷ []) refl refl
   misses_none n c (plan.To_evict key stamp cause) = keeps_none n c
 
-  pub finds_none : (n : ℕ) (c : Call K V) (aim : Aim K) (there : K) (stored : Stored V) →
+  pub finds_none : (n : ℕ) (c : Call K V E) (aim : Aim K V) (there : K) (stored : Stored V) →
       naming n (plan_left (finds_pair c aim there stored).left) ≡ None
   finds_none n c plan.To_answer there stored = refl
-  finds_none n c (plan.To_load load) there stored = refl
-  finds_none n c (plan.To_own load) there stored = refl
+  finds_none n c (plan.To_load sought) there stored = refl
+  finds_none n c (plan.To_insert under new) there stored = refl
+  finds_none n c (plan.To_own sought) there stored = refl
   finds_none n c (plan.To_evict key stamp cause) there stored =
       chosen_next (λ v. naming n (plan_left v.left) ≡ None) c key stamp cause there stored
       (λ off. refl)
       (λ on. refl) refl
 
-  pub hits_none : (n : ℕ) (c : Call K V) (aim : Aim K) (value : V) → IsLook aim →
+  pub hits_none : (n : ℕ) (c : Call K V E) (aim : Aim K V) (value : V) → IsLook aim →
       naming n (plan_left (hits c aim value).left) ≡ None
   hits_none n c plan.To_answer value l = refl
-  hits_none n c (plan.To_load load) value l = refl
-  hits_none n c (plan.To_own load) value l = refl
+  hits_none n c (plan.To_load sought) value l = refl
+  hits_none n c (plan.To_insert under new) value l = refl
+  hits_none n c (plan.To_own sought) value l = refl
   hits_none n c (plan.To_evict key stamp cause) value l = absurd l
 
-  either_none : (n : ℕ) (b : Bool) (x y : Next K V) → naming n (plan_left x.left) ≡ None → naming n (plan_left y.left) ≡ None →
+  either_none : (n : ℕ) (b : Bool) (x y : Next K V E) → naming n (plan_left x.left) ≡ None → naming n (plan_left y.left) ≡ None →
       naming n (plan_left (cond b x y).left) ≡ None
   either_none n true x y h k = h
   either_none n false x y h k = k
 
-  pub read_none : (n : ℕ) (c : Call K V) (load : Load K) (with : Settled V) → naming n c.plan ≡ None →
-      naming n (plan_left (after_read c load (found.ReadSettled with)).left) ≡ None
-  read_none n c load (settled.Ready value) h = refl
-  read_none n c load settled.NotYet h = h
-  read_none n c load settled.Aborted h = either_none n (c.aborts + 1 == retries) _ _ refl refl
+  pub read_none : (n : ℕ) (c : Call K V E) (sought : Sought K) (with : Settled V E) → naming n c.plan ≡ None →
+      naming n (plan_left (after_read c sought (found.ReadSettled with)).left) ≡ None
+  read_none n c sought (settled.Ready value) h = refl
+  read_none n c sought (settled.Err error) h = refl
+  read_none n c sought settled.Nothing h = refl
+  read_none n c sought settled.NotYet h = h
+  read_none n c sought settled.Aborted h = either_none n (c.aborts + 1 == retries) _ _ refl refl
 
-  pub told_none : (n : ℕ) (c : Call K V) (load : Load K) (given : Told V) → naming n c.plan ≡ None →
+  pub told_none : (n : ℕ) (c : Call K V E) (load : Load K) (given : Told V E) → naming n c.plan ≡ None →
       naming n (plan_left (after_told c load (found.TakeTold (Some given))).left) ≡ None
   told_none n c load (answer.Value value) h =
       loaded_plans (λ p. naming n (plan_left (goes c p).left) ≡
       None) c.rules load value refl refl refl
+  told_none n c load answer.Nothing h = refl
+  told_none n c load (answer.Err error) h = refl
   told_none n c load answer.Done h = h
   told_none n c load answer.Off h = h
 
-  form_none : (n : ℕ) (rules : Rules) (p : List (Item K V)) → IsFresh rules p → naming n p ≡ None
-  form_none n rules p (Disabled a d) = refl
+  pub form_none : (n : ℕ) (rules : Rules) (p : List (Item K V E)) → IsFresh rules p → naming n p ≡ None
+  form_none n rules p (Disabled a d plain) = refl
   form_none n rules p _ = refl
 
-  pub fresh_none : (n : ℕ) (rules : Rules) (start : Start K V) → naming n (plan_of rules start) ≡ None
-  fresh_none n rules start = form_none n rules (plan_of rules start) (fresh_plan rules start)
-
   -- a plan that hears a notice posts a write
-  hears_held : (n y : ℕ) (p : List (Item K V)) → IsPlan p → hearing n p ≡ Some y → IsSome (held_by p)
+  hears_held : (n y : ℕ) (p : List (Item K V E)) → IsPlan p → hearing n p ≡ Some y → IsSome (held_by p)
   hears_held n y p (Hearing number x rest d) e = refl
   hears_held n y p (Listening x rest t) e = refl
   hears_held n y p (Noticing key old cause upsert x rest t) e = refl
@@ -181,14 +190,15 @@ module _ {K V : Type 0} where
   hears_held n y p (Posted rest (Ended more (Answering a))) e = absurd (none_some e)
   hears_held n y p (Posted rest (Ended more (Settling with a))) e = absurd (none_some e)
   hears_held n y p (Drained rest (Looking aim key l)) e = absurd (none_some e)
-  hears_held n y p (Drained rest (Owning load)) e = absurd (none_some e)
+  hears_held n y p (Drained rest (Owning sought)) e = absurd (none_some e)
+  hears_held n y p (Drained rest (Giving a)) e = absurd (none_some e)
   hears_held n y p (Drained rest (Removing removal key)) e = absurd (none_some e)
   hears_held n y p (Drained rest (Locking_out removal key)) e = absurd (none_some e)
   hears_held n y p (Drained rest (Putting key value more t)) e = absurd (none_some e)
   hears_held n y p (Drained rest (Locking key value more t)) e = absurd (none_some e)
   hears_held n y p (Writing key value moment rest t) e = absurd (none_some e)
   hears_held n y p (Judging aim key stored l) e = absurd (none_some e)
-  hears_held n y p (Reading load) e = absurd (none_some e)
+  hears_held n y p (Reading sought) e = absurd (none_some e)
   hears_held n y p (Asking load) e = absurd (none_some e)
   hears_held n y p (Telling load) e = absurd (none_some e)
   hears_held n y p (Choosing key stamp cause) e = absurd (none_some e)
@@ -197,9 +207,9 @@ module _ {K V : Type 0} where
   hears_held n y p (Taking removal key) e = absurd (none_some e)
   hears_held n y p (Freeing a) e = absurd (none_some e)
   hears_held n y p (Idling a) e = absurd (none_some e)
-
   -- ---- notices with the desk
 
+module _ {K V : Type 0} where
   -- a notice in this map runs
   abbrev pub running : (ℕ → Option (Notice K V)) → ℕ → Bool
   running notices x = option_map_or (λ v. runs v.state) (notices x) false
@@ -218,12 +228,13 @@ module _ {K V : Type 0} where
       by false e = refl
       by true e = absurd (false≢true (sym q ∙ ap (running notices) (sym (eqb-true x y e)) ∙ r))
 
+module _ {K V E : Type 0} where
   -- ---- a step
 
   -- What a step has to show: what it leaves is named; and each notice that runs is heard by a call
   -- or with an owed write, as before or anew.
-  record Leaves (d : DeskPart K V) (n : ℕ) (p : List (Item K V)) (notices : ℕ → Option (Notice K V)) (opened : List ℕ) (off : Bool)
-      (owed : List Owed) (last : ℕ) (left : Option (Call K V)) : Type 0 where
+  record Leaves (d : DeskPart K V E) (n : ℕ) (p : List (Item K V E)) (notices : ℕ → Option (Notice K V)) (opened : List ℕ) (off : Bool)
+      (owed : List Owed) (last : ℕ) (left : Option (Call K V E)) : Type 0 where
     last_same : last ≡ d.last
     named : IsNamed n (plan_left left)
     owed_named : OwedNamed owed
@@ -232,12 +243,12 @@ module _ {K V : Type 0} where
         ((running d.notices x ≡ true) × (guards x (hearing n p) + guards_owed x d.owed ≤ guards x (hearing n (plan_left left)) + guards_owed x owed)) ⊎
         (1 ≤ guards x (hearing n (plan_left left)) + guards_owed x owed)
 
-  module _ (d : DeskPart K V) (n : ℕ) (owed : OwedNamed d.owed) (noted : Noted d.notices d.opened d.off) where
-    abbrev Same : List (Item K V) → Option (Call K V) → Type 0
+  module _ (d : DeskPart K V E) (n : ℕ) (owed : OwedNamed d.owed) (noted : Noted d.notices d.opened d.off) where
+    abbrev Same : List (Item K V E) → Option (Call K V E) → Type 0
     Same p left = Leaves d n p d.notices d.opened d.off d.owed d.last left
 
     -- the desk's notices and owed writes are as they were, and the plan heard no notice that runs
-    as_before : (p : List (Item K V)) (left : Option (Call K V)) →
+    as_before : (p : List (Item K V E)) (left : Option (Call K V E)) →
         ((x : ℕ) → running d.notices x ≡ true → guards x (hearing n p) ≡ 0) →
         IsNamed n (plan_left left) → Same p left
     as_before p left quiet named = record {
@@ -249,12 +260,12 @@ module _ {K V : Type 0} where
     }
 
     -- nor does it open or hear one any more
-    plain : (p : List (Item K V)) (left : Option (Call K V)) → hearing n p ≡ None → naming n (plan_left left) ≡ None → Same p left
+    plain : (p : List (Item K V E)) (left : Option (Call K V E)) → hearing n p ≡ None → naming n (plan_left left) ≡ None → Same p left
     plain p left quiet none = as_before p left (λ x r. ap (guards x) quiet)
         (unnamed n (plan_left left) none)
 
     -- the call has its plan still
-    stays : (p : List (Item K V)) (c : Call K V) → c.plan ≡ p → IsNamed n p → Same p (Some c)
+    stays : (p : List (Item K V E)) (c : Call K V E) → c.plan ≡ p → IsNamed n p → Same p (Some c)
     stays p c e named = record {
       last_same = refl;
       named = subst (IsNamed n) (sym e) named;
@@ -264,7 +275,7 @@ module _ {K V : Type 0} where
     }
 
     -- the call opens its notice, in this state
-    module _ (p : List (Item K V)) (left : Option (Call K V)) (v : Notice K V) (own : v.number ≡ n) (fresh : d.notices n ≡ None)
+    module _ (p : List (Item K V E)) (left : Option (Call K V E)) (v : Notice K V) (own : v.number ≡ n) (fresh : d.notices n ≡ None)
         (may : v.state ≡ notice.Skipped → d.off ≡ true) where
       opened_noted : Noted (put_at d.notices n (Some v)) (d.opened ++ n ∷ []) d.off
       opened_noted = record {
@@ -297,22 +308,22 @@ module _ {K V : Type 0} where
           by x false e r = inl (r, omega (arith, ap (guards x) quiet))
           by x true e r = inr (omega (arith, ap (guards x) (hears r), subst (λ u. once u n ≡ 1) (eqb-true n x e) (ap (λ b. cond {A = ℕ} b 1 0) (same_number n))))
 
-  module _ (eq : K → K → Bool) (w : World K V) (n : ℕ) (c : Call K V) (o : OwedNamed w.desk.owed) (t : Noted w.desk.notices w.desk.opened w.desk.off)
+  module _ (eq : K → K → Bool) (w : World K V E) (n : ℕ) (c : Call K V E) (o : OwedNamed w.desk.owed) (t : Noted w.desk.notices w.desk.opened w.desk.off)
       (fresh : OpensNotice c.plan → w.desk.notices n ≡ None) where
-    abbrev Made : List (Item K V) → World K V → Next K V → Type 0
+    abbrev Made : List (Item K V E) → World K V E → Next K V E → Type 0
     Made p new next = Leaves w.desk n p new.desk.notices new.desk.opened new.desk.off new.desk.owed new.desk.last next.left
 
-    on_tail : (p : List (Item K V)) → IsTail p → OnStep eq (Made p) w n c p
+    on_tail : (p : List (Item K V E)) → IsTail p → OnStep eq (Made p) w n c p
     on_tail p (Answering a) = outcomes eq (Made p) w n c (plan.Reply a) [] (plain w.desk n o t p None refl refl)
     on_tail p (Settling with a) = outcomes eq (Made p) w n c (plan.Settle with) (plan.Reply a ∷ []) (plain w.desk n o t p None refl refl)
 
-    on_drained : (p : List (Item K V)) → c.plan ≡ p → IsDrained p → OnStep eq (Made p) w n c p
+    on_drained : (p : List (Item K V E)) → c.plan ≡ p → IsDrained p → OnStep eq (Made p) w n c p
     on_drained p e (Looking aim key l) = outcomes eq (Made p) w n c (plan.Get aim key) [] (
       (λ more. plain w.desk n o t p _ refl (ap (naming n) e)),
       (λ none. plain w.desk n o t p _ refl (misses_none n c aim)),
       λ k stored some. plain w.desk n o t p _ refl (finds_none n c aim k stored),
     )
-    on_drained p e (Owning load) = outcomes eq (Made p) w n c (plan.Own load) [] (
+    on_drained p e (Owning sought) = outcomes eq (Made p) w n c (plan.Own sought) [] (
       (λ able none. plain w.desk n o t p _ refl refl),
       (λ disabled none. plain w.desk n o t p _ refl refl),
       λ owner some. plain w.desk n o t p _ refl refl,
@@ -326,6 +337,7 @@ module _ {K V : Type 0} where
           λ held. plain w.desk n o t p _ refl
               (ap (naming n) e),
         )
+    on_drained p e (Giving a) = outcomes eq (Made p) w n c (plan.Reply a) [] (plain w.desk n o t p None refl refl)
     on_drained p e (Removing removal key) =
         outcomes eq (Made p) w n c (plan.Moment (plan.To_take_out removal key)) []
         (plain w.desk n o t p _ refl refl)
@@ -333,7 +345,7 @@ module _ {K V : Type 0} where
         outcomes eq (Made p) w n c (plan.Lock key) (plan.Moment (plan.To_take_out removal key) ∷ [])
         ((λ free. plain w.desk n o t p _ refl refl), λ held. plain w.desk n o t p _ refl (ap (naming n) e))
 
-    on_posted : (p : List (Item K V)) → c.plan ≡ p → IsPosted p → OnStep eq (Made p) w n c p
+    on_posted : (p : List (Item K V E)) → c.plan ≡ p → IsPosted p → OnStep eq (Made p) w n c p
     on_posted p e (Draining rest d) = outcomes eq (Made p) w n c plan.Drain rest (
       (λ none. plain w.desk n o t p _ refl (drained_none n c rest d)),
       (λ v vs some. record {
@@ -353,7 +365,7 @@ module _ {K V : Type 0} where
     )
     on_posted p e (Ended rest q) = on_tail rest q
 
-    on_plan : (p : List (Item K V)) → c.plan ≡ p → IsNamed n p → IsPlan p → OnStep eq (Made p) w n c p
+    on_plan : (p : List (Item K V E)) → c.plan ≡ p → IsNamed n p → IsPlan p → OnStep eq (Made p) w n c p
     on_plan p e h (Posted rest d) = on_posted rest e d
     on_plan p e h (Drained rest d) = on_drained rest e d
     on_plan p e h (Posting v rest d) = outcomes eq (Made p) w n c (plan.Post v) rest
@@ -390,10 +402,12 @@ module _ {K V : Type 0} where
         ((λ none. plain w.desk n o t p _ refl refl), λ y ys some. plain w.desk n o t p _ refl refl)
     on_plan p e h (Ending v rest d) = outcomes eq (Made p) w n c plan.End (plan.Post v ∷ rest) (plain w.desk n o t p _ refl refl)
     on_plan p e h (Judging aim key stored l) = outcomes eq (Made p) w n c
-        (plan.Judge aim key stored) [] (plain w.desk n o t p _ refl
-        (hits_none n c aim stored.value l))
-    on_plan p e h (Reading load) = outcomes eq (Made p) w n c (plan.Read load) []
-        ((λ none. plain w.desk n o t p _ refl (ap (naming n) e)), λ with some. plain w.desk n o t p _ refl (read_none n c load with (ap (naming n) e)))
+        (plan.Judge aim key stored) [] (
+          (λ seen. plain w.desk n o t p _ refl (hits_none n c aim stored.value l)),
+          λ unseen. plain w.desk n o t p _ refl (misses_none n c aim),
+        )
+    on_plan p e h (Reading sought) = outcomes eq (Made p) w n c (plan.Read sought) []
+        ((λ none. plain w.desk n o t p _ refl (ap (naming n) e)), λ with some. plain w.desk n o t p _ refl (read_none n c sought with (ap (naming n) e)))
     on_plan p e h (Asking load) = outcomes eq (Made p) w n c (plan.Ask load) [] (plain w.desk n o t p _ refl refl)
     on_plan p e h (Telling load) = outcomes eq (Made p) w n c (plan.Told load) []
         ((λ none. plain w.desk n o t p _ refl (ap (naming n) e)), λ given some. plain w.desk n o t p _ refl (told_none n c load given (ap (naming n) e)))
@@ -443,38 +457,38 @@ module _ {K V : Type 0} where
   -- ---- of a state
 
   -- What is known of notices.
-  pub record IsNoticing (s : State K V) : Type 0 where
+  pub record IsNoticing (s : State K V E) : Type 0 where
     pub replacing : IsReplacing s
-    pub named : (n : ℕ) (c : Call K V) → s.calls n ≡ Some c → IsNamed n c.plan
+    pub named : (n : ℕ) (c : Call K V E) → s.calls n ≡ Some c → IsNamed n c.plan
     pub owed_named : OwedNamed s.world.desk.owed
     pub noted : Noted s.world.desk.notices s.world.desk.opened s.world.desk.off
     -- each notice that runs is heard, by a live call or once an owed write is taken up
     pub heard : (x : ℕ) → running s.world.desk.notices x ≡ true →
         1 ≤ sum_to s.world.desk.last (λ m. guards x (hearing m (plan_left (s.calls m)))) + guards_owed x s.world.desk.owed
 
-  module _ (s : State K V) (i : IsNoticing s) where
+  module _ (s : State K V E) (i : IsNoticing s) where
     -- a call posts the write whose notice it hears
     pub guards_posts : (x n : ℕ) → guards x (hearing n (plan_left (s.calls n))) ≤ weigh_call (post_of x) (s.calls n)
     guards_posts x n = by (s.calls n) refl
       where
-        one : (c : Call K V) → s.calls n ≡ Some c → (y : Option ℕ) → hearing n c.plan ≡ y → (o : Option Write) → held_by c.plan ≡ o →
+        one : (c : Call K V E) → s.calls n ≡ Some c → (y : Option ℕ) → hearing n c.plan ≡ y → (o : Option Write) → held_by c.plan ≡ o →
             guards x (hearing n c.plan) ≤ among x (option_to_list o)
         one c live None e o f = omega (arith, ap (guards x) e)
         one c live (Some y) e None f = absurd (false≢true (ap is_some (sym f) ∙ hears_held n y c.plan (i.replacing.known n c live).plan e))
         one c live (Some y) e (Some v) f =
             omega (arith, ap (guards x) e, ap (once x) (i.named n c live y v (hearing_named n y c.plan e) f), times_first x (number_of v) [])
 
-        by : (o : Option (Call K V)) → s.calls n ≡ o → guards x (hearing n (plan_left o)) ≤ weigh_call (post_of x) o
+        by : (o : Option (Call K V E)) → s.calls n ≡ o → guards x (hearing n (plan_left o)) ≤ weigh_call (post_of x) o
         by None e = omega arith
         by (Some c) e = omega (arith, posts_held x c.plan (i.replacing.balanced.tidy n c e), one c e (hearing n c.plan) refl (held_by c.plan) refl)
 
-    opens_fresh : (n : ℕ) (c : Call K V) → s.calls n ≡ Some c → OpensNotice c.plan →
+    opens_fresh : (n : ℕ) (c : Call K V E) → s.calls n ≡ Some c → OpensNotice c.plan →
         s.world.desk.notices n ≡ None
     opens_fresh n c live opens = not_opened s i.replacing n c live opens
 
-    notices_on : (n : ℕ) (c : Call K V) → s.calls n ≡ Some c → (w : World K V) (left : Option (Call K V)) →
+    notices_on : (n : ℕ) (c : Call K V E) → s.calls n ≡ Some c → (w : World K V E) (left : Option (Call K V E)) →
         Leaves s.world.desk n c.plan w.desk.notices w.desk.opened w.desk.off w.desk.owed w.desk.last left →
-        let t : State K V = record { world = w; calls = put_at s.calls n left } in
+        let t : State K V E = record { world = w; calls = put_at s.calls n left } in
         IsReplacing t → IsNoticing t
     notices_on n c live w left b replacing = record {
       replacing = replacing;
@@ -505,10 +519,10 @@ module _ {K V : Type 0} where
         by x change within (inl h) = omega (arith, change, h.1, i.heard x h.0)
         by x change within (inr h) = omega (arith, within, h)
 
-module _ {K V : Type 0} (eq : K → K → Bool) where
-  noticing_step : (s t : State K V) (n : ℕ) (turn : Turn K V) → IsNoticing s → Step eq s n turn t → IsNoticing t
+module _ {K V E : Type 0} (eq : K → K → Bool) where
+  noticing_step : (s t : State K V E) (n : ℕ) (turn : Turn K V E) → IsNoticing s → Step eq s n turn t → IsNoticing t
   noticing_step s t n turn i step =
-      let c : Call K V = step.call in
+      let c : Call K V E = step.call in
       let kept : IsReplacing t → IsNoticing t =
       step_cases eq (λ new next. Leaves s.world.desk n c.plan new.desk.notices new.desk.opened new.desk.off new.desk.owed new.desk.last next.left)
       (λ v _. IsReplacing v → IsNoticing v) s t n turn step
@@ -516,14 +530,14 @@ module _ {K V : Type 0} (eq : K → K → Bool) where
       (λ w next b. notices_on s i n c step.live w next.left b) in
       kept ((replacing_kept eq).step s t n turn i.replacing step)
 
-  noticing_start : (s : State K V) (start : Start K V) → IsNoticing s → IsNoticing (started s start)
+  noticing_start : (s : State K V E) (start : Start K V) → IsNoticing s → IsNoticing (started s start)
   noticing_start s start i =
       let new : ℕ = s.world.desk.last + 1 in
-      let d : Call K V = fresh_call s.world.desk.rules start in
+      let d : Call K V E = fresh_call s.world.desk.rules start in
       record {
         replacing = (replacing_kept eq).start s start i.replacing;
         named = λ m b lives. put_cases s.calls new (Some d) m (Some b) (IsNamed m b.plan) lives
-            (λ here is. subst (λ v. IsNamed m (plan_left v)) is (unnamed m (plan_of s.world.desk.rules start) (fresh_none m s.world.desk.rules start)))
+            (λ here is. subst (λ v. IsNamed m (plan_left v)) is (unnamed m (plan_of s.world.desk.rules start) (form_none m s.world.desk.rules _ (fresh_plan s.world.desk.rules start))))
             (λ there is. i.named m b is);
         owed_named = i.owed_named;
         noted = i.noted;
@@ -536,11 +550,11 @@ module _ {K V : Type 0} (eq : K → K → Bool) where
       }
 
   -- a dropped call leaves the write that it holds, with the notice that it hears, where that runs
-  noticing_drop : (s : State K V) (n : ℕ) (c : Call K V) → s.calls n ≡ Some c → c.mode ≢ mode.Mid → IsNoticing s → IsNoticing (dropped s n c)
+  noticing_drop : (s : State K V E) (n : ℕ) (c : Call K V E) → s.calls n ≡ Some c → c.mode ≢ mode.Mid → IsNoticing s → IsNoticing (dropped s n c)
   noticing_drop s n c live between i =
       notices_on s i n c live (dropped s n c).world None (record {
         last_same = refl;
-        named = unnamed {K = K} {V = V} n [] refl;
+        named = unnamed {K = K} {V = V} {E = E} n [] refl;
         owed_named = named_append s.world.desk.owed _ i.owed_named (gone_named (held_by c.plan) refl (hearing n c.plan) refl);
         noted = i.noted;
         heard = λ x r. inl (
@@ -580,7 +594,7 @@ module _ {K V : Type 0} (eq : K → K → Bool) where
 
   -- ---- a notice ends
 
-  end_running : (d : DeskPart K V) (n x : ℕ) → running (ended d n).notices x ≡ true → running d.notices x ≡ true
+  end_running : (d : DeskPart K V E) (n x : ℕ) → running (ended d n).notices x ≡ true → running d.notices x ≡ true
   end_running d n x = by (n == x) refl
     where
       stops : (o : Option (Notice K V)) → option_map_or (λ v. runs v.state) (option_map with_end o) false ≡ true → ⊥
@@ -592,7 +606,7 @@ module _ {K V : Type 0} (eq : K → K → Bool) where
       by false e r = r
       by true e r = absurd (stops (d.notices n) r)
 
-  end_noted : (d : DeskPart K V) (n : ℕ) (off : Bool) → Noted d.notices d.opened d.off → Noted (ended d n).notices d.opened (d.off || off)
+  end_noted : (d : DeskPart K V E) (n : ℕ) (off : Bool) → Noted d.notices d.opened d.off → Noted (ended d n).notices d.opened (d.off || off)
   end_noted d n off t = record {
     numbered = λ m x e. put_cases d.notices n _ m (Some x) (x.number ≡ m) e
         (λ here is. number (d.notices n) refl x is ∙ here) (λ there is. t.numbered m x is);
@@ -625,10 +639,10 @@ module _ {K V : Type 0} (eq : K → K → Bool) where
       by m true e = t.opened_once m ∙ ap (λ v. cond {A = ℕ} (is_some (d.notices v)) 1 0) (sym (eqb-true n m e)) ∙
           ap (λ v. cond {A = ℕ} v 1 0) (sym (there (d.notices n)))
 
-  pub noticing_kept : IsKept eq (IsNoticing {K = K} {V = V})
+  pub noticing_kept : IsKept eq (IsNoticing {K = K} {V = V} {E = E})
   noticing_kept = record {
-    fresh = λ rules size has_log. record {
-      replacing = (replacing_kept eq).fresh rules size has_log;
+    fresh = λ rules size tests has_log. record {
+      replacing = (replacing_kept eq).fresh rules size tests has_log;
       named = λ n c live. absurd (none_some live);
       owed_named = tt;
       noted = record { numbered = λ n x e. absurd (none_some e); opened_once = λ n. refl; skipped = λ n x e s. absurd (none_some e) };
@@ -660,5 +674,5 @@ module _ {K V : Type 0} (eq : K → K → Bool) where
     drop = λ s n c live between i. noticing_drop s n c live between i;
   }
 
-  pub in_noticing : (s : State K V) → IsReached eq s → IsNoticing s
+  pub in_noticing : (s : State K V E) → IsReached eq s → IsNoticing s
   in_noticing s h = in_reached eq IsNoticing noticing_kept s h

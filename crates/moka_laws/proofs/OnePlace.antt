@@ -37,7 +37,7 @@ times_contains x (y ∷ ys) h = by (x == y) refl h (times_contains x ys)
     by true e h more = (0, omega arith, sym (eqb-true x y e))
     by false e h more = let k = more h in (suc k.0, omega (arith, k.1), k.2)
 
-module _ {K V : Type 0} (s : State K V) (i : IsBalanced s) where
+module _ {K V E : Type 0} (s : State K V E) (i : IsBalanced s) where
   -- how often the write of the number stands at the place
   abbrev count : Place → ℕ → ℕ
   count place.Held x = with_calls x s
@@ -61,7 +61,7 @@ module _ {K V : Type 0} (s : State K V) (i : IsBalanced s) where
   stands_counts place.Applied x h = h
 
   -- a live call whose plan posts a write holds it
-  posts_holds : (n : ℕ) (x : ℕ) (c : Option (Call K V)) → s.calls n ≡ c → 0 < weigh_call (post_of x) c → Holds s n x
+  posts_holds : (n : ℕ) (x : ℕ) (c : Option (Call K V E)) → s.calls n ≡ c → 0 < weigh_call (post_of x) c → Holds s n x
   posts_holds n x None e h = absurd (omega arith)
   posts_holds n x (Some c) e h = by (held_by c.plan) refl (omega (arith, posts_held x c.plan (i.tidy n c e)))
     where

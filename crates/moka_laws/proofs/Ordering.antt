@@ -27,21 +27,22 @@ use Rattle.moka_laws.proofs.Before.{Before, before_is, is_before, before_more, b
 use Rattle.moka_laws.proofs.Counting.{none_some, some_same, put_cases, put_here, put_there, differ, differ_not}
 use Rattle.moka_laws.proofs.Owning.{plan_left}
 use Rattle.moka_laws.proofs.Locking.{Locks}
-use Rattle.moka_laws.proofs.Plans.{IsTail, Answering, Settling, IsDrained, Looking, Putting, IsPosted, Draining, Ended, Locking, IsPlan, Posted, Drained, Posting, Hearing, Noticing, Listening, Unlocking, Turning, Applying, Ending, Judging, Owning, Reading, Asking, Telling, Writing, Removing, Locking_out, Choosing, Finding, Chosen, Taking, Freeing, Idling}
+use Rattle.moka_laws.proofs.Plans.{IsTail, Answering, Settling, IsDrained, Looking, Putting, IsPosted, Draining, Ended, Locking, IsPlan, Posted, Drained, Posting, Hearing, Noticing, Listening, Unlocking, Turning, Applying, Ending, Judging, Owning, Giving, Reading, Asking, Telling, Writing, Removing, Locking_out, Choosing, Finding, Chosen, Taking, Freeing, Idling}
 use Rattle.moka_laws.proofs.Replacing.{opens_notice, listening, not_opened, opened_committed, told_once}
-use Rattle.moka_laws.proofs.Noticing.{IsNoticing, noticing_kept, naming, running, drained_none, posted_none, misses_none, finds_none, keeps_none, hits_none, read_none, told_none, fresh_none}
+use Rattle.moka_laws.proofs.Rules.{fresh_plan}
+use Rattle.moka_laws.proofs.Noticing.{IsNoticing, noticing_kept, naming, running, drained_none, posted_none, misses_none, finds_none, keeps_none, hits_none, read_none, told_none, form_none}
 use Rattle.moka_laws.proofs.SoundReached.{IsSound, sound_kept, reached_sound}
 use Rattle.moka_laws.proofs.Kept.{IsKept, in_reached}
 use Rattle.moka_laws.proofs.StepCases.{OnStep, step_cases}
 use Rattle.moka_laws.proofs.Outcomes.{outcomes}
 
-module _ {K V : Type 0} where
+module _ {K V E : Type 0} where
   -- the plan hears its notice next
-  abbrev IsHearing : List (Item K V) → Type 0
+  abbrev IsHearing : List (Item K V E) → Type 0
   IsHearing (plan.Heard ∷ rest) = Unit {0}
   IsHearing _ = ⊥
 
-  unopened : (n : ℕ) (p : List (Item K V)) → naming n p ≡ None → OpensNotice p → ⊥
+  unopened : (n : ℕ) (p : List (Item K V E)) → naming n p ≡ None → OpensNotice p → ⊥
   unopened n (plan.Notice key old cause upsert ∷ rest) e o = none_some (sym e)
   unopened n [] e o = o
   unopened n (_ ∷ rest) e o = o
@@ -50,8 +51,8 @@ module _ {K V : Type 0} where
 
   -- A step that opens no notice: what is committed then stands as before, and a notice that is due
   -- then is that of the last write.
-  record Keeps (w : World K V) (n : ℕ) (notices : ℕ → Option (Notice K V)) (opened committed : List ℕ) (locked : ℕ → Option K)
-      (left : Option (Call K V)) : Type 0 where
+  record KeepsOrder (w : World K V E) (n : ℕ) (notices : ℕ → Option (Notice K V)) (opened committed : List ℕ) (locked : ℕ → Option K)
+      (left : Option (Call K V E)) : Type 0 where
     same_notices : notices ≡ w.desk.notices
     same_opened : opened ≡ w.desk.opened
     more : (a b : ℕ) → Before w.table.committed a b → Before committed a b
@@ -60,13 +61,13 @@ module _ {K V : Type 0} where
     others : (m : ℕ) → (n == m) ≡ false → locked m ≡ w.desk.locked m
 
   -- one that opens a notice
-  record Opens (w : World K V) (n : ℕ) (p : List (Item K V)) (notices : ℕ → Option (Notice K V)) (opened committed : List ℕ) (locked : ℕ → Option K)
-      (left : Option (Call K V)) : Type 0 where
+  record Opens (w : World K V E) (n : ℕ) (p : List (Item K V E)) (notices : ℕ → Option (Notice K V)) (opened committed : List ℕ) (locked : ℕ → Option K)
+      (left : Option (Call K V E)) : Type 0 where
     key : K
     old : Stored V
     cause : Option Cause
     upsert : Bool
-    rest : List (Item K V)
+    rest : List (Item K V E)
     is : p ≡ plan.Notice key old cause upsert ∷ rest
     told : Notice K V
     named : told.key ≡ key
@@ -77,16 +78,16 @@ module _ {K V : Type 0} where
     calm : OpensNotice (plan_left left) → ⊥
     hears : runs told.state ≡ true → IsHearing (plan_left left)
 
-  abbrev Leaves : World K V → ℕ → List (Item K V) → (ℕ → Option (Notice K V)) → List ℕ → List ℕ → (ℕ → Option K) → Option (Call K V) → Type 0
+  abbrev Leaves : World K V E → ℕ → List (Item K V E) → (ℕ → Option (Notice K V)) → List ℕ → List ℕ → (ℕ → Option K) → Option (Call K V E) → Type 0
   Leaves w n p notices opened committed locked left =
-      Keeps w n notices opened committed locked left ⊎ Opens w n p notices opened committed locked left
+      KeepsOrder w n notices opened committed locked left ⊎ Opens w n p notices opened committed locked left
 
-  module _ (eq : K → K → Bool) (w : World K V) (n : ℕ) (c : Call K V) (old_hears : running w.desk.notices n ≡ true → IsHearing c.plan) where
-    abbrev Made : List (Item K V) → World K V → Next K V → Type 0
+  module _ (eq : K → K → Bool) (w : World K V E) (n : ℕ) (c : Call K V E) (old_hears : running w.desk.notices n ≡ true → IsHearing c.plan) where
+    abbrev Made : List (Item K V E) → World K V E → Next K V E → Type 0
     Made p new next = Leaves w n p new.desk.notices new.desk.opened new.table.committed new.desk.locked next.left
 
     -- the plan heard nothing, and opens none now
-    quiet : (p : List (Item K V)) (left : Option (Call K V)) → c.plan ≡ p → (IsHearing p → ⊥) → naming n (plan_left left) ≡ None →
+    quiet : (p : List (Item K V E)) (left : Option (Call K V E)) → c.plan ≡ p → (IsHearing p → ⊥) → naming n (plan_left left) ≡ None →
         Leaves w n p w.desk.notices w.desk.opened w.table.committed w.desk.locked left
     quiet p left e not none = inl (record {
       same_notices = refl;
@@ -98,7 +99,7 @@ module _ {K V : Type 0} where
     })
 
     -- the call locks or frees
-    locks : (p : List (Item K V)) (left : Option (Call K V)) (l : Option K) → c.plan ≡ p → (IsHearing p → ⊥) → naming n (plan_left left) ≡ None →
+    locks : (p : List (Item K V E)) (left : Option (Call K V E)) (l : Option K) → c.plan ≡ p → (IsHearing p → ⊥) → naming n (plan_left left) ≡ None →
         Leaves w n p w.desk.notices w.desk.opened w.table.committed (put_at w.desk.locked n l) left
     locks p left l e not none = inl (record {
       same_notices = refl;
@@ -110,7 +111,7 @@ module _ {K V : Type 0} where
     })
 
     -- the call commits its write
-    commits : (p : List (Item K V)) (left : Option (Call K V)) → c.plan ≡ p → (IsHearing p → ⊥) →
+    commits : (p : List (Item K V E)) (left : Option (Call K V E)) → c.plan ≡ p → (IsHearing p → ⊥) →
         Leaves w n p w.desk.notices w.desk.opened (w.table.committed ++ n ∷ []) w.desk.locked left
     commits p left e not = inl (record {
       same_notices = refl;
@@ -121,17 +122,17 @@ module _ {K V : Type 0} where
       others = λ m d. refl;
     })
 
-    on_tail : (p : List (Item K V)) → c.plan ≡ p → IsTail p → OnStep eq (Made p) w n c p
+    on_tail : (p : List (Item K V E)) → c.plan ≡ p → IsTail p → OnStep eq (Made p) w n c p
     on_tail p e (Answering a) = outcomes eq (Made p) w n c (plan.Reply a) [] (quiet p None e (λ h. h) refl)
     on_tail p e (Settling with a) = outcomes eq (Made p) w n c (plan.Settle with) (plan.Reply a ∷ []) (quiet p None e (λ h. h) refl)
 
-    on_drained : (p : List (Item K V)) → c.plan ≡ p → IsDrained p → OnStep eq (Made p) w n c p
+    on_drained : (p : List (Item K V E)) → c.plan ≡ p → IsDrained p → OnStep eq (Made p) w n c p
     on_drained p e (Looking aim key l) = outcomes eq (Made p) w n c (plan.Get aim key) [] (
       (λ more. quiet p _ e (λ h. h) (ap (naming n) e)),
       (λ none. quiet p _ e (λ h. h) (misses_none n c aim)),
       λ k stored some. quiet p _ e (λ h. h) (finds_none n c aim k stored),
     )
-    on_drained p e (Owning load) = outcomes eq (Made p) w n c (plan.Own load) [] (
+    on_drained p e (Owning sought) = outcomes eq (Made p) w n c (plan.Own sought) [] (
       (λ able none. quiet p _ e (λ h. h) refl),
       (λ disabled none. quiet p _ e (λ h. h) refl),
       λ owner some. quiet p _ e (λ h. h) refl,
@@ -145,6 +146,7 @@ module _ {K V : Type 0} where
           λ held. quiet p _ e (λ h. h)
               (ap (naming n) e),
         )
+    on_drained p e (Giving a) = outcomes eq (Made p) w n c (plan.Reply a) [] (quiet p _ e (λ h. h) refl)
     on_drained p e (Removing removal key) =
         outcomes eq (Made p) w n c (plan.Moment (plan.To_take_out removal key)) []
         (quiet p _ e (λ h. h) refl)
@@ -152,7 +154,7 @@ module _ {K V : Type 0} where
         outcomes eq (Made p) w n c (plan.Lock key) (plan.Moment (plan.To_take_out removal key) ∷ [])
         ((λ free. locks p _ (Some key) e (λ h. h) refl), λ held. quiet p _ e (λ h. h) (ap (naming n) e))
 
-    on_posted : (p : List (Item K V)) → c.plan ≡ p → IsPosted p → OnStep eq (Made p) w n c p
+    on_posted : (p : List (Item K V E)) → c.plan ≡ p → IsPosted p → OnStep eq (Made p) w n c p
     on_posted p e (Draining rest d) = outcomes eq (Made p) w n c plan.Drain rest (
       (λ none. quiet p _ e (λ h. h) (drained_none n c rest d)),
       (λ v vs some. quiet p _ e (λ h. h) refl),
@@ -167,7 +169,7 @@ module _ {K V : Type 0} where
     )
     on_posted p e (Ended rest t) = on_tail rest e t
 
-    on_plan : (p : List (Item K V)) → c.plan ≡ p → IsPlan p → OnStep eq (Made p) w n c p
+    on_plan : (p : List (Item K V E)) → c.plan ≡ p → IsPlan p → OnStep eq (Made p) w n c p
     on_plan p e (Posted rest d) = on_posted rest e d
     on_plan p e (Drained rest d) = on_drained rest e d
     on_plan p e (Posting v rest d) = outcomes eq (Made p) w n c (plan.Post v) rest
@@ -257,9 +259,12 @@ module _ {K V : Type 0} where
         ((λ none. quiet p _ e (λ h. h) refl), λ y ys some. quiet p _ e (λ h. h) refl)
     on_plan p e (Ending v rest d) = outcomes eq (Made p) w n c plan.End (plan.Post v ∷ rest) (quiet p _ e (λ h. h) refl)
     on_plan p e (Judging aim key stored l) = outcomes eq (Made p) w n c (plan.Judge aim key stored)
-        [] (quiet p _ e (λ h. h) (hits_none n c aim stored.value l))
-    on_plan p e (Reading load) = outcomes eq (Made p) w n c (plan.Read load) []
-        ((λ none. quiet p _ e (λ h. h) (ap (naming n) e)), λ with some. quiet p _ e (λ h. h) (read_none n c load with (ap (naming n) e)))
+        [] (
+          (λ seen. quiet p _ e (λ h. h) (hits_none n c aim stored.value l)),
+          λ unseen. quiet p _ e (λ h. h) (misses_none n c aim),
+        )
+    on_plan p e (Reading sought) = outcomes eq (Made p) w n c (plan.Read sought) []
+        ((λ none. quiet p _ e (λ h. h) (ap (naming n) e)), λ with some. quiet p _ e (λ h. h) (read_none n c sought with (ap (naming n) e)))
     on_plan p e (Asking load) = outcomes eq (Made p) w n c (plan.Ask load) [] (quiet p _ e (λ h. h) refl)
     on_plan p e (Telling load) = outcomes eq (Made p) w n c (plan.Told load) []
         ((λ none. quiet p _ e (λ h. h) (ap (naming n) e)), λ given some. quiet p _ e (λ h. h) (told_none n c load given (ap (naming n) e)))
@@ -304,16 +309,16 @@ module _ {K V : Type 0} where
   -- ---- of a state
 
   -- a notice that is there was opened, and its number given out
-  is_opened : (s : State K V) → IsNoticing s → (n : ℕ) (x : Notice K V) → s.world.desk.notices n ≡ Some x → 0 < times n s.world.table.committed
+  is_opened : (s : State K V E) → IsNoticing s → (n : ℕ) (x : Notice K V) → s.world.desk.notices n ≡ Some x → 0 < times n s.world.table.committed
   is_opened s i n x e = omega (arith, opened_committed s i.replacing n, ap told_once e)
 
   -- what stands among the opened is there
-  opened_there : (s : State K V) → IsNoticing s → (n : ℕ) → s.world.desk.notices n ≡ None → 0 < times n s.world.desk.opened → ⊥
+  opened_there : (s : State K V E) → IsNoticing s → (n : ℕ) → s.world.desk.notices n ≡ None → 0 < times n s.world.desk.opened → ⊥
   opened_there s i n none h = omega (arith, i.noted.opened_once n, ap (λ o. cond {A = ℕ} (is_some o) 1 0) none)
 
   -- a call whose notice is due holds the lock of its key
-  due_locked : (s : State K V) → IsNoticing s → (n : ℕ) (c : Call K V) (key : K) (old : Stored V)
-      (cause : Option Cause) (upsert : Bool) (rest : List (Item K V)) → s.calls n ≡ Some c →
+  due_locked : (s : State K V E) → IsNoticing s → (n : ℕ) (c : Call K V E) (key : K) (old : Stored V)
+      (cause : Option Cause) (upsert : Bool) (rest : List (Item K V E)) → s.calls n ≡ Some c →
       c.plan ≡ plan.Notice key old cause upsert ∷ rest → s.world.desk.locked n ≡ Some key
   due_locked s i n c key old cause upsert rest live e = by (s.world.desk.locked n) refl
     where
@@ -329,29 +334,29 @@ module _ {K V : Type 0} where
       by None f = absurd (q.outside on f)
       by (Some k) f = ap Some (q.inside on k f).0
 
-module _ {K V : Type 0} (eq : K → K → Bool) where
+module _ {K V E : Type 0} (eq : K → K → Bool) where
   -- Notices of one key were opened in the order of their writes, and a notice runs beside an
   -- earlier one only once the call of that one is gone.
-  record IsOrdered (s : State K V) : Type 0 where
+  record IsOrdered (s : State K V E) : Type 0 where
     noticing : IsNoticing s
     sound : IsSound eq s
     order : (a b : ℕ) (x y : Notice K V) → Before s.world.desk.opened a b → s.world.desk.notices a ≡ Some x → s.world.desk.notices b ≡ Some y →
         eq x.key y.key ≡ true → Before s.world.table.committed a b
-    due : (a b : ℕ) (c : Call K V) (x : Notice K V) (key : K) (old : Stored V)
-        (cause : Option Cause) (upsert : Bool) (rest : List (Item K V)) → s.calls b ≡ Some c →
+    due : (a b : ℕ) (c : Call K V E) (x : Notice K V) (key : K) (old : Stored V)
+        (cause : Option Cause) (upsert : Bool) (rest : List (Item K V E)) → s.calls b ≡ Some c →
         c.plan ≡ plan.Notice key old cause upsert ∷ rest → s.world.desk.notices a ≡ Some x →
         eq x.key key ≡ true → Before s.world.table.committed a b
-    hears : (a : ℕ) (c : Call K V) (x : Notice K V) → s.calls a ≡ Some c → s.world.desk.notices a ≡ Some x → runs x.state ≡ true →
+    hears : (a : ℕ) (c : Call K V E) (x : Notice K V) → s.calls a ≡ Some c → s.world.desk.notices a ≡ Some x → runs x.state ≡ true →
         IsHearing c.plan × (s.world.desk.locked a ≡ Some x.key)
     beside : (a b : ℕ) (x y : Notice K V) → Before s.world.desk.opened a b → s.world.desk.notices a ≡ Some x → s.world.desk.notices b ≡ Some y →
         eq x.key y.key ≡ true → runs x.state ≡ true → runs y.state ≡ true → s.calls a ≡ None
 
   -- two calls don't hold locks of equal keys
-  pub one_lock : (w : DeskPart K V) → SoundDesk eq w → (a b : ℕ) (k q : K) → w.locked a ≡ Some k →
+  pub one_lock : (w : DeskPart K V E) → SoundDesk eq w → (a b : ℕ) (k q : K) → w.locked a ≡ Some k →
       w.locked b ≡ Some q → eq k q ≡ true → a ≡ b
   one_lock w h a b k q e f same = some_same (sym (h.locked k a e) ∙ h.one_locker k q same ∙ h.locked q b f)
 
-  module _ (s : State K V) (i : IsOrdered s) (n : ℕ) (c : Call K V) (live : s.calls n ≡ Some c) where
+  module _ (s : State K V E) (i : IsOrdered s) (n : ℕ) (c : Call K V E) (live : s.calls n ≡ Some c) where
     old_hears : running s.world.desk.notices n ≡ true → IsHearing c.plan
     old_hears r = by (s.world.desk.notices n) refl r
       where
@@ -360,12 +365,12 @@ module _ {K V : Type 0} (eq : K → K → Bool) where
         by (Some x) e r = (i.hears n c x live e r).0
 
     -- this call is not gone
-    gone_other : (a : ℕ) (left : Option (Call K V)) → s.calls a ≡ None → put_at s.calls n left a ≡ None
+    gone_other : (a : ℕ) (left : Option (Call K V E)) → s.calls a ≡ None → put_at s.calls n left a ≡ None
     gone_other a left gone = put_there s.calls n left a (differ n a (λ e. none_some (sym gone ∙ ap s.calls (sym e) ∙ live))) ∙ gone
 
-    keeps_on : (w : World K V) (left : Option (Call K V)) →
-        Keeps s.world n w.desk.notices w.desk.opened w.table.committed w.desk.locked left →
-        let t : State K V = record { world = w; calls = put_at s.calls n left } in
+    keeps_on : (w : World K V E) (left : Option (Call K V E)) →
+        KeepsOrder s.world n w.desk.notices w.desk.opened w.table.committed w.desk.locked left →
+        let t : State K V E = record { world = w; calls = put_at s.calls n left } in
         IsNoticing t → IsSound eq t → IsOrdered t
     keeps_on w left b noticing sound = record {
       noticing = noticing;
@@ -390,16 +395,16 @@ module _ {K V : Type 0} (eq : K → K → Bool) where
         was_opened : (p q : ℕ) → Before w.desk.opened p q → Before s.world.desk.opened p q
         was_opened p q h = subst (λ v. Before v p q) b.same_opened h
 
-        own : (d : Call K V) (x : Notice K V) → left ≡ Some d → w.desk.notices n ≡ Some x → runs x.state ≡ true →
+        own : (d : Call K V E) (x : Notice K V) → left ≡ Some d → w.desk.notices n ≡ Some x → runs x.state ≡ true →
             IsHearing d.plan × (w.desk.locked n ≡ Some x.key)
         own d x there e r =
             let run : running s.world.desk.notices n ≡ true = ap (λ o. option_map_or (λ v. runs v.state) o false) (was n x e) ∙ r in
             let h = b.hears run in
             (subst (λ v. IsHearing (plan_left v)) there h.0, h.1 ∙ (i.hears n c x live (was n x e) r).1)
 
-    opens_on : (w : World K V) (left : Option (Call K V)) →
+    opens_on : (w : World K V E) (left : Option (Call K V E)) →
         Opens s.world n c.plan w.desk.notices w.desk.opened w.table.committed w.desk.locked left →
-        let t : State K V = record { world = w; calls = put_at s.calls n left } in
+        let t : State K V E = record { world = w; calls = put_at s.calls n left } in
         IsNoticing t → IsSound eq t → IsOrdered t
     opens_on w left b noticing sound = record {
       noticing = noticing;
@@ -455,8 +460,8 @@ module _ {K V : Type 0} (eq : K → K → Bool) where
             (at_other p x (earlier p h.1) e)
             (subst (λ v. eq x.key v ≡ true) (told_at y q h.0 f) same))
 
-        by_due : (p q : ℕ) (d : Call K V) (x : Notice K V) (key : K) (old : Stored V)
-            (cause : Option Cause) (upsert : Bool) (rest : List (Item K V)) → s.calls q ≡ Some d →
+        by_due : (p q : ℕ) (d : Call K V E) (x : Notice K V) (key : K) (old : Stored V)
+            (cause : Option Cause) (upsert : Bool) (rest : List (Item K V E)) → s.calls q ≡ Some d →
             d.plan ≡ plan.Notice key old cause upsert ∷ rest → ((n ≡ p) × (b.told ≡ x)) ⊎
             (s.world.desk.notices p ≡ Some x) → (n == q) ≡ false →
             eq x.key key ≡ true → Before s.world.table.committed p q
@@ -467,7 +472,7 @@ module _ {K V : Type 0} (eq : K → K → Bool) where
             (due_locked s i.noticing q d key old cause upsert rest there is)
             (subst (λ v. eq v key ≡ true) (ap (λ (v : Notice K V). v.key) (sym e.1) ∙ b.named) same)))
 
-        own : (d : Call K V) (x : Notice K V) → left ≡ Some d → w.desk.notices n ≡ Some x → runs x.state ≡ true →
+        own : (d : Call K V E) (x : Notice K V) → left ≡ Some d → w.desk.notices n ≡ Some x → runs x.state ≡ true →
             IsHearing d.plan × (w.desk.locked n ≡ Some x.key)
         own d x there e r =
             let is : b.told ≡ x = some_same (sym (put_here s.world.desk.notices n (Some b.told)) ∙ ap (λ g. g n) (sym b.new_notices) ∙ e) in (
@@ -483,23 +488,28 @@ module _ {K V : Type 0} (eq : K → K → Bool) where
             gone_other p left (i.beside p q x y h (at_other p x (earlier p has.0) e) (at_other q y (earlier q has.1) f) same r u)
         by_beside p q x y e f same r u (inr h) = gone_other p left (is_gone (s.calls p) refl)
           where
-            is_gone : (o : Option (Call K V)) → s.calls p ≡ o → o ≡ None
+            is_gone : (o : Option (Call K V E)) → s.calls p ≡ o → o ≡ None
             is_gone None there = refl
             is_gone (Some d) there =
                 let lock = (i.hears p d x there (at_other p x (earlier p h.1) e) r).1 in
                 absurd (differ_not n p (earlier p h.1) (sym (one_lock s.world.desk i.sound.sound p n x.key b.key lock held
                 (subst (λ v. eq x.key v ≡ true) (told_at y q h.0 f) same))))
 
-    ordered_on : (w : World K V) (next : Next K V) →
+    ordered_on : (w : World K V E) (next : Next K V E) →
         Leaves s.world n c.plan w.desk.notices w.desk.opened w.table.committed w.desk.locked next.left →
         IsNoticing (state_after s n w next) → IsSound eq (state_after s n w next) → IsOrdered (state_after s n w next)
     ordered_on w next (inl b) = keeps_on w next.left b
     ordered_on w next (inr b) = opens_on w next.left b
 
-module _ {K V : Type 0} (eq : K → K → Bool) (laws : IsEquivalence eq) where
-  ordered_step : (s t : State K V) (n : ℕ) (turn : Turn K V) → IsOrdered eq s → Step eq s n turn t → IsOrdered eq t
+module _ {K V : Type 0} where
+  -- a notice that runs is there
+  run_state : (o : Option (Notice K V)) (x : Notice K V) → o ≡ Some x → option_map_or (λ v. runs v.state) o false ≡ true → runs x.state ≡ true
+  run_state o x e r = ap (λ v. option_map_or (λ (u : Notice K V). runs u.state) v false) (sym e) ∙ r
+
+module _ {K V E : Type 0} (eq : K → K → Bool) (laws : IsEquivalence eq) where
+  ordered_step : (s t : State K V E) (n : ℕ) (turn : Turn K V E) → IsOrdered eq s → Step eq s n turn t → IsOrdered eq t
   ordered_step s t n turn i step =
-      let c : Call K V = step.call in
+      let c : Call K V E = step.call in
       let kept : IsNoticing t → IsSound eq t → IsOrdered eq t =
       step_cases eq (λ new next. Leaves s.world n c.plan new.desk.notices new.desk.opened new.table.committed new.desk.locked next.left)
       (λ v _. IsNoticing v → IsSound eq v → IsOrdered eq v) s t n turn step
@@ -507,17 +517,17 @@ module _ {K V : Type 0} (eq : K → K → Bool) (laws : IsEquivalence eq) where
       (λ w next b. ordered_on eq s i n c step.live w next b) in
       kept ((noticing_kept eq).step s t n turn i.noticing step) ((sound_kept eq laws).step s t n turn i.sound step)
 
-  ordered_start : (s : State K V) (start : Start K V) → IsOrdered eq s → IsOrdered eq (started s start)
+  ordered_start : (s : State K V E) (start : Start K V) → IsOrdered eq s → IsOrdered eq (started s start)
   ordered_start s start i =
       let new : ℕ = s.world.desk.last + 1 in
-      let d : Call K V = fresh_call s.world.desk.rules start in
+      let d : Call K V E = fresh_call s.world.desk.rules start in
       record {
         noticing = (noticing_kept eq).start s start i.noticing;
         sound = (sound_kept eq laws).start s start i.sound;
         order = i.order;
         due = λ p q b x key old cause upsert rest lives is e same. put_cases s.calls new (Some d) q
             (Some b) (Before s.world.table.committed p q) lives
-            (λ here there. absurd (unopened q (plan_of s.world.desk.rules start) (fresh_none q s.world.desk.rules start)
+            (λ here there. absurd (unopened q (plan_of s.world.desk.rules start) (form_none q s.world.desk.rules _ (fresh_plan s.world.desk.rules start))
             (subst (λ v. OpensNotice (plan_left v)) (sym there) (subst OpensNotice (sym is) tt))))
             (λ other there. i.due p q b x key old cause upsert rest there is e same);
         hears = λ p b x lives e r. put_cases s.calls new (Some d) p (Some b) (IsHearing b.plan × (s.world.desk.locked p ≡ Some x.key)) lives
@@ -531,7 +541,7 @@ module _ {K V : Type 0} (eq : K → K → Bool) (laws : IsEquivalence eq) where
       fresh p x here e =
           omega (arith, is_opened s i.noticing p x e, i.noticing.replacing.balanced.unborn p (omega (arith, here)))
 
-  ordered_drop : (s : State K V) (n : ℕ) (c : Call K V) → s.calls n ≡ Some c → c.mode ≢ mode.Mid → IsOrdered eq s → IsOrdered eq (dropped s n c)
+  ordered_drop : (s : State K V E) (n : ℕ) (c : Call K V E) → s.calls n ≡ Some c → c.mode ≢ mode.Mid → IsOrdered eq s → IsOrdered eq (dropped s n c)
   ordered_drop s n c live between i = record {
     noticing = (noticing_kept eq).drop s n c live between i.noticing;
     sound = (sound_kept eq laws).drop s n c live between i.sound;
@@ -547,7 +557,7 @@ module _ {K V : Type 0} (eq : K → K → Bool) (laws : IsEquivalence eq) where
   }
 
   -- a notice that has ended is one that was there, with its key, and doesn't run
-  ended_was : (d : DeskPart K V) (n m : ℕ) (x : Notice K V) → (ended d n).notices m ≡ Some x →
+  ended_was : (d : DeskPart K V E) (n m : ℕ) (x : Notice K V) → (ended d n).notices m ≡ Some x →
       (v : Notice K V) × (d.notices m ≡ Some v) × (v.key ≡ x.key) × (runs x.state ≡ true → v ≡ x)
   ended_was d n m x e = by (n == m) refl e
     where
@@ -566,11 +576,11 @@ module _ {K V : Type 0} (eq : K → K → Bool) (laws : IsEquivalence eq) where
       by false f is = (x, is, refl, λ r. refl)
       by true f is = from (d.notices n) refl is (eqb-true n m f)
 
-  ordered_kept : IsKept {K = K} {V = V} eq (IsOrdered eq)
+  ordered_kept : IsKept {K = K} {V = V} {E = E} eq (IsOrdered eq)
   ordered_kept = record {
-    fresh = λ rules size has_log. record {
-      noticing = (noticing_kept eq).fresh rules size has_log;
-      sound = (sound_kept eq laws).fresh rules size has_log;
+    fresh = λ rules size tests has_log. record {
+      noticing = (noticing_kept eq).fresh rules size tests has_log;
+      sound = (sound_kept eq laws).fresh rules size tests has_log;
       order = λ a b x y h e f same. absurd h;
       due = λ a b c x key old cause upsert rest live is e same. absurd (none_some live);
       hears = λ a c x live e r. absurd (none_some live);
@@ -613,14 +623,10 @@ module _ {K V : Type 0} (eq : K → K → Bool) (laws : IsEquivalence eq) where
     drop = λ s n c live between i. ordered_drop s n c live between i;
   }
 
-  -- a notice that runs is there
-  run_state : (o : Option (Notice K V)) (x : Notice K V) → o ≡ Some x → option_map_or (λ v. runs v.state) o false ≡ true → runs x.state ≡ true
-  run_state o x e r = ap (λ v. option_map_or (λ (u : Notice K V). runs u.state) v false) (sym e) ∙ r
-
-  pub locks_one : LocksAreOne K V eq
+  pub locks_one : LocksAreOne K V E eq
   locks_one s n m a b h e f same = one_lock eq s.world.desk (reached_sound eq laws s h) n m a b e f same
 
-  pub in_order : ReachedNoticesAreInOrder K V eq
+  pub in_order : ReachedNoticesAreInOrder K V E eq
   in_order s h =
       let i : IsOrdered eq s = in_reached eq (IsOrdered eq) ordered_kept s h in
       record {

@@ -8,19 +8,20 @@ use Rattle.moka_hist.specs.State.{Call, World, DeskPart}
 use Rattle.moka_hist.specs.Plan.{Item, Aim, Change, Removal, look, is_disabled}
 use Rattle.moka_hist.specs.Plan as plan
 use Rattle.moka_hist.specs.Causes.{chosen_holds}
-use Rattle.moka_hist.specs.Visits.{cause_of, gave_back, decided, is_running, is_unlocked_for, locked_by, times_at, unlocked, with_notice, without_moment, first_of, holding_with, claimed, claim_of, finds, has_room, is_free_for, settlement_for, readers_without, settled_without, stamped, judged, settled_as, opened, took_told, ended_turn}
+use Rattle.moka_hist.specs.Visits.{is_seen, cause_of, gave_back, decided, is_running, is_unlocked_for, locked_by, times_at, unlocked, with_notice, without_moment, first_of, holding_with, claimed, claim_of, finds, has_room, is_free_for, settlement_for, readers_without, settled_without, stamped, judged, settled_as, opened, took_told, ended_turn}
 use Rattle.moka_hist.specs.Tables.{answer_of, by_pair, removed, taken_by, written}
 use Rattle.moka_hist.specs.Bound.{times_of, stayed, decided_by, most_undecided}
 use Rattle.moka_hist.specs.Next.{Next, goes, stays, waits, asks, answers}
 use Rattle.moka_hist.specs.Listening.{after_hearing, after_lock, after_notice}
 use Rattle.moka_hist.specs.Posting.{once_ended, after_drain, after_post, after_turn, after_apply}
-use Rattle.moka_hist.specs.Looking.{misses, hits, keeps, finds_pair, after_get, after_holds}
+use Rattle.moka_hist.specs.Looking.{misses, hits, keeps, finds_pair, after_get, after_judge, after_holds}
 use Rattle.moka_hist.specs.Loading.{owner_rest, after_own, after_read, after_told}
-use Rattle.moka_hist.specs.Writing.{cause_handed, changes, nothing_answer, nothing_rest, old_stamp, once_told, removed_answer, removed_rest, stamp_asked, after_out}
-use Rattle.moka_hist.specs.Step.{access_for, takes_of}
+use Rattle.moka_hist.specs.Writing.{cause_handed, nothing_answer, nothing_rest, old_stamp, once_told, removed_answer, removed_rest, stamp_asked, after_out}
+use Rattle.moka_hist.specs.Step.{access_for, replace_of, takes_of}
 use Rattle.moka_hist.specs.declared.records.Stored.{Stored}
 use Rattle.moka_hist.specs.declared.events.Told.{Told}
 use Rattle.moka_hist.specs.declared.loads.Load.{Load}
+use Rattle.moka_hist.specs.declared.loads.Sought.{Sought}
 use Rattle.moka_hist.specs.declared.writes.Holding.TheVariants as holding
 use Rattle.moka_hist.specs.declared.notices.NoticeState.{NoticeState}
 use Rattle.moka_hist.specs.declared.notices.NoticeState.TheVariants as notice
@@ -50,27 +51,27 @@ put_same_at f n v e m = by (n == m) refl
 pub put_same : {A : Type 0} (f : ℕ → A) (n : ℕ) (v : A) → f n ≡ v → put_at f n v ≡ f
 put_same f n v e = λ i m. (put_same_at f n v e m) i
 
-module _ {K V : Type 0} (eq : K → K → Bool) where
-  abbrev pub on_desk : World K V → DeskPart K V → World K V
+module _ {K V E : Type 0} (eq : K → K → Bool) where
+  abbrev pub on_desk : World K V E → DeskPart K V E → World K V E
   on_desk w d = record w { desk = d }
 
   -- the desk once the call took up the first owed write, posted its write, applied the first logged
   -- write, or read how its owner ended
-  abbrev pub was_owed : DeskPart K V → ℕ → Write → List Owed → DeskPart K V
+  abbrev pub was_owed : DeskPart K V E → ℕ → Write → List Owed → DeskPart K V E
   was_owed d n first rest = record d { holding = put_at d.holding n (Some (holding.TookUp first)); owed = rest }
 
-  abbrev pub was_posted : DeskPart K V → ℕ → Write → DeskPart K V
+  abbrev pub was_posted : DeskPart K V E → ℕ → Write → DeskPart K V E
   was_posted d n write = record d { holding = put_at d.holding n None; log = d.log ++ write ∷ [] }
 
-  abbrev pub not_posted : DeskPart K V → ℕ → DeskPart K V
+  abbrev pub not_posted : DeskPart K V E → ℕ → DeskPart K V E
   not_posted d n = record d { holding = put_at d.holding n (option_map without_moment (d.holding n)) }
 
-  abbrev pub was_applied : DeskPart K V → Write → List Write → DeskPart K V
+  abbrev pub was_applied : DeskPart K V E → Write → List Write → DeskPart K V E
   was_applied d first rest = record d { log = rest; applied = d.applied ++ first ∷ [] }
 
   -- the desk once the call has opened its notice, in this state
-  abbrev pub was_opened : DeskPart K V → ℕ → K → Stored V → Option Cause → Bool → NoticeState →
-      DeskPart K V
+  abbrev pub was_opened : DeskPart K V E → ℕ → K → Stored V → Option Cause → Bool → NoticeState →
+      DeskPart K V E
   was_opened d n key old cause upsert state = with_notice (decided d n) n (record {
     number = n;
     key = key;
@@ -79,28 +80,28 @@ module _ {K V : Type 0} (eq : K → K → Bool) where
     state = state;
   })
 
-  abbrev pub was_read : DeskPart K V → ℕ → DeskPart K V
+  abbrev pub was_read : DeskPart K V E → ℕ → DeskPart K V E
   was_read d n = record d { joined = put_at d.joined n None; readers = readers_without d n; settled = settled_without d n }
 
   -- the world once a look of this call has decided
-  abbrev pub done : World K V → ℕ → World K V
+  abbrev pub done : World K V E → ℕ → World K V E
   done w n = record w { stay = decided_by n }
 
   -- the world once this call has taken out what stood under the key
-  abbrev pub taken_out : World K V → ℕ → K → World K V
+  abbrev pub taken_out : World K V E → ℕ → K → World K V E
   taken_out w n key = record w { table = removed eq n w.table key; stay = decided_by n }
 
   -- the chosen record has still to leave for this cause
-  abbrev pub has_to_leave : DeskPart K V → Stored V → Cause → Bool
+  abbrev pub has_to_leave : DeskPart K V E → Stored V → Cause → Bool
   has_to_leave d stored cause =
       chosen_holds d.rules (times_at d stored.stamp stored.modified) false cause
 
   -- M holds where the operation stays undecided once more
-  abbrev pub Undecided : (World K V → Next K V → Type 0) → World K V → ℕ → Call K V → Type 0
+  abbrev pub Undecided : (World K V E → Next K V E → Type 0) → World K V E → ℕ → Call K V E → Type 0
   Undecided M w n c = times_of w.stay n < most_undecided w.table → M (record w { stay = stayed w.stay n }) (stays c)
 
   -- M holds of each outcome of the item, with what is known there
-  abbrev pub Outcomes : (World K V → Next K V → Type 0) → World K V → ℕ → Call K V → Item K V → List (Item K V) → Type 0
+  abbrev pub Outcomes : (World K V E → Next K V E → Type 0) → World K V E → ℕ → Call K V E → Item K V E → List (Item K V E) → Type 0
   Outcomes M w n c plan.Drain rest =
       (w.desk.owed ≡ [] → M w (goes c rest)) ×
       ((x : Write) (xs : List Owed) → w.desk.owed ≡ record { write = x; notice = None } ∷ xs →
@@ -125,22 +126,29 @@ module _ {K V : Type 0} (eq : K → K → Bool) where
       (w.table.stored key ≡ None → M (done w n) (misses c aim)) ×
       ((k : K) (stored : Stored V) → w.table.stored key ≡ Some (k, stored) →
       M (done w n) (finds_pair c aim k stored))
-  Outcomes M w n c (plan.Judge aim key stored) rest = M (on_desk w (judged w.desk stored.stamp stored.modified)) (hits c aim stored.value)
-  Outcomes M w n c (plan.Own load) rest =
-      (is_disabled c.rules ≡ false → w.desk.owners load ≡ None →
-      M (on_desk w (claimed eq w.desk n load None)) (goes c (look (plan.To_own load) load.key))) ×
-      (is_disabled c.rules ≡ true → w.desk.owners load ≡ None →
-      M (on_desk w (claimed eq w.desk n load None)) (goes c (plan.Ask load ∷ []))) ×
-      ((owner : ℕ) → w.desk.owners load ≡ Some owner →
-      M (on_desk w (claimed eq w.desk n load (Some owner))) (goes c (plan.Read load ∷ [])))
-  Outcomes M w n c (plan.Read load) rest =
+  Outcomes M w n c (plan.Judge aim key stored) rest =
+      (is_seen w.desk (replace_of aim) key stored ≡ true →
+      M (on_desk w (judged w.desk stored.stamp stored.modified true)) (hits c aim stored.value)) ×
+      (is_seen w.desk (replace_of aim) key stored ≡ false →
+      M (on_desk w (judged w.desk stored.stamp stored.modified false)) (misses c aim))
+  Outcomes M w n c (plan.Own sought) rest =
+      (is_disabled c.rules ≡ false → w.desk.owners sought.load ≡ None →
+      M (on_desk w (claimed eq w.desk n sought.load None))
+      (goes c (look (plan.To_own sought) sought.load.key))) ×
+      (is_disabled c.rules ≡ true → w.desk.owners sought.load ≡ None →
+      M (on_desk w (claimed eq w.desk n sought.load None)) (goes c (plan.Ask sought.load ∷ []))) ×
+      ((owner : ℕ) → w.desk.owners sought.load ≡ Some owner →
+      M (on_desk w (claimed eq w.desk n sought.load (Some owner)))
+      (goes c (plan.Read sought ∷ [])))
+  Outcomes M w n c (plan.Read sought) rest =
       (settlement_for w.desk n ≡ None → M w (waits c)) ×
-      ((with : Settled V) → settlement_for w.desk n ≡ Some with → M (on_desk w (was_read w.desk n)) (after_read c load (found.ReadSettled with)))
+      ((with : Settled V E) → settlement_for w.desk n ≡ Some with →
+      M (on_desk w (was_read w.desk n)) (after_read c sought (found.ReadSettled with)))
   Outcomes M w n c (plan.Settle with) rest = M (on_desk w (settled_as w.desk n with)) (goes c rest)
   Outcomes M w n c (plan.Ask load) rest = M (on_desk w (opened w.desk n (takes_of load.kind))) (asks c ask.Init (plan.Told load ∷ []))
   Outcomes M w n c (plan.Told load) rest =
       (w.desk.told n ≡ None → M w (waits c)) ×
-      ((given : Told V) → w.desk.told n ≡ Some given → M (on_desk w (took_told w.desk n)) (after_told c load (found.TakeTold (Some given))))
+      ((given : Told V E) → w.desk.told n ≡ Some given → M (on_desk w (took_told w.desk n)) (after_told c load (found.TakeTold (Some given))))
   Outcomes M w n c (plan.Lock key) rest =
       (is_unlocked_for w.desk n key ≡ true → M (on_desk w (locked_by eq w.desk n key true)) (goes c rest)) ×
       (is_unlocked_for w.desk n key ≡ false → M w (waits c))
@@ -163,7 +171,7 @@ module _ {K V : Type 0} (eq : K → K → Bool) where
       M (on_desk w (stamped w.desk n)) (goes c (plan.Out removal key ∷ rest))
   Outcomes M w n c (plan.Write key value moment) rest =
       let stored : Stored V = record { value = value; stamp = n; modified = moment } in
-      let new : World K V = record w { table = written eq n w.table key stored; stay = decided_by n } in
+      let new : World K V E = record w { table = written eq n w.table key stored; stay = decided_by n } in
       Undecided M w n c ×
       (c.rules.listener ≡ false → (old : Option ℕ) → M new (goes c (plan.Post (Upsert n old) ∷ rest))) ×
       (c.rules.listener ≡ true →
@@ -190,14 +198,14 @@ module _ {K V : Type 0} (eq : K → K → Bool) where
   Outcomes M w n c (plan.Reply answer) rest = M (on_desk w (gave_back w.desk n)) (answers answer)
 
   -- the desk once the call has tried to post its write
-  abbrev posted_if : DeskPart K V → ℕ → Write → Bool → DeskPart K V
+  abbrev posted_if : DeskPart K V E → ℕ → Write → Bool → DeskPart K V E
   posted_if d n write b = record d {
     holding = put_at d.holding n (cond b None (option_map without_moment (d.holding n)));
     log = cond b (d.log ++ write ∷ []) d.log;
   }
 
-  module _ (M : World K V → Next K V → Type 0) (w : World K V) (n : ℕ) (c : Call K V) where
-    drained : (rest : List (Item K V)) (owed : List Owed) → w.desk.owed ≡ owed → Outcomes M w n c plan.Drain rest →
+  module _ (M : World K V E → Next K V E → Type 0) (w : World K V E) (n : ℕ) (c : Call K V E) where
+    drained : (rest : List (Item K V E)) (owed : List Owed) → w.desk.owed ≡ owed → Outcomes M w n c plan.Drain rest →
         M (on_desk w (record w.desk { holding = holding_with w.desk.holding n (option_map (λ o. o.write) (first_of owed)); owed = drop 1 owed }))
         (after_drain c rest (finds (record w.desk { owed = owed }) (visit.TakeOwed n)))
     drained rest [] e o = subst (λ v. M (on_desk w (record w.desk { owed = v })) (goes c rest)) e (o.0 e)
@@ -208,19 +216,19 @@ module _ {K V : Type 0} (eq : K → K → Bool) where
         by None is = o.1 x.write xs (e ∙ ap (λ v. record { write = x.write; notice = v } ∷ xs) is)
         by (Some number) is = o.2 x.write number xs (e ∙ ap (λ v. record { write = x.write; notice = v } ∷ xs) is)
 
-    heard : (rest : List (Item K V)) (number : ℕ) (b : Bool) → is_running w.desk number ≡ b →
+    heard : (rest : List (Item K V E)) (number : ℕ) (b : Bool) → is_running w.desk number ≡ b →
         (is_running w.desk number ≡ false → M w (goes c rest)) × (is_running w.desk number ≡ true → M w (waits c)) →
         M w (after_hearing c rest (found.NoticeEnded (not b)))
     heard rest number false e o = o.0 e
     heard rest number true e o = o.1 e
 
-    locks : (key : K) (rest : List (Item K V)) (b : Bool) → is_unlocked_for w.desk n key ≡ b → Outcomes M w n c (plan.Lock key) rest →
+    locks : (key : K) (rest : List (Item K V E)) (b : Bool) → is_unlocked_for w.desk n key ≡ b → Outcomes M w n c (plan.Lock key) rest →
         M (on_desk w (locked_by eq w.desk n key b)) (after_lock c rest (found.LockKey b))
     locks key rest true e o = o.0 e
     locks key rest false e o = o.1 e
 
     tells : (key : K) (old : Stored V) (cause : Option Cause) (upsert : Bool)
-        (rest : List (Item K V)) (b : Bool) →
+        (rest : List (Item K V E)) (b : Bool) →
         w.desk.off ≡ b → Outcomes M w n c (plan.Notice key old cause upsert) rest →
         M (on_desk w (was_opened w.desk n key old cause upsert
         (cond b notice.Skipped notice.Running)))
@@ -230,7 +238,7 @@ module _ {K V : Type 0} (eq : K → K → Bool) where
     tells key old cause upsert rest true e o = o.0 e
     tells key old cause upsert rest false e o = o.1 e
 
-    wrote : (key : K) (value : V) (moment : ℕ) (rest : List (Item K V)) (pair : Option (K × Stored V)) → w.table.stored key ≡ pair →
+    wrote : (key : K) (value : V) (moment : ℕ) (rest : List (Item K V E)) (pair : Option (K × Stored V)) → w.table.stored key ≡ pair →
         Outcomes M w n c (plan.Write key value moment) rest →
         M (record w { table = written eq n w.table key (record { value = value; stamp = n; modified = moment }); stay = decided_by n })
         (goes c (once_told c.rules.listener key (answer_of pair) (plan.Post (Upsert n (old_stamp (answer_of pair))) ∷ rest)))
@@ -243,17 +251,17 @@ module _ {K V : Type 0} (eq : K → K → Bool) where
         by true is None e = o.2 is
         by true is (Some pair) e = o.3 pair.0 pair.1 is e
 
-    posts : (write : Write) (rest : List (Item K V)) (b : Bool) → has_room w.desk ≡ b → Outcomes M w n c (plan.Post write) rest →
+    posts : (write : Write) (rest : List (Item K V E)) (b : Bool) → has_room w.desk ≡ b → Outcomes M w n c (plan.Post write) rest →
         M (on_desk w (posted_if w.desk n write b)) (after_post c write rest (found.PostWrite b))
     posts write rest true e o = o.0 e
     posts write rest false e o = o.1 e
 
-    turned : (rest : List (Item K V)) (b : Bool) → is_free_for w.desk n ≡ b → Outcomes M w n c plan.Turn rest →
+    turned : (rest : List (Item K V E)) (b : Bool) → is_free_for w.desk n ≡ b → Outcomes M w n c plan.Turn rest →
         M (on_desk w (record w.desk { turn = cond b (Some n) w.desk.turn })) (after_turn c rest (found.TakeTurn b))
     turned rest true e o = o.0 e
     turned rest false e o = o.1 e
 
-    applied : (rest : List (Item K V)) (log : List Write) → w.desk.log ≡ log → Outcomes M w n c plan.Apply rest →
+    applied : (rest : List (Item K V E)) (log : List Write) → w.desk.log ≡ log → Outcomes M w n c plan.Apply rest →
         M (on_desk w (record w.desk { log = drop 1 log; applied = w.desk.applied ++ take 1 log }))
         (after_apply c rest (found.ApplyOne (nat_lt 0 (length log))))
     applied rest [] e o =
@@ -263,21 +271,21 @@ module _ {K V : Type 0} (eq : K → K → Bool) where
         (λ b. M (on_desk w (record w.desk { log = xs; applied = w.desk.applied ++ x ∷ [] })) (after_apply c rest (found.ApplyOne b)))
         (sym (some_left (length xs))) (o.1 x xs e)
 
-    got : (aim : Aim K) (key : K) (rest : List (Item K V)) (pair : Option (K × Stored V)) →
+    got : (aim : Aim K V) (key : K) (rest : List (Item K V E)) (pair : Option (K × Stored V)) →
         w.table.stored key ≡ pair → Outcomes M w n c (plan.Get aim key) rest →
         M (done w n) (after_get c aim (table.Decided (answer_of pair)))
     got aim key rest None e o = o.1 e
     got aim key rest (Some pair) e o = o.2 pair.0 pair.1 e
 
     judged_so : (key : K) (stamp : ℕ) (cause : Cause) (there : K) (stored : Stored V)
-        (rest : List (Item K V))
+        (rest : List (Item K V E))
         (b : Bool) → has_to_leave w.desk stored cause ≡ b →
         Outcomes M w n c (plan.Holds key stamp cause there stored) rest →
         M w (after_holds c key stamp cause (found.Holds b))
     judged_so key stamp cause there stored rest true e o = o.0 e
     judged_so key stamp cause there stored rest false e o = o.1 e
 
-    took : (removal : Removal) (key : K) (rest : List (Item K V)) (out : Option (K × Stored V)) →
+    took : (removal : Removal) (key : K) (rest : List (Item K V E)) (out : Option (K × Stored V)) →
         taken_by (stamp_asked removal) (w.table.stored key) ≡ out →
         Outcomes M w n c (plan.Out removal key) rest →
         M (record w { table = by_pair out (removed eq n w.table key) w.table; stay = decided_by n })
@@ -295,30 +303,41 @@ module _ {K V : Type 0} (eq : K → K → Bool) where
         by false is = o.3 pair.0 pair.1 is e
         by true is = o.4 pair.0 pair.1 is e
 
-    owned : (load : Load K) (rest : List (Item K V)) (owner : Option ℕ) → w.desk.owners load ≡ owner →
-        Outcomes M w n c (plan.Own load) rest →
-        M (on_desk w (claimed eq w.desk n load owner)) (after_own c load (found.WaitOrOwn (claim_of owner)))
-    owned load rest None e o = by (is_disabled c.rules) refl
+    -- the record that was found is seen, or not
+    judged_as : (aim : Aim K V) (key : K) (stored : Stored V) (rest : List (Item K V E)) (b : Bool) →
+        is_seen w.desk (replace_of aim) key stored ≡ b →
+        Outcomes M w n c (plan.Judge aim key stored) rest →
+        M (on_desk w (judged w.desk stored.stamp stored.modified b))
+        (after_judge c aim stored (found.Judge b))
+    judged_as aim key stored rest true e o = o.0 e
+    judged_as aim key stored rest false e o = o.1 e
+
+    owned : (sought : Sought K) (rest : List (Item K V E)) (owner : Option ℕ) →
+        w.desk.owners sought.load ≡ owner → Outcomes M w n c (plan.Own sought) rest →
+        M (on_desk w (claimed eq w.desk n sought.load owner))
+        (after_own c sought (found.WaitOrOwn (claim_of owner)))
+    owned sought rest None e o = by (is_disabled c.rules) refl
       where
         by : (b : Bool) → is_disabled c.rules ≡ b →
-            M (on_desk w (claimed eq w.desk n load None)) (goes c (owner_rest b load))
+            M (on_desk w (claimed eq w.desk n sought.load None)) (goes c (owner_rest b sought))
         by false is = o.0 is e
         by true is = o.1 is e
-    owned load rest (Some owner) e o = o.2 owner e
+    owned sought rest (Some owner) e o = o.2 owner e
 
-    was_told : (load : Load K) (rest : List (Item K V)) (with : Option (Settled V)) → settlement_for w.desk n ≡ with →
-        Outcomes M w n c (plan.Read load) rest →
-        M (on_desk w (cond (is_some with) (was_read w.desk n) w.desk)) (after_read c load (found.ReadSettled (unwrap_or with settled.NotYet)))
-    was_told load rest None e o = o.0 e
-    was_told load rest (Some with) e o = o.1 with e
+    was_told : (sought : Sought K) (rest : List (Item K V E)) (with : Option (Settled V E)) →
+        settlement_for w.desk n ≡ with → Outcomes M w n c (plan.Read sought) rest →
+        M (on_desk w (cond (is_some with) (was_read w.desk n) w.desk))
+        (after_read c sought (found.ReadSettled (unwrap_or with settled.NotYet)))
+    was_told sought rest None e o = o.0 e
+    was_told sought rest (Some with) e o = o.1 with e
 
-    taken : (load : Load K) (rest : List (Item K V)) (given : Option (Told V)) → w.desk.told n ≡ given →
+    taken : (load : Load K) (rest : List (Item K V E)) (given : Option (Told V E)) → w.desk.told n ≡ given →
         Outcomes M w n c (plan.Told load) rest →
         M (on_desk w (took_told w.desk n)) (after_told c load (found.TakeTold given))
     taken load rest None e o = subst (λ v. M (on_desk w (record w.desk { told = v })) (waits c)) (sym (put_same w.desk.told n None e)) (o.0 e)
     taken load rest (Some given) e o = o.1 given e
 
-  pub outcomes : (M : World K V → Next K V → Type 0) (w : World K V) (n : ℕ) (c : Call K V) (item : Item K V) (rest : List (Item K V)) →
+  pub outcomes : (M : World K V E → Next K V E → Type 0) (w : World K V E) (n : ℕ) (c : Call K V E) (item : Item K V E) (rest : List (Item K V E)) →
       Outcomes M w n c item rest → OnAccess eq M w n c item rest (access_for n item)
   outcomes M w n c plan.Drain rest o = drained M w n c rest w.desk.owed refl o
   outcomes M w n c (plan.Ended number) rest o = heard M w n c rest number (is_running w.desk number) refl o
@@ -333,9 +352,12 @@ module _ {K V : Type 0} (eq : K → K → Bool) where
   outcomes M w n c plan.End rest o = o
   outcomes M w n c (plan.Get aim key) rest o =
       (o.0, λ answer t h. rw (h.1, h.0) (got M w n c aim key rest (w.table.stored key) refl o))
-  outcomes M w n c (plan.Judge aim key stored) rest o = o
-  outcomes M w n c (plan.Own load) rest o = owned M w n c load rest (w.desk.owners load) refl o
-  outcomes M w n c (plan.Read load) rest o = was_told M w n c load rest (settlement_for w.desk n) refl o
+  outcomes M w n c (plan.Judge aim key stored) rest o =
+      judged_as M w n c aim key stored rest (is_seen w.desk (replace_of aim) key stored) refl o
+  outcomes M w n c (plan.Own sought) rest o =
+      owned M w n c sought rest (w.desk.owners sought.load) refl o
+  outcomes M w n c (plan.Read sought) rest o =
+      was_told M w n c sought rest (settlement_for w.desk n) refl o
   outcomes M w n c (plan.Settle with) rest o = o
   outcomes M w n c (plan.Ask load) rest o = o
   outcomes M w n c (plan.Told load) rest o = taken M w n c load rest (w.desk.told n) refl o

@@ -55,22 +55,23 @@ module _ {K V : Type 0} (eq : K → K → Bool) where
       by None = under
       by (Some pair) = λ q p is. under q p (gone (eq key q) (w.stored q) p is)
 
-  access_keeps : (n : ℕ) (w new : World K V) (a : Access K V) (g : Got K V) → Gets eq n w a g new → IsUnder w.table.stored → IsUnder new.table.stored
-  access_keeps n w new (step.On_table o) (got.Table table.Going) gets under = subst (λ (v : World K V). IsUnder v.table.stored) (sym gets.1) under
+module _ {K V E : Type 0} (eq : K → K → Bool) where
+  access_keeps : (n : ℕ) (w new : World K V E) (a : Access K V E) (g : Got K V E) → Gets eq n w a g new → IsUnder eq w.table.stored → IsUnder eq new.table.stored
+  access_keeps n w new (step.On_table o) (got.Table table.Going) gets under = subst (λ (v : World K V E). IsUnder eq v.table.stored) (sym gets.1) under
   access_keeps n w new (step.On_table o) (got.Table (table.Decided answer)) gets under =
-      subst (λ (v : World K V). IsUnder v.table.stored) (sym gets.2) (operation_keeps n w.table gets.0 o answer gets.1 under)
-  access_keeps n w new (step.On_desk made) (got.Desk found) gets under = subst (λ (v : World K V). IsUnder v.table.stored) (sym gets.1) under
+      subst (λ (v : World K V E). IsUnder eq v.table.stored) (sym gets.2) (operation_keeps eq n w.table gets.0 o answer gets.1 under)
+  access_keeps n w new (step.On_desk made) (got.Desk found) gets under = subst (λ (v : World K V E). IsUnder eq v.table.stored) (sym gets.1) under
   access_keeps n w new (step.On_table o) (got.Desk found) gets under = absurd gets
   access_keeps n w new (step.On_desk made) (got.Table turn) gets under = absurd gets
 
-  step_keeps : (s t : State K V) (n : ℕ) (turn : Turn K V) → UnderOwnKeys eq s → Step eq s n turn t → UnderOwnKeys eq t
+  step_keeps : (s t : State K V E) (n : ℕ) (turn : Turn K V E) → UnderOwnKeys eq s → Step eq s n turn t → UnderOwnKeys eq t
   step_keeps s t n turn under h =
-      subst (λ (v : State K V). IsUnder v.world.table.stored) (sym h.after)
+      subst (λ (v : State K V E). IsUnder eq v.world.table.stored) (sym h.after)
       (access_keeps n s.world h.world (access_of n h.call) h.given h.gets under)
 
-  kept : IsKept {K = K} {V = V} eq (UnderOwnKeys {K = K} {V = V} eq)
+  kept : IsKept {K = K} {V = V} {E = E} eq (UnderOwnKeys {K = K} {V = V} {E = E} eq)
   kept = record {
-    fresh = λ rules size has_log q p is. cc;
+    fresh = λ rules size tests has_log q p is. cc;
     at = λ s moment under. under;
     start = λ s start under. under;
     step = step_keeps;
@@ -79,5 +80,5 @@ module _ {K V : Type 0} (eq : K → K → Bool) where
     drop = λ s n c live parked under. under;
   }
 
-  pub under_own_keys : ReachedIsUnderOwnKeys K V eq
-  under_own_keys s reached = in_reached eq (UnderOwnKeys {K = K} {V = V} eq) kept s reached
+  pub under_own_keys : ReachedIsUnderOwnKeys K V E eq
+  under_own_keys s reached = in_reached eq (UnderOwnKeys {K = K} {V = V} {E = E} eq) kept s reached

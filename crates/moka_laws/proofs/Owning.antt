@@ -3,6 +3,8 @@ use Rattle.std.proofs.Common.{◌≡◌, ℕ, ◌+◌, ◌==◌, Bool, true, fal
 use Rattle.std.proofs.lemmas.Bool.{false≢true}
 use Rattle.std.specs.Option.{option_map_or}
 use Rattle.std.specs.Cmp.{IsEquivalence}
+use Rattle.moka_hist.specs.Step.{replace_of}
+use Rattle.moka_hist.specs.Visits.{is_seen}
 use Rattle.moka_hist.specs.Finite.{put_key, load_eq, kind_eq}
 use Rattle.moka_hist.specs.State.{State, World, Call, DeskPart}
 use Rattle.moka_hist.specs.Plan.{Item, Aim, plan_of}
@@ -16,8 +18,9 @@ use Rattle.moka_hist.specs.Run.{IsReached, fresh_call}
 use Rattle.moka_hist.specs.Places.{Initializes}
 use Rattle.moka_hist.specs.declared.records.Stored.{Stored}
 use Rattle.moka_hist.specs.declared.loads.Load.{Load}
+use Rattle.moka_hist.specs.declared.loads.Sought.{Sought}
 use Rattle.moka_hist.specs.declared.loads.Kind.{Kind}
-use Rattle.moka_hist.specs.declared.loads.Kind.TheVariants.{GetWith}
+use Rattle.moka_hist.specs.declared.loads.Kind.TheVariants.{GetWith, Optional, Try}
 use Rattle.moka_hist.specs.declared.rules.Rules.{Rules}
 use Rattle.moka_hist.specs.declared.events.Start.{Start}
 use Rattle.moka_hist.specs.declared.events.Told.{Told}
@@ -26,31 +29,49 @@ use Rattle.moka_hist.specs.declared.visits.Settled.{Settled}
 use Rattle.moka_hist.specs.declared.visits.Settled.TheVariants as settled
 use Rattle.moka_hist.specs.declared.visits.Found.TheVariants as found
 use Rattle.moka_hist.specs.declared.accesses.Turn.{Turn}
-use Rattle.moka_laws.proofs.Rules.{loaded_plans, kept_next, chosen_next, IsFresh, Disabled, fresh_plan}
+use Rattle.moka_laws.proofs.Rules.{put_plans, loaded_plans, kept_next, chosen_next, IsFresh, Disabled, fresh_plan}
 use Rattle.moka_laws.proofs.Counting.{some_same, none_some, put_cases, other_number}
 use Rattle.moka_laws.proofs.Weights.{weigh}
 use Rattle.moka_laws.proofs.Kept.{IsKept, in_reached}
 use Rattle.moka_laws.proofs.StepCases.{OnStep, step_cases}
 use Rattle.moka_laws.proofs.Outcomes.{Outcomes, outcomes}
 
--- kinds are equal as one, and so are loads, where keys are equal by an equivalence
-kinds_alike : (a b : Kind) → kind_eq a b ≡ true
-kinds_alike GetWith GetWith = refl
+-- a kind is equal to itself, and to no other
+kind_self : (a : Kind) → kind_eq a a ≡ true
+kind_self GetWith = refl
+kind_self Optional = refl
+kind_self Try = refl
+
+pub kind_one : (a b : Kind) → kind_eq a b ≡ true → a ≡ b
+kind_one GetWith GetWith e = refl
+kind_one Optional Optional e = refl
+kind_one Try Try e = refl
+kind_one GetWith Optional e = absurd (false≢true e)
+kind_one GetWith Try e = absurd (false≢true e)
+kind_one Optional GetWith e = absurd (false≢true e)
+kind_one Optional Try e = absurd (false≢true e)
+kind_one Try GetWith e = absurd (false≢true e)
+kind_one Try Optional e = absurd (false≢true e)
 
 and_left : (x y : Bool) → (x && y) ≡ true → x ≡ true
 and_left true y h = refl
 and_left false y h = absurd (false≢true h)
 
+pub and_right : (x y : Bool) → (x && y) ≡ true → y ≡ true
+and_right true y h = h
+and_right false y h = absurd (false≢true h)
+
 module _ {K : Type 0} (eq : K → K → Bool) (laws : IsEquivalence eq) where
   pub loads_self : (a : Load K) → load_eq eq a a ≡ true
-  loads_self a = rw (laws.refl a.key, kinds_alike a.kind a.kind) refl
+  loads_self a = rw (laws.refl a.key, kind_self a.kind) refl
 
   -- a load is equal to both or to neither of two that are equal
   pub loads_alike : (l a b : Load K) → load_eq eq a b ≡ true → load_eq eq l a ≡ load_eq eq l b
   loads_alike l a b e =
       let keys = and_left _ _ e in
       let alike : eq l.key a.key ≡ eq l.key b.key = laws.symm l.key a.key ∙ laws.congr a.key b.key l.key keys ∙ laws.symm b.key l.key in
-      rw (kinds_alike l.kind a.kind, kinds_alike l.kind b.kind, alike) refl
+      let kinds : a.kind ≡ b.kind = kind_one a.kind b.kind (and_right _ _ e) in
+      rw (kinds, alike) refl
 
 -- who owned a load owns it still, but for the call
 abbrev OthersOwn : {K : Type 0} → ℕ → (Load K → Option ℕ) → (Load K → Option ℕ) → Type 0
@@ -61,132 +82,152 @@ module _ {K : Type 0} (eq : K → K → Bool) where
   abbrev pub OneOwner : (Load K → Option ℕ) → Type 0
   OneOwner owners = (a b : Load K) → load_eq eq a b ≡ true → owners a ≡ owners b
 
-module _ {K V : Type 0} where
+module _ {K V E : Type 0} where
   -- the item is one of an owner that has not yet asked, or whose ask is open
-  abbrev owning : Item K V → ℕ
-  owning (plan.Get (plan.To_own load) key) = 1
-  owning (plan.Judge (plan.To_own load) key stored) = 1
+  abbrev owning : Item K V E → ℕ
+  owning (plan.Get (plan.To_own sought) key) = 1
+  owning (plan.Judge (plan.To_own sought) key stored) = 1
   owning (plan.Ask load) = 1
   owning (plan.Told load) = 1
   owning _ = 0
 
   -- the load that the plan's first item wants owned
-  abbrev wanted : List (Item K V) → Option (Load K)
-  wanted (plan.Get (plan.To_own load) key ∷ rest) = Some load
-  wanted (plan.Judge (plan.To_own load) key stored ∷ rest) = Some load
+  abbrev pub wanted : List (Item K V E) → Option (Load K)
+  wanted (plan.Get (plan.To_own sought) key ∷ rest) = Some sought.load
+  wanted (plan.Judge (plan.To_own sought) key stored ∷ rest) = Some sought.load
   wanted (plan.Ask load ∷ rest) = Some load
   wanted (plan.Told load ∷ rest) = Some load
   wanted _ = None
 
-  abbrev behind : List (Item K V) → ℕ
+  abbrev behind : List (Item K V E) → ℕ
   behind [] = 0
   behind (item ∷ rest) = weigh owning rest
 
-  abbrev pub plan_left : Option (Call K V) → List (Item K V)
+  abbrev pub plan_left : Option (Call K V E) → List (Item K V E)
   plan_left None = []
   plan_left (Some c) = c.plan
 
   -- the call owns the load that its first item wants owned, and no later item wants one
-  pub record Owns (owners : Load K → Option ℕ) (n : ℕ) (plan : List (Item K V)) : Type 0 where
+  pub record Owns (owners : Load K → Option ℕ) (n : ℕ) (plan : List (Item K V E)) : Type 0 where
     pub first : (load : Load K) → wanted plan ≡ Some load → owners load ≡ Some n
     pub later : behind plan ≡ 0
 
   module _ (owners : Load K → Option ℕ) (n : ℕ) where
-    owns_none : (plan : List (Item K V)) → weigh owning plan ≡ 0 → Owns owners n plan
+    owns_none : (plan : List (Item K V E)) → weigh owning plan ≡ 0 → Owns owners n plan
     owns_none [] h = record { first = λ l e. absurd (none_some e); later = refl }
-    owns_none (plan.Get (plan.To_own load) key ∷ rest) h = absurd (omega arith)
-    owns_none (plan.Judge (plan.To_own load) key stored ∷ rest) h = absurd (omega arith)
+    owns_none (plan.Get (plan.To_own sought) key ∷ rest) h = absurd (omega arith)
+    owns_none (plan.Judge (plan.To_own sought) key stored ∷ rest) h = absurd (omega arith)
     owns_none (plan.Ask load ∷ rest) h = absurd (omega arith)
     owns_none (plan.Told load ∷ rest) h = absurd (omega arith)
     owns_none (_ ∷ rest) h = record { first = λ l e. absurd (none_some e); later = omega arith }
 
-    goes_owns : (c : Call K V) (rest : List (Item K V)) → weigh owning rest ≡ 0 → Owns owners n (plan_left (goes c rest).left)
+    goes_owns : (c : Call K V E) (rest : List (Item K V E)) → weigh owning rest ≡ 0 → Owns owners n (plan_left (goes c rest).left)
     goes_owns c (plan.Reply a ∷ []) h = owns_none [] refl
     goes_owns c (plan.Reply a ∷ x ∷ rest) h = owns_none (plan.Reply a ∷ x ∷ rest) h
     goes_owns c [] h = owns_none [] h
     goes_owns c (item ∷ rest) h = owns_none (item ∷ rest) h
 
-    keeps_owns : (c : Call K V) → Owns owners n (plan_left (stays c).left)
+    keeps_owns : (c : Call K V E) → Owns owners n (plan_left (stays c).left)
     keeps_owns c = kept_next (λ v. Owns owners n (plan_left v.left)) c (λ off. owns_none [] refl)
         (λ on. owns_none (plan.Unlock false ∷ plan.Reply _ ∷ []) refl)
 
-    misses_owns : (c : Call K V) (aim : Aim K) (key : K) (rest : List (Item K V)) → Owns owners n (plan.Get aim key ∷ rest) →
+    misses_owns : (c : Call K V E) (aim : Aim K V) (key : K) (rest : List (Item K V E)) → Owns owners n (plan.Get aim key ∷ rest) →
         Owns owners n (plan_left (misses c aim).left)
     misses_owns c plan.To_answer key rest o = owns_none [] refl
-    misses_owns c (plan.To_load load) key rest o = owns_none (plan.Own load ∷ []) refl
-    misses_owns c (plan.To_own load) key rest o = record { first = o.first; later = refl }
+    misses_owns c (plan.To_load sought) key rest o = owns_none (plan.Own sought ∷ []) refl
+    misses_owns c (plan.To_own sought) key rest o = record { first = o.first; later = refl }
+    misses_owns c (plan.To_insert there value) key rest o =
+        put_plans (λ p. Owns owners n (plan_left (goes c p).left)) c.rules there value _
+        (owns_none _ refl) (owns_none _ refl)
     misses_owns c (plan.To_evict there stamp cause) key rest o = keeps_owns c
 
-    finds_owns : (c : Call K V) (aim : Aim K) (key k : K) (stored : Stored V) (rest : List (Item K V)) →
+    -- the record that was judged is not seen by its replace test: so the call is to load
+    unseen_owns : (c : Call K V E) (d : DeskPart K V E) (aim : Aim K V) (key : K) (stored : Stored V)
+        (rest : List (Item K V E)) → is_seen d (replace_of aim) key stored ≡ false →
+        Owns owners n (plan.Judge aim key stored ∷ rest) → Owns owners n (plan_left (misses c aim).left)
+    unseen_owns c d (plan.To_load sought) key stored rest e o =
+        owns_none (plan.Own sought ∷ []) refl
+    unseen_owns c d (plan.To_own sought) key stored rest e o =
+        record { first = o.first; later = refl }
+    unseen_owns c d _ key stored rest e o = absurd (false≢true (sym e))
+
+    finds_owns : (c : Call K V E) (aim : Aim K V) (key k : K) (stored : Stored V) (rest : List (Item K V E)) →
         Owns owners n (plan.Get aim key ∷ rest) →
         Owns owners n (plan_left (finds_pair c aim k stored).left)
     finds_owns c plan.To_answer key k stored rest o =
         owns_none (plan.Judge plan.To_answer k stored ∷ []) refl
-    finds_owns c (plan.To_load load) key k stored rest o =
-        owns_none (plan.Judge (plan.To_load load) k stored ∷ []) refl
-    finds_owns c (plan.To_own load) key k stored rest o = record { first = o.first; later = refl }
+    finds_owns c (plan.To_load sought) key k stored rest o =
+        owns_none (plan.Judge (plan.To_load sought) k stored ∷ []) refl
+    finds_owns c (plan.To_insert under new) key k stored rest o =
+        owns_none (plan.Judge (plan.To_insert under new) k stored ∷ []) refl
+    finds_owns c (plan.To_own sought) key k stored rest o = record { first = o.first; later = refl }
     finds_owns c (plan.To_evict there stamp cause) key k stored rest o =
         chosen_next (λ v. Owns owners n (plan_left v.left)) c there stamp cause k stored
         (λ off. owns_none [] refl) (λ on. owns_none (plan.Unlock false ∷ plan.Reply _ ∷ []) refl)
         (owns_none (plan.Holds there stamp cause k stored ∷ []) refl)
 
-    hits_owns : (c : Call K V) (aim : Aim K) (value : V) → Owns owners n c.plan →
+    hits_owns : (c : Call K V E) (aim : Aim K V) (value : V) → Owns owners n c.plan →
         Owns owners n (plan_left (hits c aim value).left)
     hits_owns c plan.To_answer value p = owns_none [] refl
-    hits_owns c (plan.To_load load) value p = owns_none [] refl
-    hits_owns c (plan.To_own load) value p =
+    hits_owns c (plan.To_load sought) value p = owns_none [] refl
+    hits_owns c (plan.To_insert under new) value p = owns_none [] refl
+    hits_owns c (plan.To_own sought) value p =
         owns_none (plan.Settle (settled.Ready value) ∷ plan.Reply _ ∷ []) refl
     hits_owns c (plan.To_evict key stamp cause) value p = p
 
-    either_owns : (b : Bool) (x y : Next K V) → Owns owners n (plan_left x.left) → Owns owners n (plan_left y.left) →
+    either_owns : (b : Bool) (x y : Next K V E) → Owns owners n (plan_left x.left) → Owns owners n (plan_left y.left) →
         Owns owners n (plan_left (cond b x y).left)
     either_owns true x y h k = h
     either_owns false x y h k = k
 
-    read_owns : (c : Call K V) (load : Load K) (with : Settled V) → Owns owners n c.plan →
-        Owns owners n (plan_left (after_read c load (found.ReadSettled with)).left)
-    read_owns c load (settled.Ready value) h = owns_none [] refl
-    read_owns c load settled.NotYet h = h
-    read_owns c load settled.Aborted h = either_owns (c.aborts + 1 == retries) _ _ (owns_none [] refl) (owns_none (plan.Own load ∷ []) refl)
+    read_owns : (c : Call K V E) (sought : Sought K) (with : Settled V E) → Owns owners n c.plan →
+        Owns owners n (plan_left (after_read c sought (found.ReadSettled with)).left)
+    read_owns c sought (settled.Ready value) h = owns_none [] refl
+    read_owns c sought (settled.Err error) h = owns_none [] refl
+    read_owns c sought settled.Nothing h = owns_none [] refl
+    read_owns c sought settled.NotYet h = h
+    read_owns c sought settled.Aborted h = either_owns (c.aborts + 1 == retries) _ _ (owns_none [] refl) (owns_none (plan.Own sought ∷ []) refl)
 
-    told_owns : (c : Call K V) (load : Load K) (given : Told V) → Owns owners n c.plan →
+    told_owns : (c : Call K V E) (load : Load K) (given : Told V E) → Owns owners n c.plan →
         Owns owners n (plan_left (after_told c load (found.TakeTold (Some given))).left)
     told_owns c load (answer.Value value) h =
         loaded_plans (λ p. Owns owners n (plan_left (goes c p).left)) c.rules load value
         (owns_none _ refl) (owns_none _ refl) (owns_none _ refl)
+    told_owns c load answer.Nothing h = owns_none _ refl
+    told_owns c load (answer.Err error) h = owns_none _ refl
     told_owns c load answer.Done h = h
     told_owns c load answer.Off h = h
 
-    fresh_weighs : (rules : Rules) (p : List (Item K V)) → IsFresh rules p → weigh owning p ≡ 0
-    fresh_weighs rules p (Disabled a d) = refl
+    fresh_weighs : (rules : Rules) (p : List (Item K V E)) → IsFresh rules p → weigh owning p ≡ 0
+    fresh_weighs rules p (Disabled a d plain) = refl
     fresh_weighs rules p _ = refl
 
     fresh_owns : (rules : Rules) (start : Start K V) → Owns owners n (plan_of rules start)
     fresh_owns rules start =
         owns_none (plan_of rules start) (fresh_weighs rules (plan_of rules start) (fresh_plan rules start))
 
-module _ {K V : Type 0} (eq : K → K → Bool) where
+module _ {K V E : Type 0} (eq : K → K → Bool) where
   -- each live call owns what it asks for, and equal loads have one owner
-  pub record IsOwned (s : State K V) : Type 0 where
+  pub record IsOwned (s : State K V E) : Type 0 where
     pub one_owner : OneOwner eq s.world.desk.owners
-    pub calls : (n : ℕ) (c : Call K V) → s.calls n ≡ Some c → Owns s.world.desk.owners n c.plan
+    pub calls : (n : ℕ) (c : Call K V E) → s.calls n ≡ Some c → Owns s.world.desk.owners n c.plan
 
   -- what a step has to show
-  record Leaves (w : World K V) (n : ℕ) (new : World K V) (next : Next K V) : Type 0 where
+  record Leaves (w : World K V E) (n : ℕ) (new : World K V E) (next : Next K V E) : Type 0 where
     one_owner : OneOwner eq new.desk.owners
     owns : Owns new.desk.owners n (plan_left next.left)
     others : OthersOwn n w.desk.owners new.desk.owners
 
   -- ---- the owners without a call
 
-  without_one_owner : (d : DeskPart K V) (n : ℕ) → OneOwner eq d.owners → OneOwner eq (owners_without d n)
+  without_one_owner : (d : DeskPart K V E) (n : ℕ) → OneOwner eq d.owners → OneOwner eq (owners_without d n)
   without_one_owner d n one a b e = ap (λ o. cond (option_map_or (λ v. v == n) o false) None o) (one a b e)
 
-  without_others : (d : DeskPart K V) (n : ℕ) → OthersOwn n d.owners (owners_without d n)
+  without_others : (d : DeskPart K V E) (n : ℕ) → OthersOwn n d.owners (owners_without d n)
   without_others d n m h load e = ap (λ o. cond (option_map_or (λ v. v == n) o false) None o) e ∙ ap
       (λ b. cond {A = Option ℕ} b None (Some m)) (other_number n m h)
 
-  module _ (laws : IsEquivalence eq) (w : World K V) (n : ℕ) (c : Call K V) (one : OneOwner eq w.desk.owners) where
+  module _ (laws : IsEquivalence eq) (w : World K V E) (n : ℕ) (c : Call K V E) (one : OneOwner eq w.desk.owners) where
     -- ---- the owners with a call that owns a load which nobody owned
 
     claimed_one_owner : (load : Load K) → OneOwner eq (put_key (load_eq eq) w.desk.owners load (Some n))
@@ -216,11 +257,11 @@ module _ {K V : Type 0} (eq : K → K → Bool) where
         (claimed_owns load)
 
     -- the owners are as they were
-    keeps : {new : World K V} {next : Next K V} → new.desk.owners ≡ w.desk.owners → Owns new.desk.owners n (plan_left next.left) →
+    keeps : {new : World K V E} {next : Next K V E} → new.desk.owners ≡ w.desk.owners → Owns new.desk.owners n (plan_left next.left) →
         Leaves w n new next
     keeps e o = record { one_owner = subst (OneOwner eq) (sym e) one; owns = o; others = λ m h load f. subst (λ v. v load ≡ Some m) (sym e) f }
 
-    on_item : (item : Item K V) (rest : List (Item K V)) → Owns w.desk.owners n c.plan → Owns w.desk.owners n (item ∷ rest) →
+    on_item : (item : Item K V E) (rest : List (Item K V E)) → Owns w.desk.owners n c.plan → Owns w.desk.owners n (item ∷ rest) →
         Outcomes eq (Leaves w n) w n c item rest
     on_item plan.Drain rest p o = (
       λ e. keeps refl (goes_owns _ n c rest o.later),
@@ -252,21 +293,24 @@ module _ {K V : Type 0} (eq : K → K → Bool) where
       (λ none. keeps refl (misses_owns _ n c aim key rest o)),
       λ k stored some. keeps refl (finds_owns _ n c aim key k stored rest o),
     )
-    on_item (plan.Judge aim key stored) rest p o = keeps refl (hits_owns _ n c aim stored.value p)
-    on_item (plan.Own load) rest p o = (
+    on_item (plan.Judge aim key stored) rest p o = (
+      (λ seen. keeps refl (hits_owns _ n c aim stored.value p)),
+      λ unseen. keeps refl (unseen_owns _ n c w.desk aim key stored rest unseen o),
+    )
+    on_item (plan.Own sought) rest p o = (
       (λ able none. record {
-        one_owner = claimed_one_owner load;
-        owns = record { first = λ l e. owns_now load l e; later = refl };
-        others = claimed_others load none;
+        one_owner = claimed_one_owner sought.load;
+        owns = record { first = λ l e. owns_now sought.load l e; later = refl };
+        others = claimed_others sought.load none;
       }),
       (λ not none. record {
-        one_owner = claimed_one_owner load;
-        owns = record { first = λ l e. owns_now load l e; later = refl };
-        others = claimed_others load none;
+        one_owner = claimed_one_owner sought.load;
+        owns = record { first = λ l e. owns_now sought.load l e; later = refl };
+        others = claimed_others sought.load none;
       }),
-      λ owner some. keeps refl (owns_none _ n (plan.Read load ∷ []) refl),
+      λ owner some. keeps refl (owns_none _ n (plan.Read sought ∷ []) refl),
     )
-    on_item (plan.Read load) rest p o = (λ none. keeps refl p, λ with some. keeps refl (read_owns _ n c load with p))
+    on_item (plan.Read sought) rest p o = (λ none. keeps refl p, λ with some. keeps refl (read_owns _ n c sought with p))
     on_item (plan.Settle with) rest p o =
         record { one_owner = without_one_owner w.desk n one; owns = goes_owns _ n c rest o.later; others = without_others w.desk n }
     on_item (plan.Ask load) rest p o = keeps refl (record { first = o.first; later = refl })
@@ -296,17 +340,17 @@ module _ {K V : Type 0} (eq : K → K → Bool) where
     on_item plan.Idle rest p o = keeps refl (goes_owns _ n c rest o.later)
     on_item (plan.Reply answer) rest p o = keeps refl (owns_none _ n [] refl)
 
-    on_plan : (plan : List (Item K V)) → c.plan ≡ plan → Owns w.desk.owners n c.plan → OnStep eq (Leaves w n) w n c plan
+    on_plan : (plan : List (Item K V E)) → c.plan ≡ plan → Owns w.desk.owners n c.plan → OnStep eq (Leaves w n) w n c plan
     on_plan [] e p = keeps refl p
     on_plan (item ∷ rest) e p = outcomes eq (Leaves w n) w n c item rest (on_item item rest p (subst (Owns w.desk.owners n) e p))
 
-module _ {K V : Type 0} (eq : K → K → Bool) (laws : IsEquivalence eq) where
+module _ {K V E : Type 0} (eq : K → K → Bool) (laws : IsEquivalence eq) where
   -- what another call owns it owns still
-  owns_still : (n m : ℕ) (f g : Load K → Option ℕ) (plan : List (Item K V)) → (n == m) ≡ false → OthersOwn n f g → Owns f m plan →
+  owns_still : (n m : ℕ) (f g : Load K → Option ℕ) (plan : List (Item K V E)) → (n == m) ≡ false → OthersOwn n f g → Owns f m plan →
       Owns g m plan
   owns_still n m f g plan h others o = record { first = λ load e. others m h load (o.first load e); later = o.later }
 
-  owned : (s : State K V) (n : ℕ) (w : World K V) (next : Next K V) → IsOwned eq s → Leaves eq s.world n w next →
+  owned : (s : State K V E) (n : ℕ) (w : World K V E) (next : Next K V E) → IsOwned eq s → Leaves eq s.world n w next →
       IsOwned eq (state_after s n w next)
   owned s n w next i l = record {
     one_owner = l.one_owner;
@@ -316,15 +360,15 @@ module _ {K V : Type 0} (eq : K → K → Bool) (laws : IsEquivalence eq) where
         (λ there is. owns_still n m s.world.desk.owners w.desk.owners c.plan there l.others (i.calls m c is));
   }
 
-  owned_step : (s t : State K V) (n : ℕ) (turn : Turn K V) → IsOwned eq s → Step eq s n turn t → IsOwned eq t
+  owned_step : (s t : State K V E) (n : ℕ) (turn : Turn K V E) → IsOwned eq s → Step eq s n turn t → IsOwned eq t
   owned_step s t n turn i step =
-      let c : Call K V = step.call in
+      let c : Call K V E = step.call in
       step_cases eq (Leaves eq s.world n) (λ v _. IsOwned eq v) s t n turn step
       (on_plan eq laws s.world n c i.one_owner c.plan refl (i.calls n c step.live)) (λ w next. owned s n w next i)
 
-  owned_kept : IsKept eq (IsOwned {K = K} {V = V} eq)
+  owned_kept : IsKept eq (IsOwned {K = K} {V = V} {E = E} eq)
   owned_kept = record {
-    fresh = λ rules size has_log. record { one_owner = λ a b e. refl; calls = λ n c live. absurd (none_some live) };
+    fresh = λ rules size tests has_log. record { one_owner = λ a b e. refl; calls = λ n c live. absurd (none_some live) };
     at = λ s moment i. record { one_owner = i.one_owner; calls = i.calls };
     start = λ s start i. record {
       one_owner = i.one_owner;
@@ -346,14 +390,14 @@ module _ {K V : Type 0} (eq : K → K → Bool) (laws : IsEquivalence eq) where
     };
   }
 
-  pub in_owned : (s : State K V) → IsReached eq s → IsOwned eq s
+  pub in_owned : (s : State K V E) → IsReached eq s → IsOwned eq s
   in_owned s h = in_reached eq (IsOwned eq) owned_kept s h
 
   -- a call with an open initializer owns its load
-  initializer_owns : (s : State K V) → IsOwned eq s → (n : ℕ) (load : Load K) → Initializes s n load → s.world.desk.owners load ≡ Some n
+  initializer_owns : (s : State K V E) → IsOwned eq s → (n : ℕ) (load : Load K) → Initializes s n load → s.world.desk.owners load ≡ Some n
   initializer_owns s i n load h = (i.calls n h.call h.live).first load (ap wanted h.asked)
 
-  pub one_initializes : (s : State K V) → IsReached eq s → (n m : ℕ) (a b : Load K) → Initializes s n a → Initializes s m b →
+  pub one_initializes : (s : State K V E) → IsReached eq s → (n m : ℕ) (a b : Load K) → Initializes s n a → Initializes s m b →
       load_eq eq a b ≡ true → n ≡ m
   one_initializes s h n m a b x y e =
       let i = in_owned s h in

@@ -21,6 +21,7 @@ use Rattle.moka_hist.specs.declared.events.Start.{Start}
 use Rattle.moka_hist.specs.declared.events.Told.{Told}
 use Rattle.moka_hist.specs.declared.events.Told.TheVariants as answer
 use Rattle.moka_hist.specs.declared.loads.Load.{Load}
+use Rattle.moka_hist.specs.declared.loads.Sought.{Sought}
 use Rattle.moka_hist.specs.declared.replies.Answer.{Answer}
 use Rattle.moka_hist.specs.declared.tables.TableTurn.TheVariants as table
 use Rattle.moka_hist.specs.declared.records.Stored.{Stored}
@@ -37,116 +38,127 @@ use Rattle.moka_laws.proofs.Weights.{weigh, weigh_call, weigh_goes}
 use Rattle.moka_laws.proofs.Posts.{among, among_owed, post_of, posts_held, fresh_clear}
 use Rattle.moka_laws.proofs.Balance.{IsBalanced, owed_append, among_last, times_first, with_calls}
 use Rattle.moka_laws.proofs.Balanced.{balanced_kept, gives_up}
-use Rattle.moka_laws.proofs.Rules.{loaded_plans, kept_next, chosen_by}
+use Rattle.moka_laws.proofs.Rules.{put_plans, loaded_plans, kept_next, chosen_by}
 use Rattle.moka_laws.proofs.Between.{run_more}
 use Rattle.moka_laws.proofs.OnePlace.{contains_times}
 use Rattle.moka_laws.proofs.Kept.{IsKept, IsStable, in_reached, runs}
 use Rattle.moka_laws.proofs.StepCases.{OnStep, step_cases}
 use Rattle.moka_laws.proofs.Outcomes.{Outcomes, outcomes}
 
-module _ {K V : Type 0} where
+module _ {K V E : Type 0} where
   -- ---- the write of a live call is with no other call, and isn't owed
 
   -- How a call with this plan goes on: it posts no other call's write but one that it posted before
   -- or that was owed, and it is gone where it answers.
-  record Parts (owed : ℕ → ℕ) (n : ℕ) (plan : List (Item K V)) (next : Next K V) : Type 0 where
+  record Parts (owed : ℕ → ℕ) (n : ℕ) (plan : List (Item K V E)) (next : Next K V E) : Type 0 where
     posts : (x : ℕ) → (n == x) ≡ false → weigh_call (post_of x) next.left ≤ weigh (post_of x) plan + owed x
-    gone : (a : Answer V) → next.turn ≡ turn.Answer a → next.left ≡ None
+    gone : (a : Answer V E) → next.turn ≡ turn.Answer a → next.left ≡ None
 
-  module _ (owed : ℕ → ℕ) (n : ℕ) (before : List (Item K V)) where
-    goes_parts : (c : Call K V) (rest : List (Item K V)) → ((x : ℕ) → (n == x) ≡ false → weigh (post_of x) rest ≤ weigh (post_of x) before + owed x) →
+  module _ (owed : ℕ → ℕ) (n : ℕ) (before : List (Item K V E)) where
+    goes_parts : (c : Call K V E) (rest : List (Item K V E)) → ((x : ℕ) → (n == x) ≡ false → weigh (post_of x) rest ≤ weigh (post_of x) before + owed x) →
         Parts owed n before (goes c rest)
     goes_parts c rest h = record {
       posts = λ x d. omega (arith, h x d, weigh_goes (post_of x) c rest (λ a. refl));
       gone = by rest;
     }
       where
-        by : (rest : List (Item K V)) → (a : Answer V) → (goes c rest).turn ≡ turn.Answer a → (goes c rest).left ≡ None
+        by : (rest : List (Item K V E)) → (a : Answer V E) → (goes c rest).turn ≡ turn.Answer a → (goes c rest).left ≡ None
         by (plan.Reply b ∷ []) a e = refl
         by (plan.Reply b ∷ x ∷ rest) a e = cc
         by [] a e = cc
         by (_ ∷ rest) a e = cc
 
     -- the call goes on with nothing to post
-    clear_parts : {next : Next K V} → ((x : ℕ) → weigh_call (post_of x) next.left ≡ 0) → ((a : Answer V) → next.turn ≡ turn.Answer a → next.left ≡ None) →
+    clear_parts : {next : Next K V E} → ((x : ℕ) → weigh_call (post_of x) next.left ≡ 0) → ((a : Answer V E) → next.turn ≡ turn.Answer a → next.left ≡ None) →
         Parts owed n before next
     clear_parts h g = record { posts = λ x d. omega (arith, h x); gone = g }
 
     -- the call is as it was
-    still_parts : (next : Next K V) → ((x : ℕ) → weigh_call (post_of x) next.left ≡ weigh (post_of x) before) → ((a : Answer V) → next.turn ≡ turn.Answer a → next.left ≡ None) →
+    still_parts : (next : Next K V E) → ((x : ℕ) → weigh_call (post_of x) next.left ≡ weigh (post_of x) before) → ((a : Answer V E) → next.turn ≡ turn.Answer a → next.left ≡ None) →
         Parts owed n before next
     still_parts next h g = record { posts = λ x d. omega (arith, h x); gone = g }
 
-  module _ (owed : ℕ → ℕ) (n : ℕ) (before : List (Item K V)) (c : Call K V) where
+  module _ (owed : ℕ → ℕ) (n : ℕ) (before : List (Item K V E)) (c : Call K V E) where
     keeps_parts : Parts owed n before (keeps c)
     keeps_parts = kept_next (Parts owed n before) c
         (λ off. clear_parts owed n before (λ x. refl) (λ a e. refl))
         (λ on. clear_parts owed n before (λ x. refl) (λ a e. cc))
 
-    misses_parts : (aim : Aim K) → Parts owed n before (misses c aim)
+    misses_parts : (aim : Aim K V) → Parts owed n before (misses c aim)
     misses_parts plan.To_answer = clear_parts owed n before (λ x. refl) (λ a e. refl)
-    misses_parts (plan.To_load load) = clear_parts owed n before (λ x. refl) (λ a e. cc)
-    misses_parts (plan.To_own load) = clear_parts owed n before (λ x. refl) (λ a e. cc)
+    misses_parts (plan.To_load sought) = clear_parts owed n before (λ x. refl) (λ a e. cc)
+    misses_parts (plan.To_own sought) = clear_parts owed n before (λ x. refl) (λ a e. cc)
+    misses_parts (plan.To_insert key value) =
+        put_plans (λ p. Parts owed n before (goes c p)) c.rules key value _
+        (clear_parts owed n before (λ x. refl) (λ a e. cc))
+        (clear_parts owed n before (λ x. refl) (λ a e. cc))
     misses_parts (plan.To_evict key stamp cause) = keeps_parts
 
-    finds_parts : (aim : Aim K) (there : K) (stored : Stored V) → Parts owed n before
+    finds_parts : (aim : Aim K V) (there : K) (stored : Stored V) → Parts owed n before
         (finds_pair c aim there stored)
     finds_parts plan.To_answer there stored = clear_parts owed n before (λ x. refl) (λ a e. cc)
-    finds_parts (plan.To_load load) there stored = clear_parts owed n before (λ x. refl) (λ a e. cc)
-    finds_parts (plan.To_own load) there stored = clear_parts owed n before (λ x. refl) (λ a e. cc)
+    finds_parts (plan.To_load sought) there stored = clear_parts owed n before (λ x. refl) (λ a e. cc)
+    finds_parts (plan.To_insert under new) there stored = clear_parts owed n before (λ x. refl) (λ a e. cc)
+    finds_parts (plan.To_own sought) there stored = clear_parts owed n before (λ x. refl) (λ a e. cc)
     finds_parts (plan.To_evict key stamp cause) there stored =
         chosen_by (Parts owed n before) c key stamp cause there stored (λ other. keeps_parts)
         (λ same. clear_parts owed n before (λ x. refl) (λ a e. cc))
 
-  hits_parts : (owed : ℕ → ℕ) (n : ℕ) (c : Call K V) (aim : Aim K) (value : V) → Parts owed n c.plan
+  hits_parts : (owed : ℕ → ℕ) (n : ℕ) (c : Call K V E) (aim : Aim K V) (value : V) → Parts owed n c.plan
       (hits c aim value)
   hits_parts owed n c plan.To_answer value = clear_parts owed n c.plan (λ x. refl) (λ a e. refl)
-  hits_parts owed n c (plan.To_load load) value = clear_parts owed n c.plan (λ x. refl)
+  hits_parts owed n c (plan.To_load sought) value = clear_parts owed n c.plan (λ x. refl)
       (λ a e. refl)
-  hits_parts owed n c (plan.To_own load) value = clear_parts owed n c.plan (λ x. refl) (λ a e. cc)
+  hits_parts owed n c (plan.To_insert under new) value = clear_parts owed n c.plan (λ x. refl)
+      (λ a e. refl)
+  hits_parts owed n c (plan.To_own sought) value = clear_parts owed n c.plan (λ x. refl) (λ a e. cc)
   hits_parts owed n c (plan.To_evict key stamp cause) value = still_parts owed n c.plan _
       (λ x. refl) (λ a e. cc)
 
-  read_parts : (owed : ℕ → ℕ) (n : ℕ) (c : Call K V) (load : Load K) (with : Settled V) → Parts owed n c.plan (after_read c load (found.ReadSettled with))
-  read_parts owed n c load (settled.Ready value) = clear_parts owed n c.plan (λ x. refl) (λ a e. refl)
-  read_parts owed n c load settled.NotYet = still_parts owed n c.plan _ (λ x. refl) (λ a e. cc)
-  read_parts owed n c load settled.Aborted = by (c.aborts + 1 == retries) refl
+  read_parts : (owed : ℕ → ℕ) (n : ℕ) (c : Call K V E) (sought : Sought K) (with : Settled V E) → Parts owed n c.plan (after_read c sought (found.ReadSettled with))
+  read_parts owed n c sought (settled.Ready value) = clear_parts owed n c.plan (λ x. refl) (λ a e. refl)
+  read_parts owed n c sought (settled.Err error) = clear_parts owed n c.plan (λ x. refl) (λ a e. refl)
+  read_parts owed n c sought settled.Nothing = clear_parts owed n c.plan (λ x. refl) (λ a e. refl)
+  read_parts owed n c sought settled.NotYet = still_parts owed n c.plan _ (λ x. refl) (λ a e. cc)
+  read_parts owed n c sought settled.Aborted = by (c.aborts + 1 == retries) refl
     where
-      by : (b : Bool) → (c.aborts + 1 == retries) ≡ b → Parts owed n c.plan (after_abort c load)
+      by : (b : Bool) → (c.aborts + 1 == retries) ≡ b → Parts owed n c.plan (after_abort c sought)
       by true e = rw e (clear_parts owed n c.plan (λ x. refl) (λ a e. refl))
       by false e = rw e (clear_parts owed n c.plan (λ x. refl) (λ a e. cc))
 
-  told_parts : (owed : ℕ → ℕ) (n : ℕ) (c : Call K V) (load : Load K) (given : Told V) → Parts owed n c.plan (after_told c load (found.TakeTold (Some given)))
+  told_parts : (owed : ℕ → ℕ) (n : ℕ) (c : Call K V E) (load : Load K) (given : Told V E) → Parts owed n c.plan (after_told c load (found.TakeTold (Some given)))
   told_parts owed n c load (answer.Value value) =
       loaded_plans (λ p. Parts owed n c.plan (goes c p)) c.rules load value
       (clear_parts owed n c.plan (λ x. refl) (λ a e. cc))
       (clear_parts owed n c.plan (λ x. refl) (λ a e. cc)) (clear_parts owed n c.plan (λ x. refl) (λ a e. cc))
+  told_parts owed n c load answer.Nothing = clear_parts owed n c.plan (λ x. refl) (λ a e. cc)
+  told_parts owed n c load (answer.Err error) = clear_parts owed n c.plan (λ x. refl) (λ a e. cc)
   told_parts owed n c load answer.Done = still_parts owed n c.plan _ (λ x. refl) (λ a e. cc)
   told_parts owed n c load answer.Off = still_parts owed n c.plan _ (λ x. refl) (λ a e. cc)
 
   -- what a step has to show
-  record Leaves (w : World K V) (n : ℕ) (plan : List (Item K V)) (new : World K V) (next : Next K V) : Type 0 where
+  record Leaves (w : World K V E) (n : ℕ) (plan : List (Item K V E)) (new : World K V E) (next : Next K V E) : Type 0 where
     owed : (x : ℕ) → among_owed x new.desk.owed ≤ among_owed x w.desk.owed
     last : new.desk.last ≡ w.desk.last
     parts : Parts (λ x. among_owed x w.desk.owed) n plan next
 
-  module _ (eq : K → K → Bool) (w : World K V) (n : ℕ) (c : Call K V) where
+  module _ (eq : K → K → Bool) (w : World K V E) (n : ℕ) (c : Call K V E) where
     abbrev owes : ℕ → ℕ
     owes x = among_owed x w.desk.owed
 
-    as_owed : {new : World K V} {next : Next K V} → new.desk.owed ≡ w.desk.owed → new.desk.last ≡ w.desk.last → Parts owes n c.plan next → Leaves w n c.plan new next
+    as_owed : {new : World K V E} {next : Next K V E} → new.desk.owed ≡ w.desk.owed → new.desk.last ≡ w.desk.last → Parts owes n c.plan next → Leaves w n c.plan new next
     as_owed e l p = record { owed = λ x. omega (arith, ap (among_owed x) e); last = l; parts = p }
 
     -- the call goes on with the rest, and with what it posts
-    goes_on : (item : Item K V) (rest : List (Item K V)) → c.plan ≡ item ∷ rest → Parts owes n c.plan (goes c rest)
+    goes_on : (item : Item K V E) (rest : List (Item K V E)) → c.plan ≡ item ∷ rest → Parts owes n c.plan (goes c rest)
     goes_on item rest e = goes_parts owes n c.plan c rest (λ x d. omega (arith, ap (weigh (post_of x)) e))
 
     -- the call goes on with another plan
-    moves : {next : Next K V} → ((a : Answer V) → next.turn ≡ turn.Answer a → ⊥) → ((x : ℕ) → (n == x) ≡ false → weigh_call (post_of x) next.left ≤ weigh (post_of x) c.plan + owes x) →
+    moves : {next : Next K V E} → ((a : Answer V E) → next.turn ≡ turn.Answer a → ⊥) → ((x : ℕ) → (n == x) ≡ false → weigh_call (post_of x) next.left ≤ weigh (post_of x) c.plan + owes x) →
         Parts owes n c.plan next
     moves going h = record { posts = h; gone = λ a e. absurd (going a e) }
 
-    on_item : (item : Item K V) (rest : List (Item K V)) → c.plan ≡ item ∷ rest → Outcomes eq (Leaves w n c.plan) w n c item rest
+    on_item : (item : Item K V E) (rest : List (Item K V E)) → c.plan ≡ item ∷ rest → Outcomes eq (Leaves w n c.plan) w n c item rest
     on_item plan.Drain rest e = (
       λ none. as_owed refl refl (goes_on plan.Drain rest e),
       λ y ys some. record {
@@ -197,16 +209,18 @@ module _ {K V : Type 0} where
       λ none. as_owed refl refl (misses_parts owes n c.plan c aim),
       λ k stored some. as_owed refl refl (finds_parts owes n c.plan c aim k stored),
     )
-    on_item (plan.Judge aim key stored) rest e = as_owed refl refl
-        (hits_parts owes n c aim stored.value)
-    on_item (plan.Own load) rest e = (
+    on_item (plan.Judge aim key stored) rest e = (
+      λ seen. as_owed refl refl (hits_parts owes n c aim stored.value),
+      λ unseen. as_owed refl refl (misses_parts owes n c.plan c aim),
+    )
+    on_item (plan.Own sought) rest e = (
       λ able none. as_owed refl refl (clear_parts owes n c.plan (λ x. refl) (λ a e. cc)),
       λ disabled none. as_owed refl refl (clear_parts owes n c.plan (λ x. refl) (λ a e. cc)),
       λ owner some. as_owed refl refl (clear_parts owes n c.plan (λ x. refl) (λ a e. cc)),
     )
-    on_item (plan.Read load) rest e = (
+    on_item (plan.Read sought) rest e = (
       λ none. as_owed refl refl (still_parts owes n c.plan _ (λ x. refl) (λ a e. cc)),
-      λ with some. as_owed refl refl (read_parts owes n c load with),
+      λ with some. as_owed refl refl (read_parts owes n c sought with),
     )
     on_item (plan.Settle with) rest e = as_owed refl refl (goes_on (plan.Settle with) rest e)
     on_item (plan.Ask load) rest e = as_owed refl refl (clear_parts owes n c.plan (λ x. refl) (λ a e. cc))
@@ -243,22 +257,22 @@ module _ {K V : Type 0} where
     )
     on_item (plan.Reply reply) rest e = as_owed refl refl (clear_parts owes n c.plan (λ x. refl) (λ a e. refl))
 
-    on_plan : (plan : List (Item K V)) → c.plan ≡ plan → OnStep eq (Leaves w n c.plan) w n c plan
+    on_plan : (plan : List (Item K V E)) → c.plan ≡ plan → OnStep eq (Leaves w n c.plan) w n c plan
     on_plan [] e = as_owed refl refl (still_parts owes n c.plan _ (λ x. refl) (λ a e. cc))
     on_plan (item ∷ rest) e = outcomes eq (Leaves w n c.plan) w n c item rest (on_item item rest e)
 
   -- The write of a live call isn't owed, and no other call posts it.
-  record IsAlone (s : State K V) (n : ℕ) : Type 0 where
+  record IsAlone (s : State K V E) (n : ℕ) : Type 0 where
     owed : among_owed n s.world.desk.owed ≡ 0
     others : (m : ℕ) → (n == m) ≡ false → weigh_call (post_of n) (s.calls m) ≡ 0
 
-  record AreAlone (s : State K V) : Type 0 where
+  record AreAlone (s : State K V E) : Type 0 where
     balanced : IsBalanced s
-    alone : (n : ℕ) (c : Call K V) → s.calls n ≡ Some c → IsAlone s n
+    alone : (n : ℕ) (c : Call K V E) → s.calls n ≡ Some c → IsAlone s n
 
   -- no live call is alone, once another has gone on
-  still_alone : (s : State K V) (n : ℕ) (c : Call K V) → s.calls n ≡ Some c → AreAlone s → (w : World K V) (next : Next K V) → Leaves s.world n c.plan w next →
-      (m : ℕ) (d : Call K V) → put_at s.calls n next.left m ≡ Some d → IsAlone (state_after s n w next) m
+  still_alone : (s : State K V E) (n : ℕ) (c : Call K V E) → s.calls n ≡ Some c → AreAlone s → (w : World K V E) (next : Next K V E) → Leaves s.world n c.plan w next →
+      (m : ℕ) (d : Call K V E) → put_at s.calls n next.left m ≡ Some d → IsAlone (state_after s n w next) m
   still_alone s n c live i w next l m d lives = by (n == m) refl
     where
       -- what another call posts of m, this one or a third
@@ -280,8 +294,8 @@ module _ {K V : Type 0} where
           let a = i.alone m d (sym (put_there s.calls n next.left m e) ∙ lives) in
           record { owed = omega (arith, l.owed m, a.owed); others = posts a e }
 
-module _ {K V : Type 0} (eq : K → K → Bool) where
-  alone_start : (s : State K V) (start : Start K V) → AreAlone s → (m : ℕ) (d : Call K V) → (started s start).calls m ≡ Some d → IsAlone (started s start) m
+module _ {K V E : Type 0} (eq : K → K → Bool) where
+  alone_start : (s : State K V E) (start : Start K V) → AreAlone s → (m : ℕ) (d : Call K V E) → (started s start).calls m ≡ Some d → IsAlone (started s start) m
   alone_start s start i m d lives = by (s.world.desk.last + 1 == m) refl
     where
       new : ℕ
@@ -295,7 +309,7 @@ module _ {K V : Type 0} (eq : K → K → Bool) where
           at false = h
 
       -- nothing of a number that was not given out stands anywhere
-      unborn : (k : ℕ) (o : Option (Call K V)) → s.calls k ≡ o → weigh_call (post_of (s.world.desk.last + 1)) o ≡ 0
+      unborn : (k : ℕ) (o : Option (Call K V E)) → s.calls k ≡ o → weigh_call (post_of (s.world.desk.last + 1)) o ≡ 0
       unborn k None e = refl
       unborn k (Some c) e =
           let all = i.balanced.balance (s.world.desk.last + 1) in
@@ -315,7 +329,7 @@ module _ {K V : Type 0} (eq : K → K → Bool) where
           let a = i.alone m d (sym (put_there s.calls (s.world.desk.last + 1) (Some (fresh_call s.world.desk.rules start)) m e) ∙ lives) in
           record { owed = a.owed; others = λ k other. fresh k m (a.others k other) }
 
-  alone_drop : (s : State K V) (n : ℕ) (c : Call K V) → s.calls n ≡ Some c → AreAlone s → (m : ℕ) (d : Call K V) → put_at s.calls n None m ≡ Some d →
+  alone_drop : (s : State K V E) (n : ℕ) (c : Call K V E) → s.calls n ≡ Some c → AreAlone s → (m : ℕ) (d : Call K V E) → put_at s.calls n None m ≡ Some d →
       IsAlone (dropped s n c) m
   alone_drop s n c live i m d lives =
       put_cases s.calls n None m (Some d) (IsAlone (dropped s n c) m) lives (λ here is. absurd (none_some is)) (λ there is.
@@ -337,9 +351,9 @@ module _ {K V : Type 0} (eq : K → K → Bool) where
       gone k true h = refl
       gone k false h = h
 
-  alone_kept : IsKept eq (AreAlone {K = K} {V = V})
+  alone_kept : IsKept eq (AreAlone {K = K} {V = V} {E = E})
   alone_kept = record {
-    fresh = λ rules size has_log. record { balanced = (balanced_kept eq).fresh rules size has_log; alone = λ n c live. absurd (none_some live) };
+    fresh = λ rules size tests has_log. record { balanced = (balanced_kept eq).fresh rules size tests has_log; alone = λ n c live. absurd (none_some live) };
     at = λ s moment i. record {
       balanced = (balanced_kept eq).at s moment i.balanced;
       alone = λ m d live. let a = i.alone m d live in record { owed = a.owed; others = a.others };
@@ -347,7 +361,7 @@ module _ {K V : Type 0} (eq : K → K → Bool) where
     start = λ s start i. record { balanced = (balanced_kept eq).start s start i.balanced; alone = alone_start s start i };
     step = λ s t n turn i step. record {
       balanced = (balanced_kept eq).step s t n turn i.balanced step;
-      alone = step_cases eq (Leaves s.world n step.call.plan) (λ v _. (m : ℕ) (d : Call K V) → v.calls m ≡ Some d → IsAlone v m) s t n turn step
+      alone = step_cases eq (Leaves s.world n step.call.plan) (λ v _. (m : ℕ) (d : Call K V E) → v.calls m ≡ Some d → IsAlone v m) s t n turn step
           (on_plan eq s.world n step.call step.call.plan refl) (λ w next l. still_alone s n step.call step.live i w next l);
     };
     tell = λ s n given asked i. record {
@@ -364,7 +378,7 @@ module _ {K V : Type 0} (eq : K → K → Bool) where
   -- ---- a call that answers
 
   -- where nothing is posted nor owed, what is committed is logged or applied
-  parted : (t : State K V) (n : ℕ) → IsBalanced t → among_owed n t.world.desk.owed ≡ 0 → ((m : ℕ) → weigh_call (post_of n) (t.calls m) ≡ 0) →
+  parted : (t : State K V E) (n : ℕ) → IsBalanced t → among_owed n t.world.desk.owed ≡ 0 → ((m : ℕ) → weigh_call (post_of n) (t.calls m) ≡ 0) →
       Contains t.world.table.committed n → IsPosted t n
   parted t n b none_owed none has =
       let was = contains_times n t.world.table.committed has in
@@ -381,7 +395,7 @@ module _ {K V : Type 0} (eq : K → K → Bool) where
       by zero e h = inr (omega arith)
       by (suc k) e h = inl (omega arith)
 
-  pub answered_posted : AnsweredIsPosted K V eq
+  pub answered_posted : AnsweredIsPosted K V E eq
   answered_posted s t n a h step has =
       let i : AreAlone s = in_reached eq AreAlone alone_kept s h in
       let alone = i.alone n step.call step.live in
@@ -392,17 +406,17 @@ module _ {K V : Type 0} (eq : K → K → Bool) where
       (on_plan eq s.world n step.call step.call.plan refl) (λ w next l e. (omega (arith, l.owed n, alone.owed), λ m. gone alone next (l.parts.gone a e) m (n == m) refl)) refl in
       parted t n b shown.0 shown.1 has
     where
-      gone : IsAlone s n → (next : Next K V) → next.left ≡ None → (m : ℕ) (b : Bool) → (n == m) ≡ b → weigh_call (post_of n) (cond b next.left (s.calls m)) ≡ 0
+      gone : IsAlone s n → (next : Next K V E) → next.left ≡ None → (m : ℕ) (b : Bool) → (n == m) ≡ b → weigh_call (post_of n) (cond b next.left (s.calls m)) ≡ 0
       gone alone next none m true e = ap (weigh_call (post_of n)) none
       gone alone next none m false e = alone.others m e
 
   -- ---- for good
 
   -- how often the write of the number is logged or applied
-  abbrev posted_in : ℕ → DeskPart K V → ℕ
+  abbrev posted_in : ℕ → DeskPart K V E → ℕ
   posted_in x d = among x d.log + among x d.applied
 
-  visit_posted : (x : ℕ) (d : DeskPart K V) (made : Visit K V) → posted_in x d ≤ posted_in x (makes eq d made)
+  visit_posted : (x : ℕ) (d : DeskPart K V E) (made : Visit K V E) → posted_in x d ≤ posted_in x (makes eq d made)
   visit_posted x d (visit.PostWrite call write) = by (has_room d)
     where
       by : (b : Bool) → posted_in x d ≤ among x (cond b (d.log ++ write ∷ []) d.log) + among x d.applied
@@ -420,7 +434,7 @@ module _ {K V : Type 0} (eq : K → K → Bool) where
       by (Some owner) = omega arith
   visit_posted x d (visit.ReadSettled call) = by (settlement_for d call) refl
     where
-      by : (o : Option (Settled V)) → settlement_for d call ≡ o → posted_in x d ≤ posted_in x (makes eq d (visit.ReadSettled call))
+      by : (o : Option (Settled V E)) → settlement_for d call ≡ o → posted_in x d ≤ posted_in x (makes eq d (visit.ReadSettled call))
       by None e = rw e (omega arith)
       by (Some with) e = rw e (omega arith)
   visit_posted x d (visit.LockKey call key) = by (is_unlocked_for d call key)
@@ -430,28 +444,28 @@ module _ {K V : Type 0} (eq : K → K → Bool) where
       by false = omega arith
   visit_posted x d _ = omega arith
 
-  access_posted : (x n : ℕ) (w new : World K V) (a : Access K V) (g : Got K V) → Gets eq n w a g new → 0 < posted_in x w.desk → 0 < posted_in x new.desk
-  access_posted x n w new (On_table o) (got.Table table.Going) gets h = subst (λ (v : World K V). 0 < posted_in x v.desk) (sym gets.1) h
-  access_posted x n w new (On_table o) (got.Table (table.Decided answer)) gets h = subst (λ (v : World K V). 0 < posted_in x v.desk) (sym gets.2) h
+  access_posted : (x n : ℕ) (w new : World K V E) (a : Access K V E) (g : Got K V E) → Gets eq n w a g new → 0 < posted_in x w.desk → 0 < posted_in x new.desk
+  access_posted x n w new (On_table o) (got.Table table.Going) gets h = subst (λ (v : World K V E). 0 < posted_in x v.desk) (sym gets.1) h
+  access_posted x n w new (On_table o) (got.Table (table.Decided answer)) gets h = subst (λ (v : World K V E). 0 < posted_in x v.desk) (sym gets.2) h
   access_posted x n w new (On_desk made) (got.Desk f) gets h =
-      subst (λ (v : World K V). 0 < posted_in x v.desk) (sym gets.1) (let more = visit_posted x w.desk made in omega arith)
+      subst (λ (v : World K V E). 0 < posted_in x v.desk) (sym gets.1) (let more = visit_posted x w.desk made in omega arith)
   access_posted x n w new (On_table o) (got.Desk f) gets h = absurd gets
   access_posted x n w new (On_desk made) (got.Table turn) gets h = absurd gets
 
-  posted_stable : (x : ℕ) → IsStable eq (λ (s : State K V). 0 < posted_in x s.world.desk)
+  posted_stable : (x : ℕ) → IsStable eq (λ (s : State K V E). 0 < posted_in x s.world.desk)
   posted_stable x = record {
     at = λ s moment h. h;
     start = λ s start h. h;
-    step = λ s t n turn h step. subst (λ (v : State K V). 0 < posted_in x v.world.desk) (sym step.after)
+    step = λ s t n turn h step. subst (λ (v : State K V E). 0 < posted_in x v.world.desk) (sym step.after)
         (access_posted x n s.world step.world (access_of n step.call) step.given step.gets h);
     tell = λ s n given asked h. h;
     hear = λ s n off running h. h;
     drop = λ s n c live between h. h;
   }
 
-  pub posted_for_good : PostedStays K V eq
+  pub posted_for_good : PostedStays K V E eq
   posted_for_good s t es rs n h run posted =
-      split (runs eq (λ (v : State K V). 0 < posted_in n v.world.desk) (posted_stable n) s t es rs (joined posted)
+      split (runs eq (λ (v : State K V E). 0 < posted_in n v.world.desk) (posted_stable n) s t es rs (joined posted)
       (run_more eq (IsLawful eq) Any (λ v i p. tt) s t es rs h run))
     where
       joined : IsPosted s n → 0 < posted_in n s.world.desk

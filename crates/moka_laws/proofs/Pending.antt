@@ -2,6 +2,7 @@
 -- change is pending.
 use Rattle.std.proofs.Common.{◌≡◌, ◌⊎◌, inl, inr, ℕ, ◌+◌, ◌==◌, Bool, true, false, cond, List, [], ◌∷◌, Option, Some, None, is_some, IsSome, refl, sym, ap, ◌∙◌, subst}
 use Rattle.std.proofs.lemmas.Bool.{eqb-true}
+use Rattle.moka_hist.specs.declared.replies.Answer.TheVariants as reply
 use Rattle.moka_hist.specs.Finite.{put_at}
 use Rattle.moka_hist.specs.State.{State, World, Call}
 use Rattle.moka_hist.specs.Plan.{Item, Aim, held_by, plan_of}
@@ -19,6 +20,7 @@ use Rattle.moka_hist.specs.declared.accesses.Turn.{Turn}
 use Rattle.moka_hist.specs.declared.events.Told.{Told}
 use Rattle.moka_hist.specs.declared.events.Told.TheVariants as answer
 use Rattle.moka_hist.specs.declared.loads.Load.{Load}
+use Rattle.moka_hist.specs.declared.loads.Sought.{Sought}
 use Rattle.moka_hist.specs.declared.records.Stored.{Stored}
 use Rattle.moka_hist.specs.declared.rules.Rules.{Rules}
 use Rattle.moka_hist.specs.declared.visits.Found.TheVariants as found
@@ -31,8 +33,8 @@ use Rattle.moka_laws.specs.Removals.{PlacesComeBack}
 use Rattle.moka_laws.proofs.Counting.{none_some, put_here, put_there}
 use Rattle.moka_laws.proofs.Holding.{HoldsAs, IsHolding, all_leave, holding_kept, others_hold}
 use Rattle.moka_laws.proofs.Owning.{plan_left}
-use Rattle.moka_laws.proofs.Plans.{IsTail, Answering, Settling, IsDrained, Looking, Putting, IsPosted, Draining, Ended, Locking, IsPlan, Posted, Drained, Posting, Hearing, Noticing, Listening, Unlocking, Turning, Applying, Ending, Judging, Owning, Reading, Asking, Telling, Writing, IsLook, Removing, Locking_out, Choosing, Finding, Chosen, Taking, Freeing, Idling, AllKnown, known_kept}
-use Rattle.moka_laws.proofs.Rules.{chosen_next, kept_next, loaded_plans, IsFresh, Disabled, fresh_plan}
+use Rattle.moka_laws.proofs.Plans.{IsTail, Answering, Settling, IsDrained, Looking, Putting, IsPosted, Draining, Ended, Locking, IsPlan, Posted, Drained, Posting, Hearing, Noticing, Listening, Unlocking, Turning, Applying, Ending, Judging, Owning, Giving, Reading, Asking, Telling, Writing, IsLook, Removing, Locking_out, Choosing, Finding, Chosen, Taking, Freeing, Idling, AllKnown, known_kept}
+use Rattle.moka_laws.proofs.Rules.{put_plans, chosen_next, kept_next, loaded_plans, IsFresh, Disabled, fresh_plan}
 use Rattle.moka_laws.proofs.Kept.{IsKept, in_reached}
 use Rattle.moka_laws.proofs.StepCases.{OnStep, step_cases}
 use Rattle.moka_laws.proofs.Outcomes.{outcomes}
@@ -50,9 +52,9 @@ either_pending : (pending : Option ℕ) → (Some (holding.Own pending) ≡ None
 either_pending pending (inl none) = absurd (none_some (sym none))
 either_pending pending (inr e) = is_pending pending e
 
-module _ {K V : Type 0} where
+module _ {K V E : Type 0} where
   -- between the moment of a change and the first visit after it the moment is pending
-  abbrev Pends : Option Holding → List (Item K V) → Type 0
+  abbrev Pends : Option Holding → List (Item K V E) → Type 0
   Pends h (plan.Write key value moment ∷ rest) = IsPending h
   Pends h (plan.Out removal key ∷ rest) = IsPending h
   Pends h (plan.Idle ∷ rest) = IsPending h
@@ -60,76 +62,86 @@ module _ {K V : Type 0} where
   Pends h _ = Unit {0}
 
   module _ (h : Option Holding) where
-    tail_pends : (c : Call K V) (p : List (Item K V)) → IsTail p → Pends h
+    tail_pends : (c : Call K V E) (p : List (Item K V E)) → IsTail p → Pends h
         (plan_left (goes c p).left)
     tail_pends c p (Answering a) = tt
     tail_pends c p (Settling with a) = tt
 
-    drained_pends : (c : Call K V) (p : List (Item K V)) → IsDrained p → Pends h
+    drained_pends : (c : Call K V E) (p : List (Item K V E)) → IsDrained p → Pends h
         (plan_left (goes c p).left)
     drained_pends c p (Looking aim key l) = tt
-    drained_pends c p (Owning load) = tt
+    drained_pends c p (Owning sought) = tt
+    drained_pends c p (Giving a) = tt
     drained_pends c p (Putting key value rest t) = tt
     drained_pends c p (Locking key value rest t) = tt
     drained_pends c p (Removing removal key) = tt
     drained_pends c p (Locking_out removal key) = tt
 
-    posted_pends : (c : Call K V) (p : List (Item K V)) → IsPosted p → Pends h
+    posted_pends : (c : Call K V E) (p : List (Item K V E)) → IsPosted p → Pends h
         (plan_left (goes c p).left)
     posted_pends c p (Draining rest d) = tt
     posted_pends c p (Ended rest t) = tail_pends c rest t
 
-    keeps_pends : (c : Call K V) → h ≡ None → Pends h (plan_left (keeps c).left)
+    keeps_pends : (c : Call K V E) → h ≡ None → Pends h (plan_left (keeps c).left)
     keeps_pends c none = kept_next (λ v. Pends h (plan_left v.left)) c (λ off. tt) (λ on. inl none)
 
-    misses_pends : (c : Call K V) (aim : Aim K) → h ≡ None → Pends h (plan_left (misses c aim).left)
+    misses_pends : (c : Call K V E) (aim : Aim K V) → h ≡ None → Pends h (plan_left (misses c aim).left)
     misses_pends c plan.To_answer none = tt
-    misses_pends c (plan.To_load load) none = tt
-    misses_pends c (plan.To_own load) none = tt
+    misses_pends c (plan.To_load sought) none = tt
+    misses_pends c (plan.To_own sought) none = tt
+    misses_pends c (plan.To_insert key value) none =
+        put_plans (λ q. Pends h (plan_left (goes c q).left)) c.rules key value
+        (plan.Reply (reply.Loaded value true) ∷ []) tt tt
     misses_pends c (plan.To_evict key stamp cause) none = keeps_pends c none
 
-    finds_pends : (c : Call K V) (aim : Aim K) (there : K) (stored : Stored V) → h ≡ None →
+    finds_pends : (c : Call K V E) (aim : Aim K V) (there : K) (stored : Stored V) → h ≡ None →
         Pends h (plan_left (finds_pair c aim there stored).left)
     finds_pends c plan.To_answer there stored none = tt
-    finds_pends c (plan.To_load load) there stored none = tt
-    finds_pends c (plan.To_own load) there stored none = tt
+    finds_pends c (plan.To_load sought) there stored none = tt
+    finds_pends c (plan.To_insert under new) there stored none = tt
+    finds_pends c (plan.To_own sought) there stored none = tt
     finds_pends c (plan.To_evict key stamp cause) there stored none =
         chosen_next (λ v. Pends h (plan_left v.left)) c key stamp cause there stored (λ off. tt)
         (λ on. inl none) tt
 
-    hits_pends : (c : Call K V) (aim : Aim K) (value : V) → IsLook aim → Pends h
+    hits_pends : (c : Call K V E) (aim : Aim K V) (value : V) → IsLook aim → Pends h
         (plan_left (hits c aim value).left)
     hits_pends c plan.To_answer value l = tt
-    hits_pends c (plan.To_load load) value l = tt
-    hits_pends c (plan.To_own load) value l = tt
+    hits_pends c (plan.To_load sought) value l = tt
+    hits_pends c (plan.To_insert under new) value l = tt
+    hits_pends c (plan.To_own sought) value l = tt
     hits_pends c (plan.To_evict key stamp cause) value l = absurd l
 
-    either_pends : (b : Bool) (x y : Next K V) → Pends h (plan_left x.left) → Pends h
+    either_pends : (b : Bool) (x y : Next K V E) → Pends h (plan_left x.left) → Pends h
         (plan_left y.left) → Pends h (plan_left (cond b x y).left)
     either_pends true x y p q = p
     either_pends false x y p q = q
 
-    read_pends : (c : Call K V) (load : Load K) (with : Settled V) → Pends h c.plan → Pends h
-        (plan_left (after_read c load (found.ReadSettled with)).left)
-    read_pends c load (settled.Ready value) p = tt
-    read_pends c load settled.NotYet p = p
-    read_pends c load settled.Aborted p = either_pends (c.aborts + 1 == retries) _ _ tt tt
+    read_pends : (c : Call K V E) (sought : Sought K) (with : Settled V E) → Pends h c.plan → Pends h
+        (plan_left (after_read c sought (found.ReadSettled with)).left)
+    read_pends c sought (settled.Ready value) p = tt
+    read_pends c sought (settled.Err error) p = tt
+    read_pends c sought settled.Nothing p = tt
+    read_pends c sought settled.NotYet p = p
+    read_pends c sought settled.Aborted p = either_pends (c.aborts + 1 == retries) _ _ tt tt
 
-    told_pends : (c : Call K V) (load : Load K) (given : Told V) → Pends h c.plan → Pends h
+    told_pends : (c : Call K V E) (load : Load K) (given : Told V E) → Pends h c.plan → Pends h
         (plan_left (after_told c load (found.TakeTold (Some given))).left)
     told_pends c load (answer.Value value) p = loaded_plans
         (λ q. Pends h (plan_left (goes c q).left)) c.rules load value tt tt tt
+    told_pends c load answer.Nothing p = tt
+    told_pends c load (answer.Err error) p = tt
     told_pends c load answer.Done p = p
     told_pends c load answer.Off p = p
 
-    form_pends : (rules : Rules) (p : List (Item K V)) → IsFresh rules p → Pends h p
-    form_pends rules p (Disabled a d) = tt
+    form_pends : (rules : Rules) (p : List (Item K V E)) → IsFresh rules p → Pends h p
+    form_pends rules p (Disabled a d plain) = tt
     form_pends rules p _ = tt
 
-  module _ (eq : K → K → Bool) (w : World K V) (n : ℕ) (c : Call K V)
+  module _ (eq : K → K → Bool) (w : World K V E) (n : ℕ) (c : Call K V E)
       (q : Pends (w.desk.holding n) c.plan) where
     -- what a step has to show
-    abbrev After : World K V → Next K V → Type 0
+    abbrev After : World K V E → Next K V E → Type 0
     After new next = Pends (new.desk.holding n) (plan_left next.left)
 
     -- what the call holds now
@@ -137,19 +149,20 @@ module _ {K V : Type 0} where
         (Some (holding.Own (Some moment))) n)
     pending_here moment = (moment, put_here w.desk.holding n (Some (holding.Own (Some moment))))
 
-    on_tail : (p : List (Item K V)) → IsTail p → OnStep eq After w n c p
+    on_tail : (p : List (Item K V E)) → IsTail p → OnStep eq After w n c p
     on_tail p (Answering a) = outcomes eq After w n c (plan.Reply a) [] tt
     on_tail p (Settling with a) = outcomes eq After w n c (plan.Settle with) (plan.Reply a ∷ []) tt
 
-    on_drained : (p : List (Item K V)) → HoldsAs n (w.desk.holding n) p → IsDrained p →
+    on_drained : (p : List (Item K V E)) → HoldsAs n (w.desk.holding n) p → IsDrained p →
         OnStep eq After w n c p
     on_drained p k (Looking aim key l) = outcomes eq After w n c (plan.Get aim key) [] (
       λ more. q,
       λ none. misses_pends _ c aim k.0,
       λ there stored some. finds_pends _ c aim there stored k.0,
     )
-    on_drained p k (Owning load) = outcomes eq After w n c (plan.Own load) []
+    on_drained p k (Owning sought) = outcomes eq After w n c (plan.Own sought) []
         (λ able e. tt, λ disabled e. tt, λ owner e. tt)
+    on_drained p k (Giving a) = outcomes eq After w n c (plan.Reply a) [] tt
     on_drained p k (Putting key value rest t) =
         outcomes eq After w n c (plan.Moment (plan.To_store key value)) rest
         (pending_here w.desk.clock)
@@ -163,7 +176,7 @@ module _ {K V : Type 0} where
         outcomes eq After w n c (plan.Lock key) (plan.Moment (plan.To_take_out removal key) ∷ [])
         (λ e. tt, λ e. q)
 
-    on_posted : (p : List (Item K V)) → IsPosted p → OnStep eq After w n c p
+    on_posted : (p : List (Item K V E)) → IsPosted p → OnStep eq After w n c p
     on_posted p (Draining rest d) = outcomes eq After w n c plan.Drain rest (
       λ e. drained_pends _ c rest d,
       λ x xs e. tt,
@@ -171,7 +184,7 @@ module _ {K V : Type 0} where
     )
     on_posted p (Ended rest t) = on_tail rest t
 
-    on_plan : (p : List (Item K V)) → c.plan ≡ p → HoldsAs n (w.desk.holding n) p → IsPlan p →
+    on_plan : (p : List (Item K V E)) → c.plan ≡ p → HoldsAs n (w.desk.holding n) p → IsPlan p →
         OnStep eq After w n c p
     on_plan p e k (Posted rest d) = on_posted rest d
     on_plan p e k (Drained rest d) = on_drained rest k d
@@ -193,9 +206,10 @@ module _ {K V : Type 0} where
         outcomes eq After w n c plan.Apply (plan.End ∷ plan.Post x ∷ rest) (λ f. tt, λ y ys f. tt)
     on_plan p e k (Ending x rest d) = outcomes eq After w n c plan.End (plan.Post x ∷ rest) tt
     on_plan p e k (Judging aim key stored l) =
-        outcomes eq After w n c (plan.Judge aim key stored) [] (hits_pends _ c aim stored.value l)
-    on_plan p e k (Reading load) = outcomes eq After w n c (plan.Read load) []
-        (λ f. q, λ with f. read_pends _ c load with q)
+        outcomes eq After w n c (plan.Judge aim key stored) []
+        ((λ seen. hits_pends _ c aim stored.value l), λ unseen. misses_pends _ c aim k.0)
+    on_plan p e k (Reading sought) = outcomes eq After w n c (plan.Read sought) []
+        (λ f. q, λ with f. read_pends _ c sought with q)
     on_plan p e k (Asking load) = outcomes eq After w n c (plan.Ask load) [] tt
     on_plan p e k (Telling load) = outcomes eq After w n c (plan.Told load) []
         (λ f. q, λ given f. told_pends _ c load given q)
@@ -226,14 +240,14 @@ module _ {K V : Type 0} where
 
 -- ---- of a state
 
-module _ {K V : Type 0} (eq : K → K → Bool) where
-  record IsPlaced (s : State K V) : Type 0 where
+module _ {K V E : Type 0} (eq : K → K → Bool) where
+  record IsPlaced (s : State K V E) : Type 0 where
     holding : IsHolding s
     known : AllKnown eq s
     pends : (n : ℕ) → Pends (s.world.desk.holding n) (plan_left (s.calls n))
 
   -- what this call has pending now, and the others as before
-  pends_on : (s : State K V) (n : ℕ) (w : World K V) (left : Option (Call K V)) →
+  pends_on : (s : State K V E) (n : ℕ) (w : World K V E) (left : Option (Call K V E)) →
       ((m : ℕ) → Pends (s.world.desk.holding m) (plan_left (s.calls m))) → Pends (w.desk.holding n)
       (plan_left left) →
       ((m : ℕ) → (n == m) ≡ false → w.desk.holding m ≡ s.world.desk.holding m) →
@@ -250,10 +264,10 @@ module _ {K V : Type 0} (eq : K → K → Bool) where
           subst (λ v. Pends (w.desk.holding m) (plan_left v)) (sym (put_there s.calls n left m e))
           (subst (λ v. Pends v (plan_left (s.calls m))) (sym (others m e)) (all m))
 
-  placed_step : (s t : State K V) (n : ℕ) (turn : Turn K V) → IsPlaced s → Step eq s n turn t →
+  placed_step : (s t : State K V E) (n : ℕ) (turn : Turn K V E) → IsPlaced s → Step eq s n turn t →
       IsPlaced t
   placed_step s t n turn i step =
-      let c : Call K V = step.call in
+      let c : Call K V E = step.call in
       let others = others_hold eq s t n turn i.holding step in
       let q : Pends (s.world.desk.holding n) c.plan = subst
       (λ v. Pends (s.world.desk.holding n) (plan_left v)) step.live (i.pends n) in
@@ -271,9 +285,9 @@ module _ {K V : Type 0} (eq : K → K → Bool) where
 
   placed_kept : IsKept eq IsPlaced
   placed_kept = record {
-    fresh = λ rules size has_log. record {
-      holding = (holding_kept eq).fresh rules size has_log;
-      known = (known_kept eq).fresh rules size has_log;
+    fresh = λ rules size tests has_log. record {
+      holding = (holding_kept eq).fresh rules size tests has_log;
+      known = (known_kept eq).fresh rules size tests has_log;
       pends = λ n. tt;
     };
     at = λ s moment i.
@@ -313,24 +327,25 @@ module _ {K V : Type 0} (eq : K → K → Bool) where
   -- ---- what follows
 
   -- what a place of its own is for
-  abbrev IsUsed : ℕ → Option ℕ → List (Item K V) → Type 0
+  abbrev IsUsed : ℕ → Option ℕ → List (Item K V E) → Type 0
   IsUsed n pending p = IsSome pending ⊎ ((w : Write) × (held_by p ≡ Some w) × (number_of w ≡ n))
 
-  used_tail : (n : ℕ) (pending : Option ℕ) (p : List (Item K V)) → IsTail p → HoldsAs n
+  used_tail : (n : ℕ) (pending : Option ℕ) (p : List (Item K V E)) → IsTail p → HoldsAs n
       (Some (holding.Own pending)) p → ⊥
   used_tail n pending p (Answering a) k = none_some (sym k.0)
   used_tail n pending p (Settling with a) k = none_some (sym k.0)
 
-  used_drained : (n : ℕ) (pending : Option ℕ) (p : List (Item K V)) → IsDrained p → HoldsAs n
+  used_drained : (n : ℕ) (pending : Option ℕ) (p : List (Item K V E)) → IsDrained p → HoldsAs n
       (Some (holding.Own pending)) p → ⊥
   used_drained n pending p (Looking aim key l) k = none_some (sym k.0)
-  used_drained n pending p (Owning load) k = none_some (sym k.0)
+  used_drained n pending p (Owning sought) k = none_some (sym k.0)
+  used_drained n pending p (Giving a) k = none_some (sym k.0)
   used_drained n pending p (Putting key value rest t) k = none_some (sym k.0)
   used_drained n pending p (Locking key value rest t) k = none_some (sym k.0)
   used_drained n pending p (Removing removal key) k = none_some (sym k.0)
   used_drained n pending p (Locking_out removal key) k = none_some (sym k.0)
 
-  used : (n : ℕ) (pending : Option ℕ) (p : List (Item K V)) → IsPlan p → HoldsAs n
+  used : (n : ℕ) (pending : Option ℕ) (p : List (Item K V E)) → IsPlan p → HoldsAs n
       (Some (holding.Own pending)) p →
       Pends (Some (holding.Own pending)) p → IsUsed n pending p
   used n pending p (Posted rest (Draining more d)) k q = absurd (none_some (sym k.0))
@@ -345,7 +360,7 @@ module _ {K V : Type 0} (eq : K → K → Bool) where
   used n pending p (Applying x rest d) k q = inr (x, refl, k.0)
   used n pending p (Ending x rest d) k q = inr (x, refl, k.0)
   used n pending p (Judging aim key stored l) k q = absurd (none_some (sym k.0))
-  used n pending p (Reading load) k q = absurd (none_some (sym k.0))
+  used n pending p (Reading sought) k q = absurd (none_some (sym k.0))
   used n pending p (Asking load) k q = absurd (none_some (sym k.0))
   used n pending p (Telling load) k q = absurd (none_some (sym k.0))
   used n pending p (Writing key value moment rest t) k q = inl (is_pending pending q)
@@ -356,7 +371,7 @@ module _ {K V : Type 0} (eq : K → K → Bool) where
   used n pending p (Freeing a) k q = inl (either_pending pending q)
   used n pending p (Idling a) k q = inl (is_pending pending q)
 
-  pub places_back : PlacesComeBack K V eq
+  pub places_back : PlacesComeBack K V E eq
   places_back s n h =
       let i : IsPlaced s = in_reached eq IsPlaced placed_kept s h in
       record {
@@ -367,13 +382,13 @@ module _ {K V : Type 0} (eq : K → K → Bool) where
       }
     where
       by_call : IsPlaced s → (held : Holding) → s.world.desk.holding n ≡ Some held →
-          (o : Option (Call K V)) → s.calls n ≡ o → IsSome (s.calls n)
+          (o : Option (Call K V E)) → s.calls n ≡ o → IsSome (s.calls n)
       by_call i held e None f =
           let k = subst (λ v. HoldsAs n (s.world.desk.holding n) (plan_left v)) f
           (i.holding.holds n) in absurd (none_some (sym k ∙ e))
       by_call i held e (Some c) f = ap is_some f
 
-      holds : (c : Call K V) → s.calls n ≡ Some c → (pending : Option ℕ) → IsUsed n pending c.plan →
+      holds : (c : Call K V E) → s.calls n ≡ Some c → (pending : Option ℕ) → IsUsed n pending c.plan →
           IsSome pending ⊎ Holds s n n
       holds c f pending (inl some) = inl some
       holds c f pending (inr u) = inr (record {
@@ -386,7 +401,7 @@ module _ {K V : Type 0} (eq : K → K → Bool) where
       })
 
       by_own : IsPlaced s → (pending : Option ℕ) → s.world.desk.holding n ≡ Some
-          (holding.Own pending) → (o : Option (Call K V)) → s.calls n ≡ o →
+          (holding.Own pending) → (o : Option (Call K V E)) → s.calls n ≡ o →
           IsSome pending ⊎ Holds s n n
       by_own i pending e None f =
           let k = subst (λ v. HoldsAs n (s.world.desk.holding n) (plan_left v)) f

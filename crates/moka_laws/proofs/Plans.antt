@@ -4,7 +4,7 @@ use Rattle.std.proofs.lemmas.Bool.Decides.{nat_tests}
 use Rattle.moka_hist.specs.State.{State, Call, World}
 use Rattle.moka_hist.specs.Plan.{Item, Aim, Removal, plan_of, is_disabled}
 use Rattle.moka_hist.specs.Plan as plan
-use Rattle.moka_hist.specs.Next.{Next, goes, waits}
+use Rattle.moka_hist.specs.Next.{Next, goes}
 use Rattle.moka_hist.specs.Looking.{hits, misses, keeps, finds_pair}
 use Rattle.moka_hist.specs.Loading.{after_read, after_abort, after_told, retries}
 use Rattle.moka_hist.specs.Run.{IsReached, fresh_call}
@@ -13,40 +13,43 @@ use Rattle.moka_hist.specs.declared.events.Start.{Start}
 use Rattle.moka_hist.specs.declared.events.Told.{Told}
 use Rattle.moka_hist.specs.declared.events.Told.TheVariants as told
 use Rattle.moka_hist.specs.declared.loads.Load.{Load}
-use Rattle.moka_hist.specs.declared.records.Mode.TheVariants as mode
+use Rattle.moka_hist.specs.declared.loads.Sought.{Sought}
 use Rattle.moka_hist.specs.declared.rules.Cause.{Cause}
 use Rattle.moka_hist.specs.declared.rules.Rules.{Rules}
 use Rattle.moka_hist.specs.declared.records.Stored.{Stored}
 use Rattle.moka_hist.specs.declared.replies.Answer.{Answer}
+use Rattle.moka_hist.specs.declared.replies.Answer.TheVariants as answer
 use Rattle.moka_hist.specs.declared.accesses.Turn.{Turn}
 use Rattle.moka_hist.specs.declared.visits.Settled.{Settled}
 use Rattle.moka_hist.specs.declared.visits.Settled.TheVariants as settled
 use Rattle.moka_hist.specs.declared.visits.Found.TheVariants as found
 use Rattle.moka_hist.specs.declared.writes.Write as write
-use Rattle.moka_laws.proofs.Rules.{loaded_plans, kept_next, chosen_next, IsFresh, Disabled, Gets, Loads, Owns, Puts, Locks_and_puts, Takes_out, Locks_and_takes_out, Evicts, Locks_and_evicts, fresh_plan}
+use Rattle.moka_laws.proofs.Rules.{put_plans, loaded_plans, kept_next, chosen_next, IsFresh, Disabled, Gets, Loads, Owns, Finds_or_puts, Gives_back, Puts, Locks_and_puts, Takes_out, Locks_and_takes_out, Evicts, Locks_and_evicts, fresh_plan}
 use Rattle.moka_laws.proofs.StepCases.{OnStep, step_cases}
 use Rattle.moka_laws.proofs.Outcomes.{outcomes}
 use Rattle.moka_laws.proofs.Kept.{IsKept, in_reached}
 use Rattle.moka_laws.proofs.Counting.{none_some, put_cases}
 
 -- what is looked for may be seen: it isn't a record that was chosen to leave
-abbrev pub IsLook : {K : Type 0} → Aim K → Type 0
+abbrev pub IsLook : {K V : Type 0} → Aim K V → Type 0
 IsLook (plan.To_evict key stamp cause) = ⊥
 IsLook _ = Unit {0}
 
-module _ {K V : Type 0} where
+module _ {K V E : Type 0} where
   -- what is left once a call has written and posted its write: it settles, and answers
-  pub data IsTail : List (Item K V) → Type 0 where
-    Answering : (answer : Answer V) → IsTail (plan.Reply answer ∷ [])
-    Settling : (with : Settled V) (answer : Answer V) → IsTail (plan.Settle with ∷ plan.Reply answer ∷ [])
+  pub data IsTail : List (Item K V E) → Type 0 where
+    Answering : (answer : Answer V E) → IsTail (plan.Reply answer ∷ [])
+    Settling : (with : Settled V E) (answer : Answer V E) → IsTail (plan.Settle with ∷ plan.Reply answer ∷ [])
 
   -- what is left once it has taken up what was owed: it looks, owns, writes, or takes out
-  pub data IsDrained : List (Item K V) → Type 0 where
-    Looking : (aim : Aim K) (key : K) → IsLook aim → IsDrained (plan.Get aim key ∷ [])
-    Owning : (load : Load K) → IsDrained (plan.Own load ∷ [])
-    Putting : (key : K) (value : V) (rest : List (Item K V)) → IsTail rest →
+  pub data IsDrained : List (Item K V E) → Type 0 where
+    Looking : (aim : Aim K V) (key : K) → IsLook aim → IsDrained (plan.Get aim key ∷ [])
+    Owning : (sought : Sought K) → IsDrained (plan.Own sought ∷ [])
+    -- a disabled cache's or_insert answers
+    Giving : (answer : Answer V E) → IsDrained (plan.Reply answer ∷ [])
+    Putting : (key : K) (value : V) (rest : List (Item K V E)) → IsTail rest →
         IsDrained (plan.Moment (plan.To_store key value) ∷ rest)
-    Locking : (key : K) (value : V) (rest : List (Item K V)) → IsTail rest →
+    Locking : (key : K) (value : V) (rest : List (Item K V E)) → IsTail rest →
         IsDrained (plan.Lock key ∷ plan.Moment (plan.To_store key value) ∷ rest)
     Removing : (removal : Removal) (key : K) →
         IsDrained (plan.Moment (plan.To_take_out removal key) ∷ [])
@@ -54,33 +57,33 @@ module _ {K V : Type 0} where
         IsDrained (plan.Lock key ∷ plan.Moment (plan.To_take_out removal key) ∷ [])
 
   -- what is left once a write is posted: more may be owed, or it was the call's own
-  pub data IsPosted : List (Item K V) → Type 0 where
-    Draining : (rest : List (Item K V)) → IsDrained rest → IsPosted (plan.Drain ∷ rest)
-    Ended : (rest : List (Item K V)) → IsTail rest → IsPosted rest
+  pub data IsPosted : List (Item K V E) → Type 0 where
+    Draining : (rest : List (Item K V E)) → IsDrained rest → IsPosted (plan.Drain ∷ rest)
+    Ended : (rest : List (Item K V E)) → IsTail rest → IsPosted rest
 
-  pub data IsPlan : List (Item K V) → Type 0 where
-    Posted : (rest : List (Item K V)) → IsPosted rest → IsPlan rest
-    Drained : (rest : List (Item K V)) → IsDrained rest → IsPlan rest
-    Posting : (held : write.Write) (rest : List (Item K V)) → IsPosted rest → IsPlan (plan.Post held ∷ rest)
+  pub data IsPlan : List (Item K V E) → Type 0 where
+    Posted : (rest : List (Item K V E)) → IsPosted rest → IsPlan rest
+    Drained : (rest : List (Item K V E)) → IsDrained rest → IsPlan rest
+    Posting : (held : write.Write) (rest : List (Item K V E)) → IsPosted rest → IsPlan (plan.Post held ∷ rest)
     -- the notice of an owed write is heard, or the call's own is opened and heard; and the lock is freed
-    Hearing : (number : ℕ) (held : write.Write) (rest : List (Item K V)) → IsPosted rest → IsPlan (plan.Ended number ∷ plan.Post held ∷ rest)
+    Hearing : (number : ℕ) (held : write.Write) (rest : List (Item K V E)) → IsPosted rest → IsPlan (plan.Ended number ∷ plan.Post held ∷ rest)
     Noticing : (key : K) (old : Stored V) (cause : Option Cause) (upsert : Bool)
         (held : write.Write)
-        (rest : List (Item K V)) → IsTail rest →
+        (rest : List (Item K V E)) → IsTail rest →
         IsPlan (plan.Notice key old cause upsert ∷ plan.Unlock true ∷ plan.Post held ∷ rest)
-    Listening : (held : write.Write) (rest : List (Item K V)) → IsTail rest →
+    Listening : (held : write.Write) (rest : List (Item K V E)) → IsTail rest →
         IsPlan (plan.Heard ∷ plan.Unlock true ∷ plan.Post held ∷ rest)
-    Unlocking : (held : write.Write) (rest : List (Item K V)) → IsTail rest →
+    Unlocking : (held : write.Write) (rest : List (Item K V E)) → IsTail rest →
         IsPlan (plan.Unlock true ∷ plan.Post held ∷ rest)
-    Turning : (held : write.Write) (rest : List (Item K V)) → IsPosted rest → IsPlan (plan.Turn ∷ plan.Apply ∷ plan.End ∷ plan.Post held ∷ rest)
-    Applying : (held : write.Write) (rest : List (Item K V)) → IsPosted rest → IsPlan (plan.Apply ∷ plan.End ∷ plan.Post held ∷ rest)
-    Ending : (held : write.Write) (rest : List (Item K V)) → IsPosted rest → IsPlan (plan.End ∷ plan.Post held ∷ rest)
-    Judging : (aim : Aim K) (key : K) (stored : Stored V) → IsLook aim →
+    Turning : (held : write.Write) (rest : List (Item K V E)) → IsPosted rest → IsPlan (plan.Turn ∷ plan.Apply ∷ plan.End ∷ plan.Post held ∷ rest)
+    Applying : (held : write.Write) (rest : List (Item K V E)) → IsPosted rest → IsPlan (plan.Apply ∷ plan.End ∷ plan.Post held ∷ rest)
+    Ending : (held : write.Write) (rest : List (Item K V E)) → IsPosted rest → IsPlan (plan.End ∷ plan.Post held ∷ rest)
+    Judging : (aim : Aim K V) (key : K) (stored : Stored V) → IsLook aim →
         IsPlan (plan.Judge aim key stored ∷ [])
-    Reading : (load : Load K) → IsPlan (plan.Read load ∷ [])
+    Reading : (sought : Sought K) → IsPlan (plan.Read sought ∷ [])
     Asking : (load : Load K) → IsPlan (plan.Ask load ∷ [])
     Telling : (load : Load K) → IsPlan (plan.Told load ∷ [])
-    Writing : (key : K) (value : V) (moment : ℕ) (rest : List (Item K V)) → IsTail rest → IsPlan (plan.Write key value moment ∷ rest)
+    Writing : (key : K) (value : V) (moment : ℕ) (rest : List (Item K V E)) → IsTail rest → IsPlan (plan.Write key value moment ∷ rest)
     -- a chosen record is looked up, under its key's lock where a listener is set, and judged
     Choosing : (key : K) (stamp : ℕ) (cause : Cause) →
         IsPlan (plan.Lock key ∷ plan.Get (plan.To_evict key stamp cause) key ∷ [])
@@ -90,83 +93,99 @@ module _ {K V : Type 0} where
         IsPlan (plan.Holds key stamp cause there stored ∷ [])
     -- a record is taken out; and where nothing was, the lock is freed or the clock is read
     Taking : (removal : Removal) (key : K) → IsPlan (plan.Out removal key ∷ [])
-    Freeing : (answer : Answer V) → IsPlan (plan.Unlock false ∷ plan.Reply answer ∷ [])
-    Idling : (answer : Answer V) → IsPlan (plan.Idle ∷ plan.Reply answer ∷ [])
+    Freeing : (answer : Answer V E) → IsPlan (plan.Unlock false ∷ plan.Reply answer ∷ [])
+    Idling : (answer : Answer V E) → IsPlan (plan.Idle ∷ plan.Reply answer ∷ [])
 
   -- the call's plan has one of these forms, and it has not given up yet
-  pub record IsKnown (c : Call K V) : Type 0 where
+  pub record IsKnown (c : Call K V E) : Type 0 where
     pub plan : IsPlan c.plan
     pub young : c.aborts < retries
 
   -- so is a call that may have ended
-  abbrev KnownIf : Option (Call K V) → Type 0
+  abbrev KnownIf : Option (Call K V E) → Type 0
   KnownIf None = Unit {0}
   KnownIf (Some c) = IsKnown c
 
-  goes_known : (c : Call K V) (rest : List (Item K V)) → c.aborts < retries → IsPlan rest → KnownIf (goes c rest).left
+  goes_known : (c : Call K V E) (rest : List (Item K V E)) → c.aborts < retries → IsPlan rest → KnownIf (goes c rest).left
   goes_known c [] y p = record { plan = p; young = y }
   goes_known c (plan.Reply a ∷ []) y p = tt
   goes_known c (plan.Reply a ∷ x ∷ rest) y p = record { plan = p; young = y }
   goes_known c (item ∷ rest) y p = record { plan = p; young = y }
 
-  keeps_known : (c : Call K V) → c.aborts < retries → KnownIf (keeps c).left
+  keeps_known : (c : Call K V E) → c.aborts < retries → KnownIf (keeps c).left
   keeps_known c y = kept_next (λ v. KnownIf v.left) c (λ off. tt)
       (λ on. record { plan = Freeing _; young = y })
 
-  misses_known : (c : Call K V) (aim : Aim K) → c.aborts < retries → KnownIf (misses c aim).left
+  misses_known : (c : Call K V E) (aim : Aim K V) → c.aborts < retries → KnownIf (misses c aim).left
   misses_known c plan.To_answer y = tt
-  misses_known c (plan.To_load load) y = record { plan = Drained _ (Owning load); young = y }
-  misses_known c (plan.To_own load) y = record { plan = Asking load; young = y }
+  misses_known c (plan.To_load sought) y = record { plan = Drained _ (Owning sought); young = y }
+  misses_known c (plan.To_own sought) y = record { plan = Asking sought.load; young = y }
+  misses_known c (plan.To_insert key value) y =
+      put_plans (λ p. KnownIf (goes c p).left) c.rules key value
+      (plan.Reply (answer.Loaded value true) ∷ [])
+      (record { plan = Posted _ (Draining _ (Putting _ _ _ (Answering _))); young = y })
+      (record { plan = Posted _ (Draining _ (Locking _ _ _ (Answering _))); young = y })
   misses_known c (plan.To_evict key stamp cause) y = keeps_known c y
 
-  finds_known : (c : Call K V) (aim : Aim K) (there : K) (stored : Stored V) → c.aborts < retries →
+  finds_known : (c : Call K V E) (aim : Aim K V) (there : K) (stored : Stored V) → c.aborts < retries →
       KnownIf (finds_pair c aim there stored).left
   finds_known c plan.To_answer there stored y =
       record { plan = Judging _ there stored tt; young = y }
-  finds_known c (plan.To_load load) there stored y =
+  finds_known c (plan.To_load sought) there stored y =
       record { plan = Judging _ there stored tt; young = y }
-  finds_known c (plan.To_own load) there stored y =
+  finds_known c (plan.To_own sought) there stored y =
+      record { plan = Judging _ there stored tt; young = y }
+  finds_known c (plan.To_insert key value) there stored y =
       record { plan = Judging _ there stored tt; young = y }
   finds_known c (plan.To_evict key stamp cause) there stored y =
       chosen_next (λ v. KnownIf v.left) c key stamp cause there stored (λ off. tt)
       (λ on. record { plan = Freeing _; young = y })
       (record { plan = Chosen key stamp cause there stored; young = y })
 
-  hits_known : (c : Call K V) (aim : Aim K) (value : V) → IsLook aim → c.aborts < retries →
+  hits_known : (c : Call K V E) (aim : Aim K V) (value : V) → IsLook aim → c.aborts < retries →
       KnownIf (hits c aim value).left
   hits_known c plan.To_answer value l y = tt
-  hits_known c (plan.To_load load) value l y = tt
-  hits_known c (plan.To_own load) value l y =
+  hits_known c (plan.To_load sought) value l y = tt
+  hits_known c (plan.To_insert key unused) value l y = tt
+  hits_known c (plan.To_own sought) value l y =
       record { plan = Posted _ (Ended _ (Settling _ _)); young = y }
   hits_known c (plan.To_evict key stamp cause) value l y = absurd l
 
-  read_known : (c : Call K V) (load : Load K) (with : Settled V) → IsKnown c → KnownIf (after_read c load (found.ReadSettled with)).left
-  read_known c load (settled.Ready value) h = tt
-  read_known c load settled.NotYet h = record { plan = h.plan; young = h.young }
-  read_known c load settled.Aborted h = by (c.aborts + 1 == retries) refl
+  read_known : (c : Call K V E) (sought : Sought K) (with : Settled V E) → IsKnown c → KnownIf (after_read c sought (found.ReadSettled with)).left
+  read_known c sought (settled.Ready value) h = tt
+  read_known c sought (settled.Err error) h = tt
+  read_known c sought settled.Nothing h = tt
+  read_known c sought settled.NotYet h = record { plan = h.plan; young = h.young }
+  read_known c sought settled.Aborted h = by (c.aborts + 1 == retries) refl
     where
-      by : (b : Bool) → (c.aborts + 1 == retries) ≡ b → KnownIf (after_abort c load).left
+      by : (b : Bool) → (c.aborts + 1 == retries) ≡ b → KnownIf (after_abort c sought).left
       by true e = rw e tt
       by false e = rw e (record {
-        plan = Drained _ (Owning load);
+        plan = Drained _ (Owning sought);
         young = grind
             (arith, nat_tests, e, h.young);
       })
 
-  told_known : (c : Call K V) (load : Load K) (given : Told V) → IsKnown c → KnownIf (after_told c load (found.TakeTold (Some given))).left
+  told_known : (c : Call K V E) (load : Load K) (given : Told V E) → IsKnown c → KnownIf (after_told c load (found.TakeTold (Some given))).left
   told_known c load (told.Value value) h =
       loaded_plans (λ p. KnownIf (goes c p).left) c.rules load value
       (record { plan = Posted _ (Ended _ (Settling _ _)); young = h.young })
       (record { plan = Posted _ (Draining _ (Putting _ _ _ (Settling _ _))); young = h.young })
       (record { plan = Posted _ (Draining _ (Locking _ _ _ (Settling _ _))); young = h.young })
+  told_known c load (told.Err error) h =
+      record { plan = Posted _ (Ended _ (Settling _ _)); young = h.young }
+  told_known c load told.Nothing h =
+      record { plan = Posted _ (Ended _ (Settling _ _)); young = h.young }
   told_known c load told.Done h = record { plan = h.plan; young = h.young }
   told_known c load told.Off h = record { plan = h.plan; young = h.young }
 
-  fresh_form : (rules : Rules) (p : List (Item K V)) → IsFresh rules p → IsPlan p
-  fresh_form rules p (Disabled a d) = Posted _ (Ended _ (Answering a))
+  fresh_form : (rules : Rules) (p : List (Item K V E)) → IsFresh rules p → IsPlan p
+  fresh_form rules p (Disabled a d plain) = Posted _ (Ended _ (Answering a))
   fresh_form rules p (Gets key d) = Posted _ (Draining _ (Looking _ key tt))
-  fresh_form rules p (Loads load d) = Posted _ (Draining _ (Looking _ load.key tt))
-  fresh_form rules p (Owns load d) = Posted _ (Draining _ (Owning load))
+  fresh_form rules p (Loads sought d) = Posted _ (Draining _ (Looking _ sought.load.key tt))
+  fresh_form rules p (Owns sought d) = Posted _ (Draining _ (Owning sought))
+  fresh_form rules p (Finds_or_puts key value d) = Posted _ (Draining _ (Looking _ key tt))
+  fresh_form rules p (Gives_back a d plain) = Posted _ (Draining _ (Giving a))
   fresh_form rules p (Puts key value d off) =
       Posted _ (Draining _ (Putting key value _ (Answering _)))
   fresh_form rules p (Locks_and_puts key value d on) =
@@ -181,25 +200,26 @@ module _ {K V : Type 0} where
   fresh_known rules s =
       record { plan = fresh_form rules (plan_of rules s) (fresh_plan rules s); young = omega arith }
 
-  module _ (eq : K → K → Bool) (w : World K V) (n : ℕ) (c : Call K V) (h : IsKnown c) where
-    abbrev Leaves : World K V → Next K V → Type 0
+  module _ (eq : K → K → Bool) (w : World K V E) (n : ℕ) (c : Call K V E) (h : IsKnown c) where
+    abbrev Leaves : World K V E → Next K V E → Type 0
     Leaves new next = KnownIf next.left
 
-    on_tail : (p : List (Item K V)) → IsTail p → OnStep eq Leaves w n c p
+    on_tail : (p : List (Item K V E)) → IsTail p → OnStep eq Leaves w n c p
     on_tail p (Answering a) = outcomes eq Leaves w n c (plan.Reply a) [] tt
     on_tail p (Settling with a) = outcomes eq Leaves w n c (plan.Settle with) (plan.Reply a ∷ []) tt
 
-    on_drained : (p : List (Item K V)) → IsDrained p → OnStep eq Leaves w n c p
+    on_drained : (p : List (Item K V E)) → IsDrained p → OnStep eq Leaves w n c p
     on_drained p (Looking aim key l) = outcomes eq Leaves w n c (plan.Get aim key) [] (
       (λ more. record { plan = h.plan; young = h.young }),
       (λ none. misses_known c aim h.young),
       λ k stored some. finds_known c aim k stored h.young,
     )
-    on_drained p (Owning load) = outcomes eq Leaves w n c (plan.Own load) [] (
+    on_drained p (Owning sought) = outcomes eq Leaves w n c (plan.Own sought) [] (
       (λ able e. record { plan = Drained _ (Looking _ _ tt); young = h.young }),
-      (λ not e. record { plan = Asking load; young = h.young }),
-      λ owner e. record { plan = Reading load; young = h.young },
+      (λ not e. record { plan = Asking sought.load; young = h.young }),
+      λ owner e. record { plan = Reading sought; young = h.young },
     )
+    on_drained p (Giving a) = outcomes eq Leaves w n c (plan.Reply a) [] tt
     on_drained p (Putting key value rest t) =
         outcomes eq Leaves w n c (plan.Moment (plan.To_store key value)) rest
         (record { plan = Writing key value _ rest t; young = h.young })
@@ -217,7 +237,7 @@ module _ {K V : Type 0} where
           λ e. record { plan = h.plan; young = h.young },
         )
 
-    on_posted : (p : List (Item K V)) → IsPosted p → OnStep eq Leaves w n c p
+    on_posted : (p : List (Item K V E)) → IsPosted p → OnStep eq Leaves w n c p
     on_posted p (Draining rest d) = outcomes eq Leaves w n c plan.Drain rest (
       (λ e. goes_known c rest h.young (Drained rest d)),
       (λ x xs e. record { plan = Posting x (plan.Drain ∷ rest) (Draining rest d); young = h.young }),
@@ -225,7 +245,7 @@ module _ {K V : Type 0} where
     )
     on_posted p (Ended rest t) = on_tail rest t
 
-    on_plan : (p : List (Item K V)) → IsPlan p → OnStep eq Leaves w n c p
+    on_plan : (p : List (Item K V E)) → IsPlan p → OnStep eq Leaves w n c p
     on_plan p (Posted rest d) = on_posted rest d
     on_plan p (Drained rest d) = on_drained rest d
     on_plan p (Posting x rest d) = outcomes eq Leaves w n c (plan.Post x) rest
@@ -248,9 +268,9 @@ module _ {K V : Type 0} where
     on_plan p (Ending x rest d) = outcomes eq Leaves w n c plan.End (plan.Post x ∷ rest) (record { plan = Posting x rest d; young = h.young })
     on_plan p (Judging aim key stored l) =
         outcomes eq Leaves w n c (plan.Judge aim key stored) []
-        (hits_known c aim stored.value l h.young)
-    on_plan p (Reading load) = outcomes eq Leaves w n c (plan.Read load) []
-        ((λ e. record { plan = h.plan; young = h.young }), λ with e. read_known c load with h)
+        ((λ seen. hits_known c aim stored.value l h.young), λ unseen. misses_known c aim h.young)
+    on_plan p (Reading sought) = outcomes eq Leaves w n c (plan.Read sought) []
+        ((λ e. record { plan = h.plan; young = h.young }), λ with e. read_known c sought with h)
     on_plan p (Asking load) = outcomes eq Leaves w n c (plan.Ask load) [] (record { plan = Telling load; young = h.young })
     on_plan p (Telling load) = outcomes eq Leaves w n c (plan.Told load) []
         ((λ e. record { plan = h.plan; young = h.young }), λ given e. told_known c load given h)
@@ -286,16 +306,16 @@ module _ {K V : Type 0} where
     on_plan p (Freeing a) = outcomes eq Leaves w n c (plan.Unlock false) (plan.Reply a ∷ []) tt
     on_plan p (Idling a) = outcomes eq Leaves w n c plan.Idle (plan.Reply a ∷ []) tt
 
-module _ {K V : Type 0} (eq : K → K → Bool) where
+module _ {K V E : Type 0} (eq : K → K → Bool) where
   -- each live call is known
-  abbrev pub AllKnown : State K V → Type 0
-  AllKnown s = (n : ℕ) (c : Call K V) → s.calls n ≡ Some c → IsKnown c
+  abbrev pub AllKnown : State K V E → Type 0
+  AllKnown s = (n : ℕ) (c : Call K V E) → s.calls n ≡ Some c → IsKnown c
 
-  goes_on : (s : State K V) (n : ℕ) (w : World K V) (next : Next K V) → AllKnown s → KnownIf next.left → AllKnown (state_after s n w next)
+  goes_on : (s : State K V E) (n : ℕ) (w : World K V E) (next : Next K V E) → AllKnown s → KnownIf next.left → AllKnown (state_after s n w next)
   goes_on s n w next all h m c live =
       put_cases s.calls n next.left m (Some c) (IsKnown c) live (λ here is. subst KnownIf is h) (λ there is. all m c is)
 
-  known_step : (s t : State K V) (n : ℕ) (turn : Turn K V) → AllKnown s → Step eq s n turn t → AllKnown t
+  known_step : (s t : State K V E) (n : ℕ) (turn : Turn K V E) → AllKnown s → Step eq s n turn t → AllKnown t
   known_step s t n turn all step =
       let h : IsKnown step.call = all n step.call step.live in
       step_cases eq (λ _ next. KnownIf next.left) (λ v _. AllKnown v) s t n turn step
@@ -303,7 +323,7 @@ module _ {K V : Type 0} (eq : K → K → Bool) where
 
   pub known_kept : IsKept eq AllKnown
   known_kept = record {
-    fresh = λ rules size has_log n c live. absurd (none_some live);
+    fresh = λ rules size tests has_log n c live. absurd (none_some live);
     at = λ s moment all. all;
     start = λ s start all n c live.
         put_cases s.calls (s.world.desk.last + 1) (Some (fresh_call s.world.desk.rules start)) n (Some c) (IsKnown c) live
@@ -315,5 +335,5 @@ module _ {K V : Type 0} (eq : K → K → Bool) where
         put_cases s.calls n None m (Some b) (IsKnown b) lives (λ here is. absurd (none_some is)) (λ there is. all m b is);
   }
 
-  pub calls_known : (s : State K V) → IsReached eq s → AllKnown s
+  pub calls_known : (s : State K V E) → IsReached eq s → AllKnown s
   calls_known s h = in_reached eq AllKnown known_kept s h

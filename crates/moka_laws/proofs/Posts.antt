@@ -15,13 +15,14 @@ use Rattle.moka_hist.specs.declared.records.Stored.{Stored}
 use Rattle.moka_hist.specs.declared.rules.Rules.{Rules}
 use Rattle.moka_hist.specs.declared.writes.Owed.{Owed}
 use Rattle.moka_hist.specs.declared.loads.Load.{Load}
+use Rattle.moka_hist.specs.declared.loads.Sought.{Sought}
 use Rattle.moka_hist.specs.declared.events.Start.{Start}
 use Rattle.moka_hist.specs.declared.events.Told.{Told}
 use Rattle.moka_hist.specs.declared.events.Told.TheVariants as answer
 use Rattle.moka_hist.specs.declared.visits.Settled.{Settled}
 use Rattle.moka_hist.specs.declared.visits.Settled.TheVariants as settled
 use Rattle.moka_hist.specs.declared.visits.Found.TheVariants as found
-use Rattle.moka_laws.proofs.Rules.{loaded_plans, kept_next, chosen_next, IsFresh, Disabled, fresh_plan}
+use Rattle.moka_laws.proofs.Rules.{put_plans, loaded_plans, kept_next, chosen_next, IsFresh, Disabled, fresh_plan}
 use Rattle.moka_laws.proofs.Weights.{weigh, weigh_call}
 
 -- 1 where two numbers are one, and else 0
@@ -36,18 +37,18 @@ among x writes = times x (map number_of writes)
 abbrev pub among_owed : ℕ → List Owed → ℕ
 among_owed x owed = times x (map (λ o. number_of o.write) owed)
 
-module _ {K V : Type 0} where
+module _ {K V E : Type 0} where
   -- the item posts a write; it posts the write of this number
-  abbrev pub any_post : Item K V → ℕ
+  abbrev pub any_post : Item K V E → ℕ
   any_post (plan.Post write) = 1
   any_post _ = 0
 
-  abbrev pub post_of : ℕ → Item K V → ℕ
+  abbrev pub post_of : ℕ → Item K V E → ℕ
   post_of x (plan.Post write) = once x (number_of write)
   post_of x _ = 0
 
   -- the item makes a write, or may lead to one
-  abbrev pub may_write : Item K V → ℕ
+  abbrev pub may_write : Item K V E → ℕ
   may_write plan.Drain = 0
   may_write (plan.Post write) = 0
   may_write plan.Turn = 0
@@ -65,7 +66,7 @@ module _ {K V : Type 0} where
 
   -- how many posts stand behind where the plan's one post may stand: the front, or behind the items of a turn
   -- or of a notice
-  abbrev pub late : List (Item K V) → ℕ
+  abbrev pub late : List (Item K V E) → ℕ
   late [] = 0
   late (plan.Turn ∷ rest) = late rest
   late (plan.Apply ∷ rest) = late rest
@@ -76,18 +77,18 @@ module _ {K V : Type 0} where
   late (plan.Unlock wrote ∷ rest) = late rest
   late (_ ∷ rest) = weigh any_post rest
 
-  abbrev pub late_call : Option (Call K V) → ℕ
+  abbrev pub late_call : Option (Call K V E) → ℕ
   late_call None = 0
   late_call (Some c) = late c.plan
 
-  pub late_goes : (c : Call K V) (rest : List (Item K V)) → late_call (goes c rest).left ≡ late rest
+  pub late_goes : (c : Call K V E) (rest : List (Item K V E)) → late_call (goes c rest).left ≡ late rest
   late_goes c (plan.Reply a ∷ []) = refl
   late_goes c (plan.Reply a ∷ x ∷ rest) = refl
   late_goes c [] = refl
   late_goes c (_ ∷ rest) = refl
 
   -- where no write is posted none is posted late
-  pub late_none : (rest : List (Item K V)) → weigh any_post rest ≡ 0 → late rest ≡ 0
+  pub late_none : (rest : List (Item K V E)) → weigh any_post rest ≡ 0 → late rest ≡ 0
   late_none [] h = refl
   late_none (plan.Turn ∷ rest) h = late_none rest (omega arith)
   late_none (plan.Apply ∷ rest) h = late_none rest (omega arith)
@@ -99,13 +100,13 @@ module _ {K V : Type 0} where
   late_none (_ ∷ rest) h = omega arith
 
   -- where no write is posted the write of no number is
-  pub posts_none : (x : ℕ) (rest : List (Item K V)) → weigh any_post rest ≡ 0 → weigh (post_of x) rest ≡ 0
+  pub posts_none : (x : ℕ) (rest : List (Item K V E)) → weigh any_post rest ≡ 0 → weigh (post_of x) rest ≡ 0
   posts_none x [] h = refl
   posts_none x (plan.Post write ∷ rest) h = absurd (omega arith)
   posts_none x (_ ∷ rest) h = let e = posts_none x rest (omega arith) in omega arith
 
   -- a call posts the one write that it holds
-  pub posts_held : (x : ℕ) (plan : List (Item K V)) → late plan ≡ 0 → weigh (post_of x) plan ≡ among x (option_to_list (held_by plan))
+  pub posts_held : (x : ℕ) (plan : List (Item K V E)) → late plan ≡ 0 → weigh (post_of x) plan ≡ among x (option_to_list (held_by plan))
   posts_held x [] h = refl
   posts_held x (plan.Turn ∷ rest) h = let e = posts_held x rest h in omega arith
   posts_held x (plan.Apply ∷ rest) h = let e = posts_held x rest h in omega arith
@@ -120,19 +121,19 @@ module _ {K V : Type 0} where
   -- ---- what is left after an item
 
   -- a call that may have ended posts no write, none late, and may make at most one
-  pub record IsClear (left : Option (Call K V)) : Type 0 where
+  pub record IsClear (left : Option (Call K V E)) : Type 0 where
     pub late : late_call left ≡ 0
     pub posts : (x : ℕ) → weigh_call (post_of x) left ≡ 0
     pub may : weigh_call may_write left ≤ 1
 
   -- the plan posts no write, none late, and may make at most one
-  record IsClearPlan (p : List (Item K V)) : Type 0 where
+  record IsClearPlan (p : List (Item K V E)) : Type 0 where
     late : late p ≡ 0
     posts : (x : ℕ) → weigh (post_of x) p ≡ 0
     may : weigh may_write p ≤ 1
 
-  fresh_form : (rules : Rules) (p : List (Item K V)) → IsFresh rules p → IsClearPlan p
-  fresh_form rules p (Disabled a d) = record { late = refl; posts = λ x. refl; may = omega arith }
+  fresh_form : (rules : Rules) (p : List (Item K V E)) → IsFresh rules p → IsClearPlan p
+  fresh_form rules p (Disabled a d plain) = record { late = refl; posts = λ x. refl; may = omega arith }
   fresh_form rules p _ = record { late = refl; posts = λ x. refl; may = omega arith }
 
   pub fresh_clear : (rules : Rules) (start : Start K V) → IsClear (Some (fresh_call rules start))
@@ -140,23 +141,29 @@ module _ {K V : Type 0} where
       let f = fresh_form rules (plan_of rules start) (fresh_plan rules start) in
       record { late = f.late; posts = f.posts; may = f.may }
 
-  pub keeps_clear : (c : Call K V) → IsClear (keeps c).left
+  pub keeps_clear : (c : Call K V E) → IsClear (keeps c).left
   keeps_clear c = kept_next (λ v. IsClear v.left) c
       (λ off. record { late = refl; posts = λ x. refl; may = omega arith })
       (λ on. record { late = refl; posts = λ x. refl; may = omega arith })
 
-  pub misses_clear : (c : Call K V) (aim : Aim K) → IsClear (misses c aim).left
+  pub misses_clear : (c : Call K V E) (aim : Aim K V) → IsClear (misses c aim).left
   misses_clear c plan.To_answer = record { late = refl; posts = λ x. refl; may = omega arith }
-  misses_clear c (plan.To_load load) = record { late = refl; posts = λ x. refl; may = omega arith }
-  misses_clear c (plan.To_own load) = record { late = refl; posts = λ x. refl; may = omega arith }
+  misses_clear c (plan.To_load sought) = record { late = refl; posts = λ x. refl; may = omega arith }
+  misses_clear c (plan.To_own sought) = record { late = refl; posts = λ x. refl; may = omega arith }
+  misses_clear c (plan.To_insert key value) =
+      put_plans (λ p. IsClear (goes c p).left) c.rules key value _
+      (record { late = refl; posts = λ x. refl; may = omega arith })
+      (record { late = refl; posts = λ x. refl; may = omega arith })
   misses_clear c (plan.To_evict key stamp cause) = keeps_clear c
 
-  pub finds_clear : (c : Call K V) (aim : Aim K) (there : K) (stored : Stored V) →
+  pub finds_clear : (c : Call K V E) (aim : Aim K V) (there : K) (stored : Stored V) →
       IsClear (finds_pair c aim there stored).left
   finds_clear c plan.To_answer there stored = record { late = refl; posts = λ x. refl; may = omega arith }
-  finds_clear c (plan.To_load load) there stored =
+  finds_clear c (plan.To_load sought) there stored =
       record { late = refl; posts = λ x. refl; may = omega arith }
-  finds_clear c (plan.To_own load) there stored =
+  finds_clear c (plan.To_insert under new) there stored =
+      record { late = refl; posts = λ x. refl; may = omega arith }
+  finds_clear c (plan.To_own sought) there stored =
       record { late = refl; posts = λ x. refl; may = omega arith }
   finds_clear c (plan.To_evict key stamp cause) there stored =
       chosen_next (λ v. IsClear v.left) c key stamp cause there stored
@@ -164,32 +171,38 @@ module _ {K V : Type 0} where
       (λ on. record { late = refl; posts = λ x. refl; may = omega arith })
       (record { late = refl; posts = λ x. refl; may = omega arith })
 
-  pub hits_clear : (c : Call K V) (aim : Aim K) (value : V) → IsClear (Some c) →
+  pub hits_clear : (c : Call K V E) (aim : Aim K V) (value : V) → IsClear (Some c) →
       IsClear (hits c aim value).left
   hits_clear c plan.To_answer value h = record { late = refl; posts = λ x. refl; may = omega arith }
-  hits_clear c (plan.To_load load) value h = record { late = refl; posts = λ x. refl; may = omega arith }
-  hits_clear c (plan.To_own load) value h = record { late = refl; posts = λ x. refl; may = omega arith }
+  hits_clear c (plan.To_load sought) value h = record { late = refl; posts = λ x. refl; may = omega arith }
+  hits_clear c (plan.To_insert under new) value h = record { late = refl; posts = λ x. refl; may = omega arith }
+  hits_clear c (plan.To_own sought) value h = record { late = refl; posts = λ x. refl; may = omega arith }
   hits_clear c (plan.To_evict key stamp cause) value h =
       record { late = h.late; posts = h.posts; may = h.may }
 
-  either_clear : (b : Bool) (x y : Next K V) → IsClear x.left → IsClear y.left → IsClear (cond b x y).left
+  either_clear : (b : Bool) (x y : Next K V E) → IsClear x.left → IsClear y.left → IsClear (cond b x y).left
   either_clear true x y h k = h
   either_clear false x y h k = k
 
-  pub read_clear : (c : Call K V) (load : Load K) (with : Settled V) → IsClear (Some c) →
-      IsClear (after_read c load (found.ReadSettled with)).left
-  read_clear c load (settled.Ready value) h = record { late = refl; posts = λ x. refl; may = omega arith }
-  read_clear c load settled.NotYet h = record { late = h.late; posts = h.posts; may = h.may }
-  read_clear c load settled.Aborted h =
+  pub read_clear : (c : Call K V E) (sought : Sought K) (with : Settled V E) → IsClear (Some c) →
+      IsClear (after_read c sought (found.ReadSettled with)).left
+  read_clear c sought (settled.Ready value) h = record { late = refl; posts = λ x. refl; may = omega arith }
+  read_clear c sought (settled.Err error) h = record { late = refl; posts = λ x. refl; may = omega arith }
+  read_clear c sought settled.Nothing h = record { late = refl; posts = λ x. refl; may = omega arith }
+  read_clear c sought settled.NotYet h = record { late = h.late; posts = h.posts; may = h.may }
+  read_clear c sought settled.Aborted h =
       either_clear (c.aborts + 1 == retries) _ _ (record { late = refl; posts = λ x. refl; may = omega arith })
       (record { late = refl; posts = λ x. refl; may = omega arith })
 
-  pub told_clear : (c : Call K V) (load : Load K) (given : Told V) → IsClear (Some c) →
+  pub told_clear : (c : Call K V E) (load : Load K) (given : Told V E) → IsClear (Some c) →
       IsClear (after_told c load (found.TakeTold (Some given))).left
   told_clear c load (answer.Value value) h =
       loaded_plans (λ p. IsClear (goes c p).left) c.rules load value
       (record { late = refl; posts = λ x. refl; may = omega arith })
       (record { late = refl; posts = λ x. refl; may = omega arith })
       (record { late = refl; posts = λ x. refl; may = omega arith })
+  told_clear c load answer.Nothing h = record { late = refl; posts = λ x. refl; may = omega arith }
+  told_clear c load (answer.Err error) h =
+      record { late = refl; posts = λ x. refl; may = omega arith }
   told_clear c load answer.Done h = record { late = h.late; posts = h.posts; may = h.may }
   told_clear c load answer.Off h = record { late = h.late; posts = h.posts; may = h.may }

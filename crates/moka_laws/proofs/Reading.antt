@@ -18,9 +18,9 @@ joins o (Some owner) = cond (owner == o) 1 0
 pub joins_self : (o : ℕ) (j : Option ℕ) → j ≡ Some o → joins o j ≡ 1
 joins_self o j e = ap (joins o) e ∙ ap (λ b. cond {A = ℕ} b 1 0) (same_number o)
 
-module _ {K V : Type 0} where
+module _ {K V E : Type 0} where
   -- where the call waits for the owner it counts once
-  pub reader_joins : (d : DeskPart K V) (n o : ℕ) → joins o (d.joined n) ≡ cond (is_reader_of d n o) 1 0
+  pub reader_joins : (d : DeskPart K V E) (n o : ℕ) → joins o (d.joined n) ≡ cond (is_reader_of d n o) 1 0
   reader_joins d n o = by (d.joined n)
     where
       by : (j : Option ℕ) → joins o j ≡ cond (option_map_or (λ v. v == o) j false) 1 0
@@ -28,7 +28,7 @@ module _ {K V : Type 0} where
       by (Some v) = refl
 
   -- a call that leaves its owner is one less to wait for it
-  pub fewer_readers : (d : DeskPart K V) (n o : ℕ) → joins o (d.joined n) ≤ d.readers o →
+  pub fewer_readers : (d : DeskPart K V E) (n o : ℕ) → joins o (d.joined n) ≤ d.readers o →
       readers_without d n o + joins o (d.joined n) ≡ d.readers o
   fewer_readers d n o h = by (is_reader_of d n o) (reader_joins d n o)
     where
@@ -37,7 +37,7 @@ module _ {K V : Type 0} where
       by false e = omega arith
 
   -- how an owner ended is kept while another call waits for it
-  pub kept_settled : (d : DeskPart K V) (n o : ℕ) → joins o (d.joined n) + 1 ≤ d.readers o → IsSome (d.settled o) →
+  pub kept_settled : (d : DeskPart K V E) (n o : ℕ) → joins o (d.joined n) + 1 ≤ d.readers o → IsSome (d.settled o) →
       IsSome (settled_without d n o)
   kept_settled d n o more some = by (is_reader_of d n o) (d.readers o == 1) (reader_joins d n o) refl
     where
@@ -47,7 +47,7 @@ module _ {K V : Type 0} where
       by true true e f = let one = eqb-true (d.readers o) 1 f in absurd (omega arith)
 
   -- an owner's end is kept where somebody waits for it, and another's stays
-  pub settles_some : (d : DeskPart K V) (n : ℕ) (with : Settled V) (kept : ℕ → Option (Settled V)) (o : ℕ) → IsSome (kept o) →
+  pub settles_some : (d : DeskPart K V E) (n : ℕ) (with : Settled V E) (kept : ℕ → Option (Settled V E)) (o : ℕ) → IsSome (kept o) →
       IsSome (settled_with d n with kept o)
   settles_some d n with kept o some = by _
     where
@@ -55,7 +55,7 @@ module _ {K V : Type 0} where
       by true = refl
       by false = some
 
-  pub settles_own : (d : DeskPart K V) (n : ℕ) (with : Settled V) (kept : ℕ → Option (Settled V)) (l : Load K) → d.owning n ≡ Some l →
+  pub settles_own : (d : DeskPart K V E) (n : ℕ) (with : Settled V E) (kept : ℕ → Option (Settled V E)) (l : Load K) → d.owning n ≡ Some l →
       0 < d.readers n → IsSome (settled_with d n with kept n)
   settles_own d n with kept l own some =
       let waited : nat_lt 0 (d.readers n) ≡ true = grind (arith, nat_tests) in
@@ -66,10 +66,10 @@ abbrev pub OwnerOf : {K : Type 0} → (K → K → Bool) → (ℕ → Option (Lo
 OwnerOf {K = K} eq owning o load = (l : Load K) × (owning o ≡ Some l) × (load_eq eq l load ≡ true)
 
 -- that, or how it ended is there to be read
-abbrev pub Answered : {K V : Type 0} → (K → K → Bool) → (ℕ → Option (Load K)) → (ℕ → Option (Settled V)) → ℕ → Load K → Type 0
+abbrev pub Answered : {K V E : Type 0} → (K → K → Bool) → (ℕ → Option (Load K)) → (ℕ → Option (Settled V E)) → ℕ → Load K → Type 0
 Answered eq owning settled o load = OwnerOf eq owning o load ⊎ IsSome (settled o)
 
-module _ {K V : Type 0} (eq : K → K → Bool) (d : DeskPart K V) (n : ℕ) where
+module _ {K V E : Type 0} (eq : K → K → Bool) (d : DeskPart K V E) (n : ℕ) where
   -- ---- what is answered stays so, where the call leaves its owner, and where it ends its own ownership
 
   pub answered_without : (o : ℕ) (load : Load K) → joins o (d.joined n) + 1 ≤ d.readers o → Answered eq d.owning d.settled o load →
@@ -77,7 +77,7 @@ module _ {K V : Type 0} (eq : K → K → Bool) (d : DeskPart K V) (n : ℕ) whe
   answered_without o load more (inl own) = inl own
   answered_without o load more (inr some) = inr (kept_settled d n o more some)
 
-  pub answered_with : (with : Settled V) (kept : ℕ → Option (Settled V)) (o : ℕ) (load : Load K) → 0 < d.readers o →
+  pub answered_with : (with : Settled V E) (kept : ℕ → Option (Settled V E)) (o : ℕ) (load : Load K) → 0 < d.readers o →
       Answered eq d.owning kept o load → Answered eq (put_at d.owning n None) (settled_with d n with kept) o load
   answered_with with kept o load some (inr k) = inr (settles_some d n with kept o k)
   answered_with with kept o load some (inl own) = by (n == o) refl

@@ -60,11 +60,11 @@ module _ {K V : Type 0} where
       )
       by false is e = absurd (none_some e)
 
-module _ {K V : Type 0} (removal : Removal) (key : K) (n : ℕ) where
+module _ {K V E : Type 0} (removal : Removal) (key : K) (n : ℕ) where
   -- ---- how far the call is
 
   -- it has still to take the record out
-  abbrev Early : List (Item K V) → Type 0
+  abbrev Early : List (Item K V E) → Type 0
   Early (plan.Drain ∷ rest) = Early rest
   Early (plan.Ended number ∷ rest) = Early rest
   Early (plan.Post write ∷ rest) = Early rest
@@ -81,13 +81,13 @@ module _ {K V : Type 0} (removal : Removal) (key : K) (n : ℕ) where
   Early _ = ⊥
 
   -- it has found nothing
-  abbrev Empty : List (Item K V) → Type 0
+  abbrev Empty : List (Item K V E) → Type 0
   Empty (plan.Idle ∷ plan.Reply a ∷ []) = a ≡ nothing_answer removal
   Empty (plan.Unlock false ∷ plan.Reply a ∷ []) = a ≡ nothing_answer removal
   Empty _ = ⊥
 
   -- it has taken this pair out
-  abbrev Late : K × Stored V → List (Item K V) → Type 0
+  abbrev Late : K × Stored V → List (Item K V E) → Type 0
   Late pair (plan.Notice k old cause upsert ∷ rest) = Late pair rest
   Late pair (plan.Heard ∷ rest) = Late pair rest
   Late pair (plan.Unlock true ∷ rest) = Late pair rest
@@ -98,7 +98,7 @@ module _ {K V : Type 0} (removal : Removal) (key : K) (n : ℕ) where
       (a ≡ removed_answer removal pair.1.value)
   Late pair _ = ⊥
 
-  early_may : (p : List (Item K V)) → Early p → 0 < weigh may_write p
+  early_may : (p : List (Item K V E)) → Early p → 0 < weigh may_write p
   early_may (plan.Drain ∷ rest) h = omega (arith, early_may rest h)
   early_may (plan.Ended number ∷ rest) h = omega (arith, early_may rest h)
   early_may (plan.Post write ∷ rest) h = omega (arith, early_may rest h)
@@ -118,12 +118,12 @@ module _ {K V : Type 0} (removal : Removal) (key : K) (n : ℕ) where
   module _ (eq : K → K → Bool) (t : TablePart K V) where
     -- of a call that had still to take the record out: it has still to; it found nothing; it took a
     -- pair out; or it answers that it found nothing
-    data FromEarly (new : World K V) (next : Next K V) : Type 0 where
-      Stays_early : (d : Call K V) → next.left ≡ Some d → Early d.plan → next.turn ≡ turn.Going ⊎
+    data FromEarly (new : World K V E) (next : Next K V E) : Type 0 where
+      Stays_early : (d : Call K V E) → next.left ≡ Some d → Early d.plan → next.turn ≡ turn.Going ⊎
           (next.turn ≡ turn.Wait) → FromEarly new next
-      Gets_empty : (d : Call K V) → next.left ≡ Some d → Empty d.plan → next.turn ≡ turn.Going →
+      Gets_empty : (d : Call K V E) → next.left ≡ Some d → Empty d.plan → next.turn ≡ turn.Going →
           new.table ≡ t → FromEarly new next
-      Takes : (pair : K × Stored V) (d : Call K V) → next.left ≡ Some d → Late pair d.plan →
+      Takes : (pair : K × Stored V) (d : Call K V E) → next.left ≡ Some d → Late pair d.plan →
           next.turn ≡ turn.Going →
           t.stored key ≡ Some pair → IsAsked (stamp_asked removal) pair.1.stamp → new.table ≡
           removed eq n t key → FromEarly new next
@@ -131,39 +131,39 @@ module _ {K V : Type 0} (removal : Removal) (key : K) (n : ℕ) where
           new.table ≡ t → FromEarly new next
 
     -- of one that found nothing: it answers that
-    record FromEmpty (new : World K V) (next : Next K V) : Type 0 where
+    record FromEmpty (new : World K V E) (next : Next K V E) : Type 0 where
       left : next.left ≡ None
       turn : next.turn ≡ turn.Answer (nothing_answer removal)
       same : new.table ≡ t
 
     -- of one that took this pair out: so it is still, or it answers that, and has logged it
-    data FromLate (pair : K × Stored V) (new : World K V) (next : Next K V) : Type 0 where
-      Stays_late : (d : Call K V) → next.left ≡ Some d → Late pair d.plan →
-          ((a : Answer V) → next.turn ≡ turn.Answer a → ⊥) →
+    data FromLate (pair : K × Stored V) (new : World K V E) (next : Next K V E) : Type 0 where
+      Stays_late : (d : Call K V E) → next.left ≡ Some d → Late pair d.plan →
+          ((a : Answer V E) → next.turn ≡ turn.Answer a → ⊥) →
           new.table ≡ t → FromLate pair new next
       Answers_late : next.left ≡ None → next.turn ≡ turn.Answer
           (removed_answer removal pair.1.value) → new.table ≡ t →
           Contains new.desk.log (Remove n pair.1.stamp) → FromLate pair new next
 
-  module _ (eq : K → K → Bool) (w : World K V) (c : Call K V) where
-    goes_early : {new : World K V} (rest : List (Item K V)) → Early rest → FromEarly eq w.table new
+  module _ (eq : K → K → Bool) (w : World K V E) (c : Call K V E) where
+    goes_early : {new : World K V E} (rest : List (Item K V E)) → Early rest → FromEarly eq w.table new
         (goes c rest)
     goes_early [] h = absurd h
     goes_early (plan.Reply a ∷ rest) h = absurd h
     goes_early (item ∷ rest) h = Stays_early _ refl h (inl refl)
 
-    waits_early : {new : World K V} (p : List (Item K V)) → c.plan ≡ p → Early p →
+    waits_early : {new : World K V E} (p : List (Item K V E)) → c.plan ≡ p → Early p →
         FromEarly eq w.table new (waits c)
     waits_early p e h = Stays_early _ refl (subst Early (sym e) h) (inr refl)
 
-    keeps_early : {new : World K V} → new.table ≡ w.table → ◌≡◌ {A = Answer V}
+    keeps_early : {new : World K V E} → new.table ≡ w.table → ◌≡◌ {A = Answer V E}
         (nothing_answer removal) answer.Kept → FromEarly eq w.table new (keeps c)
     keeps_early {new} same e =
         kept_next (FromEarly eq w.table new) c
         (λ off. Answers_empty refl (ap (λ a. turn.Answer a) (sym e)) same)
         (λ on. Gets_empty _ refl (sym e) refl same)
 
-    on_early : (p : List (Item K V)) → c.plan ≡ p → Early p → OnStep eq
+    on_early : (p : List (Item K V E)) → c.plan ≡ p → Early p → OnStep eq
         (FromEarly eq w.table) w n c p
     on_early (plan.Drain ∷ rest) e h = outcomes eq (FromEarly eq w.table) w n c plan.Drain rest (
       λ f. goes_early rest h,
@@ -228,7 +228,7 @@ module _ {K V : Type 0} (removal : Removal) (key : K) (n : ℕ) where
     on_early [] e h = absurd h
     on_early (_ ∷ rest) e h = absurd h
 
-    on_empty : (p : List (Item K V)) → Empty p → OnStep eq (FromEmpty eq w.table) w n c p
+    on_empty : (p : List (Item K V E)) → Empty p → OnStep eq (FromEmpty eq w.table) w n c p
     on_empty (plan.Idle ∷ plan.Reply a ∷ []) h = outcomes eq (FromEmpty eq w.table) w n c plan.Idle
         (plan.Reply a ∷ [])
         (record { left = refl; turn = ap (λ v. turn.Answer v) h; same = refl })
@@ -239,17 +239,17 @@ module _ {K V : Type 0} (removal : Removal) (key : K) (n : ℕ) where
     on_empty (_ ∷ rest) h = absurd h
 
     module _ (pair : K × Stored V) where
-      goes_late : {new : World K V} (rest : List (Item K V)) → new.table ≡ w.table →
+      goes_late : {new : World K V E} (rest : List (Item K V E)) → new.table ≡ w.table →
           Late pair rest → FromLate eq w.table pair new (goes c rest)
       goes_late [] same h = absurd h
       goes_late (plan.Reply a ∷ rest) same h = absurd h
       goes_late (item ∷ rest) same h = Stays_late _ refl h (λ a f. cc) same
 
-      waits_late : {new : World K V} (p : List (Item K V)) → new.table ≡ w.table → c.plan ≡ p →
+      waits_late : {new : World K V E} (p : List (Item K V E)) → new.table ≡ w.table → c.plan ≡ p →
           Late pair p → FromLate eq w.table pair new (waits c)
       waits_late p same e h = Stays_late _ refl (subst (Late pair) (sym e) h) (λ a f. cc) same
 
-      on_late : (p : List (Item K V)) → c.plan ≡ p → Late pair p → OnStep eq
+      on_late : (p : List (Item K V E)) → c.plan ≡ p → Late pair p → OnStep eq
           (FromLate eq w.table pair) w n c p
       on_late (plan.Notice k old cause upsert ∷ rest) e h = outcomes eq
           (FromLate eq w.table pair) w n c (plan.Notice k old cause upsert) rest
@@ -276,10 +276,10 @@ module _ {K V : Type 0} (removal : Removal) (key : K) (n : ℕ) where
 
 -- ---- of a state
 
-module _ {K V : Type 0} (eq : K → K → Bool) (laws : IsEquivalence eq) (begin : Start K V)
+module _ {K V E : Type 0} (eq : K → K → Bool) (laws : IsEquivalence eq) (begin : Start K V)
     (removal : Removal) (key : K) (n : ℕ) where
   -- the call has taken this pair out, and is to answer that
-  record HasTaken (s : State K V) (p : List (Item K V)) : Type 0 where
+  record HasTaken (s : State K V E) (p : List (Item K V E)) : Type 0 where
     pair : K × Stored V
     late : Late removal key n pair p
     took : TookOut eq begin n key pair s
@@ -288,23 +288,23 @@ module _ {K V : Type 0} (eq : K → K → Bool) (laws : IsEquivalence eq) (begin
     past : IsPast eq pair.1.stamp s.world.table
 
   -- it has found nothing, and committed nothing
-  record HasNothing (s : State K V) (p : List (Item K V)) : Type 0 where
+  record HasNothing (s : State K V E) (p : List (Item K V E)) : Type 0 where
     empty : Empty removal key n p
     uncommitted : times n s.world.table.committed ≡ 0
 
   -- how far the call is
-  abbrev IsSo : State K V → List (Item K V) → Type 0
+  abbrev IsSo : State K V E → List (Item K V E) → Type 0
   IsSo s p = Early removal key n p ⊎ (HasNothing s p ⊎ HasTaken s p)
 
-  abbrev IsSoIf : State K V → Option (Call K V) → Type 0
+  abbrev IsSoIf : State K V E → Option (Call K V E) → Type 0
   IsSoIf s None = Unit {0}
   IsSoIf s (Some c) = IsSo s c.plan
 
-  abbrev Says : State K V → Answer V → Type 0
+  abbrev Says : State K V E → Answer V E → Type 0
   Says s a = SaysTaken eq begin s n removal key a ⊎ SaysNothing s n removal a
 
   -- so it is as the others go on
-  taken_on : (s t : State K V) (pair : K × Stored V) → Leads eq s t →
+  taken_on : (s t : State K V E) (pair : K × Stored V) → Leads eq s t →
       TookOut eq begin n key pair s → TookOut eq begin n key pair t
   taken_on s t pair led k = record {
     before = k.before;
@@ -317,7 +317,7 @@ module _ {K V : Type 0} (eq : K → K → Bool) (laws : IsEquivalence eq) (begin
     led = leads_more eq k.after s t k.led led;
   }
 
-  so_on : (s t : State K V) (p : List (Item K V)) → Leads eq s t → times n t.world.table.committed ≡
+  so_on : (s t : State K V E) (p : List (Item K V E)) → Leads eq s t → times n t.world.table.committed ≡
       times n s.world.table.committed →
       ((x : ℕ) → IsPast eq x s.world.table → IsPast eq x t.world.table) → IsSo s p → IsSo t p
   so_on s t p led same past (inl h) = inl h
@@ -333,32 +333,32 @@ module _ {K V : Type 0} (eq : K → K → Bool) (laws : IsEquivalence eq) (begin
   }))
 
   -- what the call's own step leaves, and answers
-  record Result (s : State K V) (reply : Turn K V) : Type 0 where
+  record Result (s : State K V E) (reply : Turn K V E) : Type 0 where
     so : IsSoIf s (s.calls n)
-    says : (a : Answer V) → reply ≡ turn.Answer a → Says s a
+    says : (a : Answer V E) → reply ≡ turn.Answer a → Says s a
 
-  no_answer : (r : Turn K V) (a : Answer V) → (r ≡ turn.Going) ⊎ (r ≡ turn.Wait) → r ≡
+  no_answer : (r : Turn K V E) (a : Answer V E) → (r ≡ turn.Going) ⊎ (r ≡ turn.Wait) → r ≡
       turn.Answer a → ⊥
   no_answer r a (inl e) f = let g : turn.Going ≡ turn.Answer a = sym e ∙ f in cc
   no_answer r a (inr e) f = let g : turn.Wait ≡ turn.Answer a = sym e ∙ f in cc
 
-  same_answer : (a b : Answer V) → ◌≡◌ {A = Turn K V} (turn.Answer a) (turn.Answer b) → a ≡ b
+  same_answer : (a b : Answer V E) → ◌≡◌ {A = Turn K V E} (turn.Answer a) (turn.Answer b) → a ≡ b
   same_answer a b e = cc
 
-  module _ (s : State K V) (i : IsStamped eq s) (was : WasStarted eq begin n s) where
-    module _ (new : World K V) (next : Next K V)
+  module _ (s : State K V E) (i : IsStamped eq s) (was : WasStarted eq begin n s) where
+    module _ (new : World K V E) (next : Next K V E)
         (step : Step eq s n next.turn (state_after s n new next)) where
-      abbrev after : State K V
+      abbrev after : State K V E
       after = state_after s n new next
 
-      left_so : (d : Call K V) → next.left ≡ Some d → IsSo after d.plan → IsSoIf after
+      left_so : (d : Call K V E) → next.left ≡ Some d → IsSo after d.plan → IsSoIf after
           (after.calls n)
       left_so d e h = subst (IsSoIf after) (sym (put_here s.calls n next.left ∙ e)) h
 
       left_none : next.left ≡ None → IsSoIf after (after.calls n)
       left_none e = subst (IsSoIf after) (sym (put_here s.calls n next.left ∙ e)) tt
 
-      says_nothing : (a : Answer V) → next.turn ≡ turn.Answer (nothing_answer removal) → new.table ≡
+      says_nothing : (a : Answer V E) → next.turn ≡ turn.Answer (nothing_answer removal) → new.table ≡
           s.world.table →
           times n s.world.table.committed ≡ 0 → next.turn ≡ turn.Answer a → Says after a
       says_nothing a e same none f = inr (record {
@@ -411,7 +411,7 @@ module _ {K V : Type 0} (eq : K → K → Bool) (laws : IsEquivalence eq) (begin
             λ a f. says_nothing a h.turn h.same none f;
       }
 
-      from_late : (p : List (Item K V)) (k : HasTaken s p) →
+      from_late : (p : List (Item K V E)) (k : HasTaken s p) →
           FromLate removal key n eq s.world.table k.pair new next → Result after next.turn
       from_late p k (Stays_late d e h r same) = record {
         so = left_so d e (inr (inr (record {
@@ -441,7 +441,7 @@ module _ {K V : Type 0} (eq : K → K → Bool) (laws : IsEquivalence eq) (begin
       }
 
     -- the call's own step
-    own_result : (t : State K V) (turn : Turn K V) (step : Step eq s n turn t) →
+    own_result : (t : State K V E) (turn : Turn K V E) (step : Step eq s n turn t) →
         IsSo s step.call.plan → Result t turn
     own_result t turn step (inl h) =
         let none : times n s.world.table.committed ≡ 0 = omega (
@@ -466,21 +466,21 @@ module _ {K V : Type 0} (eq : K → K → Bool) (laws : IsEquivalence eq) (begin
 
   -- ---- on the way
 
-  record IsRemoving (first : State K V → Type 0) (s : State K V) : Type 0 where
+  record IsRemoving (first : State K V E → Type 0) (s : State K V E) : Type 0 where
     led : first s
     stamped : IsStamped eq s
     born : n ≤ s.world.desk.last
     so : IsSoIf s (s.calls n)
 
-  so_if_on : (s t : State K V) (o : Option (Call K V)) → Leads eq s t →
+  so_if_on : (s t : State K V E) (o : Option (Call K V E)) → Leads eq s t →
       times n t.world.table.committed ≡ times n s.world.table.committed →
       ((x : ℕ) → IsPast eq x s.world.table → IsPast eq x t.world.table) → IsSoIf s o → IsSoIf t o
   so_if_on s t None led same past h = tt
   so_if_on s t (Some c) led same past h = so_on s t c.plan led same past h
 
-  module _ (was : State K V → Type 0) (more : (s t : State K V) → Leads eq s t → was s → was t)
-      (started_so : (s : State K V) → was s → WasStarted eq begin n s) where
-    removing_step : (s t : State K V) (m : ℕ) (turn : Turn K V) → Leads eq s t → IsRemoving was s →
+  module _ (was : State K V E → Type 0) (more : (s t : State K V E) → Leads eq s t → was s → was t)
+      (started_so : (s : State K V E) → was s → WasStarted eq begin n s) where
+    removing_step : (s t : State K V E) (m : ℕ) (turn : Turn K V E) → Leads eq s t → IsRemoving was s →
         Step eq s m turn t → IsRemoving was t
     removing_step s t m turn led i step = record {
       led = more s t led i.led;
@@ -537,7 +537,7 @@ module _ {K V : Type 0} (eq : K → K → Bool) (laws : IsEquivalence eq) (begin
       };
     }
       where
-        dropped_so : (s t : State K V) → Leads eq s t → t.world.table ≡ s.world.table → IsSoIf s
+        dropped_so : (s t : State K V E) → Leads eq s t → t.world.table ≡ s.world.table → IsSoIf s
             (s.calls n) → (b : Bool) →
             IsSoIf t (cond b None (s.calls n))
         dropped_so s t led same h true = tt
@@ -552,23 +552,26 @@ same_removal {K = K} x y e = (
       (λ (v : Removal × K). v.1) (some_same e),
 )
 
-module _ {K V : Type 0} where
+module _ {K V : Type 0} (E : Type 0) where
   -- a call that is started to take a record out has still to
   starts_early : (rules : Rules) (begin : Start K V) (removal : Removal) (key : K) (n : ℕ) →
       removal_of begin ≡ Some (removal, key) →
-      Early removal key n (plan_of rules begin)
+      Early removal key n (plan_of {E = E} rules begin)
   starts_early rules (start.Get k) removal key n e = absurd (none_some e)
   starts_early rules (start.Insert k value) removal key n e = absurd (none_some e)
-  starts_early rules (start.GetWith k) removal key n e = absurd (none_some e)
+  starts_early rules (start.GetWith k replace) removal key n e = absurd (none_some e)
+  starts_early rules (start.Optional k) removal key n e = absurd (none_some e)
+  starts_early rules (start.Try k) removal key n e = absurd (none_some e)
+  starts_early rules (start.OrInsert k value) removal key n e = absurd (none_some e)
   starts_early rules (start.Invalidate k) removal key n e = by rules.listener
     where
-      by : (b : Bool) → Early {V = V} removal key n
+      by : (b : Bool) → Early {V = V} {E = E} removal key n
           (under_lock b k (plan.Moment (plan.To_take_out plan.To_invalidate k) ∷ []))
       by true = same_removal (plan.To_invalidate, k) (removal, key) e
       by false = same_removal (plan.To_invalidate, k) (removal, key) e
   starts_early rules (start.Remove k) removal key n e = by rules.listener
     where
-      by : (b : Bool) → Early {V = V} removal key n
+      by : (b : Bool) → Early {V = V} {E = E} removal key n
           (under_lock b k (plan.Moment (plan.To_take_out plan.To_remove k) ∷ []))
       by true = same_removal (plan.To_remove, k) (removal, key) e
       by false = same_removal (plan.To_remove, k) (removal, key) e
@@ -578,13 +581,13 @@ module _ {K V : Type 0} where
       same = let f = same_removal (plan.To_evict_chosen stamp cause, k) (removal, key) e in
           (sym f.0, f.1)
 
-      by : (b : Bool) → Early {V = V} removal key n
+      by : (b : Bool) → Early {V = V} {E = E} removal key n
           (under_lock b k (plan.Get (plan.To_evict k stamp cause) k ∷ []))
       by true = same
       by false = same
 
-module _ {K V : Type 0} (eq : K → K → Bool) (laws : IsEquivalence eq) where
-  pub removals_answer : RemovalsAnswer K V eq
+module _ {K V E : Type 0} (eq : K → K → Bool) (laws : IsEquivalence eq) where
+  pub removals_answer : RemovalsAnswer K V E eq
   removals_answer s t begin removal key n a what w step =
       let i : IsRemoving eq laws begin removal key n (Leads eq w.begun) s =
       follow_start eq begin n s w (IsRemoving eq laws begin removal key n (Leads eq w.begun))
@@ -593,7 +596,7 @@ module _ {K V : Type 0} (eq : K → K → Bool) (laws : IsEquivalence eq) where
       (own_result eq laws begin removal key n s i.stamped w t (turn.Answer a) step
       (subst (IsSoIf eq laws begin removal key n s) step.live i.so)).says a refl
     where
-      started_so : (v : State K V) → Leads eq w.begun v → WasStarted eq begin n v
+      started_so : (v : State K V E) → Leads eq w.begun v → WasStarted eq begin n v
       started_so v led = record {
         before = w.before;
         reached = w.reached;
@@ -614,15 +617,15 @@ module _ {K V : Type 0} (eq : K → K → Bool) (laws : IsEquivalence eq) where
             so = subst (IsSoIf eq laws begin removal key n (started w.before begin))
                 (sym (ap (λ v. (started w.before begin).calls v) is.0 ∙ put_here w.before.calls
                 (w.before.world.desk.last + 1) _))
-                (inl (starts_early w.before.world.desk.rules begin removal key n what));
+                (inl (starts_early E w.before.world.desk.rules begin removal key n what));
           }
 
-  pub remove_taken : RemoveAnswersTaken K V eq
+  pub remove_taken : RemoveAnswersTaken K V E eq
   remove_taken s t key n value w step =
       by (removals_answer s t (start.Remove key) plan.To_remove key n
       (answer.Found value) refl w step)
     where
-      same_found : (x y : Option V) → answer.Found x ≡ answer.Found y → x ≡ y
+      same_found : (x y : Option V) → ◌≡◌ {A = Answer V E} (answer.Found x) (answer.Found y) → x ≡ y
       same_found x y e = cc
 
       by : SaysTaken eq (start.Remove key) t n plan.To_remove key (answer.Found value) ⊎
@@ -638,12 +641,12 @@ module _ {K V : Type 0} (eq : K → K → Bool) (laws : IsEquivalence eq) where
         λ has. absurd (h.uncommitted has),
       )
 
-  pub evicted_out : EvictedIsOut K V eq
+  pub evicted_out : EvictedIsOut K V E eq
   evicted_out s t key stamp cause n w step =
       by (removals_answer s t (start.Evict key stamp cause)
       (plan.To_evict_chosen stamp cause) key n answer.Evicted refl w step)
     where
-      not_kept : ◌≡◌ {A = Answer V} answer.Evicted answer.Kept → ⊥
+      not_kept : ◌≡◌ {A = Answer V E} answer.Evicted answer.Kept → ⊥
       not_kept e = cc
 
       by : SaysTaken eq (start.Evict key stamp cause) t n

@@ -18,6 +18,7 @@ use Rattle.moka_hist.specs.declared.events.Start.{Start}
 use Rattle.moka_hist.specs.declared.events.Told.{Told}
 use Rattle.moka_hist.specs.declared.events.Told.TheVariants as answer
 use Rattle.moka_hist.specs.declared.loads.Load.{Load}
+use Rattle.moka_hist.specs.declared.loads.Sought.{Sought}
 use Rattle.moka_hist.specs.Telling.{ended, with_end}
 use Rattle.moka_hist.specs.declared.notices.Notice.{Notice}
 use Rattle.moka_hist.specs.declared.notices.NoticeState.{NoticeState}
@@ -41,8 +42,8 @@ use Rattle.moka_laws.proofs.Balance.{IsBalanced, times_first}
 use Rattle.moka_laws.proofs.Balanced.{balanced_kept, next_free}
 use Rattle.moka_laws.proofs.Locking.{IsLocking, locking_kept, of_key}
 use Rattle.moka_laws.proofs.Owning.{plan_left}
-use Rattle.moka_laws.proofs.Plans.{IsTail, Answering, Settling, IsDrained, Looking, Putting, IsPosted, Draining, Ended, Locking, IsPlan, Posted, Drained, Posting, Hearing, Noticing, Listening, Unlocking, Turning, Applying, Ending, Judging, Owning, Reading, Asking, Telling, Writing, IsKnown, known_kept, IsLook, Removing, Locking_out, Choosing, Finding, Chosen, Taking, Freeing, Idling}
-use Rattle.moka_laws.proofs.Rules.{loaded_plans, kept_next, chosen_next, IsFresh, Disabled, fresh_plan}
+use Rattle.moka_laws.proofs.Plans.{IsTail, Answering, Settling, IsDrained, Looking, Putting, IsPosted, Draining, Ended, Locking, IsPlan, Posted, Drained, Posting, Hearing, Noticing, Listening, Unlocking, Turning, Applying, Ending, Judging, Owning, Giving, Reading, Asking, Telling, Writing, IsKnown, known_kept, IsLook, Removing, Locking_out, Choosing, Finding, Chosen, Taking, Freeing, Idling}
+use Rattle.moka_laws.proofs.Rules.{put_plans, loaded_plans, kept_next, chosen_next, IsFresh, Disabled, fresh_plan}
 use Rattle.moka_laws.proofs.Kept.{IsKept, in_reached}
 use Rattle.moka_laws.proofs.StepCases.{OnStep, step_cases}
 use Rattle.moka_laws.proofs.Outcomes.{outcomes}
@@ -89,23 +90,23 @@ swaps_owed_few x (o ∷ os) =
 abbrev pub told_once : {A : Type 0} → Option A → ℕ
 told_once o = cond (is_some o) 1 0
 
-module _ {K V : Type 0} where
+module _ {K V E : Type 0} where
   -- the item posts the write of this number, which replaced a record; it opens a notice
-  abbrev pub swap_of : ℕ → Item K V → ℕ
+  abbrev pub swap_of : ℕ → Item K V E → ℕ
   swap_of x (plan.Post write) = swap x write
   swap_of x _ = 0
 
-  abbrev pub notice_of : Item K V → ℕ
+  abbrev pub notice_of : Item K V E → ℕ
   notice_of (plan.Notice key old cause upsert) = 1
   notice_of _ = 0
 
-  swap_posts : (x : ℕ) (p : List (Item K V)) → weigh (swap_of x) p ≤ weigh (post_of x) p
+  swap_posts : (x : ℕ) (p : List (Item K V E)) → weigh (swap_of x) p ≤ weigh (post_of x) p
   swap_posts x [] = omega arith
   swap_posts x (plan.Post write ∷ rest) = let e = swap_posts x rest in omega (arith, swap_few x write)
   swap_posts x (_ ∷ rest) = let e = swap_posts x rest in omega arith
 
   -- a call posts the one write that it holds
-  pub swap_held : (x : ℕ) (p : List (Item K V)) → late p ≡ 0 → weigh (swap_of x) p ≡ swaps x (option_to_list (held_by p))
+  pub swap_held : (x : ℕ) (p : List (Item K V E)) → late p ≡ 0 → weigh (swap_of x) p ≡ swaps x (option_to_list (held_by p))
   swap_held x [] h = refl
   swap_held x (plan.Turn ∷ rest) h = let e = swap_held x rest h in omega arith
   swap_held x (plan.Apply ∷ rest) h = let e = swap_held x rest h in omega arith
@@ -119,83 +120,92 @@ module _ {K V : Type 0} where
   swap_held x (_ ∷ rest) h = let e = swap_held x rest (late_none rest h) in omega arith
 
   -- an opening stands under a lock
-  notice_key : (p : List (Item K V)) → weigh notice_of p ≤ weigh of_key p
+  notice_key : (p : List (Item K V E)) → weigh notice_of p ≤ weigh of_key p
   notice_key [] = omega arith
   notice_key (plan.Notice key old cause upsert ∷ rest) = let e = notice_key rest in omega arith
   notice_key (_ ∷ rest) = let e = notice_key rest in omega arith
 
-  pub call_swaps_few : (x : ℕ) (o : Option (Call K V)) → weigh_call (swap_of x) o ≤ weigh_call (post_of x) o
+  pub call_swaps_few : (x : ℕ) (o : Option (Call K V E)) → weigh_call (swap_of x) o ≤ weigh_call (post_of x) o
   call_swaps_few x None = omega arith
   call_swaps_few x (Some c) = swap_posts x c.plan
 
   -- how often the write of the number, if it replaced a record, stands with the desk, and with live
   -- calls
-  abbrev pub swaps_on : ℕ → DeskPart K V → ℕ
+  abbrev pub swaps_on : ℕ → DeskPart K V E → ℕ
   swaps_on x d = swaps_owed x d.owed + swaps x d.log + swaps x d.applied
 
-  abbrev pub swaps_with : ℕ → State K V → ℕ
+  abbrev pub swaps_with : ℕ → State K V E → ℕ
   swaps_with x s = sum_to s.world.desk.last (λ n. weigh_call (swap_of x) (s.calls n))
 
   -- ---- plans with no part in it
 
   -- such a plan posts nothing, and opens nothing
-  record Clear (left : Option (Call K V)) : Type 0 where
+  record Clear (left : Option (Call K V E)) : Type 0 where
     swaps : (x : ℕ) → weigh_call (swap_of x) left ≡ 0
     notice : weigh_call notice_of left ≡ 0
 
-  keeps_clear : (c : Call K V) → Clear (keeps c).left
+  keeps_clear : (c : Call K V E) → Clear (keeps c).left
   keeps_clear c = kept_next (λ v. Clear v.left) c
       (λ off. record { swaps = λ x. refl; notice = refl })
       (λ on. record { swaps = λ x. refl; notice = refl })
 
-  misses_clear : (c : Call K V) (aim : Aim K) → Clear (misses c aim).left
+  misses_clear : (c : Call K V E) (aim : Aim K V) → Clear (misses c aim).left
   misses_clear c plan.To_answer = record { swaps = λ x. refl; notice = refl }
-  misses_clear c (plan.To_load load) = record { swaps = λ x. refl; notice = refl }
-  misses_clear c (plan.To_own load) = record { swaps = λ x. refl; notice = refl }
+  misses_clear c (plan.To_load sought) = record { swaps = λ x. refl; notice = refl }
+  misses_clear c (plan.To_own sought) = record { swaps = λ x. refl; notice = refl }
+  misses_clear c (plan.To_insert key value) =
+      put_plans (λ p. Clear (goes c p).left) c.rules key value _
+      (record { swaps = λ x. refl; notice = refl }) (record { swaps = λ x. refl; notice = refl })
   misses_clear c (plan.To_evict key stamp cause) = keeps_clear c
 
-  finds_clear : (c : Call K V) (aim : Aim K) (there : K) (stored : Stored V) →
+  finds_clear : (c : Call K V E) (aim : Aim K V) (there : K) (stored : Stored V) →
       Clear (finds_pair c aim there stored).left
   finds_clear c plan.To_answer there stored = record { swaps = λ x. refl; notice = refl }
-  finds_clear c (plan.To_load load) there stored = record { swaps = λ x. refl; notice = refl }
-  finds_clear c (plan.To_own load) there stored = record { swaps = λ x. refl; notice = refl }
+  finds_clear c (plan.To_load sought) there stored = record { swaps = λ x. refl; notice = refl }
+  finds_clear c (plan.To_insert under new) there stored = record { swaps = λ x. refl; notice = refl }
+  finds_clear c (plan.To_own sought) there stored = record { swaps = λ x. refl; notice = refl }
   finds_clear c (plan.To_evict key stamp cause) there stored =
       chosen_next (λ v. Clear v.left) c key stamp cause there stored
       (λ off. record { swaps = λ x. refl; notice = refl })
       (λ on. record { swaps = λ x. refl; notice = refl })
       (record { swaps = λ x. refl; notice = refl })
 
-  hits_clear : (c : Call K V) (aim : Aim K) (value : V) → IsLook aim → Clear (hits c aim value).left
+  hits_clear : (c : Call K V E) (aim : Aim K V) (value : V) → IsLook aim → Clear (hits c aim value).left
   hits_clear c plan.To_answer value l = record { swaps = λ x. refl; notice = refl }
-  hits_clear c (plan.To_load load) value l = record { swaps = λ x. refl; notice = refl }
-  hits_clear c (plan.To_own load) value l = record { swaps = λ x. refl; notice = refl }
+  hits_clear c (plan.To_load sought) value l = record { swaps = λ x. refl; notice = refl }
+  hits_clear c (plan.To_insert under new) value l = record { swaps = λ x. refl; notice = refl }
+  hits_clear c (plan.To_own sought) value l = record { swaps = λ x. refl; notice = refl }
   hits_clear c (plan.To_evict key stamp cause) value l = absurd l
 
-  either_clear : (b : Bool) (x y : Next K V) → Clear x.left → Clear y.left → Clear (cond b x y).left
+  either_clear : (b : Bool) (x y : Next K V E) → Clear x.left → Clear y.left → Clear (cond b x y).left
   either_clear true x y h k = h
   either_clear false x y h k = k
 
-  read_clear : (c : Call K V) (load : Load K) (with : Settled V) → Clear (Some c) → Clear (after_read c load (found.ReadSettled with)).left
-  read_clear c load (settled.Ready value) h = record { swaps = λ x. refl; notice = refl }
-  read_clear c load settled.NotYet h = record { swaps = h.swaps; notice = h.notice }
-  read_clear c load settled.Aborted h = either_clear (c.aborts + 1 == retries) _ _ (record { swaps = λ x. refl; notice = refl })
+  read_clear : (c : Call K V E) (sought : Sought K) (with : Settled V E) → Clear (Some c) → Clear (after_read c sought (found.ReadSettled with)).left
+  read_clear c sought (settled.Ready value) h = record { swaps = λ x. refl; notice = refl }
+  read_clear c sought (settled.Err error) h = record { swaps = λ x. refl; notice = refl }
+  read_clear c sought settled.Nothing h = record { swaps = λ x. refl; notice = refl }
+  read_clear c sought settled.NotYet h = record { swaps = h.swaps; notice = h.notice }
+  read_clear c sought settled.Aborted h = either_clear (c.aborts + 1 == retries) _ _ (record { swaps = λ x. refl; notice = refl })
       (record { swaps = λ x. refl; notice = refl })
 
-  told_clear : (c : Call K V) (load : Load K) (given : Told V) → Clear (Some c) → Clear (after_told c load (found.TakeTold (Some given))).left
+  told_clear : (c : Call K V E) (load : Load K) (given : Told V E) → Clear (Some c) → Clear (after_told c load (found.TakeTold (Some given))).left
   told_clear c load (answer.Value value) h =
       loaded_plans (λ p. Clear (goes c p).left) c.rules load value
       (record { swaps = λ x. refl; notice = refl })
       (record { swaps = λ x. refl; notice = refl }) (record { swaps = λ x. refl; notice = refl })
+  told_clear c load answer.Nothing h = record { swaps = λ x. refl; notice = refl }
+  told_clear c load (answer.Err error) h = record { swaps = λ x. refl; notice = refl }
   told_clear c load answer.Done h = record { swaps = h.swaps; notice = h.notice }
   told_clear c load answer.Off h = record { swaps = h.swaps; notice = h.notice }
 
   -- the plan posts nothing, and opens nothing
-  record ClearPlan (p : List (Item K V)) : Type 0 where
+  record ClearPlan (p : List (Item K V E)) : Type 0 where
     swaps : (x : ℕ) → weigh (swap_of x) p ≡ 0
     notice : weigh notice_of p ≡ 0
 
-  fresh_form : (rules : Rules) (p : List (Item K V)) → IsFresh rules p → ClearPlan p
-  fresh_form rules p (Disabled a d) = record { swaps = λ x. refl; notice = refl }
+  fresh_form : (rules : Rules) (p : List (Item K V E)) → IsFresh rules p → ClearPlan p
+  fresh_form rules p (Disabled a d plain) = record { swaps = λ x. refl; notice = refl }
   fresh_form rules p _ = record { swaps = λ x. refl; notice = refl }
 
   fresh_clear : (rules : Rules) (start : Start K V) → Clear (Some (fresh_call rules start))
@@ -206,11 +216,11 @@ module _ {K V : Type 0} where
   -- ---- a step
 
   -- the call, if it is still live, is between two steps
-  abbrev MidIf : Option (Call K V) → Type 0
+  abbrev MidIf : Option (Call K V E) → Type 0
   MidIf None = Unit {0}
   MidIf (Some c) = c.mode ≡ mode.Mid
 
-  goes_mid : (c : Call K V) (rest : List (Item K V)) → MidIf (goes c rest).left
+  goes_mid : (c : Call K V E) (rest : List (Item K V E)) → MidIf (goes c rest).left
   goes_mid c (plan.Reply a ∷ []) = tt
   goes_mid c (plan.Reply a ∷ x ∷ rest) = refl
   goes_mid c [] = refl
@@ -219,7 +229,7 @@ module _ {K V : Type 0} where
   -- What a step has to show: what this call and the desk have of replacing writes changes by what
   -- this call's notice does, and the other notices are as they were; a call that is to open its
   -- notice is between two steps.
-  record Leaves (w : World K V) (n : ℕ) (p : List (Item K V)) (new : World K V) (next : Next K V) : Type 0 where
+  record Leaves (w : World K V E) (n : ℕ) (p : List (Item K V E)) (new : World K V E) (next : Next K V E) : Type 0 where
     last : new.desk.last ≡ w.desk.last
     rules : new.desk.rules ≡ w.desk.rules
     mid : 0 < weigh_call notice_of next.left → MidIf next.left
@@ -231,12 +241,12 @@ module _ {K V : Type 0} where
     others : w.desk.rules.listener ≡ true → (x : ℕ) → (n == x) ≡ false →
         weigh_call (swap_of x) next.left + swaps_on x new.desk ≡ weigh (swap_of x) p + swaps_on x w.desk
 
-  module _ (eq : K → K → Bool) (w : World K V) (n : ℕ) (c : Call K V) where
-    abbrev After : World K V → Next K V → Type 0
+  module _ (eq : K → K → Bool) (w : World K V E) (n : ℕ) (c : Call K V E) where
+    abbrev After : World K V E → Next K V E → Type 0
     After new next = Leaves w n c.plan new next
 
     -- no notice has changed, and what stands is as much
-    same : {new : World K V} {next : Next K V} (p : List (Item K V)) → new.desk.last ≡ w.desk.last → new.desk.rules ≡ w.desk.rules →
+    same : {new : World K V E} {next : Next K V E} (p : List (Item K V E)) → new.desk.last ≡ w.desk.last → new.desk.rules ≡ w.desk.rules →
         new.desk.notices ≡ w.desk.notices → (0 < weigh_call notice_of next.left → MidIf next.left) → weigh_call notice_of next.left ≡ weigh notice_of p →
         ((x : ℕ) → weigh_call (swap_of x) next.left + swaps_on x new.desk ≡ weigh (swap_of x) p + swaps_on x w.desk) → Leaves w n p new next
     same p l r t m e h = record {
@@ -250,7 +260,7 @@ module _ {K V : Type 0} where
     }
 
     -- the call goes on with the rest of its plan
-    goes_on : (rest p : List (Item K V)) {new : World K V} → new.desk.last ≡ w.desk.last → new.desk.rules ≡ w.desk.rules →
+    goes_on : (rest p : List (Item K V E)) {new : World K V E} → new.desk.last ≡ w.desk.last → new.desk.rules ≡ w.desk.rules →
         new.desk.notices ≡ w.desk.notices → weigh notice_of rest ≡ weigh notice_of p →
         ((x : ℕ) → weigh (swap_of x) rest + swaps_on x new.desk ≡ weigh (swap_of x) p + swaps_on x w.desk) → Leaves w n p new (goes c rest)
     goes_on rest p l r t e h =
@@ -258,38 +268,39 @@ module _ {K V : Type 0} where
         (λ x. omega (arith, h x, weigh_goes (swap_of x) c rest (λ a. refl)))
 
     -- it goes on, or has ended, with nothing to post and no notice to open
-    clears : {new : World K V} {next : Next K V} (p : List (Item K V)) → new.desk.last ≡ w.desk.last → new.desk.rules ≡ w.desk.rules →
+    clears : {new : World K V E} {next : Next K V E} (p : List (Item K V E)) → new.desk.last ≡ w.desk.last → new.desk.rules ≡ w.desk.rules →
         new.desk.notices ≡ w.desk.notices → Clear next.left → weigh notice_of p ≡ 0 → ((x : ℕ) → weigh (swap_of x) p ≡ 0) →
         ((x : ℕ) → swaps_on x new.desk ≡ swaps_on x w.desk) → Leaves w n p new next
     clears p l r t k e f h = same p l r t (λ some. absurd (omega (arith, some, k.notice))) (k.notice ∙ sym e) (λ x. omega (arith, k.swaps x, f x, h x))
 
     -- it is parked, or its operation stays undecided, with a plan that opens no notice
-    stays_put : (p : List (Item K V)) (m : Mode) (turn : Turn K V) (stay : Stay) → c.plan ≡ p → weigh notice_of p ≡ 0 →
+    stays_put : (p : List (Item K V E)) (m : Mode) (turn : Turn K V E) (stay : Stay) → c.plan ≡ p → weigh notice_of p ≡ 0 →
         Leaves w n p (record w { stay = stay }) (record { left = Some (record c { mode = m }); turn = turn })
     stays_put p m turn stay e none = same p refl refl refl (λ some. absurd (omega (arith, some, ap (weigh notice_of) e))) (ap (weigh notice_of) e)
         (λ x. omega (arith, ap (weigh (swap_of x)) e))
 
-    was_clear : (p : List (Item K V)) → c.plan ≡ p → weigh notice_of p ≡ 0 → ((x : ℕ) → weigh (swap_of x) p ≡ 0) → Clear (Some c)
+    was_clear : (p : List (Item K V E)) → c.plan ≡ p → weigh notice_of p ≡ 0 → ((x : ℕ) → weigh (swap_of x) p ≡ 0) → Clear (Some c)
     was_clear p e none swaps = record { swaps = λ x. ap (weigh (swap_of x)) e ∙ swaps x; notice = ap (weigh notice_of) e ∙ none }
 
-  tail_clear : (p : List (Item K V)) → IsTail p → (weigh notice_of p ≡ 0) × ((x : ℕ) → weigh (swap_of x) p ≡ 0)
+  tail_clear : (p : List (Item K V E)) → IsTail p → (weigh notice_of p ≡ 0) × ((x : ℕ) → weigh (swap_of x) p ≡ 0)
   tail_clear p (Answering a) = (refl, λ x. refl)
   tail_clear p (Settling with a) = (refl, λ x. refl)
 
-  drained_clear : (p : List (Item K V)) → IsDrained p → weigh notice_of p ≡ 0
+  drained_clear : (p : List (Item K V E)) → IsDrained p → weigh notice_of p ≡ 0
   drained_clear p (Looking aim key l) = refl
-  drained_clear p (Owning load) = refl
+  drained_clear p (Owning sought) = refl
+  drained_clear p (Giving a) = refl
   drained_clear p (Removing removal key) = refl
   drained_clear p (Locking_out removal key) = refl
   drained_clear p (Putting key value rest t) = omega (arith, (tail_clear rest t).0)
   drained_clear p (Locking key value rest t) = omega (arith, (tail_clear rest t).0)
 
-  posted_clear : (p : List (Item K V)) → IsPosted p → weigh notice_of p ≡ 0
+  posted_clear : (p : List (Item K V E)) → IsPosted p → weigh notice_of p ≡ 0
   posted_clear p (Draining rest d) = omega (arith, drained_clear rest d)
   posted_clear p (Ended rest t) = (tail_clear rest t).0
 
   -- a plan that opens a notice at all opens it next
-  pub plan_opens : (p : List (Item K V)) → IsPlan p → 0 < weigh notice_of p → OpensNotice p
+  pub plan_opens : (p : List (Item K V E)) → IsPlan p → 0 < weigh notice_of p → OpensNotice p
   plan_opens p (Noticing key old cause upsert x rest t) h = tt
   plan_opens p (Posted rest d) h = absurd (omega (arith, posted_clear rest d))
   plan_opens p (Drained rest d) h = absurd (omega (arith, drained_clear rest d))
@@ -302,7 +313,7 @@ module _ {K V : Type 0} where
   plan_opens p (Ending x rest d) h = absurd (omega (arith, posted_clear rest d))
   plan_opens p (Writing key value moment rest t) h = absurd (omega (arith, (tail_clear rest t).0))
   plan_opens p (Judging aim key stored l) h = absurd (omega arith)
-  plan_opens p (Reading load) h = absurd (omega arith)
+  plan_opens p (Reading sought) h = absurd (omega arith)
   plan_opens p (Asking load) h = absurd (omega arith)
   plan_opens p (Telling load) h = absurd (omega arith)
   plan_opens p (Choosing key stamp cause) h = absurd (omega arith)
@@ -312,30 +323,30 @@ module _ {K V : Type 0} where
   plan_opens p (Freeing a) h = absurd (omega arith)
   plan_opens p (Idling a) h = absurd (omega arith)
 
-  pub opens_notice : (p : List (Item K V)) → OpensNotice p → 0 < weigh notice_of p
+  pub opens_notice : (p : List (Item K V E)) → OpensNotice p → 0 < weigh notice_of p
   opens_notice (plan.Notice key old cause upsert ∷ rest) h = omega arith
   opens_notice [] h = absurd h
   opens_notice (_ ∷ rest) h = absurd h
 
-  module _ (eq : K → K → Bool) (w : World K V) (n : ℕ) (c : Call K V) (rules : c.rules ≡ w.desk.rules)
+  module _ (eq : K → K → Bool) (w : World K V E) (n : ℕ) (c : Call K V E) (rules : c.rules ≡ w.desk.rules)
       (on : 0 < weigh notice_of c.plan → w.desk.rules.listener ≡ true) (unopened : 0 < weigh notice_of c.plan → told_once (w.desk.notices n) ≡ 0) where
-    abbrev Made : List (Item K V) → World K V → Next K V → Type 0
+    abbrev Made : List (Item K V E) → World K V E → Next K V E → Type 0
     Made p new next = Leaves w n p new next
 
-    on_tail : (p : List (Item K V)) → IsTail p → OnStep eq (Made p) w n c p
+    on_tail : (p : List (Item K V E)) → IsTail p → OnStep eq (Made p) w n c p
     on_tail p (Answering a) = outcomes eq (Made p) w n c (plan.Reply a) []
         (clears eq w n c p refl refl refl (record { swaps = λ x. refl; notice = refl }) refl (λ x. refl) (λ x. refl))
     on_tail p (Settling with a) = outcomes eq (Made p) w n c (plan.Settle with) (plan.Reply a ∷ [])
         (clears eq w n c p refl refl refl (record { swaps = λ x. refl; notice = refl }) refl (λ x. refl) (λ x. refl))
 
-    on_drained : (p : List (Item K V)) → c.plan ≡ p → IsDrained p → OnStep eq (Made p) w n c p
+    on_drained : (p : List (Item K V E)) → c.plan ≡ p → IsDrained p → OnStep eq (Made p) w n c p
     on_drained p e (Looking aim key l) = outcomes eq (Made p) w n c (plan.Get aim key) [] (
       (λ more. stays_put eq w n c p mode.Mid turn.Going _ e refl),
       (λ none. clears eq w n c p refl refl refl (misses_clear c aim) refl (λ x. refl) (λ x. refl)),
       λ k stored some. clears eq w n c p refl refl refl (finds_clear c aim k stored) refl
           (λ x. refl) (λ x. refl),
     )
-    on_drained p e (Owning load) = outcomes eq (Made p) w n c (plan.Own load) [] (
+    on_drained p e (Owning sought) = outcomes eq (Made p) w n c (plan.Own sought) [] (
       (λ able none. clears eq w n c p refl refl refl
           (record { swaps = λ x. refl; notice = refl }) refl (λ x. refl) (λ x. refl)),
       (λ disabled none. clears eq w n c p refl refl refl
@@ -352,6 +363,9 @@ module _ {K V : Type 0} where
           λ held. stays_put eq w n c p mode.Parked turn.Wait w.stay e
               (omega (arith, (tail_clear rest t).0)),
         )
+    on_drained p e (Giving a) = outcomes eq (Made p) w n c (plan.Reply a) []
+        (clears eq w n c p refl refl refl (record { swaps = λ x. refl; notice = refl }) refl (λ x. refl)
+        (λ x. refl))
     on_drained p e (Removing removal key) = outcomes eq (Made p) w n c
         (plan.Moment (plan.To_take_out removal key)) []
         (same eq w n c p refl refl refl (λ some. refl) (omega arith) (λ x. omega arith))
@@ -361,7 +375,7 @@ module _ {K V : Type 0} where
           λ held. stays_put eq w n c p mode.Parked turn.Wait w.stay e refl,
         )
 
-    on_posted : (p : List (Item K V)) → c.plan ≡ p → IsPosted p → OnStep eq (Made p) w n c p
+    on_posted : (p : List (Item K V E)) → c.plan ≡ p → IsPosted p → OnStep eq (Made p) w n c p
     on_posted p e (Draining rest d) = outcomes eq (Made p) w n c plan.Drain rest (
       (λ none. goes_on eq w n c rest p refl refl refl (omega arith) (λ x. omega arith)),
       (λ v vs some. same eq w n c p refl refl refl (λ some. refl) (omega arith) (λ x. omega (arith, ap (swaps_owed x) some))),
@@ -369,7 +383,7 @@ module _ {K V : Type 0} where
     )
     on_posted p e (Ended rest t) = on_tail rest t
 
-    on_plan : (p : List (Item K V)) → c.plan ≡ p → IsPlan p → OnStep eq (Made p) w n c p
+    on_plan : (p : List (Item K V E)) → c.plan ≡ p → IsPlan p → OnStep eq (Made p) w n c p
     on_plan p e (Posted rest d) = on_posted rest e d
     on_plan p e (Drained rest d) = on_drained rest e d
     on_plan p e (Posting v rest d) = outcomes eq (Made p) w n c (plan.Post v) rest (
@@ -432,12 +446,15 @@ module _ {K V : Type 0} where
     on_plan p e (Ending v rest d) = outcomes eq (Made p) w n c plan.End (plan.Post v ∷ rest)
         (same eq w n c p refl refl refl (λ some. refl) (omega arith) (λ x. omega arith))
     on_plan p e (Judging aim key stored l) = outcomes eq (Made p) w n c (plan.Judge aim key stored)
-        []
-        (clears eq w n c p refl refl refl (hits_clear c aim stored.value l) refl (λ x. refl)
-        (λ x. refl))
-    on_plan p e (Reading load) = outcomes eq (Made p) w n c (plan.Read load) [] (
+        [] (
+          λ seen. clears eq w n c p refl refl refl (hits_clear c aim stored.value l) refl
+              (λ x. refl) (λ x. refl),
+          λ unseen. clears eq w n c p refl refl refl (misses_clear c aim) refl (λ x. refl)
+              (λ x. refl),
+        )
+    on_plan p e (Reading sought) = outcomes eq (Made p) w n c (plan.Read sought) [] (
       (λ none. stays_put eq w n c p mode.Parked turn.Wait w.stay e refl),
-      λ with some. clears eq w n c p refl refl refl (read_clear c load with (was_clear eq w n c p e refl (λ x. refl))) refl (λ x. refl) (λ x. refl),
+      λ with some. clears eq w n c p refl refl refl (read_clear c sought with (was_clear eq w n c p e refl (λ x. refl))) refl (λ x. refl) (λ x. refl),
     )
     on_plan p e (Asking load) = outcomes eq (Made p) w n c (plan.Ask load) []
         (clears eq w n c p refl refl refl (record { swaps = λ x. refl; notice = refl }) refl (λ x. refl) (λ x. refl))
@@ -530,21 +547,21 @@ module _ {K V : Type 0} where
   -- ---- of a state
 
   -- What is counted of writes that replaced a record.
-  pub record IsReplacing (s : State K V) : Type 0 where
+  pub record IsReplacing (s : State K V E) : Type 0 where
     pub balanced : IsBalanced s
     pub locking : IsLocking s
-    pub known : (n : ℕ) (c : Call K V) → s.calls n ≡ Some c → IsKnown c
+    pub known : (n : ℕ) (c : Call K V E) → s.calls n ≡ Some c → IsKnown c
     -- a call that is to open its notice is between two steps
-    pub mid : (n : ℕ) (c : Call K V) → s.calls n ≡ Some c → 0 < weigh notice_of c.plan → c.mode ≡ mode.Mid
+    pub mid : (n : ℕ) (c : Call K V E) → s.calls n ≡ Some c → 0 < weigh notice_of c.plan → c.mode ≡ mode.Mid
     -- without a listener there is no notice; with one each replacing write has one, opened or still
     -- to be
     pub quiet : s.world.desk.rules.listener ≡ false → (x : ℕ) → s.world.desk.notices x ≡ None
     pub each : s.world.desk.rules.listener ≡ true → (x : ℕ) →
         swaps_with x s + swaps_on x s.world.desk ≡ weigh_call notice_of (s.calls x) + told_once (s.world.desk.notices x)
 
-  module _ (s : State K V) (i : IsReplacing s) where
+  module _ (s : State K V E) (i : IsReplacing s) where
     -- a call that is to open a notice is one of a cache with a listener, and has opened none
-    pub listening : (n : ℕ) (c : Call K V) → s.calls n ≡ Some c → 0 < weigh notice_of c.plan → s.world.desk.rules.listener ≡ true
+    pub listening : (n : ℕ) (c : Call K V E) → s.calls n ≡ Some c → 0 < weigh notice_of c.plan → s.world.desk.rules.listener ≡ true
     listening n c live some = by s.world.desk.rules.listener refl
       where
         by : (b : Bool) → s.world.desk.rules.listener ≡ b → b ≡ true
@@ -580,10 +597,10 @@ module _ {K V : Type 0} where
         )
         by false e = omega (arith, ap told_once (i.quiet e n))
 
-    pub none_opened : (n : ℕ) (c : Call K V) → s.calls n ≡ Some c → 0 < weigh notice_of c.plan → told_once (s.world.desk.notices n) ≡ 0
+    pub none_opened : (n : ℕ) (c : Call K V E) → s.calls n ≡ Some c → 0 < weigh notice_of c.plan → told_once (s.world.desk.notices n) ≡ 0
     none_opened n c live some = omega (arith, few_swaps n, i.each (listening n c live some) n, ap (weigh_call notice_of) live)
 
-    pub not_opened : (n : ℕ) (c : Call K V) → s.calls n ≡ Some c → OpensNotice c.plan → s.world.desk.notices n ≡ None
+    pub not_opened : (n : ℕ) (c : Call K V E) → s.calls n ≡ Some c → OpensNotice c.plan → s.world.desk.notices n ≡ None
     not_opened n c live opens = by (s.world.desk.notices n) refl (none_opened n c live (opens_notice c.plan opens))
       where
         by : (o : Option (Notice K V)) → s.world.desk.notices n ≡ o → told_once o ≡ 0 → o ≡ None
@@ -591,9 +608,9 @@ module _ {K V : Type 0} where
         by (Some x) e h = absurd (omega arith)
 
     -- a step, or an end, that has shown what it has to
-    replaces : (n : ℕ) (c : Call K V) → s.calls n ≡ Some c → (w : World K V) (next : Next K V) → Leaves s.world n c.plan w next →
-        let t : State K V = state_after s n w next in
-        IsBalanced t → IsLocking t → ((m : ℕ) (d : Call K V) → t.calls m ≡ Some d → IsKnown d) → IsReplacing t
+    replaces : (n : ℕ) (c : Call K V E) → s.calls n ≡ Some c → (w : World K V E) (next : Next K V E) → Leaves s.world n c.plan w next →
+        let t : State K V E = state_after s n w next in
+        IsBalanced t → IsLocking t → ((m : ℕ) (d : Call K V E) → t.calls m ≡ Some d → IsKnown d) → IsReplacing t
     replaces n c live w next b balanced locking known = record {
       balanced = balanced;
       locking = locking;
@@ -626,22 +643,22 @@ module _ {K V : Type 0} where
             weigh_call notice_of (put_at s.calls n next.left v) + told_once (w.desk.notices v)) (eqb-true n x e)
             (λ change. omega (arith, change, b.own on, i.each on n, ap (weigh_call notice_of) live, ap (weigh_call notice_of) (put_here s.calls n next.left)))
 
-module _ {K V : Type 0} (eq : K → K → Bool) where
-  replacing_step : (s t : State K V) (n : ℕ) (turn : Turn K V) → IsReplacing s → Step eq s n turn t → IsReplacing t
+module _ {K V E : Type 0} (eq : K → K → Bool) where
+  replacing_step : (s t : State K V E) (n : ℕ) (turn : Turn K V E) → IsReplacing s → Step eq s n turn t → IsReplacing t
   replacing_step s t n turn i step =
-      let c : Call K V = step.call in
-      let kept : IsBalanced t → IsLocking t → ((m : ℕ) (d : Call K V) → t.calls m ≡ Some d → IsKnown d) → IsReplacing t =
-      step_cases eq (Leaves s.world n c.plan) (λ v _. IsBalanced v → IsLocking v → ((m : ℕ) (d : Call K V) → v.calls m ≡ Some d → IsKnown d) → IsReplacing v)
+      let c : Call K V E = step.call in
+      let kept : IsBalanced t → IsLocking t → ((m : ℕ) (d : Call K V E) → t.calls m ≡ Some d → IsKnown d) → IsReplacing t =
+      step_cases eq (Leaves s.world n c.plan) (λ v _. IsBalanced v → IsLocking v → ((m : ℕ) (d : Call K V E) → v.calls m ≡ Some d → IsKnown d) → IsReplacing v)
       s t n turn step
       (at_plan eq s.world n c (i.locking.rules n c step.live) (listening s i n c step.live) (none_opened s i n c step.live) (i.known n c step.live).plan)
       (λ w next b. replaces s i n c step.live w next b) in
       kept ((balanced_kept eq).step s t n turn i.balanced step) ((locking_kept eq).step s t n turn i.locking step) ((known_kept eq).step s t n turn i.known step)
 
-  replacing_start : (s : State K V) (start : Start K V) → IsReplacing s → IsReplacing (started s start)
+  replacing_start : (s : State K V E) (start : Start K V) → IsReplacing s → IsReplacing (started s start)
   replacing_start s start i =
       let new : ℕ = s.world.desk.last + 1 in
-      let d : Call K V = fresh_call s.world.desk.rules start in
-      let clear = fresh_clear s.world.desk.rules start in
+      let d : Call K V E = fresh_call {E = E} s.world.desk.rules start in
+      let clear : Clear (Some d) = fresh_clear s.world.desk.rules start in
       record {
         balanced = (balanced_kept eq).start s start i.balanced;
         locking = (locking_kept eq).start s start i.locking;
@@ -659,8 +676,8 @@ module _ {K V : Type 0} (eq : K → K → Bool) where
             omega (arith, i.each on x, clear.swaps x, notices);
       }
     where
-      one : weigh_call notice_of (Some (fresh_call s.world.desk.rules start)) ≡ 0 → (x : ℕ) (t : Bool) → (s.world.desk.last + 1 == x) ≡ t →
-          weigh_call notice_of (cond t (Some (fresh_call s.world.desk.rules start)) (s.calls x)) ≡ weigh_call notice_of (s.calls x)
+      one : weigh_call notice_of (Some (fresh_call {E = E} s.world.desk.rules start)) ≡ 0 → (x : ℕ) (t : Bool) → (s.world.desk.last + 1 == x) ≡ t →
+          weigh_call notice_of (cond t (Some (fresh_call {E = E} s.world.desk.rules start)) (s.calls x)) ≡ weigh_call notice_of (s.calls x)
       one none x false e = refl
       one none x true e =
           let free : weigh_call notice_of (s.calls x) ≡ 0 =
@@ -668,7 +685,7 @@ module _ {K V : Type 0} (eq : K → K → Bool) where
           none ∙ sym free
 
   -- a dropped call leaves the write that it holds; it is none that is to open a notice
-  replacing_drop : (s : State K V) (n : ℕ) (c : Call K V) → s.calls n ≡ Some c → c.mode ≢ mode.Mid → IsReplacing s → IsReplacing (dropped s n c)
+  replacing_drop : (s : State K V E) (n : ℕ) (c : Call K V E) → s.calls n ≡ Some c → c.mode ≢ mode.Mid → IsReplacing s → IsReplacing (dropped s n c)
   replacing_drop s n c live between i =
       replaces s i n c live (dropped s n c).world (record { left = None; turn = turn.Wait }) (record {
         last = refl;
@@ -703,7 +720,7 @@ module _ {K V : Type 0} (eq : K → K → Bool) where
       )
 
   -- a notice ends, and is there still
-  heard_there : (d : DeskPart K V) (n x : ℕ) → told_once ((ended d n).notices x) ≡ told_once (d.notices x)
+  heard_there : (d : DeskPart K V E) (n x : ℕ) → told_once ((ended d n).notices x) ≡ told_once (d.notices x)
   heard_there d n x = by (n == x) refl
     where
       ends : (o : Option (Notice K V)) → told_once (option_map with_end o) ≡ told_once o
@@ -714,19 +731,19 @@ module _ {K V : Type 0} (eq : K → K → Bool) where
       by false e = refl
       by true e = ends (d.notices n) ∙ ap (λ v. told_once (d.notices v)) (eqb-true n x e)
 
-  heard_none : (d : DeskPart K V) (n x : ℕ) → ((m : ℕ) → d.notices m ≡ None) → (ended d n).notices x ≡ None
+  heard_none : (d : DeskPart K V E) (n x : ℕ) → ((m : ℕ) → d.notices m ≡ None) → (ended d n).notices x ≡ None
   heard_none d n x none = by (n == x)
     where
       by : (t : Bool) → cond t (option_map with_end (d.notices n)) (d.notices x) ≡ None
       by false = none x
       by true = ap (option_map with_end) (none n)
 
-  pub replacing_kept : IsKept eq (IsReplacing {K = K} {V = V})
+  pub replacing_kept : IsKept eq (IsReplacing {K = K} {V = V} {E = E})
   replacing_kept = record {
-    fresh = λ rules size has_log. record {
-      balanced = (balanced_kept eq).fresh rules size has_log;
-      locking = (locking_kept eq).fresh rules size has_log;
-      known = (known_kept eq).fresh rules size has_log;
+    fresh = λ rules size tests has_log. record {
+      balanced = (balanced_kept eq).fresh rules size tests has_log;
+      locking = (locking_kept eq).fresh rules size tests has_log;
+      known = (known_kept eq).fresh rules size tests has_log;
       mid = λ n c live. absurd (none_some live);
       quiet = λ off x. refl;
       each = λ on x. omega (arith, sum_zero (λ n. 0));
@@ -760,5 +777,5 @@ module _ {K V : Type 0} (eq : K → K → Bool) where
     drop = λ s n c live between i. replacing_drop s n c live between i;
   }
 
-  pub in_replacing : (s : State K V) → IsReached eq s → IsReplacing s
+  pub in_replacing : (s : State K V E) → IsReached eq s → IsReplacing s
   in_replacing s h = in_reached eq IsReplacing replacing_kept s h

@@ -1,14 +1,15 @@
 -- How plans depend on the rules of the cache.
-use Rattle.std.proofs.Common.{◌≡◌, ◌==◌, refl, Bool, true, false, List, [], ◌∷◌}
+use Rattle.std.proofs.Common.{◌≡◌, ◌==◌, refl, Bool, true, false, List, [], ◌∷◌, None}
 use Rattle.std.proofs.lemmas.Bool.{eqb-true}
 use Rattle.moka_hist.specs.State.{Call}
 use Rattle.moka_hist.specs.Next.{Next, goes, answers}
 use Rattle.moka_hist.specs.Looking.{keeps, kept_rest, finds_pair, chosen_or_not}
-use Rattle.moka_hist.specs.Plan.{Item, Aim, Removal, put, under_lock, take_out, is_disabled, told_on, load_rest, loaded, get_plan, insert_plan, load_plan, plan_of}
+use Rattle.moka_hist.specs.Plan.{Item, Aim, Removal, put, under_lock, take_out, is_disabled, told_on, load_rest, loaded, get_plan, insert_plan, load_plan, or_insert_plan, seek, plan_of}
 use Rattle.moka_hist.specs.Plan as plan
 use Rattle.moka_hist.specs.declared.events.Start.{Start}
 use Rattle.moka_hist.specs.declared.events.Start.TheVariants as start
 use Rattle.moka_hist.specs.declared.loads.Load.{Load}
+use Rattle.moka_hist.specs.declared.loads.Sought.{Sought}
 use Rattle.moka_hist.specs.declared.loads.Kind.TheVariants as kind
 use Rattle.moka_hist.specs.declared.records.Stored.{Stored}
 use Rattle.moka_hist.specs.declared.replies.Answer.{Answer}
@@ -16,10 +17,10 @@ use Rattle.moka_hist.specs.declared.replies.Answer.TheVariants as answer
 use Rattle.moka_hist.specs.declared.rules.Cause.{Cause}
 use Rattle.moka_hist.specs.declared.rules.Rules.{Rules}
 
-module _ {K V : Type 0} (P : List (Item K V) → Type 0) where
+module _ {K V E : Type 0} (P : List (Item K V E) → Type 0) where
   -- what holds of a plan under the key's lock and of one without holds of each, where the rules say
   -- which
-  locked_by : (listener : Bool) (key : K) (rest : List (Item K V)) →
+  locked_by : (listener : Bool) (key : K) (rest : List (Item K V E)) →
       (listener ≡ false → P (plan.Drain ∷ rest)) →
       (listener ≡ true → P (plan.Drain ∷ plan.Lock key ∷ rest)) →
       P (plan.Drain ∷ under_lock listener key rest)
@@ -27,7 +28,7 @@ module _ {K V : Type 0} (P : List (Item K V) → Type 0) where
   locked_by true key rest free locked = locked refl
 
   -- so of a put
-  pub put_plans_by : (rules : Rules) (key : K) (value : V) (rest : List (Item K V)) →
+  pub put_plans_by : (rules : Rules) (key : K) (value : V) (rest : List (Item K V E)) →
       (rules.listener ≡ false → P (plan.Drain ∷ plan.Moment (plan.To_store key value) ∷ rest)) →
       (rules.listener ≡ true →
       P (plan.Drain ∷ plan.Lock key ∷ plan.Moment (plan.To_store key value) ∷ rest)) →
@@ -35,7 +36,7 @@ module _ {K V : Type 0} (P : List (Item K V) → Type 0) where
   put_plans_by rules key value rest free locked =
       locked_by rules.listener key (plan.Moment (plan.To_store key value) ∷ rest) free locked
 
-  pub put_plans : (rules : Rules) (key : K) (value : V) (rest : List (Item K V)) →
+  pub put_plans : (rules : Rules) (key : K) (value : V) (rest : List (Item K V E)) →
       P (plan.Drain ∷ plan.Moment (plan.To_store key value) ∷ rest) →
       P (plan.Drain ∷ plan.Lock key ∷ plan.Moment (plan.To_store key value) ∷ rest) →
       P (put rules key value rest)
@@ -65,7 +66,7 @@ module _ {K V : Type 0} (P : List (Item K V) → Type 0) where
   loaded_plans rules load value told free locked =
       loaded_plans_by rules load value (λ e. told) (λ e off. free) (λ e on. locked)
 
-module _ {K V : Type 0} (P : Next K V → Type 0) (c : Call K V) where
+module _ {K V E : Type 0} (P : Next K V E → Type 0) (c : Call K V E) where
   -- what holds of a call whose chosen record stays, where the rules say whether it frees a lock
   pub kept_next : (c.rules.listener ≡ false → P (answers answer.Kept)) →
       (c.rules.listener ≡ true → P (goes c (plan.Unlock false ∷ plan.Reply answer.Kept ∷ []))) →
@@ -96,16 +97,29 @@ module _ {K V : Type 0} (P : Next K V → Type 0) (c : Call K V) where
   chosen_next key stamp cause there stored free locked same =
       chosen_by key stamp cause there stored (λ e. kept_next free locked) (λ e. same)
 
-module _ {K V : Type 0} where
+-- the answer is not how a load ended without a value: neither nothing, nor an error, nor that the
+-- call gave up
+abbrev pub IsPlain : {V E : Type 0} → Answer V E → Type 0
+IsPlain answer.Nothing = ⊥
+IsPlain (answer.InitErr error) = ⊥
+IsPlain answer.RetriesExhausted = ⊥
+IsPlain _ = Unit {0}
+
+module _ {K V E : Type 0} where
   -- the plans that fresh calls have by these rules
-  pub data IsFresh (rules : Rules) : List (Item K V) → Type 0 where
-    Disabled : (a : Answer V) → is_disabled rules ≡ true → IsFresh rules (plan.Reply a ∷ [])
+  pub data IsFresh (rules : Rules) : List (Item K V E) → Type 0 where
+    Disabled : (a : Answer V E) → is_disabled rules ≡ true → IsPlain a →
+        IsFresh rules (plan.Reply a ∷ [])
     Gets : (key : K) → is_disabled rules ≡ false →
         IsFresh rules (plan.Drain ∷ plan.Get plan.To_answer key ∷ [])
-    Loads : (load : Load K) → is_disabled rules ≡ false →
-        IsFresh rules (plan.Drain ∷ plan.Get (plan.To_load load) load.key ∷ [])
-    Owns : (load : Load K) → is_disabled rules ≡ true →
-        IsFresh rules (plan.Drain ∷ plan.Own load ∷ [])
+    Loads : (sought : Sought K) → is_disabled rules ≡ false →
+        IsFresh rules (plan.Drain ∷ plan.Get (plan.To_load sought) sought.load.key ∷ [])
+    Owns : (sought : Sought K) → is_disabled rules ≡ true →
+        IsFresh rules (plan.Drain ∷ plan.Own sought ∷ [])
+    Finds_or_puts : (key : K) (value : V) → is_disabled rules ≡ false →
+        IsFresh rules (plan.Drain ∷ plan.Get (plan.To_insert key value) key ∷ [])
+    Gives_back : (a : Answer V E) → is_disabled rules ≡ true → IsPlain a →
+        IsFresh rules (plan.Drain ∷ plan.Reply a ∷ [])
     Puts : (key : K) (value : V) → is_disabled rules ≡ false → rules.listener ≡ false →
         IsFresh rules (plan.Drain ∷ plan.Moment (plan.To_store key value)
         ∷ plan.Reply answer.Done ∷ [])
@@ -128,24 +142,34 @@ module _ {K V : Type 0} where
       locked_by (IsFresh rules) rules.listener key (plan.Moment (plan.To_take_out removal key) ∷ [])
       (λ off. Takes_out removal key off) (λ on. Locks_and_takes_out removal key on)
 
+  loads : (rules : Rules) (sought : Sought K) →
+      IsFresh rules (load_plan {V = V} {E = E} (is_disabled rules) sought)
+  loads rules sought = by (is_disabled rules) refl
+    where
+      by : (b : Bool) → is_disabled rules ≡ b → IsFresh rules (load_plan {V = V} {E = E} b sought)
+      by true e = Owns sought e
+      by false e = Loads sought e
+
   pub fresh_plan : (rules : Rules) (s : Start K V) → IsFresh rules (plan_of rules s)
   fresh_plan rules (start.Get key) = by (is_disabled rules) refl
     where
       by : (b : Bool) → is_disabled rules ≡ b → IsFresh rules (get_plan b key)
-      by true e = Disabled (answer.Found _) e
+      by true e = Disabled (answer.Found _) e tt
       by false e = Gets key e
   fresh_plan rules (start.Insert key value) = by (is_disabled rules) refl
     where
       by : (b : Bool) → is_disabled rules ≡ b → IsFresh rules (insert_plan b rules key value)
-      by true e = Disabled answer.Done e
+      by true e = Disabled answer.Done e tt
       by false e = put_plans_by (IsFresh rules) rules key value _ (λ off. Puts key value e off)
           (λ on. Locks_and_puts key value e on)
-  fresh_plan rules (start.GetWith key) = by (is_disabled rules) refl
+  fresh_plan rules (start.GetWith key replace) = loads rules (seek kind.GetWith key replace)
+  fresh_plan rules (start.Optional key) = loads rules (seek kind.Optional key None)
+  fresh_plan rules (start.Try key) = loads rules (seek kind.Try key None)
+  fresh_plan rules (start.OrInsert key value) = by (is_disabled rules) refl
     where
-      by : (b : Bool) → is_disabled rules ≡ b →
-          IsFresh rules (load_plan b (record { key = key; kind = kind.GetWith }))
-      by true e = Owns _ e
-      by false e = Loads _ e
+      by : (b : Bool) → is_disabled rules ≡ b → IsFresh rules (or_insert_plan b key value)
+      by true e = Gives_back _ e tt
+      by false e = Finds_or_puts key value e
   fresh_plan rules (start.Invalidate key) = takes_out rules plan.To_invalidate key
   fresh_plan rules (start.Remove key) = takes_out rules plan.To_remove key
   fresh_plan rules (start.Evict key stamp cause) = by rules.listener refl

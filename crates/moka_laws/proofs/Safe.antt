@@ -1,5 +1,5 @@
 -- What the desk needs for the next visit of a live call it has.
-use Rattle.std.proofs.Common.{◌≡◌, ◌≢◌, ℕ, ◌+◌, ◌||◌, Bool, true, false, cond, List, [], ◌∷◌, Option, Some, None, is_some, IsSome, IsNone, IsSomeAnd, refl, sym, ap, ◌∙◌, subst, arith}
+use Rattle.std.proofs.Common.{◌≡◌, ℕ, ◌+◌, ◌||◌, Bool, true, false, cond, List, [], ◌∷◌, Option, Some, None, is_some, IsSome, IsNone, IsSomeAnd, refl, sym, ap, ◌∙◌, subst, arith}
 use Rattle.moka_hist.specs.State.{State, Call, DeskPart}
 use Rattle.moka_hist.specs.Plan.{Item, Aim}
 use Rattle.moka_hist.specs.Plan as plan
@@ -10,29 +10,21 @@ use Rattle.moka_hist.specs.Notices.{OpensNotice}
 use Rattle.moka_hist.specs.declared.records.Mode.{Mode}
 use Rattle.moka_hist.specs.declared.rules.Rules.{Rules}
 use Rattle.moka_hist.specs.declared.loads.Load.{Load}
-use Rattle.moka_hist.specs.declared.loads.Kind.{Kind}
-use Rattle.moka_hist.specs.declared.loads.Kind.TheVariants as kind
 use Rattle.moka_hist.specs.declared.visits.Settled.{Settled}
 use Rattle.moka_hist.specs.declared.visits.Settled.TheVariants as settled
 use Rattle.std.proofs.lemmas.Bool.{false≢true}
 use Rattle.moka_laws.proofs.Counting.{none_some}
 use Rattle.moka_laws.proofs.Weights.{weigh}
-use Rattle.moka_laws.proofs.Answering.{EndsWell, some_ready}
 use Rattle.moka_laws.proofs.Asking.{AsksWhole, IsAsking, asking_kept, ask_open, none_asked, whole}
 use Rattle.moka_laws.proofs.Holding.{IsHolding, HoldsAs, holding_kept, idle_free, freeing_free, is_unused}
 use Rattle.moka_laws.proofs.Owning.{plan_left}
 use Rattle.moka_laws.proofs.Roles.{Fits, owners}
 use Rattle.moka_laws.proofs.Served.{IsServed, served_kept}
+use Rattle.moka_laws.proofs.Fitting.{AllFit, MayEndSo, IsFitting, fitting_kept}
 use Rattle.moka_laws.proofs.Turns.{TurnFits, IsTurning, turning_kept}
 use Rattle.moka_laws.proofs.Locking.{Locks, lock_free, lock_held}
 use Rattle.moka_laws.proofs.Replacing.{IsReplacing, replacing_kept, not_opened}
 use Rattle.moka_laws.proofs.Kept.{IsKept, in_reached}
-
--- an answer is one that an owner of any kind may end with
-ends : {V : Type 0} (k : Kind) (with : Settled V) → Some with ≢ Some settled.NotYet → may_end k with ≡ true
-ends kind.GetWith (settled.Ready value) not = refl
-ends kind.GetWith settled.Aborted not = refl
-ends kind.GetWith settled.NotYet not = absurd (not refl)
 
 none_is : {A : Type 0} (o : Option A) → o ≡ None → IsNone o
 none_is o e = ap is_some e
@@ -43,14 +35,18 @@ module _ {K : Type 0} where
   owns_none None e = refl
   owns_none (Some l) e = absurd (omega (arith, e))
 
--- one with such an item owns something
-owns_some : {K V : Type 0} (o : Option (Load K)) (k : ℕ) → k + 1 ≡ cond {A = ℕ} (is_some o) 1 0 → (with : Settled V) → Some with ≢ Some settled.NotYet →
-    IsSomeAnd o (λ load. may_end load.kind with ≡ true)
-owns_some None k e with not = absurd (omega (arith, e))
-owns_some (Some l) k e with not = ends l.kind with not
+-- one that is to end its load owns it, and may end it so
+owner_ends : {K V E : Type 0} (o : Option (Load K)) (k : ℕ) → k + 1 ≡ cond {A = ℕ} (is_some o) 1 0 →
+    (with : Settled V E) → MayEndSo o with → IsSomeAnd o (λ load. may_end load.kind with ≡ true)
+owner_ends None k e with may = absurd (omega (arith, e))
+owner_ends (Some l) k e (settled.Ready value) may = refl
+owner_ends (Some l) k e settled.NotYet may = may
+owner_ends (Some l) k e (settled.Err error) may = may
+owner_ends (Some l) k e settled.Nothing may = may
+owner_ends (Some l) k e settled.Aborted may = may
 
-module _ {K V : Type 0} where
-  either_asked : (d : DeskPart K V) (n : ℕ) → (is_some (d.told n) ≡ false → IsSome (d.asks n)) → is_some (d.asks n) || is_some (d.told n) ≡ true
+module _ {K V E : Type 0} where
+  either_asked : (d : DeskPart K V E) (n : ℕ) → (is_some (d.told n) ≡ false → IsSome (d.asks n)) → is_some (d.asks n) || is_some (d.told n) ≡ true
   either_asked d n opens = by (is_some (d.told n)) refl
     where
       left : (b : Bool) → is_some (d.asks n) ≡ true → is_some (d.asks n) || b ≡ true
@@ -65,34 +61,37 @@ module _ {K V : Type 0} where
       by true e = ap (λ v. is_some (d.asks n) || v) e ∙ right (is_some (d.asks n))
 
   -- What is known of a live call with this plan.
-  record Stands (d : DeskPart K V) (n : ℕ) (plan : List (Item K V)) : Type 0 where
+  record Stands (d : DeskPart K V E) (n : ℕ) (plan : List (Item K V E)) : Type 0 where
     holds : HoldsAs n (d.holding n) plan
     fits : Fits (d.owning n) (d.joined n) plan
     asks : AsksWhole d n plan
     turns : TurnFits d.turn n plan
     locks : Locks d.rules.listener (d.locked n) plan
 
-module _ {K V : Type 0} (eq : K → K → Bool) where
+module _ {K V E : Type 0} (eq : K → K → Bool) where
   -- What is known of a state by the plans of its calls.
-  pub record IsWell (s : State K V) : Type 0 where
+  pub record IsWell (s : State K V E) : Type 0 where
     pub holding : IsHolding s
     pub served : IsServed eq s
+    pub fitting : IsFitting eq s
     pub asking : IsAsking s
     pub turning : IsTurning s
     pub replacing : IsReplacing s
 
   pub well_kept : IsKept eq IsWell
   well_kept = record {
-    fresh = λ rules size has_log. record {
-      holding = (holding_kept eq).fresh rules size has_log;
-      served = (served_kept eq).fresh rules size has_log;
-      asking = (asking_kept eq).fresh rules size has_log;
-      turning = (turning_kept eq).fresh rules size has_log;
-      replacing = (replacing_kept eq).fresh rules size has_log;
+    fresh = λ rules size tests has_log. record {
+      holding = (holding_kept eq).fresh rules size tests has_log;
+      served = (served_kept eq).fresh rules size tests has_log;
+      fitting = (fitting_kept eq).fresh rules size tests has_log;
+      asking = (asking_kept eq).fresh rules size tests has_log;
+      turning = (turning_kept eq).fresh rules size tests has_log;
+      replacing = (replacing_kept eq).fresh rules size tests has_log;
     };
     at = λ s moment i. record {
       holding = (holding_kept eq).at s moment i.holding;
       served = (served_kept eq).at s moment i.served;
+      fitting = (fitting_kept eq).at s moment i.fitting;
       asking = (asking_kept eq).at s moment i.asking;
       turning = (turning_kept eq).at s moment i.turning;
       replacing = (replacing_kept eq).at s moment i.replacing;
@@ -100,6 +99,7 @@ module _ {K V : Type 0} (eq : K → K → Bool) where
     start = λ s start i. record {
       holding = (holding_kept eq).start s start i.holding;
       served = (served_kept eq).start s start i.served;
+      fitting = (fitting_kept eq).start s start i.fitting;
       asking = (asking_kept eq).start s start i.asking;
       turning = (turning_kept eq).start s start i.turning;
       replacing = (replacing_kept eq).start s start i.replacing;
@@ -107,6 +107,7 @@ module _ {K V : Type 0} (eq : K → K → Bool) where
     step = λ s t n turn i step. record {
       holding = (holding_kept eq).step s t n turn i.holding step;
       served = (served_kept eq).step s t n turn i.served step;
+      fitting = (fitting_kept eq).step s t n turn i.fitting step;
       asking = (asking_kept eq).step s t n turn i.asking step;
       turning = (turning_kept eq).step s t n turn i.turning step;
       replacing = (replacing_kept eq).step s t n turn i.replacing step;
@@ -114,6 +115,7 @@ module _ {K V : Type 0} (eq : K → K → Bool) where
     tell = λ s n given asked i. record {
       holding = (holding_kept eq).tell s n given asked i.holding;
       served = (served_kept eq).tell s n given asked i.served;
+      fitting = (fitting_kept eq).tell s n given asked i.fitting;
       asking = (asking_kept eq).tell s n given asked i.asking;
       turning = (turning_kept eq).tell s n given asked i.turning;
       replacing = (replacing_kept eq).tell s n given asked i.replacing;
@@ -121,6 +123,7 @@ module _ {K V : Type 0} (eq : K → K → Bool) where
     hear = λ s n off running i. record {
       holding = (holding_kept eq).hear s n off running i.holding;
       served = (served_kept eq).hear s n off running i.served;
+      fitting = (fitting_kept eq).hear s n off running i.fitting;
       asking = (asking_kept eq).hear s n off running i.asking;
       turning = (turning_kept eq).hear s n off running i.turning;
       replacing = (replacing_kept eq).hear s n off running i.replacing;
@@ -128,20 +131,21 @@ module _ {K V : Type 0} (eq : K → K → Bool) where
     drop = λ s n c live between i. record {
       holding = (holding_kept eq).drop s n c live between i.holding;
       served = (served_kept eq).drop s n c live between i.served;
+      fitting = (fitting_kept eq).drop s n c live between i.fitting;
       asking = (asking_kept eq).drop s n c live between i.asking;
       turning = (turning_kept eq).drop s n c live between i.turning;
       replacing = (replacing_kept eq).drop s n c live between i.replacing;
     };
   }
 
-  pub in_well : (s : State K V) → IsReached eq s → IsWell s
+  pub in_well : (s : State K V E) → IsReached eq s → IsWell s
   in_well s h = in_reached eq IsWell well_kept s h
 
-module _ {K V : Type 0} (eq : K → K → Bool) (s : State K V) (well : IsWell eq s) (n : ℕ) (c : Call K V) (live : s.calls n ≡ Some c) where
-  abbrev May_for : Item K V → Type 0
+module _ {K V E : Type 0} (eq : K → K → Bool) (s : State K V E) (well : IsWell eq s) (n : ℕ) (c : Call K V E) (live : s.calls n ≡ Some c) where
+  abbrev May_for : Item K V E → Type 0
   May_for item = May s.world (access_for n item)
 
-  may_item : (item : Item K V) (rest : List (Item K V)) → c.plan ≡ item ∷ rest → Stands s.world.desk n (item ∷ rest) → May_for item
+  may_item : (item : Item K V E) (rest : List (Item K V E)) → c.plan ≡ item ∷ rest → Stands s.world.desk n (item ∷ rest) → May_for item
   may_item plan.Drain rest e k = none_is _ k.holds.0
   may_item (plan.Ended number) rest e k = tt
   may_item plan.Heard rest e k = tt
@@ -160,14 +164,14 @@ module _ {K V : Type 0} (eq : K → K → Bool) (s : State K V) (well : IsWell e
   may_item plan.End rest e k = k.turns.applies k.turns.first
   may_item (plan.Get aim key) rest e k = tt
   may_item (plan.Judge aim key stored) rest e k = tt
-  may_item (plan.Own load) rest e k =
-      let alone : Fits (s.world.desk.owning n) (s.world.desk.joined n) (plan.Own load ∷ []) =
-      subst (λ v. Fits (s.world.desk.owning n) (s.world.desk.joined n) (plan.Own load ∷ v)) k.fits.last k.fits in
+  may_item (plan.Own sought) rest e k =
+      let alone : Fits (s.world.desk.owning n) (s.world.desk.joined n) (plan.Own sought ∷ []) =
+      subst (λ v. Fits (s.world.desk.owning n) (s.world.desk.joined n) (plan.Own sought ∷ v)) k.fits.last k.fits in
       (owns_none (s.world.desk.owning n) alone.owning, alone.waiting)
-  may_item (plan.Read load) rest e k = k.fits.waiting
+  may_item (plan.Read sought) rest e k = k.fits.waiting
   may_item (plan.Settle with) rest e k =
-      let ready = some_ready with rest (subst EndsWell e (well.asking.answering.calls n c live)) in
-      owns_some (s.world.desk.owning n) (weigh owners rest) (omega (arith, k.fits.owning)) with ready.0
+      owner_ends (s.world.desk.owning n) (weigh owners rest) (omega (arith, k.fits.owning)) with
+      (subst (AllFit _ _ _) e (well.fitting.fit n c live)).0
   may_item (plan.Ask load) rest e k =
       let alone : AsksWhole s.world.desk n (plan.Ask load ∷ []) = subst (λ v. AsksWhole s.world.desk n (plan.Ask load ∷ v)) k.fits.last k.asks in
       none_asked s.world.desk n (plan.Ask load ∷ []) alone.asked refl
@@ -190,7 +194,7 @@ module _ {K V : Type 0} (eq : K → K → Bool) (s : State K V) (well : IsWell e
     locks = subst (λ v. Locks s.world.desk.rules.listener (s.world.desk.locked n) (plan_left v)) live (well.replacing.locking.locks n);
   }
 
-  by_plan : (rules : Rules) (mode : Mode) (plan : List (Item K V)) (aborts : ℕ) → c.plan ≡ plan → May s.world (access_of n (record { rules = rules; mode = mode; plan = plan; aborts = aborts }))
+  by_plan : (rules : Rules) (mode : Mode) (plan : List (Item K V E)) (aborts : ℕ) → c.plan ≡ plan → May s.world (access_of n (record { rules = rules; mode = mode; plan = plan; aborts = aborts }))
   by_plan rules mode [] aborts e = λ write is.
       none_some (sym (subst (HoldsAs n (s.world.desk.holding n)) e stands.holds) ∙ is)
   by_plan rules mode (item ∷ rest) aborts e = may_item item rest e (subst (Stands s.world.desk n) e stands)

@@ -23,9 +23,9 @@ use Rattle.moka_laws.proofs.Reading.{joins, joins_self, Answered, OwnerOf}
 use Rattle.moka_laws.proofs.Serving.{part, Serves, drops, no_load, no_owner}
 use Rattle.moka_laws.proofs.ServingSteps.{on_plan}
 
-module _ {K V : Type 0} (eq : K → K → Bool) where
+module _ {K V E : Type 0} (eq : K → K → Bool) where
   -- What those that wait for owners count on.
-  pub record IsServed (s : State K V) : Type 0 where
+  pub record IsServed (s : State K V E) : Type 0 where
     pub balanced : IsBalanced s
     pub answering : IsAnswering s
     -- each call's plan is that of one that owns what the desk says, and waits for whom it says
@@ -38,12 +38,12 @@ module _ {K V : Type 0} (eq : K → K → Bool) where
         Answered eq s.world.desk.owning s.world.desk.settled o load
 
   -- a call that waits for an owner is live
-  pub joined_live : (o : Option (Call K V)) (a : Option (Load K)) (j : Option ℕ) (who : ℕ) → Fits a j (plan_left o) → j ≡ Some who →
-      (c : Call K V) × (o ≡ Some c)
+  pub joined_live : (o : Option (Call K V E)) (a : Option (Load K)) (j : Option ℕ) (who : ℕ) → Fits a j (plan_left o) → j ≡ Some who →
+      (c : Call K V E) × (o ≡ Some c)
   joined_live None a j who f e = absurd (false≢true (sym f.waiting ∙ ap is_some e))
   joined_live (Some c) a j who f e = (c, refl)
 
-  module _ (s : State K V) (i : IsServed s) where
+  module _ (s : State K V E) (i : IsServed s) where
     pub joined_numbered : (m o : ℕ) → s.world.desk.joined m ≡ Some o → m ≤ s.world.desk.last
     joined_numbered m o j = let c = joined_live (s.calls m) _ _ o (i.fits m) j in i.balanced.numbered m c.0 c.1
 
@@ -66,8 +66,8 @@ module _ {K V : Type 0} (eq : K → K → Bool) where
             omega (arith, i.counted o, sum_holds_two s.world.desk.last (λ v. joins o (s.world.desk.joined v)) m n k l (omega arith))
 
     -- what a step of a call, or its end, has shown holds of the state that it leaves
-    serves : (n : ℕ) → n ≤ s.world.desk.last → (w : World K V) (left : Option (Call K V)) → Serves eq s.world.desk n (part w.desk) left →
-        let t : State K V = record { world = w; calls = put_at s.calls n left } in
+    serves : (n : ℕ) → n ≤ s.world.desk.last → (w : World K V E) (left : Option (Call K V E)) → Serves eq s.world.desk n (part w.desk) left →
+        let t : State K V E = record { world = w; calls = put_at s.calls n left } in
         IsBalanced t → IsAnswering t → IsServed t
     serves n l w left b balanced answering = record {
       balanced = balanced;
@@ -102,9 +102,9 @@ module _ {K V : Type 0} (eq : K → K → Bool) where
             let was = sym (b.joined m e) ∙ j in
             b.others m o load e was (i.waits m o load was (ap (λ v. awaited (plan_left v)) (sym (put_there s.calls n left m e)) ∙ a))
 
-  served_step : (s t : State K V) (n : ℕ) (turn : Turn K V) → IsServed s → Step eq s n turn t → IsServed t
+  served_step : (s t : State K V E) (n : ℕ) (turn : Turn K V E) → IsServed s → Step eq s n turn t → IsServed t
   served_step s t n turn i step =
-      let c : Call K V = step.call in
+      let c : Call K V E = step.call in
       let l : n ≤ s.world.desk.last = i.balanced.numbered n c step.live in
       let fits : Fits (s.world.desk.owning n) (s.world.desk.joined n) c.plan = subst
       (λ v. Fits (s.world.desk.owning n) (s.world.desk.joined n) (plan_left v)) step.live (i.fits n) in
@@ -116,7 +116,7 @@ module _ {K V : Type 0} (eq : K → K → Bool) where
       (λ w next b. serves s i n l w next.left b) in
       kept ((balanced_kept eq).step s t n turn i.balanced step) ((answering_kept eq).step s t n turn i.answering step)
 
-  served_start : (s : State K V) (start : Start K V) → IsServed s → IsServed (started s start)
+  served_start : (s : State K V E) (start : Start K V) → IsServed s → IsServed (started s start)
   served_start s start i =
       let new : ℕ = s.world.desk.last + 1 in
       let free = subst (λ v. Fits (s.world.desk.owning new) (s.world.desk.joined new) (plan_left v)) (next_free s i.balanced) (i.fits new) in
@@ -133,25 +133,25 @@ module _ {K V : Type 0} (eq : K → K → Bool) where
     where
       fit : s.world.desk.owning (s.world.desk.last + 1) ≡ None → s.world.desk.joined (s.world.desk.last + 1) ≡ None → (m : ℕ) (t : Bool) →
           (s.world.desk.last + 1 == m) ≡ t →
-          Fits (s.world.desk.owning m) (s.world.desk.joined m) (plan_left (cond t (Some (fresh_call s.world.desk.rules start)) (s.calls m)))
+          Fits (s.world.desk.owning m) (s.world.desk.joined m) (plan_left (cond t (Some (fresh_call {E = E} s.world.desk.rules start)) (s.calls m)))
       fit none idle m true e =
           let is = eqb-true (s.world.desk.last + 1) m e in
-          subst (λ v. Fits v (s.world.desk.joined m) (plan_of s.world.desk.rules start)) (sym none ∙ ap s.world.desk.owning is)
-          (subst (λ v. Fits None v (plan_of s.world.desk.rules start)) (sym idle ∙ ap s.world.desk.joined is) (fresh_fits s.world.desk.rules start))
+          subst (λ v. Fits v (s.world.desk.joined m) (plan_of {E = E} s.world.desk.rules start)) (sym none ∙ ap s.world.desk.owning is)
+          (subst (λ v. Fits None v (plan_of {E = E} s.world.desk.rules start)) (sym idle ∙ ap s.world.desk.joined is) (fresh_fits s.world.desk.rules start))
       fit none idle m false e = i.fits m
 
       wait : s.world.desk.joined (s.world.desk.last + 1) ≡ None → (m o : ℕ) (load : Load K) → s.world.desk.joined m ≡ Some o →
-          awaited (plan_left (put_at s.calls (s.world.desk.last + 1) (Some (fresh_call s.world.desk.rules start)) m)) ≡ Some load → (t : Bool) →
+          awaited (plan_left (put_at s.calls (s.world.desk.last + 1) (Some (fresh_call {E = E} s.world.desk.rules start)) m)) ≡ Some load → (t : Bool) →
           (s.world.desk.last + 1 == m) ≡ t → Answered eq s.world.desk.owning s.world.desk.settled o load
       wait idle m o load j a true e = absurd (none_some (sym idle ∙ ap s.world.desk.joined (eqb-true (s.world.desk.last + 1) m e) ∙ j))
       wait idle m o load j a false e = i.waits m o load j
-          (ap (λ v. awaited (plan_left v)) (sym (put_there s.calls (s.world.desk.last + 1) (Some (fresh_call s.world.desk.rules start)) m e)) ∙ a)
+          (ap (λ v. awaited (plan_left v)) (sym (put_there s.calls (s.world.desk.last + 1) (Some (fresh_call {E = E} s.world.desk.rules start)) m e)) ∙ a)
 
   pub served_kept : IsKept eq IsServed
   served_kept = record {
-    fresh = λ rules size has_log. record {
-      balanced = (balanced_kept eq).fresh rules size has_log;
-      answering = (answering_kept eq).fresh rules size has_log;
+    fresh = λ rules size tests has_log. record {
+      balanced = (balanced_kept eq).fresh rules size tests has_log;
+      answering = (answering_kept eq).fresh rules size tests has_log;
       fits = λ n. record { last = tt; owning = refl; waiting = refl };
       owner = λ load o e. absurd (none_some e);
       counted = λ o. sym (sum_zero (λ m. 0));
@@ -189,30 +189,30 @@ module _ {K V : Type 0} (eq : K → K → Bool) where
         ((balanced_kept eq).drop s n c live between i.balanced) ((answering_kept eq).drop s n c live between i.answering);
   }
 
-  pub in_served : (s : State K V) → IsReached eq s → IsServed s
+  pub in_served : (s : State K V E) → IsReached eq s → IsServed s
   in_served s h = in_reached eq IsServed served_kept s h
 
   -- an owner of a load is live
-  owner_alike : (s : State K V) → IsServed s → (o : ℕ) (load : Load K) → OwnerOf eq s.world.desk.owning o load → OwnsAlike eq s o load
+  owner_alike : (s : State K V E) → IsServed s → (o : ℕ) (load : Load K) → OwnerOf eq s.world.desk.owning o load → OwnsAlike eq s o load
   owner_alike s i o load own = by (s.calls o) refl (i.fits o)
     where
-      by : (c : Option (Call K V)) → s.calls o ≡ c → Fits (s.world.desk.owning o) (s.world.desk.joined o) (plan_left c) →
+      by : (c : Option (Call K V E)) → s.calls o ≡ c → Fits (s.world.desk.owning o) (s.world.desk.joined o) (plan_left c) →
           OwnsAlike eq s o load
       by None e f = let one = ap (λ v. cond {A = ℕ} (is_some v) 1 0) own.1 in absurd (omega (arith, f.owning))
       by (Some c) e f = record { call = c; live = e; owned = own.0; owning = own.1; alike = own.2 }
 
-  pub waiters_served : WaitersHaveOwners K V eq
-  waiters_served s n c load rest h live e =
+  pub waiters_served : WaitersHaveOwners K V E eq
+  waiters_served s n c sought rest h live e =
       let i : IsServed s = in_served s h in
-      let awaits : awaited (plan_left (s.calls n)) ≡ Some load = ap (λ v. awaited (plan_left v)) live ∙ ap awaited e in
+      let awaits : awaited (plan_left (s.calls n)) ≡ Some sought.load = ap (λ v. awaited (plan_left v)) live ∙ ap awaited e in
       by i awaits (s.world.desk.joined n) refl (i.fits n).waiting
     where
-      served : IsServed s → (o : ℕ) → Answered eq s.world.desk.owning s.world.desk.settled o load →
-          OwnsAlike eq s o load ⊎ IsSome (s.world.desk.settled o)
-      served i o (inl own) = inl (owner_alike s i o load own)
+      served : IsServed s → (o : ℕ) → Answered eq s.world.desk.owning s.world.desk.settled o sought.load →
+          OwnsAlike eq s o sought.load ⊎ IsSome (s.world.desk.settled o)
+      served i o (inl own) = inl (owner_alike s i o sought.load own)
       served i o (inr some) = inr some
 
-      by : IsServed s → awaited (plan_left (s.calls n)) ≡ Some load → (j : Option ℕ) → s.world.desk.joined n ≡ j →
-          is_some (s.world.desk.joined n) ≡ is_some (awaited (plan_left (s.calls n))) → HasOwner eq s n load
+      by : IsServed s → awaited (plan_left (s.calls n)) ≡ Some sought.load → (j : Option ℕ) → s.world.desk.joined n ≡ j →
+          is_some (s.world.desk.joined n) ≡ is_some (awaited (plan_left (s.calls n))) → HasOwner eq s n sought.load
       by i a None j waiting = absurd (false≢true (sym (ap is_some j) ∙ waiting ∙ ap is_some a))
-      by i a (Some o) j waiting = record { owner = o; joined = j; served = served i o (i.waits n o load j a) }
+      by i a (Some o) j waiting = record { owner = o; joined = j; served = served i o (i.waits n o sought.load j a) }

@@ -9,6 +9,7 @@ use Rattle.moka_hist.specs.Plan as plan
 use Rattle.moka_hist.specs.Visits.{readers_without, settled_without, settled_with, owners_without}
 use Rattle.moka_hist.specs.Dropping.{left}
 use Rattle.moka_hist.specs.declared.loads.Load.{Load}
+use Rattle.moka_hist.specs.declared.loads.Sought.{Sought}
 use Rattle.moka_hist.specs.declared.visits.Settled.{Settled}
 use Rattle.moka_hist.specs.declared.visits.Settled.TheVariants as settled
 use Rattle.moka_laws.proofs.Counting.{none_some, some_same, put_here, put_there, other_number}
@@ -18,15 +19,15 @@ use Rattle.moka_laws.proofs.Weights.{weigh}
 use Rattle.moka_laws.proofs.Reading.{joins, joins_self, fewer_readers, Answered, OwnerOf, answered_without, answered_with}
 
 -- what the desk keeps of owners and of those that wait for them
-pub record Part (K V : Type 0) : Type 0 where
+pub record Part (K V E : Type 0) : Type 0 where
   pub owners : Load K → Option ℕ
   pub owning : ℕ → Option (Load K)
   pub joined : ℕ → Option ℕ
   pub readers : ℕ → ℕ
-  pub settled : ℕ → Option (Settled V)
+  pub settled : ℕ → Option (Settled V E)
   pub last : ℕ
 
-abbrev pub part : {K V : Type 0} → DeskPart K V → Part K V
+abbrev pub part : {K V E : Type 0} → DeskPart K V E → Part K V E
 part d = record { owners = d.owners; owning = d.owning; joined = d.joined; readers = d.readers; settled = d.settled; last = d.last }
 
 pub no_load : {A : Type 0} (o : Option A) → cond {A = ℕ} (is_some o) 1 0 ≡ 0 → o ≡ None
@@ -50,9 +51,9 @@ left_owner (Some v) n o e = by (v == n) refl e
     by true f e = absurd (none_some e)
     by false f e = (e, subst (λ u. (n == u) ≡ false) (some_same e) (other_number v n f))
 
-module _ {K V : Type 0} (eq : K → K → Bool) where
+module _ {K V E : Type 0} (eq : K → K → Bool) where
   -- what a step of the call, or its end, has to show
-  pub record Serves (d : DeskPart K V) (n : ℕ) (q : Part K V) (left : Option (Call K V)) : Type 0 where
+  pub record Serves (d : DeskPart K V E) (n : ℕ) (q : Part K V E) (left : Option (Call K V E)) : Type 0 where
     pub last : q.last ≡ d.last
     pub fits : Fits (q.owning n) (q.joined n) (plan_left left)
     pub owner : (load : Load K) (o : ℕ) → q.owners load ≡ Some o → OwnerOf eq q.owning o load
@@ -63,12 +64,12 @@ module _ {K V : Type 0} (eq : K → K → Bool) where
         Answered eq q.owning q.settled o load
     pub own : (o : ℕ) (load : Load K) → q.joined n ≡ Some o → awaited (plan_left left) ≡ Some load → Answered eq q.owning q.settled o load
 
-  module _ (d : DeskPart K V) (n : ℕ)
+  module _ (d : DeskPart K V E) (n : ℕ)
       (owner : (load : Load K) (o : ℕ) → d.owners load ≡ Some o → OwnerOf eq d.owning o load)
       (enough : (m o : ℕ) → (n == m) ≡ false → d.joined m ≡ Some o → joins o (d.joined n) + 1 ≤ d.readers o)
       (enough_own : (o : ℕ) → joins o (d.joined n) ≤ d.readers o) where
     -- nothing of this has changed but the call's plan
-    pub keeps : {left : Option (Call K V)} → Fits (d.owning n) (d.joined n) (plan_left left) →
+    pub keeps : {left : Option (Call K V E)} → Fits (d.owning n) (d.joined n) (plan_left left) →
         ((o : ℕ) (load : Load K) → d.joined n ≡ Some o → awaited (plan_left left) ≡ Some load → Answered eq d.owning d.settled o load) →
         Serves d n (part d) left
     keeps f own = record {
@@ -83,7 +84,7 @@ module _ {K V : Type 0} (eq : K → K → Bool) where
     }
 
     -- nothing of this has changed, and the call awaits no load
-    pub keeps_none : {left : Option (Call K V)} → Fits (d.owning n) (d.joined n) (plan_left left) → awaited (plan_left left) ≡ None →
+    pub keeps_none : {left : Option (Call K V E)} → Fits (d.owning n) (d.joined n) (plan_left left) → awaited (plan_left left) ≡ None →
         Serves d n (part d) left
     keeps_none f none = keeps f (λ o load j a. absurd (none_some (sym none ∙ a)))
 
@@ -117,7 +118,7 @@ module _ {K V : Type 0} (eq : K → K → Bool) where
           by false h e = still_owner o l (owner l o e)
 
       -- the call owns the load
-      pub claims : {left : Option (Call K V)} → IsLast (plan_left left) →
+      pub claims : {left : Option (Call K V E)} → IsLast (plan_left left) →
           weigh owners (plan_left left) ≡ 1 →
           awaited (plan_left left) ≡ None → is_some (d.joined n) ≡ false →
           Serves d n (part (record d { owners = put_key (load_eq eq) d.owners load (Some n); owning = put_at d.owning n (Some load) })) left
@@ -137,10 +138,10 @@ module _ {K V : Type 0} (eq : K → K → Bool) where
       }
 
     -- the call waits for the owner of the load
-    pub joins_owner : (load : Load K) (who : ℕ) {left : Option (Call K V)} → d.owners load ≡ Some who →
-        plan_left left ≡ plan.Read load ∷ [] → d.owning n ≡ None → d.joined n ≡ None →
+    pub joins_owner : (sought : Sought K) (who : ℕ) {left : Option (Call K V E)} → d.owners sought.load ≡ Some who →
+        plan_left left ≡ plan.Read sought ∷ [] → d.owning n ≡ None → d.joined n ≡ None →
         Serves d n (part (record d { joined = put_at d.joined n (Some who); readers = put_at d.readers who (d.readers who + 1) })) left
-    joins_owner load who owns p none free = record {
+    joins_owner sought who owns p none free = record {
       last = refl;
       fits = subst (Fits (d.owning n) (put_at d.joined n (Some who) n)) (sym p)
           (record {
@@ -157,7 +158,7 @@ module _ {K V : Type 0} (eq : K → K → Bool) where
       own = λ o l j a.
           let is = some_same (sym (put_here d.joined n (Some who)) ∙ j) in
           let same = some_same (ap awaited (sym p) ∙ a) in
-          inl (subst (λ v. OwnerOf eq d.owning v l) is (subst (λ v. OwnerOf eq d.owning who v) same (owner load who owns)));
+          inl (subst (λ v. OwnerOf eq d.owning v l) is (subst (λ v. OwnerOf eq d.owning who v) same (owner sought.load who owns)));
     }
       where
         by : (o : ℕ) (b : Bool) → (who == o) ≡ b →
@@ -168,7 +169,7 @@ module _ {K V : Type 0} (eq : K → K → Bool) where
         by o false e = omega (arith, ap (joins o) free, ap (joins o) (put_here d.joined n (Some who)), ap (λ b. cond {A = ℕ} b 1 0) e)
 
     -- the call has read how its owner ended
-    pub leaves_owner : {left : Option (Call K V)} → Fits (d.owning n) None (plan_left left) →
+    pub leaves_owner : {left : Option (Call K V E)} → Fits (d.owning n) None (plan_left left) →
         Serves d n (part (record d { joined = put_at d.joined n None; readers = readers_without d n; settled = settled_without d n })) left
     leaves_owner {left = gone} f = record {
       last = refl;
@@ -182,7 +183,7 @@ module _ {K V : Type 0} (eq : K → K → Bool) where
     }
 
     -- the call has ended its ownership
-    pub ends_own : (with : Settled V) {left : Option (Call K V)} → Fits None (d.joined n) (plan_left left) →
+    pub ends_own : (with : Settled V E) {left : Option (Call K V E)} → Fits None (d.joined n) (plan_left left) →
         ((o : ℕ) (load : Load K) → d.joined n ≡ Some o → awaited (plan_left left) ≡ Some load → Answered eq d.owning d.settled o load) →
         Serves d n (part (record d { owners = owners_without d n; owning = put_at d.owning n None; settled = settled_with d n with d.settled })) left
     ends_own with {left = gone} f own = record {

@@ -17,69 +17,72 @@ use Rattle.moka_laws.proofs.StepCases.{OnStep}
 use Rattle.moka_laws.proofs.Outcomes.{Outcomes, outcomes}
 use Rattle.moka_laws.proofs.Answering.{HasAnswers, settlement_ready}
 use Rattle.moka_laws.proofs.Owning.{plan_left}
-use Rattle.moka_laws.proofs.Roles.{IsLast, owners, Fits, awaited, goes_fits, keeps_fits, misses_fits, finds_fits, hits_fits, told_fits, read_fits, goes_awaits, keeps_awaits, misses_awaits, finds_awaits, hits_awaits}
+use Rattle.moka_laws.proofs.Roles.{IsLast, owners, Fits, awaited, goes_fits, keeps_fits, misses_fits, unseen_fits, finds_fits, hits_fits, told_fits, read_fits, goes_awaits, keeps_awaits, misses_awaits, finds_awaits, hits_awaits}
 use Rattle.moka_laws.proofs.Reading.{joins, Answered, OwnerOf}
 use Rattle.moka_laws.proofs.Serving.{Serves, part, no_load, no_owner, at_most_one, keeps, keeps_none, claims, joins_owner, leaves_owner, ends_own}
 
-module _ {K V : Type 0} (eq : K → K → Bool) (w : World K V) (n : ℕ) (c : Call K V)
+module _ {K V E : Type 0} (eq : K → K → Bool) (w : World K V E) (n : ℕ) (c : Call K V E)
     (owner : (load : Load K) (o : ℕ) → w.desk.owners load ≡ Some o → OwnerOf eq w.desk.owning o load)
     (enough : (m o : ℕ) → (n == m) ≡ false → w.desk.joined m ≡ Some o → joins o (w.desk.joined n) + 1 ≤ w.desk.readers o)
     (enough_own : (o : ℕ) → joins o (w.desk.joined n) ≤ w.desk.readers o)
     (ready : HasAnswers w.desk) where
   -- the call fits a plan, and what this plan awaits is answered
-  record Plans (plan : List (Item K V)) : Type 0 where
-    fits : Fits (w.desk.owning n) (w.desk.joined n) plan
+  record Plans (plan : List (Item K V E)) : Type 0 where
+    fits : Fits {E = E} (w.desk.owning n) (w.desk.joined n) plan
     own : (o : ℕ) (load : Load K) → w.desk.joined n ≡ Some o → awaited plan ≡ Some load → Answered eq w.desk.owning w.desk.settled o load
 
-  abbrev Leaves : World K V → Next K V → Type 0
+  abbrev Leaves : World K V E → Next K V E → Type 0
   Leaves new next = Serves eq w.desk n (part new.desk) next.left
 
   -- the call goes on with this plan, or as it was, and nothing else has changed
-  goes_with : (left : Option (Call K V)) → Plans (plan_left left) → Serves eq w.desk n (part w.desk) left
+  goes_with : (left : Option (Call K V E)) → Plans (plan_left left) → Serves eq w.desk n (part w.desk) left
   goes_with left p = keeps eq w.desk n owner enough enough_own p.fits p.own
 
   -- the call goes on with a plan that awaits no load
-  goes_free : {left : Option (Call K V)} → Fits (w.desk.owning n) (w.desk.joined n) (plan_left left) → awaited (plan_left left) ≡ None →
+  goes_free : {left : Option (Call K V E)} → Fits {E = E} (w.desk.owning n) (w.desk.joined n) (plan_left left) → awaited (plan_left left) ≡ None →
       Serves eq w.desk n (part w.desk) left
   goes_free f none = keeps_none eq w.desk n owner enough enough_own f none
 
-  rest_plans : (rest : List (Item K V)) → Plans rest → Plans (plan_left (goes c rest).left)
+  rest_plans : (rest : List (Item K V E)) → Plans rest → Plans (plan_left (goes c rest).left)
   rest_plans rest p = record { fits = goes_fits _ _ c rest p.fits; own = λ o load j a. p.own o load j (sym (goes_awaits c rest) ∙ a) }
 
-  goes_rest : (rest : List (Item K V)) → Plans rest → Serves eq w.desk n (part w.desk) (goes c rest).left
+  goes_rest : (rest : List (Item K V E)) → Plans rest → Serves eq w.desk n (part w.desk) (goes c rest).left
   goes_rest rest p = goes_with (goes c rest).left (rest_plans rest p)
 
   -- the plan's one item, where that is the last
-  alone : (item : Item K V) (rest : List (Item K V)) → rest ≡ [] → Plans (item ∷ rest) →
-      Fits (w.desk.owning n) (w.desk.joined n) (item ∷ [])
-  alone item rest e p = subst (λ v. Fits (w.desk.owning n) (w.desk.joined n) (item ∷ v)) e p.fits
+  alone : (item : Item K V E) (rest : List (Item K V E)) → rest ≡ [] → Plans (item ∷ rest) →
+      Fits {E = E} (w.desk.owning n) (w.desk.joined n) (item ∷ [])
+  alone item rest e p = subst (λ v. Fits {E = E} (w.desk.owning n) (w.desk.joined n) (item ∷ v)) e p.fits
 
-  takes_told : (load : Load K) (given : Told V) → Plans c.plan → Fits {V = V} (w.desk.owning n) (w.desk.joined n) (plan.Told load ∷ []) →
+  takes_told : (load : Load K) (given : Told V E) → Plans c.plan → Fits {V = V} {E = E} (w.desk.owning n) (w.desk.joined n) (plan.Told load ∷ []) →
       Serves eq w.desk n (part w.desk) (after_told c load (found.TakeTold (Some given))).left
   takes_told load (answer.Value value) p f =
       goes_free (told_fits _ _ c load (answer.Value value) p.fits f)
       (loaded_plans (λ q. awaited (plan_left (goes c q).left) ≡ None)
       c.rules load value refl refl refl)
+  takes_told load answer.Nothing p f = goes_free (told_fits _ _ c load answer.Nothing p.fits f) refl
+  takes_told load (answer.Err error) p f =
+      goes_free (told_fits _ _ c load (answer.Err error) p.fits f) refl
   takes_told load answer.Done p f = goes_with _ p
   takes_told load answer.Off p f = goes_with _ p
 
   -- a call fits a plan that tells as much as one that it fits
-  like : (plan old : List (Item K V)) → Plans old → IsLast plan → weigh owners plan ≡ weigh owners old → awaited plan ≡ awaited old → Plans plan
+  like : (plan old : List (Item K V E)) → Plans old → IsLast plan → weigh owners plan ≡ weigh owners old → awaited plan ≡ awaited old → Plans plan
   like plan old p last weight alike = record {
     fits = record { last = last; owning = weight ∙ p.fits.owning; waiting = p.fits.waiting ∙ ap is_some (sym alike) };
     own = λ o load j a. p.own o load j (sym alike ∙ a);
   }
 
   -- a call that judges what may be seen goes on with a plan that awaits no load
-  judges : (aim : Aim K) (key : K) (stored : Stored V) → Plans c.plan →
-      Fits (w.desk.owning n) (w.desk.joined n) (plan.Judge aim key stored ∷ []) →
+  judges : (aim : Aim K V) (key : K) (stored : Stored V) → Plans c.plan →
+      Fits {E = E} (w.desk.owning n) (w.desk.joined n) (plan.Judge aim key stored ∷ []) →
       Serves eq w.desk n (part w.desk) (hits c aim stored.value).left
   judges (plan.To_evict there stamp cause) key stored p f = goes_with _ p
   judges aim key stored p f =
       goes_free (hits_fits _ _ c aim key stored stored.value p.fits f)
       (hits_awaits c aim stored.value tt)
 
-  on_item : (item : Item K V) (rest : List (Item K V)) → Plans c.plan → Plans (item ∷ rest) → Outcomes eq Leaves w n c item rest
+  on_item : (item : Item K V E) (rest : List (Item K V E)) → Plans c.plan → Plans (item ∷ rest) → Outcomes eq Leaves w n c item rest
   on_item plan.Drain rest p q = (
     λ e. goes_rest rest (like rest _ q q.fits.last (omega arith) refl),
     λ x xs e. goes_with _ (like (plan.Post x ∷ plan.Drain ∷ rest) _ q q.fits.last (omega arith) refl),
@@ -109,18 +112,22 @@ module _ {K V : Type 0} (eq : K → K → Bool) (w : World K V) (n : ℕ) (c : C
             (finds_awaits c aim k stored),
       )
   on_item (plan.Judge aim key stored) rest p q =
-      judges aim key stored p (alone (plan.Judge aim key stored) rest q.fits.last q)
-  on_item (plan.Own load) rest p q =
-      let f = alone (plan.Own load) rest q.fits.last q in
-      let none = no_load (w.desk.owning n) (sym f.owning) in (
-        λ able e. claims eq w.desk n owner enough enough_own load none refl refl refl f.waiting,
-        λ not e. claims eq w.desk n owner enough enough_own load none refl refl refl f.waiting,
-        λ who e. joins_owner eq w.desk n owner enough enough_own load who e refl none (no_owner (w.desk.joined n) f.waiting),
+      let f = alone (plan.Judge aim key stored) rest q.fits.last q in (
+        λ seen. judges aim key stored p f,
+        λ unseen. goes_free (unseen_fits _ _ c w.desk aim key stored unseen f)
+            (misses_awaits c aim),
       )
-  on_item (plan.Read load) rest p q = (
+  on_item (plan.Own sought) rest p q =
+      let f = alone (plan.Own sought) rest q.fits.last q in
+      let none = no_load (w.desk.owning n) (sym f.owning) in (
+        λ able e. claims eq w.desk n owner enough enough_own sought.load none refl refl refl f.waiting,
+        λ not e. claims eq w.desk n owner enough enough_own sought.load none refl refl refl f.waiting,
+        λ who e. joins_owner eq w.desk n owner enough enough_own sought who e refl none (no_owner (w.desk.joined n) f.waiting),
+      )
+  on_item (plan.Read sought) rest p q = (
     λ e. goes_with _ p,
     λ with e. leaves_owner eq w.desk n owner enough enough_own
-        (read_fits _ _ c load with (settlement_ready w.desk n with ready e) (alone (plan.Read load) rest q.fits.last q)),
+        (read_fits _ _ c sought with (settlement_ready w.desk n with ready e) (alone (plan.Read sought) rest q.fits.last q)),
   )
   on_item (plan.Settle with) rest p q =
       let f : Fits None (w.desk.joined n) rest = record {
@@ -172,7 +179,7 @@ module _ {K V : Type 0} (eq : K → K → Bool) (w : World K V) (n : ℕ) (c : C
       let f = alone (plan.Reply answer) rest q.fits.last q in
       goes_free (record { last = tt; owning = omega (arith, f.owning); waiting = f.waiting }) refl
 
-  pub on_plan : (plan : List (Item K V)) → c.plan ≡ plan → Fits (w.desk.owning n) (w.desk.joined n) c.plan →
+  pub on_plan : (plan : List (Item K V E)) → c.plan ≡ plan → Fits {E = E} (w.desk.owning n) (w.desk.joined n) c.plan →
       ((o : ℕ) (load : Load K) → w.desk.joined n ≡ Some o → awaited c.plan ≡ Some load → Answered eq w.desk.owning w.desk.settled o load) →
       OnStep eq Leaves w n c plan
   on_plan [] e f own = goes_with _ (record { fits = f; own = own })

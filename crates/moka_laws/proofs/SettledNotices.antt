@@ -70,10 +70,10 @@ among_in x (v ∷ ws) w h = by h.0 h.1 h.2 (among_in x ws w)
     by zero l e more = omega (arith, times_first x (number_of v) (map number_of ws), ap (λ u. once x (number_of u)) e)
     by (suc k) l e more = omega (arith, times_first x (number_of v) (map number_of ws), more (k, omega arith, e))
 
-module _ {K V : Type 0} (s : State K V) (i : IsReplacing s) where
+module _ {K V E : Type 0} (s : State K V E) (i : IsReplacing s) where
   -- ---- a write that replaced a record is counted, and what is counted stands somewhere
 
-  call_swaps : (n : ℕ) (c : Call K V) (w : Write) → s.calls n ≡ Some c → held_by c.plan ≡ Some w → (x : ℕ) → weigh (swap_of x) c.plan ≡ swap x w
+  call_swaps : (n : ℕ) (c : Call K V E) (w : Write) → s.calls n ≡ Some c → held_by c.plan ≡ Some w → (x : ℕ) → weigh (swap_of x) c.plan ≡ swap x w
   call_swaps n c w live held x =
       let e = ap (λ o. swaps x (option_to_list o)) held in omega (arith, swap_held x c.plan (i.balanced.tidy n c live))
 
@@ -98,7 +98,7 @@ module _ {K V : Type 0} (s : State K V) (i : IsReplacing s) where
   found_at x p w h counts =
       let is = swap_counts x w counts in record { write = w; named = is.0; replaced = is.1; where_ = p; stands = h }
 
-  held_counts : (x n : ℕ) (o : Option (Call K V)) → s.calls n ≡ o → 0 < weigh_call (swap_of x) o → HasReplaced s x
+  held_counts : (x n : ℕ) (o : Option (Call K V E)) → s.calls n ≡ o → 0 < weigh_call (swap_of x) o → HasReplaced s x
   held_counts x n None e h = absurd (omega arith)
   held_counts x n (Some c) e h = by (held_by c.plan) refl (omega (arith, swap_held x c.plan (i.balanced.tidy n c e)))
     where
@@ -119,7 +119,7 @@ module _ {K V : Type 0} (s : State K V) (i : IsReplacing s) where
 
   -- ---- notices
 
-  is_due : (n : ℕ) (o : Option (Call K V)) → s.calls n ≡ o → 0 < weigh_call notice_of o → IsDue s n
+  is_due : (n : ℕ) (o : Option (Call K V E)) → s.calls n ≡ o → 0 < weigh_call notice_of o → IsDue s n
   is_due n None e h = absurd (omega arith)
   is_due n (Some c) e h =
       record { call = c; live = e; opens = plan_opens c.plan (i.known n c e).plan h; between = i.mid n c e h }
@@ -152,7 +152,7 @@ module _ {K V : Type 0} (s : State K V) (i : IsReplacing s) where
       by true e = refl
       by false e = absurd (false≢true (sym (ap is_some (i.quiet e n)) ∙ o))
 
-module _ {K V : Type 0} (s : State K V) (i : IsNoticing s) where
+module _ {K V E : Type 0} (s : State K V E) (i : IsNoticing s) where
   -- the write of a notice that runs is neither logged nor applied
   pub not_logged : (x : ℕ) → is_running s.world.desk x ≡ true → among x s.world.desk.log + among x s.world.desk.applied ≡ 0
   not_logged x run = omega (

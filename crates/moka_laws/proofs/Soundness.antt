@@ -9,8 +9,9 @@ use Rattle.moka_hist.specs.Visits.{cause_of, claimed, decided, gave_back, has_ro
 use Rattle.moka_hist.specs.Conditions.{held_number, numbers_of, HoldsWrite, IsPlaceOf, IsUnused}
 use Rattle.moka_hist.specs.SoundDesk.{SoundDesk}
 use Rattle.moka_hist.specs.Dropping.{left, owed_with}
-use Rattle.moka_hist.specs.Telling.{heard, told}
+use Rattle.moka_hist.specs.Telling.{told_call, heard}
 use Rattle.moka_hist.specs.declared.loads.Load.{Load}
+use Rattle.moka_hist.specs.declared.events.Told.{Told}
 use Rattle.moka_hist.specs.declared.events.Told.TheVariants as answer
 use Rattle.moka_hist.specs.declared.rules.Cause.{Cause}
 use Rattle.moka_hist.specs.declared.visits.Visit.TheVariants as visit
@@ -168,13 +169,13 @@ module _ {L : Type 0} (same : L → L → Bool) (owners : L → Option ℕ) (own
       by a b true false h e = absurd (false≢true (sym h))
       by a b false true h e = absurd (false≢true h)
 
-module _ {K V : Type 0} where
+module _ {K V E : Type 0} where
   -- how often a number stands with the desk
-  abbrev stands : DeskPart K V → ℕ → ℕ
+  abbrev stands : DeskPart K V E → ℕ → ℕ
   stands w x = times x (numbers_of w)
 
   module _ (eq : K → K → Bool) where
-    both : (w : DeskPart K V) → Apart w.holding (stands w) → OneToOne (load_eq eq) w.owners w.owning → OneToOne eq w.locks w.locked → SoundDesk eq w
+    both : (w : DeskPart K V E) → Apart w.holding (stands w) → OneToOne (load_eq eq) w.owners w.owning → OneToOne eq w.locks w.locked → SoundDesk eq w
     both w a o k = record {
       once = a.once;
       held_apart = a.held_apart;
@@ -187,19 +188,19 @@ module _ {K V : Type 0} where
       locked = k.owned;
     }
 
-    apart_in : (w : DeskPart K V) → SoundDesk eq w → Apart w.holding (stands w)
+    apart_in : (w : DeskPart K V E) → SoundDesk eq w → Apart w.holding (stands w)
     apart_in w h = record { once = h.once; held_apart = h.held_apart; one_holder = h.one_holder }
 
-    loads_in : (w : DeskPart K V) → SoundDesk eq w → OneToOne (load_eq eq) w.owners w.owning
+    loads_in : (w : DeskPart K V E) → SoundDesk eq w → OneToOne (load_eq eq) w.owners w.owning
     loads_in w h = record { one_owner = h.one_owner; owns = h.owns; owned = h.owned }
 
-    locks_in : (w : DeskPart K V) → SoundDesk eq w → OneToOne eq w.locks w.locked
+    locks_in : (w : DeskPart K V E) → SoundDesk eq w → OneToOne eq w.locks w.locked
     locks_in w h = record { one_owner = h.one_locker; owns = h.locks; owned = h.locked }
 
     -- ---- each visit, in the order of their conditions
 
-    pub fresh_sound : FreshIsSound K V eq
-    fresh_sound rules size = record {
+    pub fresh_sound : FreshIsSound K V E eq
+    fresh_sound rules size tests = record {
       once = λ x. omega arith;
       held_apart = λ n h e. absurd (none_some e);
       one_holder = λ n m g h e f k. absurd (none_some e);
@@ -211,7 +212,7 @@ module _ {K V : Type 0} where
       locked = λ l n e. absurd (none_some e);
     }
 
-    took_sound : (w : DeskPart K V) (call : ℕ) → w.holding call ≡ None → SoundDesk eq w → SoundDesk eq (took_owed w call)
+    took_sound : (w : DeskPart K V E) (call : ℕ) → w.holding call ≡ None → SoundDesk eq w → SoundDesk eq (took_owed w call)
     took_sound w call none h = by w.owed refl
       where
         by : (owed : List Owed) → w.owed ≡ owed → SoundDesk eq (took_owed w call)
@@ -227,34 +228,34 @@ module _ {K V : Type 0} where
             (λ n g is same. omega (arith, ap (stands w) same, h.held_apart n g is, less (number_of x.write), once_same (number_of x.write))))
             (loads_in w h) (locks_in w h))
 
-    stamped_sound : (w : DeskPart K V) (call : ℕ) → w.holding call ≡ None → IsUnused w call → SoundDesk eq w → SoundDesk eq (makes eq w (visit.StampMoment call))
+    stamped_sound : (w : DeskPart K V E) (call : ℕ) → w.holding call ≡ None → IsUnused w call → SoundDesk eq w → SoundDesk eq (makes eq w (visit.StampMoment call))
     stamped_sound w call none unused h =
         both (makes eq w (visit.StampMoment call))
         (takes w.holding (stands w) (stands w) call (holding.Own (Some w.clock)) none (apart_in w h) (λ y. omega arith) unused.stands (λ n g is same. unused.held n g is same))
         (loads_in w h) (locks_in w h)
 
-    pub decided_sound : DecidingKeepsSound K V eq
+    pub decided_sound : DecidingKeepsSound K V E eq
     decided_sound w call h = both (decided w call) (decides w.holding (stands w) (stands w) call (apart_in w h)) (loads_in w h) (locks_in w h)
 
     -- the call hands in a write that it holds
-    given : (w v : DeskPart K V) (call : ℕ) (write : Write) (o : Option Holding) → w.holding call ≡ o → IsPlaceOf o call write → SoundDesk eq w →
+    given : (w v : DeskPart K V E) (call : ℕ) (write : Write) (o : Option Holding) → w.holding call ≡ o → IsPlaceOf o call write → SoundDesk eq w →
         ((y : ℕ) → stands v y ≡ stands w y + once y (number_of write)) → Apart (put_at w.holding call None) (stands v)
     given w v call write None e place h more = absurd place
     given w v call write (Some x) e place h more =
         gives w.holding (stands w) (stands v) call x e (apart_in w h) (λ y. more y ∙ ap (λ k. stands w y + once y k) (sym (place_number x call write place)))
 
-    posted_sound : (w : DeskPart K V) (call : ℕ) (write : Write) → HoldsWrite w call write → SoundDesk eq w → SoundDesk eq (posted w call write)
+    posted_sound : (w : DeskPart K V E) (call : ℕ) (write : Write) → HoldsWrite w call write → SoundDesk eq w → SoundDesk eq (posted w call write)
     posted_sound w call write holds h = by (has_room w) refl
       where
         by : (b : Bool) → has_room w ≡ b → SoundDesk eq (posted w call write)
         by true e =
-            let v : DeskPart K V = record w { log = w.log ++ write ∷ [] } in
+            let v : DeskPart K V E = record w { log = w.log ++ write ∷ [] } in
             rw e (both (record v { holding = put_at w.holding call None })
             (given w v call write (w.holding call) refl holds h
             (λ y. omega (arith, numbers_stand y v, numbers_stand y w, among_last y write w.log))) (loads_in w h) (locks_in w h))
         by false e = rw e (decided_sound w call h)
 
-    applied_sound : (w : DeskPart K V) (call : ℕ) → SoundDesk eq w → SoundDesk eq (makes eq w (visit.ApplyOne call))
+    applied_sound : (w : DeskPart K V E) (call : ℕ) → SoundDesk eq w → SoundDesk eq (makes eq w (visit.ApplyOne call))
     applied_sound w call h = by w.log refl
       where
         by : (log : List Write) → w.log ≡ log → SoundDesk eq (makes eq w (visit.ApplyOne call))
@@ -262,7 +263,7 @@ module _ {K V : Type 0} where
             let same : SoundDesk eq (record w { log = [] }) = subst (λ v. SoundDesk eq (record w { log = v })) e h in
             rw (e, append-nil w.applied) same
         by (x ∷ xs) e =
-            let v : DeskPart K V = record w { log = xs; applied = w.applied ++ x ∷ [] } in
+            let v : DeskPart K V E = record w { log = xs; applied = w.applied ++ x ∷ [] } in
             let same : (y : ℕ) → stands v y ≡ stands w y = λ y. omega
             (arith, numbers_stand y v, numbers_stand y w, ap (among y) e, times_first y (number_of x) (map number_of xs), among_last y x w.applied) in
             rw e (both v (record {
@@ -271,19 +272,19 @@ module _ {K V : Type 0} where
               one_holder = h.one_holder;
             }) (loads_in w h) (locks_in w h))
 
-    claimed_sound : IsEquivalence eq → (w : DeskPart K V) (call : ℕ) (load : Load K) → w.owning call ≡ None → (o : Option ℕ) → w.owners load ≡ o → SoundDesk eq w →
+    claimed_sound : IsEquivalence eq → (w : DeskPart K V E) (call : ℕ) (load : Load K) → w.owning call ≡ None → (o : Option ℕ) → w.owners load ≡ o → SoundDesk eq w →
         SoundDesk eq (claimed eq w call load o)
     claimed_sound laws w call load idle None e h = both (claimed eq w call load None) (apart_in w h) (claims (load_eq eq) w.owners w.owning call load (loads_self eq laws load) (loads_alike eq laws load) idle e (loads_in w h)) (locks_in w h)
     claimed_sound laws w call load idle (Some owner) e h = both (claimed eq w call load (Some owner)) (apart_in w h) (loads_in w h) (locks_in w h)
 
-    read_sound : (w : DeskPart K V) (call : ℕ) → SoundDesk eq w → SoundDesk eq (makes eq w (visit.ReadSettled call))
+    read_sound : (w : DeskPart K V E) (call : ℕ) → SoundDesk eq w → SoundDesk eq (makes eq w (visit.ReadSettled call))
     read_sound w call h = by (is_some (settlement_for w call)) refl
       where
         by : (b : Bool) → is_some (settlement_for w call) ≡ b → SoundDesk eq (makes eq w (visit.ReadSettled call))
         by true e = rw e (both _ (apart_in w h) (loads_in w h) (locks_in w h))
         by false e = rw e h
 
-    pub left_sound : LeavingKeepsSound K V eq
+    pub left_sound : LeavingKeepsSound K V E eq
     left_sound w call None h may =
         both (left w call None)
         (clears w.holding (stands w) (stands (left w call None)) call (apart_in w h)
@@ -301,21 +302,28 @@ module _ {K V : Type 0} where
         )))
         (without_call (load_eq eq) w.owners w.owning call (loads_in w h)) (without_call eq w.locks w.locked call (locks_in w h))
 
-    pub heard_sound : (w : DeskPart K V) (call : ℕ) (off : Bool) → SoundDesk eq w → SoundDesk eq (heard w call off)
+    pub heard_sound : (w : DeskPart K V E) (call : ℕ) (off : Bool) → SoundDesk eq w → SoundDesk eq (heard w call off)
     heard_sound w call off h = both (heard w call off) (apart_in w h) (loads_in w h) (locks_in w h)
 
-    pub told_sound : TellingKeepsSound K V eq
-    told_sound w call (answer.Value value) h = both (told w call (answer.Value value)) (apart_in w h) (loads_in w h) (locks_in w h)
+    pub told_call_sound : (w : DeskPart K V E) (call : ℕ) (given : Told V E) → SoundDesk eq w →
+        SoundDesk eq (told_call w call given)
+    told_call_sound w call given h =
+        both (told_call w call given) (apart_in w h) (loads_in w h) (locks_in w h)
+
+    pub told_sound : TellingKeepsSound K V E eq
+    told_sound w call (answer.Value value) h = told_call_sound w call (answer.Value value) h
+    told_sound w call answer.Nothing h = told_call_sound w call answer.Nothing h
+    told_sound w call (answer.Err error) h = told_call_sound w call (answer.Err error) h
     told_sound w call answer.Done h = heard_sound w call false h
     told_sound w call answer.Off h = heard_sound w call true h
 
-    pub entered_sound : EnteringKeepsSound K V eq
+    pub entered_sound : EnteringKeepsSound K V E eq
     entered_sound w n h = both (record w { last = n }) (apart_in w h) (loads_in w h) (locks_in w h)
 
-    pub clock_sound : ClockKeepsSound K V eq
+    pub clock_sound : ClockKeepsSound K V E eq
     clock_sound w moment h = both (record w { clock = moment }) (apart_in w h) (loads_in w h) (locks_in w h)
 
-    locked_sound : IsEquivalence eq → (w : DeskPart K V) (call : ℕ) (key : K) → w.locked call ≡ None → (b : Bool) → is_unlocked_for w call key ≡ b → SoundDesk eq w →
+    locked_sound : IsEquivalence eq → (w : DeskPart K V E) (call : ℕ) (key : K) → w.locked call ≡ None → (b : Bool) → is_unlocked_for w call key ≡ b → SoundDesk eq w →
         SoundDesk eq (locked_by eq w call key b)
     locked_sound laws w call key idle false e h = h
     locked_sound laws w call key idle true e h =
@@ -337,18 +345,18 @@ module _ {K V : Type 0} where
         free (Some holder) held ok = absurd (tested holder (holder == call) refl held ok)
 
     -- places that are given back are those of a write that stands nowhere
-    gave_sound : (w : DeskPart K V) (call : ℕ) → SoundDesk eq w → SoundDesk eq (gave_back w call)
+    gave_sound : (w : DeskPart K V E) (call : ℕ) → SoundDesk eq w → SoundDesk eq (gave_back w call)
     gave_sound w call h =
         both (gave_back w call) (clears w.holding (stands w) (stands w) call (apart_in w h)
         (λ x. refl)) (loads_in w h)
         (locks_in w h)
 
-    once_sound : (w : DeskPart K V) (call : ℕ) (wrote : Bool) → SoundDesk eq w → SoundDesk eq
+    once_sound : (w : DeskPart K V E) (call : ℕ) (wrote : Bool) → SoundDesk eq w → SoundDesk eq
         (once_decided w call wrote)
     once_sound w call true h = decided_sound w call h
     once_sound w call false h = gave_sound w call h
 
-    unlocked_sound : (w : DeskPart K V) (call : ℕ) (wrote : Bool) → SoundDesk eq w → SoundDesk eq
+    unlocked_sound : (w : DeskPart K V E) (call : ℕ) (wrote : Bool) → SoundDesk eq w → SoundDesk eq
         (unlocked w call wrote)
     unlocked_sound w call wrote h =
         let d = once_sound w call wrote h in
@@ -356,12 +364,12 @@ module _ {K V : Type 0} where
         (loads_in (once_decided w call wrote) d)
         (without_call eq w.locks w.locked call (locks_in w h))
 
-    opened_sound : (w : DeskPart K V) (call : ℕ) (key : K) (value : V) (cause : Cause) → SoundDesk eq w → SoundDesk eq (opened_notice w call key value cause)
+    opened_sound : (w : DeskPart K V E) (call : ℕ) (key : K) (value : V) (cause : Cause) → SoundDesk eq w → SoundDesk eq (opened_notice w call key value cause)
     opened_sound w call key value cause h =
         let d = decided_sound w call h in
         both (opened_notice w call key value cause) (apart_in (decided w call) d) (loads_in (decided w call) d) (locks_in (decided w call) d)
 
-    pub visit_sound : IsEquivalence eq → VisitsKeepSound K V eq
+    pub visit_sound : IsEquivalence eq → VisitsKeepSound K V E eq
     visit_sound laws w (visit.Clock call) h may = gave_sound w call h
     visit_sound laws w (visit.TakeOwed call) h may = took_sound w call (is_none_of (w.holding call) may) h
     visit_sound laws w (visit.NoticeEnded call number) h may = h
@@ -371,7 +379,7 @@ module _ {K V : Type 0} where
     visit_sound laws w (visit.OpenNotice call key value stamp modified cause upsert) h may =
         opened_sound w call key value (cause_of w stamp modified cause upsert) h
     visit_sound laws w (visit.StampMoment call) h may = stamped_sound w call (is_none_of (w.holding call) may.0) may.1 h
-    visit_sound laws w (visit.Judge key stored) h may = both (makes eq w (visit.Judge key stored)) (apart_in w h) (loads_in w h) (locks_in w h)
+    visit_sound laws w (visit.Judge replace key stored) h may = both (makes eq w (visit.Judge replace key stored)) (apart_in w h) (loads_in w h) (locks_in w h)
     visit_sound laws w (visit.Holds key stored cause) h may = h
     visit_sound laws w (visit.WaitOrOwn call key kind) h may =
         let load : Load K = record { key = key; kind = kind } in

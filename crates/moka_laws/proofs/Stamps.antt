@@ -34,29 +34,33 @@ pub now_times : (n : ℕ) (xs : List ℕ) → 0 < times n (xs ++ n ∷ [])
 now_times n xs = omega (arith, times_last n n xs, ap (λ b. cond {A = ℕ} b 1 0) (same_number n))
 
 module _ {K V : Type 0} where
-  -- what an access needs: a write's record has the number of its call, which has committed none
-  abbrev pub Fits : ℕ → TablePart K V → Access K V → Type 0
-  Fits n t (On_table (op.Get key)) = Unit {0}
-  Fits n t (On_table (op.InsertOrModify key stored)) = (stored.stamp ≡ n) ×
-      (times n t.committed ≡ 0)
-  Fits n t (On_table (op.InsertIfAbsent key stored)) = ⊥
-  Fits n t (On_table (op.RemoveIf key stamp)) = Unit {0}
+  -- what an operation needs: a write's record has the number of its call, which has committed none
+  abbrev Suits : ℕ → TablePart K V → TableOp K V → Type 0
+  Suits n t (op.Get key) = Unit {0}
+  Suits n t (op.InsertOrModify key stored) = (stored.stamp ≡ n) × (times n t.committed ≡ 0)
+  Suits n t (op.InsertIfAbsent key stored) = ⊥
+  Suits n t (op.RemoveIf key stamp) = Unit {0}
+
+module _ {K V E : Type 0} where
+  -- what an access needs
+  abbrev pub Fits : ℕ → TablePart K V → Access K V E → Type 0
+  Fits n t (On_table o) = Suits n t o
   Fits n t (On_desk made) = Unit {0}
 
-  item_fits : (n : ℕ) (t : TablePart K V) (item : Item K V) (rest : List (Item K V)) →
+  item_fits : (n : ℕ) (t : TablePart K V) (item : Item K V E) (rest : List (Item K V E)) →
       times n t.committed + weigh may_write (item ∷ rest) ≤ 1 → Fits n t (access_for n item)
   item_fits n t (plan.Write key value moment) rest h = (refl, omega (arith, h))
   item_fits n t (plan.Moment change) rest h = tt
   item_fits n t _ rest h = tt
 
-  plan_fits : (n : ℕ) (t : TablePart K V) (rules : Rules) (mode : Mode) (p : List (Item K V))
+  plan_fits : (n : ℕ) (t : TablePart K V) (rules : Rules) (mode : Mode) (p : List (Item K V E))
       (aborts : ℕ) →
       times n t.committed + weigh may_write p ≤ 1 →
       Fits n t (access_of n (record { rules = rules; mode = mode; plan = p; aborts = aborts }))
   plan_fits n t rules mode [] aborts h = tt
   plan_fits n t rules mode (item ∷ rest) aborts h = item_fits n t item rest h
 
-  pub step_fits : (s : State K V) (n : ℕ) (c : Call K V) → IsBalanced s → s.calls n ≡ Some c →
+  pub step_fits : (s : State K V E) (n : ℕ) (c : Call K V E) → IsBalanced s → s.calls n ≡ Some c →
       Fits n s.world.table (access_of n c)
   step_fits s n c b live = plan_fits n s.world.table c.rules c.mode c.plan c.aborts
       (b.unspent n c live)
@@ -78,6 +82,17 @@ module _ {K V : Type 0} (eq : K → K → Bool) where
       by : (b : Bool) → eq k q ≡ b → cond b v (f q) ≡ Some p → P
       by true is e = here is e
       by false is e = there is e
+
+  -- the pair that stands so
+  pub pair_of : (o : Option (K × Stored V)) (stamp : ℕ) → IsSomeAnd o (λ p. p.1.stamp ≡ stamp) →
+      (p : K × Stored V) × (o ≡ Some p) × (p.1.stamp ≡ stamp)
+  pair_of None stamp h = absurd h
+  pair_of (Some p) stamp h = (p, refl, h)
+
+  -- the stamp was committed, and no record of it is stored any more
+  pub record IsPast (x : ℕ) (t : TablePart K V) : Type 0 where
+    pub was : 0 < times x t.committed
+    pub gone : (q : K) (p : K × Stored V) → t.stored q ≡ Some p → p.1.stamp ≡ x → ⊥
 
   module _ (laws : IsEquivalence eq) (n : ℕ) (t : TablePart K V) (i : Stamped t) where
     written_stamped : (key : K) (stored : Stored V) → stored.stamp ≡ n → times n t.committed ≡ 0 →
@@ -116,7 +131,7 @@ module _ {K V : Type 0} (eq : K → K → Bool) where
 
     operation_stamped : (o : TableOp K V) (answer : TableAnswer K V) (new : TablePart K V) →
         Operates eq n t o answer new →
-        Fits n t (On_table o) → Stamped new
+        Suits n t o → Stamped new
     operation_stamped (op.Get key) answer new h f = subst Stamped (sym h.1) i
     operation_stamped (op.InsertOrModify key stored) answer new h f = subst Stamped (sym h.1)
         (written_stamped key stored f.0 f.1)
@@ -128,92 +143,9 @@ module _ {K V : Type 0} (eq : K → K → Bool) where
         by None = i
         by (Some pair) = removed_stamped key
 
-  access_stamped : IsEquivalence eq → (n : ℕ) (w new : World K V) (a : Access K V) (g : Got K V) →
-      Gets eq n w a g new →
-      Fits n w.table a → Stamped w.table → Stamped new.table
-  access_stamped laws n w new (On_table o) (got.Table table.Going) gets f i = subst
-      (λ (v : World K V). Stamped v.table) (sym gets.1) i
-  access_stamped laws n w new (On_table o) (got.Table (table.Decided answer)) gets f i =
-      subst (λ (v : World K V). Stamped v.table) (sym gets.2)
-      (operation_stamped laws n w.table i o answer gets.0 gets.1 f)
-  access_stamped laws n w new (On_desk made) (got.Desk g) gets f i = subst
-      (λ (v : World K V). Stamped v.table) (sym gets.1) i
-  access_stamped laws n w new (On_table o) (got.Desk g) gets f i = absurd gets
-  access_stamped laws n w new (On_desk made) (got.Table turn) gets f i = absurd gets
-
-  -- ---- of a state
-
-  pub record IsStamped (s : State K V) : Type 0 where
-    pub balanced : IsBalanced s
-    stamped : Stamped s.world.table
-
-  pub stamped_kept : IsEquivalence eq → IsKept eq IsStamped
-  stamped_kept laws = record {
-    fresh = λ rules size has_log. record {
-      balanced = (balanced_kept eq).fresh rules size has_log;
-      stamped = record {
-        named = λ q p e. absurd (none_some e);
-        one = λ q r p o e f same. absurd
-            (none_some e);
-      };
-    };
-    at = λ s moment i. record {
-      balanced = (balanced_kept eq).at s moment i.balanced;
-      stamped =
-          i.stamped;
-    };
-    start = λ s start i. record {
-      balanced = (balanced_kept eq).start s start i.balanced;
-      stamped =
-          i.stamped;
-    };
-    step = λ s t n turn i step. record {
-      balanced = (balanced_kept eq).step s t n turn i.balanced step;
-      stamped = subst (λ (v : State K V). Stamped v.world.table) (sym step.after)
-          (access_stamped laws n s.world step.world (access_of n step.call) step.given step.gets
-          (step_fits s n step.call i.balanced step.live) i.stamped);
-    };
-    tell = λ s n given asked i. record
-        { balanced = (balanced_kept eq).tell s n given asked i.balanced; stamped = i.stamped };
-    hear = λ s n off running i. record
-        { balanced = (balanced_kept eq).hear s n off running i.balanced; stamped = i.stamped };
-    drop = λ s n c live between i. record
-        { balanced = (balanced_kept eq).drop s n c live between i.balanced; stamped = i.stamped };
-  }
-
-  -- the pair that stands so
-  pub pair_of : (o : Option (K × Stored V)) (stamp : ℕ) → IsSomeAnd o (λ p. p.1.stamp ≡ stamp) →
-      (p : K × Stored V) × (o ≡ Some p) × (p.1.stamp ≡ stamp)
-  pair_of None stamp h = absurd h
-  pair_of (Some p) stamp h = (p, refl, h)
-
-  pub stamps_one : IsEquivalence eq → StampsAreOne K V eq
-  stamps_one laws s stamp q r h a b =
-      let i : IsStamped s = in_reached eq IsStamped (stamped_kept laws) s h in
-      let p = pair_of (s.world.table.stored q) stamp a in
-      let o = pair_of (s.world.table.stored r) stamp b in
-      i.stamped.one q r p.0 o.0 p.1 o.1 (p.2 ∙ sym o.2)
-
-  -- ---- a record that was taken out
-
-  -- the stamp was committed, and no record of it is stored any more
-  pub record IsPast (x : ℕ) (t : TablePart K V) : Type 0 where
-    pub was : 0 < times x t.committed
-    pub gone : (q : K) (p : K × Stored V) → t.stored q ≡ Some p → p.1.stamp ≡ x → ⊥
-
-  -- so is it for the pair that a removal takes out
-  pub removed_past : (s : State K V) (n : ℕ) (key : K) (pair : K × Stored V) → IsStamped s →
-      s.world.table.stored key ≡ Some pair →
-      IsPast pair.1.stamp (removed eq n s.world.table key)
-  removed_past s n key pair i e = record {
-    was = more_times pair.1.stamp n s.world.table.committed (i.stamped.named key pair e);
-    gone = λ q p f same. key_cases s.world.table.stored key None q p ⊥ f (λ here g. none_some g)
-        (λ there g. false≢true (sym there ∙ i.stamped.one key q pair p e g (sym same)));
-  }
-
   past_operation : (n x : ℕ) (t : TablePart K V) (i : IsPast x t) (o : TableOp K V)
       (answer : TableAnswer K V) (new : TablePart K V) →
-      Operates eq n t o answer new → Fits n t (On_table o) → IsPast x new
+      Operates eq n t o answer new → Suits n t o → IsPast x new
   past_operation n x t i (op.Get key) answer new h f = subst (IsPast x) (sym h.1) i
   past_operation n x t i (op.InsertOrModify key stored) answer new h f = subst (IsPast x) (sym h.1)
       (record {
@@ -236,23 +168,96 @@ module _ {K V : Type 0} (eq : K → K → Bool) where
             (λ there g. i.gone q p g same);
       }
 
-  past_access : (n x : ℕ) (w new : World K V) (a : Access K V) (g : Got K V) → Gets eq n w a g new →
-      Fits n w.table a → IsPast x w.table →
-      IsPast x new.table
+module _ {K V E : Type 0} (eq : K → K → Bool) where
+  access_stamped : IsEquivalence eq → (n : ℕ) (w new : World K V E) (a : Access K V E) (g : Got K V E) →
+      Gets eq n w a g new →
+      Fits n w.table a → Stamped eq w.table → Stamped eq new.table
+  access_stamped laws n w new (On_table o) (got.Table table.Going) gets f i = subst
+      (λ (v : World K V E). Stamped eq v.table) (sym gets.1) i
+  access_stamped laws n w new (On_table o) (got.Table (table.Decided answer)) gets f i =
+      subst (λ (v : World K V E). Stamped eq v.table) (sym gets.2)
+      (operation_stamped eq laws n w.table i o answer gets.0 gets.1 f)
+  access_stamped laws n w new (On_desk made) (got.Desk g) gets f i = subst
+      (λ (v : World K V E). Stamped eq v.table) (sym gets.1) i
+  access_stamped laws n w new (On_table o) (got.Desk g) gets f i = absurd gets
+  access_stamped laws n w new (On_desk made) (got.Table turn) gets f i = absurd gets
+
+  -- ---- of a state
+
+  pub record IsStamped (s : State K V E) : Type 0 where
+    pub balanced : IsBalanced s
+    stamped : Stamped eq s.world.table
+
+  pub stamped_kept : IsEquivalence eq → IsKept eq IsStamped
+  stamped_kept laws = record {
+    fresh = λ rules size tests has_log. record {
+      balanced = (balanced_kept eq).fresh rules size tests has_log;
+      stamped = record {
+        named = λ q p e. absurd (none_some e);
+        one = λ q r p o e f same. absurd
+            (none_some e);
+      };
+    };
+    at = λ s moment i. record {
+      balanced = (balanced_kept eq).at s moment i.balanced;
+      stamped =
+          i.stamped;
+    };
+    start = λ s start i. record {
+      balanced = (balanced_kept eq).start s start i.balanced;
+      stamped =
+          i.stamped;
+    };
+    step = λ s t n turn i step. record {
+      balanced = (balanced_kept eq).step s t n turn i.balanced step;
+      stamped = subst (λ (v : State K V E). Stamped eq v.world.table) (sym step.after)
+          (access_stamped laws n s.world step.world (access_of n step.call) step.given step.gets
+          (step_fits s n step.call i.balanced step.live) i.stamped);
+    };
+    tell = λ s n given asked i. record
+        { balanced = (balanced_kept eq).tell s n given asked i.balanced; stamped = i.stamped };
+    hear = λ s n off running i. record
+        { balanced = (balanced_kept eq).hear s n off running i.balanced; stamped = i.stamped };
+    drop = λ s n c live between i. record
+        { balanced = (balanced_kept eq).drop s n c live between i.balanced; stamped = i.stamped };
+  }
+
+  pub stamps_one : IsEquivalence eq → StampsAreOne K V E eq
+  stamps_one laws s stamp q r h a b =
+      let i : IsStamped s = in_reached eq IsStamped (stamped_kept laws) s h in
+      let p = pair_of eq (s.world.table.stored q) stamp a in
+      let o = pair_of eq (s.world.table.stored r) stamp b in
+      i.stamped.one q r p.0 o.0 p.1 o.1 (p.2 ∙ sym o.2)
+
+  -- ---- a record that was taken out
+
+  -- so is it for the pair that a removal takes out
+  pub removed_past : (s : State K V E) (n : ℕ) (key : K) (pair : K × Stored V) → IsStamped s →
+      s.world.table.stored key ≡ Some pair →
+      IsPast eq pair.1.stamp (removed eq n s.world.table key)
+  removed_past s n key pair i e = record {
+    was = more_times pair.1.stamp n s.world.table.committed (i.stamped.named key pair e);
+    gone = λ q p f same. key_cases eq s.world.table.stored key None q p ⊥ f (λ here g. none_some g)
+        (λ there g. false≢true (sym there ∙ i.stamped.one key q pair p e g (sym same)));
+  }
+
+  past_access : (n x : ℕ) (w new : World K V E) (a : Access K V E) (g : Got K V E) → Gets eq n w a g new →
+      Fits n w.table a → IsPast eq x w.table →
+      IsPast eq x new.table
   past_access n x w new (On_table o) (got.Table table.Going) gets f i = subst
-      (λ (v : World K V). IsPast x v.table) (sym gets.1) i
+      (λ (v : World K V E). IsPast eq x v.table) (sym gets.1) i
   past_access n x w new (On_table o) (got.Table (table.Decided answer)) gets f i =
-      subst (λ (v : World K V). IsPast x v.table) (sym gets.2)
-      (past_operation n x w.table i o answer gets.0 gets.1 f)
+      subst (λ (v : World K V E). IsPast eq x v.table) (sym gets.2)
+      (past_operation eq n x w.table i o answer gets.0 gets.1 f)
   past_access n x w new (On_desk made) (got.Desk g) gets f i = subst
-      (λ (v : World K V). IsPast x v.table) (sym gets.1) i
+      (λ (v : World K V E). IsPast eq x v.table) (sym gets.1) i
   past_access n x w new (On_table o) (got.Desk g) gets f i = absurd gets
   past_access n x w new (On_desk made) (got.Table turn) gets f i = absurd gets
 
   -- and it stays so
-  pub past_step : (s t : State K V) (n x : ℕ) (turn : Turn K V) → IsBalanced s →
-      IsPast x s.world.table → Step eq s n turn t → IsPast x t.world.table
+  pub past_step : (s t : State K V E) (n x : ℕ) (turn : Turn K V E) → IsBalanced s →
+      IsPast eq x s.world.table → Step eq s n turn t → IsPast eq x t.world.table
   past_step s t n x turn b i step =
-      subst (λ (v : State K V). IsPast x v.world.table) (sym step.after)
+      subst (λ (v : State K V E). IsPast eq x v.world.table) (sym step.after)
       (past_access n x s.world step.world (access_of n step.call) step.given step.gets
       (step_fits s n step.call b step.live) i)

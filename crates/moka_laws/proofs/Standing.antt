@@ -4,6 +4,7 @@ use Rattle.std.proofs.Common.{◌≡◌, ◌⊎◌, inl, inr, ℕ, ◌+◌, ◌=
 use Rattle.std.proofs.lemmas.Bool.{eqb-true}
 use Rattle.std.specs.Cmp.{IsEquivalence}
 use Rattle.std.specs.Prelude.{IsSomeAnd}
+use Rattle.moka_hist.specs.Plan.{or_insert_plan, seek}
 use Rattle.moka_hist.specs.Finite.{put_key}
 use Rattle.moka_hist.specs.State.{State, World, Call, TablePart}
 use Rattle.moka_hist.specs.Plan.{Item, Aim, get_plan, insert_plan, is_disabled, load_plan, plan_of, under_lock}
@@ -22,6 +23,7 @@ use Rattle.moka_hist.specs.declared.events.Start.TheVariants as start
 use Rattle.moka_hist.specs.declared.events.Told.{Told}
 use Rattle.moka_hist.specs.declared.events.Told.TheVariants as told
 use Rattle.moka_hist.specs.declared.loads.Load.{Load}
+use Rattle.moka_hist.specs.declared.loads.Sought.{Sought}
 use Rattle.moka_hist.specs.declared.loads.Kind.TheVariants as kind
 use Rattle.moka_hist.specs.declared.replies.Answer.TheVariants as answer
 use Rattle.moka_hist.specs.declared.records.Mode.{Mode}
@@ -34,14 +36,14 @@ use Rattle.moka_hist.specs.declared.tables.TableTurn.TheVariants as table
 use Rattle.moka_hist.specs.declared.visits.Found.TheVariants as found
 use Rattle.moka_hist.specs.declared.visits.Settled.{Settled}
 use Rattle.moka_hist.specs.declared.visits.Settled.TheVariants as settled
-use Rattle.moka_laws.specs.Listening.{key_of}
+use Rattle.moka_laws.specs.Listening.{locked_key}
 use Rattle.moka_laws.specs.Removals.{ChosenStands}
 use Rattle.moka_laws.proofs.Counting.{differ_not, none_some, put_cases, put_here}
 use Rattle.moka_laws.proofs.Weights.{weigh, weigh_call, weigh_goes}
 use Rattle.moka_laws.proofs.Locking.{IsLocking, Inside, key_locked}
 use Rattle.moka_laws.proofs.Ordering.{one_lock}
 use Rattle.moka_laws.proofs.Owning.{plan_left}
-use Rattle.moka_laws.proofs.Rules.{chosen_by, kept_next, loaded_plans, put_plans}
+use Rattle.moka_laws.proofs.Rules.{put_plans, chosen_by, kept_next, loaded_plans, put_plans}
 use Rattle.moka_laws.proofs.SoundReached.{IsSound, sound_kept}
 use Rattle.moka_laws.proofs.Steady.{step_calls, step_rules}
 use Rattle.moka_laws.proofs.Kept.{IsKept, in_reached}
@@ -53,100 +55,147 @@ abbrev Map : Type 0 → Type 0 → Type 0
 Map K V = K → Option (K × Stored V)
 
 module _ {K V : Type 0} where
+  -- the record of this stamp stands there
+  abbrev At : Map K V → K → ℕ → Type 0
+  At stored key stamp = IsSomeAnd (stored key) (λ pair. pair.1.stamp ≡ stamp)
+
+module _ {K V : Type 0} (eq : K → K → Bool) where
+  -- the operation changes what stands under the key
+  abbrev Alters : TableOp K V → K → Type 0
+  Alters (op.Get key) q = ⊥
+  Alters (op.InsertOrModify key stored) q = eq key q ≡ true
+  Alters (op.InsertIfAbsent key stored) q = eq key q ≡ true
+  Alters (op.RemoveIf key stamp) q = eq key q ≡ true
+
+  put_leaves : (f : Map K V) (key : K) (v : Option (K × Stored V)) (q : K) →
+      (eq key q ≡ true → ⊥) → put_key eq f key v q ≡ f q
+  put_leaves f key v q never = by (eq key q) refl
+    where
+      by : (b : Bool) → eq key q ≡ b → cond b v (f q) ≡ f q
+      by true e = absurd (never e)
+      by false e = refl
+
+  operation_leaves : (n : ℕ) (t : TablePart K V) (o : TableOp K V) (answer : TableAnswer K V)
+      (new : TablePart K V) → Operates eq n t o answer new →
+      (q : K) → (Alters o q → ⊥) → new.stored q ≡ t.stored q
+  operation_leaves n t (op.Get key) answer new h q never = ap
+      (λ (v : TablePart K V). v.stored q) h.1
+  operation_leaves n t (op.InsertOrModify key stored) answer new h q never =
+      ap (λ (v : TablePart K V). v.stored q) h.1 ∙ put_leaves t.stored key
+      (Some (key, stored)) q never
+  operation_leaves n t (op.InsertIfAbsent key stored) answer new h q never = ap
+      (λ (v : TablePart K V). v.stored q) h.1 ∙ by (t.stored key)
+    where
+      by : (o : Option (K × Stored V)) → (by_pair o t (written eq n t key stored)).stored q ≡
+          t.stored q
+      by None = put_leaves t.stored key (Some (key, stored)) q never
+      by (Some pair) = refl
+  operation_leaves n t (op.RemoveIf key stamp) answer new h q never =
+      ap (λ (v : TablePart K V). v.stored q) h.1 ∙ by (taken_by stamp (t.stored key))
+    where
+      by : (o : Option (K × Stored V)) → (by_pair o (removed eq n t key) t).stored q ≡ t.stored q
+      by None = refl
+      by (Some pair) = put_leaves t.stored key None q never
+
+module _ {K V E : Type 0} where
   -- the item is about to take a chosen record out
-  abbrev chosen : Item K V → ℕ
+  abbrev chosen : Item K V E → ℕ
   chosen (plan.Holds key stamp cause there found) = 1
   chosen (plan.Moment (plan.To_take_out (plan.To_evict_chosen stamp cause) key)) = 1
   chosen (plan.Out (plan.To_evict_chosen stamp cause) key) = 1
   chosen _ = 0
 
-  -- the record of this stamp stands there
-  abbrev At : Map K V → K → ℕ → Type 0
-  At stored key stamp = IsSomeAnd (stored key) (λ pair. pair.1.stamp ≡ stamp)
-
   -- the plan is about to take out a record that stands under the key
-  abbrev StandingAt : Map K V → List (Item K V) → Type 0
+  abbrev StandingAt : Map K V → List (Item K V E) → Type 0
   StandingAt stored (plan.Holds key stamp cause there found ∷ []) = At stored key stamp
   StandingAt stored (plan.Moment (plan.To_take_out (plan.To_evict_chosen stamp cause) key) ∷ []) =
       At stored key stamp
   StandingAt stored (plan.Out (plan.To_evict_chosen stamp cause) key ∷ []) = At stored key stamp
   StandingAt stored _ = ⊥
 
-  abbrev Stands : Map K V → List (Item K V) → Type 0
+  abbrev Stands : Map K V → List (Item K V E) → Type 0
   Stands stored p = (weigh chosen p ≡ 0) ⊎ StandingAt stored p
 
-  abbrev StandsIf : Map K V → Option (Call K V) → Type 0
+  abbrev StandsIf : Map K V → Option (Call K V E) → Type 0
   StandsIf stored None = Unit {0}
   StandsIf stored (Some c) = Stands stored c.plan
 
   -- ---- the call's own step
 
-  calm_if : (stored : Map K V) (left : Option (Call K V)) → weigh_call chosen left ≡ 0 →
+  calm_if : (stored : Map K V) (left : Option (Call K V E)) → weigh_call chosen left ≡ 0 →
       StandsIf stored left
   calm_if stored None h = tt
   calm_if stored (Some c) h = inl h
 
-  keeps_calm : (c : Call K V) → weigh_call chosen (keeps c).left ≡ 0
+  keeps_calm : (c : Call K V E) → weigh_call chosen (keeps c).left ≡ 0
   keeps_calm c = kept_next (λ v. weigh_call chosen v.left ≡ 0) c (λ off. refl) (λ on. refl)
 
-  misses_calm : (c : Call K V) (aim : Aim K) → weigh_call chosen (misses c aim).left ≡ 0
+  misses_calm : (c : Call K V E) (aim : Aim K V) → weigh_call chosen (misses c aim).left ≡ 0
   misses_calm c plan.To_answer = refl
-  misses_calm c (plan.To_load load) = refl
-  misses_calm c (plan.To_own load) = refl
+  misses_calm c (plan.To_load sought) = refl
+  misses_calm c (plan.To_own sought) = refl
+  misses_calm c (plan.To_insert key value) =
+      put_plans (λ p. weigh_call chosen (goes c p).left ≡ 0) c.rules key value _ refl refl
   misses_calm c (plan.To_evict key stamp cause) = keeps_calm c
 
-  hits_calm : (c : Call K V) (aim : Aim K) (value : V) → weigh chosen c.plan ≡ 0 → weigh_call chosen
+  hits_calm : (c : Call K V E) (aim : Aim K V) (value : V) → weigh chosen c.plan ≡ 0 → weigh_call chosen
       (hits c aim value).left ≡ 0
   hits_calm c plan.To_answer value p = refl
-  hits_calm c (plan.To_load load) value p = refl
-  hits_calm c (plan.To_own load) value p = refl
+  hits_calm c (plan.To_load sought) value p = refl
+  hits_calm c (plan.To_insert under new) value p = refl
+  hits_calm c (plan.To_own sought) value p = refl
   hits_calm c (plan.To_evict key stamp cause) value p = p
 
-  either_calm : (b : Bool) (x y : Next K V) → weigh_call chosen x.left ≡ 0 →
+  either_calm : (b : Bool) (x y : Next K V E) → weigh_call chosen x.left ≡ 0 →
       weigh_call chosen y.left ≡ 0 → weigh_call chosen (cond b x y).left ≡ 0
   either_calm true x y h k = h
   either_calm false x y h k = k
 
-  read_calm : (c : Call K V) (load : Load K) (with : Settled V) → weigh chosen c.plan ≡ 0 →
-      weigh_call chosen (after_read c load (found.ReadSettled with)).left ≡ 0
-  read_calm c load (settled.Ready value) p = refl
-  read_calm c load settled.NotYet p = p
-  read_calm c load settled.Aborted p = either_calm (c.aborts + 1 == retries) _ _ refl refl
+  read_calm : (c : Call K V E) (sought : Sought K) (with : Settled V E) → weigh chosen c.plan ≡ 0 →
+      weigh_call chosen (after_read c sought (found.ReadSettled with)).left ≡ 0
+  read_calm c sought (settled.Ready value) p = refl
+  read_calm c sought (settled.Err error) p = refl
+  read_calm c sought settled.Nothing p = refl
+  read_calm c sought settled.NotYet p = p
+  read_calm c sought settled.Aborted p = either_calm (c.aborts + 1 == retries) _ _ refl refl
 
-  told_calm : (c : Call K V) (load : Load K) (given : Told V) → weigh chosen c.plan ≡ 0 →
+  told_calm : (c : Call K V E) (load : Load K) (given : Told V E) → weigh chosen c.plan ≡ 0 →
       weigh_call chosen (after_told c load (found.TakeTold (Some given))).left ≡ 0
   told_calm c load (told.Value value) p = loaded_plans
       (λ q. weigh_call chosen (goes c q).left ≡ 0) c.rules load value refl refl refl
+  told_calm c load told.Nothing p = refl
+  told_calm c load (told.Err error) p = refl
   told_calm c load told.Done p = p
   told_calm c load told.Off p = p
 
-  module _ (eq : K → K → Bool) (w : World K V) (n : ℕ) (c : Call K V) where
+  module _ (eq : K → K → Bool) (w : World K V E) (n : ℕ) (c : Call K V E) where
     -- what a step has to show
-    abbrev After : World K V → Next K V → Type 0
+    abbrev After : World K V E → Next K V E → Type 0
     After new next = StandsIf new.table.stored next.left
 
-    goes_on : (f : Map K V) (rest : List (Item K V)) → weigh chosen rest ≡ 0 → StandsIf f
+    goes_on : (f : Map K V) (rest : List (Item K V E)) → weigh chosen rest ≡ 0 → StandsIf f
         (goes c rest).left
     goes_on f rest h = calm_if f (goes c rest).left (weigh_goes chosen c rest (λ a. refl) ∙ h)
 
-    finds_on : (aim : Aim K) (key there : K) (seen : Stored V) (rest : List (Item K V)) → c.plan ≡
+    finds_on : (aim : Aim K V) (key there : K) (seen : Stored V) (rest : List (Item K V E)) → c.plan ≡
         plan.Get aim key ∷ rest →
         w.table.stored key ≡ Some (there, seen) →
-        ((own : K) → key_of (plan.Get aim key ∷ rest) ≡ Some own → Inside own
+        ((own : K) → locked_key (plan.Get aim key ∷ rest) ≡ Some own → Inside own
         (plan.Get aim key ∷ rest)) →
         StandsIf w.table.stored (finds_pair c aim there seen).left
     finds_on plan.To_answer key there seen rest e some inside = inl refl
-    finds_on (plan.To_load load) key there seen rest e some inside = inl refl
-    finds_on (plan.To_own load) key there seen rest e some inside = inl refl
+    finds_on (plan.To_load sought) key there seen rest e some inside = inl refl
+    finds_on (plan.To_insert under new) key there seen rest e some inside = inl refl
+    finds_on (plan.To_own sought) key there seen rest e some inside = inl refl
     finds_on (plan.To_evict own stamp cause) key there seen rest e some inside =
         chosen_by (λ v. StandsIf w.table.stored v.left) c own stamp cause there seen
         (λ other. calm_if w.table.stored (keeps c).left (keeps_calm c))
         (λ same. inr (subst (λ k. At w.table.stored k stamp) (inside key refl).0
         (subst (λ o. IsSomeAnd o (λ pair. pair.1.stamp ≡ stamp)) (sym some) same)))
 
-    on_calm : (item : Item K V) (rest : List (Item K V)) → c.plan ≡ item ∷ rest →
+    on_calm : (item : Item K V E) (rest : List (Item K V E)) → c.plan ≡ item ∷ rest →
         weigh chosen c.plan ≡ 0 → weigh chosen (item ∷ rest) ≡ 0 →
-        ((own : K) → key_of (item ∷ rest) ≡ Some own → Inside own (item ∷ rest)) →
+        ((own : K) → locked_key (item ∷ rest) ≡ Some own → Inside own (item ∷ rest)) →
         Outcomes eq After w n c item rest
     on_calm plan.Drain rest e p q i = (
       λ f. goes_on _ rest (omega (arith, q)),
@@ -173,17 +222,19 @@ module _ {K V : Type 0} where
       λ none. calm_if _ (misses c aim).left (misses_calm c aim),
       λ there seen some. finds_on aim key there seen rest e some i,
     )
-    on_calm (plan.Judge aim key seen) rest e p q i = calm_if _ (hits c aim seen.value).left
-        (hits_calm c aim seen.value p)
-    on_calm (plan.Own load) rest e p q i = (
+    on_calm (plan.Judge aim key found) rest e p q i = (
+      λ seen. calm_if _ (hits c aim found.value).left (hits_calm c aim found.value p),
+      λ unseen. calm_if _ (misses c aim).left (misses_calm c aim),
+    )
+    on_calm (plan.Own sought) rest e p q i = (
       λ able f. inl refl,
       λ disabled f. inl refl,
       λ owner f. inl refl,
     )
-    on_calm (plan.Read load) rest e p q i = (
+    on_calm (plan.Read sought) rest e p q i = (
       λ f. inl p,
       λ with f. calm_if _ _
-          (read_calm c load with p),
+          (read_calm c sought with p),
     )
     on_calm (plan.Settle with) rest e p q i = goes_on _ rest (omega (arith, q))
     on_calm (plan.Ask load) rest e p q i = inl refl
@@ -216,7 +267,7 @@ module _ {K V : Type 0} where
     on_calm plan.Idle rest e p q i = goes_on _ rest (omega (arith, q))
     on_calm (plan.Reply a) rest e p q i = tt
 
-    on_standing : (p : List (Item K V)) → c.plan ≡ p → StandingAt w.table.stored p →
+    on_standing : (p : List (Item K V E)) → c.plan ≡ p → StandingAt w.table.stored p →
         OnStep eq After w n c p
     on_standing (plan.Holds key stamp cause there seen ∷ []) e h =
         outcomes eq After w n c (plan.Holds key stamp cause there seen) []
@@ -235,8 +286,8 @@ module _ {K V : Type 0} where
     on_standing [] e h = absurd h
     on_standing (_ ∷ rest) e h = absurd h
 
-    on_plan : (p : List (Item K V)) → c.plan ≡ p →
-        ((own : K) → key_of p ≡ Some own → Inside own p) → Stands w.table.stored p →
+    on_plan : (p : List (Item K V E)) → c.plan ≡ p →
+        ((own : K) → locked_key p ≡ Some own → Inside own p) → Stands w.table.stored p →
         OnStep eq After w n c p
     on_plan [] e i (inl q) = inl (ap (weigh chosen) e)
     on_plan (item ∷ rest) e i (inl q) = outcomes eq After w n c item rest
@@ -247,74 +298,41 @@ module _ {K V : Type 0} where
 
   module _ (eq : K → K → Bool) where
     -- the access changes what stands under the key
-    abbrev Changes : Access K V → K → Type 0
-    Changes (On_table (op.Get key)) q = ⊥
-    Changes (On_table (op.InsertOrModify key stored)) q = eq key q ≡ true
-    Changes (On_table (op.InsertIfAbsent key stored)) q = eq key q ≡ true
-    Changes (On_table (op.RemoveIf key stamp)) q = eq key q ≡ true
+    abbrev Changes : Access K V E → K → Type 0
+    Changes (On_table o) q = Alters eq o q
     Changes (On_desk made) q = ⊥
 
-    put_leaves : (f : Map K V) (key : K) (v : Option (K × Stored V)) (q : K) →
-        (eq key q ≡ true → ⊥) → put_key eq f key v q ≡ f q
-    put_leaves f key v q never = by (eq key q) refl
-      where
-        by : (b : Bool) → eq key q ≡ b → cond b v (f q) ≡ f q
-        by true e = absurd (never e)
-        by false e = refl
-
-    operation_leaves : (n : ℕ) (t : TablePart K V) (o : TableOp K V) (answer : TableAnswer K V)
-        (new : TablePart K V) → Operates eq n t o answer new →
-        (q : K) → (Changes (On_table o) q → ⊥) → new.stored q ≡ t.stored q
-    operation_leaves n t (op.Get key) answer new h q never = ap
-        (λ (v : TablePart K V). v.stored q) h.1
-    operation_leaves n t (op.InsertOrModify key stored) answer new h q never =
-        ap (λ (v : TablePart K V). v.stored q) h.1 ∙ put_leaves t.stored key
-        (Some (key, stored)) q never
-    operation_leaves n t (op.InsertIfAbsent key stored) answer new h q never = ap
-        (λ (v : TablePart K V). v.stored q) h.1 ∙ by (t.stored key)
-      where
-        by : (o : Option (K × Stored V)) → (by_pair o t (written eq n t key stored)).stored q ≡
-            t.stored q
-        by None = put_leaves t.stored key (Some (key, stored)) q never
-        by (Some pair) = refl
-    operation_leaves n t (op.RemoveIf key stamp) answer new h q never =
-        ap (λ (v : TablePart K V). v.stored q) h.1 ∙ by (taken_by stamp (t.stored key))
-      where
-        by : (o : Option (K × Stored V)) → (by_pair o (removed eq n t key) t).stored q ≡ t.stored q
-        by None = refl
-        by (Some pair) = put_leaves t.stored key None q never
-
-    access_leaves : (n : ℕ) (w new : World K V) (a : Access K V) (g : Got K V) →
+    access_leaves : (n : ℕ) (w new : World K V E) (a : Access K V E) (g : Got K V E) →
         Gets eq n w a g new → (q : K) → (Changes a q → ⊥) →
         new.table.stored q ≡ w.table.stored q
     access_leaves n w new (On_table o) (got.Table table.Going) gets q never = ap
-        (λ (v : World K V). v.table.stored q) gets.1
+        (λ (v : World K V E). v.table.stored q) gets.1
     access_leaves n w new (On_table o) (got.Table (table.Decided answer)) gets q never =
-        ap (λ (v : World K V). v.table.stored q) gets.2 ∙
-        operation_leaves n w.table o answer gets.0 gets.1 q never
+        ap (λ (v : World K V E). v.table.stored q) gets.2 ∙
+        operation_leaves eq n w.table o answer gets.0 gets.1 q never
     access_leaves n w new (On_desk made) (got.Desk f) gets q never = ap
-        (λ (v : World K V). v.table.stored q) gets.1
+        (λ (v : World K V E). v.table.stored q) gets.1
     access_leaves n w new (On_table o) (got.Desk f) gets q never = absurd gets
     access_leaves n w new (On_desk made) (got.Table turn) gets q never = absurd gets
 
     -- a call that changes what stands under a key is about to, under an equal one
-    item_changes : (n : ℕ) (item : Item K V) (rest : List (Item K V)) (q : K) → Changes
+    item_changes : (n : ℕ) (item : Item K V E) (rest : List (Item K V E)) (q : K) → Changes
         (access_for n item) q →
-        (key : K) × (key_of (item ∷ rest) ≡ Some key) × (eq key q ≡ true)
+        (key : K) × (locked_key (item ∷ rest) ≡ Some key) × (eq key q ≡ true)
     item_changes n (plan.Write key value moment) rest q h = (key, refl, h)
     item_changes n (plan.Out removal key) rest q h = (key, refl, h)
     item_changes n _ rest q h = absurd h
 
-    plan_changes : (n : ℕ) (rules : Rules) (mode : Mode) (p : List (Item K V)) (aborts : ℕ)
+    plan_changes : (n : ℕ) (rules : Rules) (mode : Mode) (p : List (Item K V E)) (aborts : ℕ)
         (q : K) →
         Changes (access_of n (record { rules = rules; mode = mode; plan = p; aborts = aborts })) q →
-        (key : K) × (key_of p ≡ Some key) × (eq key q ≡ true)
+        (key : K) × (locked_key p ≡ Some key) × (eq key q ≡ true)
     plan_changes n rules mode [] aborts q h = absurd h
     plan_changes n rules mode (item ∷ rest) aborts q h = item_changes n item rest q h
 
   -- what stands so still does where nothing changes under its key
-  standing_still : (f g : Map K V) (p : List (Item K V)) →
-      ((k : K) → key_of p ≡ Some k → g k ≡ f k) → StandingAt f p → StandingAt g p
+  standing_still : (f g : Map K V) (p : List (Item K V E)) →
+      ((k : K) → locked_key p ≡ Some k → g k ≡ f k) → StandingAt f p → StandingAt g p
   standing_still f g (plan.Holds key stamp cause there seen ∷ []) same h =
       subst (λ o. IsSomeAnd o (λ pair. pair.1.stamp ≡ stamp)) (sym (same key refl)) h
   standing_still f g (plan.Moment (plan.To_take_out (plan.To_evict_chosen stamp cause) key) ∷
@@ -325,70 +343,83 @@ module _ {K V : Type 0} where
   standing_still f g [] same h = absurd h
   standing_still f g (_ ∷ rest) same h = absurd h
 
-  stands_still : (f g : Map K V) (p : List (Item K V)) → ((k : K) → key_of p ≡ Some k → g k ≡ f k) →
+  stands_still : (f g : Map K V) (p : List (Item K V E)) → ((k : K) → locked_key p ≡ Some k → g k ≡ f k) →
       Stands f p → Stands g p
   stands_still f g p same (inl h) = inl h
   stands_still f g p same (inr h) = inr (standing_still f g p same h)
 
-  fresh_calm : (rules : Rules) (start : Start K V) → weigh chosen (plan_of rules start) ≡ 0
+-- ---- fresh calls
+
+module _ {K : Type 0} (V E : Type 0) where
+  load_calm : (b : Bool) (sought : Sought K) → weigh chosen (load_plan {V = V} {E = E} b sought) ≡ 0
+  load_calm true sought = refl
+  load_calm false sought = refl
+
+module _ {K V : Type 0} (E : Type 0) where
+  fresh_calm : (rules : Rules) (start : Start K V) →
+      weigh chosen (plan_of {E = E} rules start) ≡ 0
   fresh_calm rules (start.Get key) = by (is_disabled rules)
     where
-      by : (b : Bool) → weigh chosen (get_plan {V = V} b key) ≡ 0
+      by : (b : Bool) → weigh chosen (get_plan {V = V} {E = E} b key) ≡ 0
       by true = refl
       by false = refl
   fresh_calm rules (start.Insert key value) = by (is_disabled rules)
     where
-      by : (b : Bool) → weigh chosen (insert_plan b rules key value) ≡ 0
+      by : (b : Bool) → weigh chosen (insert_plan {E = E} b rules key value) ≡ 0
       by true = refl
       by false = put_plans (λ p. weigh chosen p ≡ 0) rules key value
           (plan.Reply answer.Done ∷ []) refl refl
-  fresh_calm rules (start.GetWith key) = by (is_disabled rules)
+  fresh_calm rules (start.GetWith key replace) =
+      load_calm V E (is_disabled rules) (seek kind.GetWith key replace)
+  fresh_calm rules (start.Optional key) =
+      load_calm V E (is_disabled rules) (seek kind.Optional key None)
+  fresh_calm rules (start.Try key) = load_calm V E (is_disabled rules) (seek kind.Try key None)
+  fresh_calm rules (start.OrInsert key value) = by (is_disabled rules)
     where
-      by : (b : Bool) → weigh chosen (load_plan {K = K} {V = V} b
-          (record { key = key; kind = kind.GetWith })) ≡ 0
+      by : (b : Bool) → weigh chosen (or_insert_plan {V = V} {E = E} b key value) ≡ 0
       by true = refl
       by false = refl
   fresh_calm rules (start.Invalidate key) = by rules.listener
     where
-      by : (b : Bool) → weigh chosen (plan.Drain ∷ under_lock {V = V} b key
+      by : (b : Bool) → weigh chosen (plan.Drain ∷ under_lock {V = V} {E = E} b key
           (plan.Moment (plan.To_take_out plan.To_invalidate key) ∷ [])) ≡ 0
       by true = refl
       by false = refl
   fresh_calm rules (start.Remove key) = by rules.listener
     where
-      by : (b : Bool) → weigh chosen (plan.Drain ∷ under_lock {V = V} b key
+      by : (b : Bool) → weigh chosen (plan.Drain ∷ under_lock {V = V} {E = E} b key
           (plan.Moment (plan.To_take_out plan.To_remove key) ∷ [])) ≡ 0
       by true = refl
       by false = refl
   fresh_calm rules (start.Evict key stamp cause) = by rules.listener
     where
-      by : (b : Bool) → weigh chosen (under_lock {V = V} b key
+      by : (b : Bool) → weigh chosen (under_lock {V = V} {E = E} b key
           (plan.Get (plan.To_evict key stamp cause) key ∷ [])) ≡ 0
       by true = refl
       by false = refl
 
 -- ---- of a state
 
-module _ {K V : Type 0} (eq : K → K → Bool) (laws : IsEquivalence eq) where
-  record IsStanding (s : State K V) : Type 0 where
+module _ {K V E : Type 0} (eq : K → K → Bool) (laws : IsEquivalence eq) where
+  record IsStanding (s : State K V E) : Type 0 where
     sound : IsSound eq s
-    stands : s.world.desk.rules.listener ≡ true → (n : ℕ) (c : Call K V) → s.calls n ≡ Some c →
+    stands : s.world.desk.rules.listener ≡ true → (n : ℕ) (c : Call K V E) → s.calls n ≡ Some c →
         Stands s.world.table.stored c.plan
 
-  module _ (s : State K V) (i : IsStanding s) (on : s.world.desk.rules.listener ≡ true) where
+  module _ (s : State K V E) (i : IsStanding s) (on : s.world.desk.rules.listener ≡ true) where
     -- the plan of a call is inside the lock that it holds
-    inside_own : (n : ℕ) (c : Call K V) → s.calls n ≡ Some c → (own : K) → key_of c.plan ≡
+    inside_own : (n : ℕ) (c : Call K V E) → s.calls n ≡ Some c → (own : K) → locked_key c.plan ≡
         Some own → Inside own c.plan
     inside_own n c live own e =
         let l : IsLocking s = i.sound.well.replacing.locking in
         subst (λ v. Inside own (plan_left v)) live
         ((l.locks n).inside on own (key_locked s l n c own on live e))
 
-    own_step : (t : State K V) (n : ℕ) (turn : Turn K V) → Step eq s n turn t → (c : Call K V) →
+    own_step : (t : State K V E) (n : ℕ) (turn : Turn K V E) → Step eq s n turn t → (c : Call K V E) →
         t.calls n ≡ Some c → Stands t.world.table.stored c.plan
     own_step t n turn step =
         step_cases eq (λ new next. StandsIf new.table.stored next.left)
-        (λ v _. (c : Call K V) → v.calls n ≡ Some c →
+        (λ v _. (c : Call K V E) → v.calls n ≡ Some c →
         Stands v.world.table.stored c.plan) s t n turn step
         (on_plan eq s.world n step.call step.call.plan refl (inside_own n step.call step.live)
         (i.stands on n step.call step.live))
@@ -396,27 +427,27 @@ module _ {K V : Type 0} (eq : K → K → Bool) (laws : IsEquivalence eq) where
         (sym (put_here s.calls n next.left) ∙ live) l)
 
     -- another call changes nothing under a key that this one has locked
-    other_step : (t : State K V) (m n : ℕ) (turn : Turn K V) → (m == n) ≡ false →
-        Step eq s m turn t → (c : Call K V) → s.calls n ≡ Some c →
+    other_step : (t : State K V E) (m n : ℕ) (turn : Turn K V E) → (m == n) ≡ false →
+        Step eq s m turn t → (c : Call K V E) → s.calls n ≡ Some c →
         Stands t.world.table.stored c.plan
     other_step t m n turn apart step c live =
         stands_still s.world.table.stored t.world.table.stored c.plan
-        (λ k e. ap (λ (v : State K V). v.world.table.stored k) step.after ∙
+        (λ k e. ap (λ (v : State K V E). v.world.table.stored k) step.after ∙
         access_leaves eq m s.world step.world (access_of m step.call) step.given step.gets k
         (λ h. never k e h)) (i.stands on n c live)
       where
         l : IsLocking s
         l = i.sound.well.replacing.locking
 
-        never : (k : K) → key_of c.plan ≡ Some k → Changes eq (access_of m step.call) k → ⊥
+        never : (k : K) → locked_key c.plan ≡ Some k → Changes eq (access_of m step.call) k → ⊥
         never k e h =
-            let d : Call K V = step.call in
+            let d : Call K V E = step.call in
             let g = plan_changes eq m d.rules d.mode d.plan d.aborts k h in
             differ_not m n apart
             (one_lock eq s.world.desk i.sound.sound m n g.0 k
             (key_locked s l m d g.0 on step.live g.1) (key_locked s l n c k on live e) g.2)
 
-  standing_step : (s t : State K V) (n : ℕ) (turn : Turn K V) → IsStanding s → Step eq s n turn t →
+  standing_step : (s t : State K V E) (n : ℕ) (turn : Turn K V E) → IsStanding s → Step eq s n turn t →
       IsStanding t
   standing_step s t n turn i step = record {
     sound = (sound_kept eq laws).step s t n turn i.sound step;
@@ -424,7 +455,7 @@ module _ {K V : Type 0} (eq : K → K → Bool) (laws : IsEquivalence eq) where
         (sym (step_rules eq s t n turn step)) ∙ on) m c live (n == m) refl;
   }
     where
-      by : s.world.desk.rules.listener ≡ true → (m : ℕ) (c : Call K V) → t.calls m ≡ Some c →
+      by : s.world.desk.rules.listener ≡ true → (m : ℕ) (c : Call K V E) → t.calls m ≡ Some c →
           (b : Bool) → (n == m) ≡ b → Stands t.world.table.stored c.plan
       by on m c live true e = own_step s i on t n turn step c (ap t.calls (eqb-true n m e) ∙ live)
       by on m c live false e = other_step s i on t n m turn e step c
@@ -432,8 +463,8 @@ module _ {K V : Type 0} (eq : K → K → Bool) (laws : IsEquivalence eq) where
 
   standing_kept : IsKept eq IsStanding
   standing_kept = record {
-    fresh = λ rules size has_log. record {
-      sound = (sound_kept eq laws).fresh rules size has_log;
+    fresh = λ rules size tests has_log. record {
+      sound = (sound_kept eq laws).fresh rules size tests has_log;
       stands = λ on n c live. absurd (none_some live);
     };
     at = λ s moment i. record {
@@ -447,7 +478,7 @@ module _ {K V : Type 0} (eq : K → K → Bool) (laws : IsEquivalence eq) where
           put_cases s.calls (s.world.desk.last + 1) (Some (fresh_call s.world.desk.rules start)) n
           (Some c) (Stands s.world.table.stored c.plan) live
           (λ here is. subst (StandsIf s.world.table.stored) is
-          (inl (fresh_calm s.world.desk.rules start))) (λ there is. i.stands on n c is);
+          (inl (fresh_calm E s.world.desk.rules start))) (λ there is. i.stands on n c is);
     };
     step = standing_step;
     tell = λ s n given asked i. record {
@@ -466,12 +497,12 @@ module _ {K V : Type 0} (eq : K → K → Bool) (laws : IsEquivalence eq) where
     };
   }
 
-  pub chosen_stands : ChosenStands K V eq
+  pub chosen_stands : ChosenStands K V E eq
   chosen_stands s n c key stamp cause rest h on live e =
       let i : IsStanding s = in_reached eq IsStanding standing_kept s h in
       by rest (subst (Stands s.world.table.stored) e (i.stands on n c live))
     where
-      by : (rest : List (Item K V)) → Stands s.world.table.stored
+      by : (rest : List (Item K V E)) → Stands s.world.table.stored
           (plan.Out (plan.To_evict_chosen stamp cause) key ∷ rest) →
           At s.world.table.stored key stamp
       by rest (inl q) = absurd (omega (arith, q))

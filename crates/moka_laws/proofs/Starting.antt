@@ -11,14 +11,14 @@ use Rattle.moka_laws.specs.Starting.{WasStarted}
 use Rattle.moka_laws.proofs.Following.{IsFollowed, follow}
 use Rattle.moka_laws.proofs.Kept.{IsStable, runs}
 
-no_refusal : {K V : Type 0} (n : ℕ) (why : Refusal) → ◌≡◌ {A = Reply K V} (reply.Call n)
+no_refusal : {K V E : Type 0} (n : ℕ) (why : Refusal) → ◌≡◌ {A = Reply K V E} (reply.Call n)
     (reply.Refused why) → ⊥
 no_refusal n why e = cc
 
-same_call : {K V : Type 0} (n m : ℕ) → ◌≡◌ {A = Reply K V} (reply.Call n) (reply.Call m) → n ≡ m
+same_call : {K V E : Type 0} (n m : ℕ) → ◌≡◌ {A = Reply K V E} (reply.Call n) (reply.Call m) → n ≡ m
 same_call n m e = cc
 
-module _ {K V : Type 0} (eq : K → K → Bool) (start : Start K V) (n : ℕ) (t : State K V)
+module _ {K V E : Type 0} (eq : K → K → Bool) (start : Start K V) (n : ℕ) (t : State K V E)
     (w : WasStarted eq start n t) where
   -- the call got the next number
   pub begins_so : (n ≡ w.before.world.desk.last + 1) × (w.begun ≡ started w.before start)
@@ -29,15 +29,15 @@ module _ {K V : Type 0} (eq : K → K → Bool) (start : Start K V) (n : ℕ) (t
           (Becomes (started w.before start) (reply.Call (w.before.world.desk.last + 1))
           (reply.Call n) w.begun) →
           (n ≡ w.before.world.desk.last + 1) × (w.begun ≡ started w.before start)
-      by true h = absurd (no_refusal {K = K} {V = V} n refusal.CallsSpent h.reply)
-      by false h = (same_call {K = K} {V = V} n (w.before.world.desk.last + 1) h.reply, h.after)
+      by true h = absurd (no_refusal {K = K} {V = V} {E = E} n refusal.CallsSpent h.reply)
+      by false h = (same_call {K = K} {V = V} {E = E} n (w.before.world.desk.last + 1) h.reply, h.after)
 
   -- what each event keeps, and is so once it was started, is so here
-  pub from_start : (I : State K V → Type 0) → IsStable eq I → I (started w.before start) → I t
+  pub from_start : (I : State K V E → Type 0) → IsStable eq I → I (started w.before start) → I t
   from_start I stable i = runs eq I stable w.begun t w.led.events w.led.replies
       (subst I (sym begins_so.1) i) w.led.run
 
   -- the same, where it is known that the events lead on
-  pub follow_start : (I : State K V → Type 0) → IsFollowed eq I → I (started w.before start) → I t
+  pub follow_start : (I : State K V E → Type 0) → IsFollowed eq I → I (started w.before start) → I t
   follow_start I followed i = follow eq I followed w.begun t w.led.events w.led.replies
       (subst I (sym begins_so.1) i) w.led.run

@@ -1,5 +1,5 @@
 -- What a step leaves as it was: the rules, and what other calls have committed.
-use Rattle.std.proofs.Common.{◌≡◌, ℕ, zero, suc, ◌+◌, ◌==◌, Bool, true, false, cond, [], ◌∷◌, ◌++◌, Option, Some, None, is_some, refl, sym, ap, ◌∙◌, subst, arith}
+use Rattle.std.proofs.Common.{◌≡◌, ℕ, zero, suc, ◌==◌, Bool, true, false, cond, [], ◌∷◌, ◌++◌, Option, Some, None, is_some, refl, sym, ap, ◌∙◌, subst, arith}
 use Rattle.moka_hist.specs.Finite.{times}
 use Rattle.moka_hist.specs.State.{State, World, DeskPart, TablePart}
 use Rattle.moka_hist.specs.Tables.{Operates, by_pair, removed, taken_by, written}
@@ -22,39 +22,6 @@ use Rattle.moka_laws.proofs.Balance.{times_last}
 use Rattle.moka_laws.proofs.Kept.{IsStable}
 
 module _ {K V : Type 0} (eq : K → K → Bool) where
-  -- no visit changes the rules, or gives a number out
-  record SameBase (d new : DeskPart K V) : Type 0 where
-    rules : new.rules ≡ d.rules
-    last : new.last ≡ d.last
-
-  visit_base : (d : DeskPart K V) (made : Visit K V) → SameBase d (makes eq d made)
-  visit_base d (visit.LockKey call key) = by (is_unlocked_for d call key)
-    where
-      by : (b : Bool) → SameBase d (locked_by eq d call key b)
-      by true = record { rules = refl; last = refl }
-      by false = record { rules = refl; last = refl }
-  visit_base d (visit.WaitOrOwn call key kind) = by (d.owners (record { key = key; kind = kind }))
-    where
-      by : (o : Option ℕ) → SameBase d (claimed eq d call (record { key = key; kind = kind }) o)
-      by None = record { rules = refl; last = refl }
-      by (Some owner) = record { rules = refl; last = refl }
-  visit_base d (visit.ReadSettled call) = by (is_some (settlement_for d call)) refl
-    where
-      by : (b : Bool) → is_some (settlement_for d call) ≡ b → SameBase d (read d call)
-      by true e = rw e (record { rules = refl; last = refl })
-      by false e = rw e (record { rules = refl; last = refl })
-  visit_base d _ = record { rules = refl; last = refl }
-
-  access_base : (n : ℕ) (w new : World K V) (a : Access K V) (g : Got K V) → Gets eq n w a g new →
-      SameBase w.desk new.desk
-  access_base n w new (On_table o) (got.Table table.Going) gets = rw gets.1
-      (record { rules = refl; last = refl })
-  access_base n w new (On_table o) (got.Table (table.Decided answer)) gets = rw gets.2
-      (record { rules = refl; last = refl })
-  access_base n w new (On_desk made) (got.Desk f) gets = rw gets.1 (visit_base w.desk made)
-  access_base n w new (On_table o) (got.Desk f) gets = absurd gets
-  access_base n w new (On_desk made) (got.Table turn) gets = absurd gets
-
   -- an operation of this call commits none but its own
   by_commits : (o : Option (K × Stored V)) (x : ℕ) (t new : TablePart K V) → times x new.committed ≡
       times x t.committed →
@@ -93,57 +60,91 @@ module _ {K V : Type 0} (eq : K → K → Bool) where
           ap (λ (v : TablePart K V). times x v.committed) h.1 ∙
           by_commits (taken_by stamp (t.stored key)) x t (removed eq n t key) more
 
-  access_commits : (n x : ℕ) → (n == x) ≡ false → (w new : World K V) (a : Access K V)
-      (g : Got K V) → Gets eq n w a g new →
+module _ {K V E : Type 0} (eq : K → K → Bool) where
+  -- no visit changes the rules, or gives a number out
+  record SameBase (d new : DeskPart K V E) : Type 0 where
+    rules : new.rules ≡ d.rules
+    last : new.last ≡ d.last
+
+  visit_base : (d : DeskPart K V E) (made : Visit K V E) → SameBase d (makes eq d made)
+  visit_base d (visit.LockKey call key) = by (is_unlocked_for d call key)
+    where
+      by : (b : Bool) → SameBase d (locked_by eq d call key b)
+      by true = record { rules = refl; last = refl }
+      by false = record { rules = refl; last = refl }
+  visit_base d (visit.WaitOrOwn call key kind) = by (d.owners (record { key = key; kind = kind }))
+    where
+      by : (o : Option ℕ) → SameBase d (claimed eq d call (record { key = key; kind = kind }) o)
+      by None = record { rules = refl; last = refl }
+      by (Some owner) = record { rules = refl; last = refl }
+  visit_base d (visit.ReadSettled call) = by (is_some (settlement_for d call)) refl
+    where
+      by : (b : Bool) → is_some (settlement_for d call) ≡ b → SameBase d (read d call)
+      by true e = rw e (record { rules = refl; last = refl })
+      by false e = rw e (record { rules = refl; last = refl })
+  visit_base d _ = record { rules = refl; last = refl }
+
+  access_base : (n : ℕ) (w new : World K V E) (a : Access K V E) (g : Got K V E) → Gets eq n w a g new →
+      SameBase w.desk new.desk
+  access_base n w new (On_table o) (got.Table table.Going) gets = rw gets.1
+      (record { rules = refl; last = refl })
+  access_base n w new (On_table o) (got.Table (table.Decided answer)) gets = rw gets.2
+      (record { rules = refl; last = refl })
+  access_base n w new (On_desk made) (got.Desk f) gets = rw gets.1 (visit_base w.desk made)
+  access_base n w new (On_table o) (got.Desk f) gets = absurd gets
+  access_base n w new (On_desk made) (got.Table turn) gets = absurd gets
+
+  access_commits : (n x : ℕ) → (n == x) ≡ false → (w new : World K V E) (a : Access K V E)
+      (g : Got K V E) → Gets eq n w a g new →
       times x new.table.committed ≡ times x w.table.committed
   access_commits n x other w new (On_table o) (got.Table table.Going) gets =
-      ap (λ (v : World K V). times x v.table.committed) gets.1
+      ap (λ (v : World K V E). times x v.table.committed) gets.1
   access_commits n x other w new (On_table o) (got.Table (table.Decided answer)) gets =
-      ap (λ (v : World K V). times x v.table.committed) gets.2 ∙
-      operation_commits n x other w.table gets.0 o answer gets.1
+      ap (λ (v : World K V E). times x v.table.committed) gets.2 ∙
+      operation_commits eq n x other w.table gets.0 o answer gets.1
   access_commits n x other w new (On_desk made) (got.Desk f) gets = ap
-      (λ (v : World K V). times x v.table.committed) gets.1
+      (λ (v : World K V E). times x v.table.committed) gets.1
   access_commits n x other w new (On_table o) (got.Desk f) gets = absurd gets
   access_commits n x other w new (On_desk made) (got.Table turn) gets = absurd gets
 
   -- a step commits no write but that of its call
-  pub step_commits : (s t : State K V) (n x : ℕ) (turn : Turn K V) → (n == x) ≡ false →
+  pub step_commits : (s t : State K V E) (n x : ℕ) (turn : Turn K V E) → (n == x) ≡ false →
       Step eq s n turn t →
       times x t.world.table.committed ≡ times x s.world.table.committed
   step_commits s t n x turn other step =
-      ap (λ (v : State K V). times x v.world.table.committed) step.after ∙
+      ap (λ (v : State K V E). times x v.world.table.committed) step.after ∙
       access_commits n x other s.world step.world (access_of n step.call) step.given step.gets
 
   -- it leaves other calls as they are
-  pub step_calls : (s t : State K V) (n x : ℕ) (turn : Turn K V) → (n == x) ≡ false →
+  pub step_calls : (s t : State K V E) (n x : ℕ) (turn : Turn K V E) → (n == x) ≡ false →
       Step eq s n turn t →
       t.calls x ≡ s.calls x
   step_calls s t n x turn other step =
-      ap (λ (v : State K V). v.calls x) step.after ∙ put_there s.calls n _ x other
+      ap (λ (v : State K V E). v.calls x) step.after ∙ put_there s.calls n _ x other
 
-  step_base : (s t : State K V) (n : ℕ) (turn : Turn K V) → Step eq s n turn t →
+  step_base : (s t : State K V E) (n : ℕ) (turn : Turn K V E) → Step eq s n turn t →
       SameBase s.world.desk t.world.desk
   step_base s t n turn step =
-      subst (λ (v : State K V). SameBase s.world.desk v.world.desk) (sym step.after)
+      subst (λ (v : State K V E). SameBase s.world.desk v.world.desk) (sym step.after)
       (access_base n s.world step.world (access_of n step.call) step.given step.gets)
 
-  pub step_rules : (s t : State K V) (n : ℕ) (turn : Turn K V) → Step eq s n turn t →
+  pub step_rules : (s t : State K V E) (n : ℕ) (turn : Turn K V E) → Step eq s n turn t →
       t.world.desk.rules ≡ s.world.desk.rules
   step_rules s t n turn step = (step_base s t n turn step).rules
 
-  pub step_last : (s t : State K V) (n : ℕ) (turn : Turn K V) → Step eq s n turn t →
+  pub step_last : (s t : State K V E) (n : ℕ) (turn : Turn K V E) → Step eq s n turn t →
       t.world.desk.last ≡ s.world.desk.last
   step_last s t n turn step = (step_base s t n turn step).last
 
-  pub goings_rules : (P : State K V → Type 0) (k : ℕ) (s t : State K V) (n : ℕ) →
+  pub goings_rules : (P : State K V E → Type 0) (k : ℕ) (s t : State K V E) (n : ℕ) →
       Goings eq P k s n t →
       t.world.desk.rules ≡ s.world.desk.rules
   unfolding Goings
-  goings_rules P zero s t n going = ap (λ (v : State K V). v.world.desk.rules) going
+  goings_rules P zero s t n going = ap (λ (v : State K V E). v.world.desk.rules) going
   goings_rules P (suc k) s t n going = step_rules going.0 t n _ going.2 ∙
       goings_rules P k s going.0 n going.1
 
-  pub rules_stable : (rules : Rules) → IsStable {K = K} {V = V} eq (λ v. v.world.desk.rules ≡ rules)
+  pub rules_stable : (rules : Rules) → IsStable {K = K} {V = V} {E = E} eq (λ v. v.world.desk.rules ≡ rules)
   rules_stable rules = record {
     at = λ s moment i. i;
     start = λ s start i. i;

@@ -15,9 +15,9 @@ use Rattle.moka_hist.specs.declared.accesses.Turn.{Turn}
 use Rattle.moka_hist.specs.declared.tables.TableAnswer.{TableAnswer}
 use Rattle.moka_hist.specs.declared.tables.TableTurn.TheVariants as table
 
-module _ {K V : Type 0} (eq : K → K → Bool) where
+module _ {K V E : Type 0} (eq : K → K → Bool) where
   -- M holds of all that the access may make of the world and of the call
-  abbrev pub OnAccess : (World K V → Next K V → Type 0) → World K V → ℕ → Call K V → Item K V → List (Item K V) → Access K V → Type 0
+  abbrev pub OnAccess : (World K V E → Next K V E → Type 0) → World K V E → ℕ → Call K V E → Item K V E → List (Item K V E) → Access K V E → Type 0
   OnAccess M w n c item rest (On_table op) =
       (times_of w.stay n < most_undecided w.table → M (record w { stay = stayed w.stay n }) (after_table n c item rest table.Going)) ×
       ((answer : TableAnswer K V) (t : TablePart K V) → Operates eq n w.table op answer t →
@@ -26,17 +26,17 @@ module _ {K V : Type 0} (eq : K → K → Bool) where
       M (record w { desk = makes eq w.desk made }) (after_visit c item rest (finds w.desk made))
 
   -- M holds of all that a step may make of the world and of the call, with this plan
-  abbrev pub OnStep : (World K V → Next K V → Type 0) → World K V → ℕ → Call K V → List (Item K V) → Type 0
+  abbrev pub OnStep : (World K V E → Next K V E → Type 0) → World K V E → ℕ → Call K V E → List (Item K V E) → Type 0
   OnStep M w n c [] = M (record w { desk = gave_back w.desk n }) (waits c)
   OnStep M w n c (item ∷ rest) = OnAccess M w n c item rest (access_for n item)
 
   -- how a call goes on whose plan begins with the item
-  abbrev after : ℕ → Call K V → Item K V → List (Item K V) → Got K V → Next K V
+  abbrev after : ℕ → Call K V E → Item K V E → List (Item K V E) → Got K V E → Next K V E
   after n c item rest (got.Table turn) = after_table n c item rest turn
   after n c item rest (got.Desk f) = after_visit c item rest f
 
-  by_access : (M : World K V → Next K V → Type 0) (w : World K V) (n : ℕ) (c : Call K V) (item : Item K V) (rest : List (Item K V))
-      (a : Access K V) (given : Got K V) (new : World K V) → Gets eq n w a given new → OnAccess M w n c item rest a → M new
+  by_access : (M : World K V E → Next K V E → Type 0) (w : World K V E) (n : ℕ) (c : Call K V E) (item : Item K V E) (rest : List (Item K V E))
+      (a : Access K V E) (given : Got K V E) (new : World K V E) → Gets eq n w a given new → OnAccess M w n c item rest a → M new
       (after n c item rest given)
   by_access M w n c item rest (On_table op) (got.Table table.Going) new h m = subst (λ v. M v (after_table n c item rest table.Going)) (sym h.1) (m.0 h.0)
   by_access M w n c item rest (On_table op) (got.Table (table.Decided answer)) new h m =
@@ -45,9 +45,9 @@ module _ {K V : Type 0} (eq : K → K → Bool) where
   by_access M w n c item rest (On_table op) (got.Desk f) new h m = absurd h
   by_access M w n c item rest (On_desk made) (got.Table turn) new h m = absurd h
 
-  by_plan : (M : World K V → Next K V → Type 0) (w : World K V) (n : ℕ) (rules : Rules) (mode : Mode) (plan : List (Item K V)) (aborts : ℕ)
-      (given : Got K V) (new : World K V) →
-      let c : Call K V = record { rules = rules; mode = mode; plan = plan; aborts = aborts } in
+  by_plan : (M : World K V E → Next K V E → Type 0) (w : World K V E) (n : ℕ) (rules : Rules) (mode : Mode) (plan : List (Item K V E)) (aborts : ℕ)
+      (given : Got K V E) (new : World K V E) →
+      let c : Call K V E = record { rules = rules; mode = mode; plan = plan; aborts = aborts } in
       Gets eq n w (access_of n c) given new → OnStep M w n c plan → M new (next_of n c given)
   by_plan M w n rules mode [] aborts (got.Desk f) new h m = rw h.1 m
   by_plan M w n rules mode [] aborts (got.Table turn) new h m = absurd h
@@ -56,24 +56,24 @@ module _ {K V : Type 0} (eq : K → K → Bool) where
   by_plan M w n rules mode (item ∷ rest) aborts (got.Desk f) new h m = by_access M w n
       (record { rules = rules; mode = mode; plan = item ∷ rest; aborts = aborts }) item rest (access_for n item) (got.Desk f) new h m
 
-  more_access : (M N : World K V → Next K V → Type 0) → ((w : World K V) (next : Next K V) → M w next → N w next) →
-      (w : World K V) (n : ℕ) (c : Call K V) (item : Item K V) (rest : List (Item K V)) (a : Access K V) → OnAccess M w n c item rest a →
+  more_access : (M N : World K V E → Next K V E → Type 0) → ((w : World K V E) (next : Next K V E) → M w next → N w next) →
+      (w : World K V E) (n : ℕ) (c : Call K V E) (item : Item K V E) (rest : List (Item K V E)) (a : Access K V E) → OnAccess M w n c item rest a →
       OnAccess N w n c item rest a
   more_access M N f w n c item rest (On_table op) m = (λ h. f _ _ (m.0 h), λ answer t o. f _ _ (m.1 answer t o))
   more_access M N f w n c item rest (On_desk made) m = f _ _ m
 
-  pub more_step : (M N : World K V → Next K V → Type 0) →
-      ((w : World K V) (next : Next K V) → M w next → N w next) →
-      (w : World K V) (n : ℕ) (c : Call K V) (plan : List (Item K V)) → OnStep M w n c plan → OnStep N w n c plan
+  pub more_step : (M N : World K V E → Next K V E → Type 0) →
+      ((w : World K V E) (next : Next K V E) → M w next → N w next) →
+      (w : World K V E) (n : ℕ) (c : Call K V E) (plan : List (Item K V E)) → OnStep M w n c plan → OnStep N w n c plan
   more_step M N f w n c [] m = f _ _ m
   more_step M N f w n c (item ∷ rest) m = more_access M N f w n c item rest (access_for n item) m
 
   -- what follows from all that a step may make holds of what it made
-  pub step_cases : (M : World K V → Next K V → Type 0) (P : State K V → Turn K V → Type 0) (s t : State K V) (n : ℕ) (turn : Turn K V)
+  pub step_cases : (M : World K V E → Next K V E → Type 0) (P : State K V E → Turn K V E → Type 0) (s t : State K V E) (n : ℕ) (turn : Turn K V E)
       (step : Step eq s n turn t) →
-      OnStep M s.world n step.call step.call.plan → ((w : World K V) (next : Next K V) → M w next → P (state_after s n w next) next.turn) → P t turn
+      OnStep M s.world n step.call step.call.plan → ((w : World K V E) (next : Next K V E) → M w next → P (state_after s n w next) next.turn) → P t turn
   step_cases M P s t n turn step cases follows =
-      let c : Call K V = step.call in
+      let c : Call K V E = step.call in
       let on_plan : OnStep (λ w next. P (state_after s n w next) next.turn) s.world n c c.plan = more_step M
       (λ w next. P (state_after s n w next) next.turn) follows s.world n c c.plan cases in
       let p : P (state_after s n step.world (next_of n c step.given)) (next_of n c step.given).turn =

@@ -1,8 +1,11 @@
 -- A call whose answer says that it has stored a value has committed its write.
 use Rattle.std.proofs.Common.{◌≡◌, ℕ, ◌+◌, ◌≤◌, ◌==◌, Bool, true, false, cond, List, [], ◌∷◌, ◌++◌, Some, None, refl, sym, ap, ◌∙◌, subst, arith}
 use Rattle.std.proofs.lemmas.Bool.{eqb-true, false≢true}
+use Rattle.moka_hist.specs.Plan.{or_insert_plan, seek}
+use Rattle.moka_hist.specs.Step.{replace_of}
+use Rattle.moka_hist.specs.Visits.{is_seen}
 use Rattle.moka_hist.specs.Finite.{times}
-use Rattle.moka_hist.specs.State.{State, World, Call}
+use Rattle.moka_hist.specs.State.{DeskPart, State, World, Call}
 use Rattle.moka_hist.specs.Plan.{Item, Aim, insert_plan, is_disabled, load_plan, plan_of}
 use Rattle.moka_hist.specs.Plan as plan
 use Rattle.moka_hist.specs.Next.{Next, goes}
@@ -18,6 +21,7 @@ use Rattle.moka_hist.specs.declared.events.Start.TheVariants as start
 use Rattle.moka_hist.specs.declared.events.Told.{Told}
 use Rattle.moka_hist.specs.declared.events.Told.TheVariants as answer
 use Rattle.moka_hist.specs.declared.loads.Load.{Load}
+use Rattle.moka_hist.specs.declared.loads.Sought.{Sought}
 use Rattle.moka_hist.specs.declared.loads.Kind.TheVariants as kind
 use Rattle.moka_hist.specs.declared.records.Stored.{Stored}
 use Rattle.moka_hist.specs.declared.replies.Answer.{Answer}
@@ -33,7 +37,7 @@ use Rattle.moka_laws.proofs.OnePlace.{times_contains}
 use Rattle.moka_laws.proofs.Owning.{plan_left}
 use Rattle.moka_laws.proofs.Roles.{IsLast}
 use Rattle.moka_laws.proofs.Safe.{IsWell, in_well, well_kept}
-use Rattle.moka_laws.proofs.Rules.{loaded_plans_by, put_plans}
+use Rattle.moka_laws.proofs.Rules.{put_plans, loaded_plans_by, put_plans}
 use Rattle.moka_laws.proofs.Starting.{begins_so, from_start}
 use Rattle.moka_laws.proofs.Steady.{rules_stable, step_calls, step_commits, step_last, step_rules}
 use Rattle.moka_laws.proofs.Kept.{IsStable}
@@ -41,28 +45,31 @@ use Rattle.moka_laws.proofs.StepCases.{OnStep, step_cases}
 use Rattle.moka_laws.proofs.Outcomes.{Outcomes, outcomes}
 
 -- 1 where the answer of an insert or a load says that a value was stored
-abbrev stored : {V : Type 0} → Answer V → ℕ
+abbrev stored : {V E : Type 0} → Answer V E → ℕ
 stored reply.Done = 1
 stored (reply.Loaded value fresh) = cond fresh 1 0
 stored _ = 0
 
-same_answer : {K V : Type 0} (a b : Answer V) → ◌≡◌ {A = Turn K V} (turns.Answer a)
+counts : (fresh : Bool) → fresh ≡ true → cond {A = ℕ} fresh 1 0 ≡ 1
+counts fresh e = ap (λ b. cond {A = ℕ} b 1 0) e
+
+same_answer : {K V E : Type 0} (a b : Answer V E) → ◌≡◌ {A = Turn K V E} (turns.Answer a)
     (turns.Answer b) → a ≡ b
 same_answer a b e = cc
 
-module _ {K V : Type 0} where
+module _ {K V E : Type 0} where
   -- the item makes a write; it answers that a value was stored
-  abbrev makes : Item K V → ℕ
+  abbrev makes : Item K V E → ℕ
   makes (plan.Moment (plan.To_store key value)) = 1
   makes (plan.Write key value moment) = 1
   makes _ = 0
 
-  abbrev says : Item K V → ℕ
+  abbrev says : Item K V E → ℕ
   says (plan.Reply a) = stored a
   says _ = 0
 
   -- the item takes a record out, or is to
-  abbrev takes : Item K V → ℕ
+  abbrev takes : Item K V E → ℕ
   takes (plan.Moment (plan.To_take_out removal key)) = 1
   takes (plan.Out removal key) = 1
   takes (plan.Get (plan.To_evict key stamp cause) at) = 1
@@ -72,19 +79,19 @@ module _ {K V : Type 0} where
 
   -- the plan, once so often was committed: it says that a value was stored only where it has made a
   -- write or is to make one, and it takes nothing out
-  record Stores (committed : ℕ) (p : List (Item K V)) : Type 0 where
+  record Stores (committed : ℕ) (p : List (Item K V E)) : Type 0 where
     says : weigh says p ≤ weigh makes p + committed
     plain : weigh takes p ≡ 0
 
   -- How the call goes on, once it has committed so often: it says that it has stored a value only
   -- where it has made a write or is to make one.
-  record Says (committed : ℕ) (next : Next K V) : Type 0 where
+  record Says (committed : ℕ) (next : Next K V E) : Type 0 where
     left : weigh_call says next.left ≤ weigh_call makes next.left + committed
     plain : weigh_call takes next.left ≡ 0
-    now : (a : Answer V) → next.turn ≡ turns.Answer a → stored a ≤ committed
+    now : (a : Answer V E) → next.turn ≡ turns.Answer a → stored a ≤ committed
 
   module _ (k : ℕ) where
-    goes_says : (c : Call K V) (rest : List (Item K V)) → weigh says rest ≤ weigh makes rest + k →
+    goes_says : (c : Call K V E) (rest : List (Item K V E)) → weigh says rest ≤ weigh makes rest + k →
         weigh takes rest ≡ 0 → Says k (goes c rest)
     goes_says c (plan.Reply a ∷ []) h t = record {
       left = omega arith;
@@ -97,15 +104,15 @@ module _ {K V : Type 0} where
     goes_says c (_ ∷ rest) h t = record { left = h; plain = t; now = λ b e. cc }
 
     -- the call has its plan still
-    stays_says : (c : Call K V) (next : Next K V) → next.left ≡ Some c →
-        ((a : Answer V) → next.turn ≡ turns.Answer a → ⊥) → Stores k c.plan → Says k next
+    stays_says : (c : Call K V E) (next : Next K V E) → next.left ≡ Some c →
+        ((a : Answer V E) → next.turn ≡ turns.Answer a → ⊥) → Stores k c.plan → Says k next
     stays_says c next is going p = record {
       left = subst (λ v. weigh_call says v ≤ weigh_call makes v + k) (sym is) p.says;
       plain = subst (λ v. weigh_call takes v ≡ 0) (sym is) p.plain;
       now = λ b e. absurd (going b e);
     }
 
-    misses_says : (c : Call K V) (aim : Aim K) (key : K) → takes (plan.Get aim key) ≡ 0 → Says k
+    misses_says : (c : Call K V E) (aim : Aim K V) (key : K) → takes (plan.Get aim key) ≡ 0 → Says k
         (misses c aim)
     misses_says c plan.To_answer key t = record {
       left = omega arith;
@@ -113,23 +120,29 @@ module _ {K V : Type 0} where
       now = λ b e. omega
           (arith, ap stored (same_answer (reply.Found None) b e));
     }
-    misses_says c (plan.To_load load) key t = record
+    misses_says c (plan.To_load sought) key t = record
         { left = omega arith; plain = refl; now = λ b e. cc }
-    misses_says c (plan.To_own load) key t = record
+    misses_says c (plan.To_own sought) key t = record
         { left = omega arith; plain = refl; now = λ b e. cc }
+    misses_says c (plan.To_insert under new) key t =
+        put_plans (λ q. Says k (goes c q)) c.rules under new _
+        (record { left = omega arith; plain = refl; now = λ b e. cc })
+        (record { left = omega arith; plain = refl; now = λ b e. cc })
     misses_says c (plan.To_evict own stamp cause) key t = absurd (omega (arith, t))
 
-    finds_says : (c : Call K V) (aim : Aim K) (key there : K) (found : Stored V) → takes
+    finds_says : (c : Call K V E) (aim : Aim K V) (key there : K) (found : Stored V) → takes
         (plan.Get aim key) ≡ 0 → Says k (finds_pair c aim there found)
     finds_says c plan.To_answer key there found t = record
         { left = omega arith; plain = refl; now = λ b e. cc }
-    finds_says c (plan.To_load load) key there found t = record
+    finds_says c (plan.To_load sought) key there found t = record
         { left = omega arith; plain = refl; now = λ b e. cc }
-    finds_says c (plan.To_own load) key there found t = record
+    finds_says c (plan.To_insert under new) key there found t = record
+        { left = omega arith; plain = refl; now = λ b e. cc }
+    finds_says c (plan.To_own sought) key there found t = record
         { left = omega arith; plain = refl; now = λ b e. cc }
     finds_says c (plan.To_evict own stamp cause) key there found t = absurd (omega (arith, t))
 
-    hits_says : (c : Call K V) (aim : Aim K) (key : K) (found : Stored V) → takes
+    hits_says : (c : Call K V E) (aim : Aim K V) (key : K) (found : Stored V) → takes
         (plan.Judge aim key found) ≡ 0 → Says k (hits c aim found.value)
     hits_says c plan.To_answer key found t =
         record {
@@ -138,30 +151,60 @@ module _ {K V : Type 0} where
           now = λ b e. omega
               (arith, ap stored (same_answer (reply.Found (Some found.value)) b e));
         }
-    hits_says c (plan.To_load load) key found t =
+    hits_says c (plan.To_load sought) key found t =
         record {
           left = omega arith;
           plain = refl;
           now = λ b e. omega
               (arith, ap stored (same_answer (reply.Loaded found.value false) b e));
         }
-    hits_says c (plan.To_own load) key found t = record
+    hits_says c (plan.To_insert under new) key found t =
+        record {
+          left = omega arith;
+          plain = refl;
+          now = λ b e. omega
+              (arith, ap stored (same_answer (reply.Loaded found.value false) b e));
+        }
+    hits_says c (plan.To_own sought) key found t = record
         { left = omega arith; plain = refl; now = λ b e. cc }
     hits_says c (plan.To_evict own stamp cause) key found t = absurd (omega (arith, t))
 
-    read_says : (c : Call K V) (load : Load K) (with : Settled V) → Stores k c.plan → Says k
-        (after_read c load (found.ReadSettled with))
-    read_says c load (settled.Ready value) p =
+    -- a record that is not seen by its replace test is loaded
+    unseen_says : (c : Call K V E) (d : DeskPart K V E) (aim : Aim K V) (key : K) (found : Stored V) →
+        is_seen d (replace_of aim) key found ≡ false → Says k (misses c aim)
+    unseen_says c d (plan.To_load sought) key found e = record
+        { left = omega arith; plain = refl; now = λ b f. cc }
+    unseen_says c d (plan.To_own sought) key found e = record
+        { left = omega arith; plain = refl; now = λ b f. cc }
+    unseen_says c d _ key found e = absurd (false≢true (sym e))
+
+    read_says : (c : Call K V E) (sought : Sought K) (with : Settled V E) → Stores k c.plan → Says k
+        (after_read c sought (found.ReadSettled with))
+    read_says c sought (settled.Ready value) p =
         record {
           left = omega arith;
           plain = refl;
           now = λ b e. omega
               (arith, ap stored (same_answer (reply.Loaded value false) b e));
         }
-    read_says c load settled.NotYet p = record { left = p.says; plain = p.plain; now = λ b e. cc }
-    read_says c load settled.Aborted p = by (c.aborts + 1 == retries) refl
+    read_says c sought (settled.Err error) p =
+        record {
+          left = omega arith;
+          plain = refl;
+          now = λ b e. omega
+              (arith, ap stored (same_answer (reply.InitErr error) b e));
+        }
+    read_says c sought settled.Nothing p =
+        record {
+          left = omega arith;
+          plain = refl;
+          now = λ b e. omega
+              (arith, ap stored (same_answer reply.Nothing b e));
+        }
+    read_says c sought settled.NotYet p = record { left = p.says; plain = p.plain; now = λ b e. cc }
+    read_says c sought settled.Aborted p = by (c.aborts + 1 == retries) refl
       where
-        by : (b : Bool) → (c.aborts + 1 == retries) ≡ b → Says k (after_abort c load)
+        by : (b : Bool) → (c.aborts + 1 == retries) ≡ b → Says k (after_abort c sought)
         by true e = rw e (record {
           left = omega arith;
           plain = refl;
@@ -170,7 +213,7 @@ module _ {K V : Type 0} where
         })
         by false e = rw e (record { left = omega arith; plain = refl; now = λ b e. cc })
 
-    told_says : (c : Call K V) (load : Load K) (given : Told V) → is_disabled c.rules ≡ false →
+    told_says : (c : Call K V E) (load : Load K) (given : Told V E) → is_disabled c.rules ≡ false →
         Stores k c.plan →
         Says k (after_told c load (found.TakeTold (Some given)))
     told_says c load (answer.Value value) able p =
@@ -178,16 +221,20 @@ module _ {K V : Type 0} where
         (λ disabled. absurd (false≢true (sym able ∙ disabled)))
         (λ e off. record { left = omega arith; plain = refl; now = λ b e. cc })
         (λ e on. record { left = omega arith; plain = refl; now = λ b e. cc })
+    told_says c load answer.Nothing able p =
+        record { left = omega arith; plain = refl; now = λ b e. cc }
+    told_says c load (answer.Err error) able p =
+        record { left = omega arith; plain = refl; now = λ b e. cc }
     told_says c load answer.Done able p = record { left = p.says; plain = p.plain; now = λ b e. cc }
     told_says c load answer.Off able p = record { left = p.says; plain = p.plain; now = λ b e. cc }
 
-  module _ (eq : K → K → Bool) (w : World K V) (n : ℕ) (c : Call K V)
+  module _ (eq : K → K → Bool) (w : World K V E) (n : ℕ) (c : Call K V E)
       (able : is_disabled c.rules ≡ false) where
     -- how the call goes on, by what it has committed then
-    abbrev After : World K V → Next K V → Type 0
+    abbrev After : World K V E → Next K V E → Type 0
     After new next = Says (times n new.table.committed) next
 
-    on_item : (item : Item K V) (rest : List (Item K V)) → IsLast (item ∷ rest) → Stores
+    on_item : (item : Item K V E) (rest : List (Item K V E)) → IsLast (item ∷ rest) → Stores
         (times n w.table.committed) c.plan →
         Stores (times n w.table.committed) (item ∷ rest) → Outcomes eq After w n c item rest
     on_item plan.Drain rest l p q = (
@@ -247,16 +294,18 @@ module _ {K V : Type 0} where
       λ none. misses_says _ c aim key (omega (arith, q.plain)),
       λ there found some. finds_says _ c aim key there found (omega (arith, q.plain)),
     )
-    on_item (plan.Judge aim key found) rest l p q = hits_says _ c aim key found
-        (omega (arith, q.plain))
-    on_item (plan.Own load) rest l p q = (
+    on_item (plan.Judge aim key found) rest l p q = (
+      λ seen. hits_says _ c aim key found (omega (arith, q.plain)),
+      λ unseen. unseen_says _ c w.desk aim key found unseen,
+    )
+    on_item (plan.Own sought) rest l p q = (
       λ yes e. record { left = omega arith; plain = refl; now = λ b e. cc },
       λ no e. record { left = omega arith; plain = refl; now = λ b e. cc },
       λ owner e. record { left = omega arith; plain = refl; now = λ b e. cc },
     )
-    on_item (plan.Read load) rest l p q = (
+    on_item (plan.Read sought) rest l p q = (
       λ e. record { left = p.says; plain = p.plain; now = λ b e. cc },
-      λ with e. read_says _ c load with p,
+      λ with e. read_says _ c sought with p,
     )
     on_item (plan.Settle with) rest l p q = goes_says _ c rest (omega (arith, q.says))
         (omega (arith, q.plain))
@@ -307,36 +356,36 @@ module _ {K V : Type 0} where
               (arith, alone, ap stored (same_answer a b e));
         }
 
-    on_plan : (plan : List (Item K V)) → c.plan ≡ plan → IsLast c.plan → Stores
+    on_plan : (plan : List (Item K V E)) → c.plan ≡ plan → IsLast c.plan → Stores
         (times n w.table.committed) c.plan → OnStep eq After w n c plan
     on_plan [] e l p = record { left = p.says; plain = p.plain; now = λ b e. cc }
     on_plan (item ∷ rest) e l p = outcomes eq After w n c item rest
         (on_item item rest (subst IsLast e l) p (subst (Stores (times n w.table.committed)) e p))
 
-module _ {K V : Type 0} (eq : K → K → Bool) (n : ℕ) where
+module _ {K V E : Type 0} (eq : K → K → Bool) (n : ℕ) where
   -- the call of this number, an insert or a load on a cache that is not disabled, stores a value
-  record IsSaying (s : State K V) : Type 0 where
+  record IsSaying (s : State K V E) : Type 0 where
     well : IsWell eq s
     able : is_disabled s.world.desk.rules ≡ false
     born : n ≤ s.world.desk.last
-    says : (c : Call K V) → s.calls n ≡ Some c → Stores (times n s.world.table.committed) c.plan
+    says : (c : Call K V E) → s.calls n ≡ Some c → Stores (times n s.world.table.committed) c.plan
 
-  last_of : (s : State K V) (c : Call K V) → IsWell eq s → s.calls n ≡ Some c → IsLast c.plan
+  last_of : (s : State K V E) (c : Call K V E) → IsWell eq s → s.calls n ≡ Some c → IsLast c.plan
   last_of s c well live = subst (λ v. IsLast (plan_left v)) live (well.served.fits n).last
 
-  able_call : (s : State K V) (c : Call K V) → IsSaying s → s.calls n ≡ Some c →
+  able_call : (s : State K V E) (c : Call K V E) → IsSaying s → s.calls n ≡ Some c →
       is_disabled c.rules ≡ false
   able_call s c i live = ap is_disabled (i.well.replacing.locking.rules n c live) ∙ i.able
 
   -- what a step of this call leaves
-  own_step : (s t : State K V) (turn : Turn K V) → IsSaying s → (step : Step eq s n turn t) →
-      ((c : Call K V) → t.calls n ≡ Some c → Stores (times n t.world.table.committed) c.plan) ×
-      ((a : Answer V) → turn ≡ turns.Answer a → stored a ≤ times n t.world.table.committed)
+  own_step : (s t : State K V E) (turn : Turn K V E) → IsSaying s → (step : Step eq s n turn t) →
+      ((c : Call K V E) → t.calls n ≡ Some c → Stores (times n t.world.table.committed) c.plan) ×
+      ((a : Answer V E) → turn ≡ turns.Answer a → stored a ≤ times n t.world.table.committed)
   own_step s t turn i step =
       step_cases eq (λ w next. Says (times n w.table.committed) next)
-      (λ v r. ((c : Call K V) → v.calls n ≡ Some c → Stores
+      (λ v r. ((c : Call K V E) → v.calls n ≡ Some c → Stores
       (times n v.world.table.committed) c.plan) ×
-      ((a : Answer V) → r ≡ turns.Answer a → stored a ≤
+      ((a : Answer V E) → r ≡ turns.Answer a → stored a ≤
       times n v.world.table.committed)) s t n turn step
       (on_plan eq s.world n step.call (able_call s step.call i step.live) step.call.plan refl
       (last_of s step.call i.well step.live)
@@ -353,7 +402,7 @@ module _ {K V : Type 0} (eq : K → K → Bool) (n : ℕ) where
         l.now,
       ))
 
-  saying_step : (s t : State K V) (m : ℕ) (turn : Turn K V) → IsSaying s → Step eq s m turn t →
+  saying_step : (s t : State K V E) (m : ℕ) (turn : Turn K V E) → IsSaying s → Step eq s m turn t →
       IsSaying t
   saying_step s t m turn i step = record {
     well = (well_kept eq).step s t m turn i.well step;
@@ -362,7 +411,7 @@ module _ {K V : Type 0} (eq : K → K → Bool) (n : ℕ) where
     says = by (m == n) refl;
   }
     where
-      by : (b : Bool) → (m == n) ≡ b → (c : Call K V) → t.calls n ≡ Some c → Stores
+      by : (b : Bool) → (m == n) ≡ b → (c : Call K V E) → t.calls n ≡ Some c → Stores
           (times n t.world.table.committed) c.plan
       by true e = (own_step s t turn i (subst (λ v. Step eq s v turn t) (eqb-true m n e) step)).0
       by false e = λ c live.
@@ -370,7 +419,7 @@ module _ {K V : Type 0} (eq : K → K → Bool) (n : ℕ) where
           (i.says c (sym (step_calls eq s t m n turn e step) ∙ live))
 
   -- another call is started
-  other_start : (s : State K V) (start : Start K V) (c : Call K V) → n ≤ s.world.desk.last →
+  other_start : (s : State K V E) (start : Start K V) (c : Call K V E) → n ≤ s.world.desk.last →
       (started s start).calls n ≡ Some c → s.calls n ≡ Some c
   other_start s start c born live =
       sym (put_there s.calls (s.world.desk.last + 1) _ n
@@ -416,18 +465,28 @@ module _ {K V : Type 0} (eq : K → K → Bool) (n : ℕ) where
     };
   }
 
-module _ {K V : Type 0} (eq : K → K → Bool) where
+module _ {K V E : Type 0} (eq : K → K → Bool) where
+  load_stores : (rules : Rules) (sought : Sought K) → is_disabled rules ≡ false →
+      Stores {K = K} {V = V} {E = E} 0 (load_plan (is_disabled rules) sought)
+  load_stores rules sought able =
+      subst (λ b. Stores {K = K} {V = V} {E = E} 0 (load_plan b sought)) (sym able)
+      (record { says = omega arith; plain = refl })
+
   -- what an insert or a load is to do on a cache that is not disabled
-  fresh_stores : (rules : Rules) (s : Start K V) (a : Answer V) → is_disabled rules ≡ false →
-      says_stored s a ≡ true → Stores 0 (plan_of rules s)
+  fresh_stores : (rules : Rules) (s : Start K V) (a : Answer V E) → is_disabled rules ≡ false →
+      says_stored s a ≡ true → Stores {K = K} {V = V} {E = E} 0 (plan_of rules s)
   fresh_stores rules (start.Insert key value) a able e =
-      subst (λ b. Stores 0 (insert_plan b rules key value)) (sym able)
-      (put_plans (Stores 0) rules key value (plan.Reply reply.Done ∷ [])
+      subst (λ b. Stores {K = K} {V = V} {E = E} 0 (insert_plan b rules key value)) (sym able)
+      (put_plans (Stores {K = K} {V = V} {E = E} 0) rules key value (plan.Reply reply.Done ∷ [])
       (record { says = omega arith; plain = refl })
       (record { says = omega arith; plain = refl }))
-  fresh_stores rules (start.GetWith key) a able e =
-      subst (λ b. Stores {K = K} {V = V} 0 (load_plan b (record
-      { key = key; kind = kind.GetWith }))) (sym able)
+  fresh_stores rules (start.GetWith key replace) a able e =
+      load_stores rules (seek kind.GetWith key replace) able
+  fresh_stores rules (start.Optional key) a able e =
+      load_stores rules (seek kind.Optional key None) able
+  fresh_stores rules (start.Try key) a able e = load_stores rules (seek kind.Try key None) able
+  fresh_stores rules (start.OrInsert key value) a able e =
+      subst (λ b. Stores {K = K} {V = V} {E = E} 0 (or_insert_plan b key value)) (sym able)
       (record { says = omega arith; plain = refl })
   fresh_stores rules (start.Get key) a able e = absurd (false≢true e)
   fresh_stores rules (start.Invalidate key) a able e = absurd (false≢true e)
@@ -435,14 +494,20 @@ module _ {K V : Type 0} (eq : K → K → Bool) where
   fresh_stores rules (start.Evict key stamp cause) a able e = absurd (false≢true e)
 
   -- an answer that says so counts
-  says_counts : (s : Start K V) (a : Answer V) → says_stored s a ≡ true → stored a ≡ 1
+  says_counts : (s : Start K V) (a : Answer V E) → says_stored s a ≡ true → stored a ≡ 1
   says_counts (start.Insert key value) reply.Done e = refl
   says_counts (start.Insert key value) (reply.Loaded v fresh) e = absurd (false≢true e)
-  says_counts (start.GetWith key) (reply.Loaded value fresh) e = ap (λ b. cond {A = ℕ} b 1 0) e
-  says_counts (start.GetWith key) reply.Done e = absurd (false≢true e)
+  says_counts (start.GetWith key replace) (reply.Loaded value fresh) e = counts fresh e
+  says_counts (start.GetWith key replace) reply.Done e = absurd (false≢true e)
+  says_counts (start.Optional key) (reply.Loaded value fresh) e = counts fresh e
+  says_counts (start.Optional key) reply.Done e = absurd (false≢true e)
+  says_counts (start.Try key) (reply.Loaded value fresh) e = counts fresh e
+  says_counts (start.Try key) reply.Done e = absurd (false≢true e)
+  says_counts (start.OrInsert key own) (reply.Loaded value fresh) e = counts fresh e
+  says_counts (start.OrInsert key own) reply.Done e = absurd (false≢true e)
   says_counts _ _ e = absurd (false≢true e)
 
-  pub stored_committed : StoredIsCommitted K V eq
+  pub stored_committed : StoredIsCommitted K V E eq
   stored_committed s t start n a w able step says =
       let i : IsSaying eq n s = subst (λ v. IsSaying eq v s) (sym (begins_so eq start n s w).0)
       (from_start eq start n s w (IsSaying eq (w.before.world.desk.last + 1))
@@ -469,7 +534,7 @@ module _ {K V : Type 0} (eq : K → K → Bool) where
             let is : fresh_call w.before.world.desk.rules start ≡ c = some_same
             (sym (put_here w.before.calls (w.before.world.desk.last + 1) _) ∙ live) in
             let f = fresh_stores w.before.world.desk.rules start a was_able says in
-            subst (λ (d : Call K V). Stores
+            subst (λ (d : Call K V E). Stores
             (times (w.before.world.desk.last + 1) w.before.world.table.committed) d.plan) is
             (record { says = omega (arith, f.says); plain = f.plain });
       }

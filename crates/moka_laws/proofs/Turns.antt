@@ -14,8 +14,8 @@ use Rattle.moka_hist.specs.Step.{Step}
 use Rattle.moka_hist.specs.Run.{IsReached, fresh_call}
 use Rattle.moka_hist.specs.declared.records.Mode.TheVariants as mode
 use Rattle.moka_hist.specs.declared.loads.Load.{Load}
+use Rattle.moka_hist.specs.declared.loads.Sought.{Sought}
 use Rattle.moka_hist.specs.declared.rules.Rules.{Rules}
-use Rattle.moka_hist.specs.declared.events.Start.{Start}
 use Rattle.moka_hist.specs.declared.events.Told.{Told}
 use Rattle.moka_hist.specs.declared.events.Told.TheVariants as answer
 use Rattle.moka_hist.specs.declared.records.Stored.{Stored}
@@ -24,7 +24,7 @@ use Rattle.moka_hist.specs.declared.visits.Settled.TheVariants as settled
 use Rattle.moka_hist.specs.declared.visits.Found.TheVariants as found
 use Rattle.moka_hist.specs.declared.accesses.Turn.{Turn}
 use Rattle.moka_laws.specs.Missing.{TurnIsHeld, AppliesLog, IsApplying}
-use Rattle.moka_laws.proofs.Rules.{loaded_plans, kept_next, chosen_by, IsFresh, Disabled, fresh_plan}
+use Rattle.moka_laws.proofs.Rules.{put_plans, loaded_plans, kept_next, chosen_by, IsFresh, Disabled, fresh_plan}
 use Rattle.moka_laws.proofs.Counting.{none_some, some_same, put_here, put_there, differ_not, other_number}
 use Rattle.moka_laws.proofs.Weights.{weigh}
 use Rattle.moka_laws.proofs.Balance.{IsBalanced}
@@ -34,22 +34,22 @@ use Rattle.moka_laws.proofs.Kept.{IsKept, in_reached}
 use Rattle.moka_laws.proofs.StepCases.{OnStep, step_cases}
 use Rattle.moka_laws.proofs.Outcomes.{Outcomes, outcomes}
 
-module _ {K V : Type 0} where
+module _ {K V E : Type 0} where
   -- the item is one of a turn
-  abbrev of_turn : Item K V → ℕ
+  abbrev of_turn : Item K V E → ℕ
   of_turn plan.Turn = 1
   of_turn plan.Apply = 1
   of_turn plan.End = 1
   of_turn _ = 0
 
   -- a plan that takes a turn takes it now: then it applies, and ends it, and takes no other
-  abbrev pub InTurn : List (Item K V) → Type 0
+  abbrev pub InTurn : List (Item K V E) → Type 0
   InTurn [] = ⊥
   InTurn (plan.Apply ∷ rest) = InTurn rest
   InTurn (plan.End ∷ rest) = weigh of_turn rest ≡ 0
   InTurn (_ ∷ rest) = ⊥
 
-  abbrev pub TurnsFirst : List (Item K V) → Type 0
+  abbrev pub TurnsFirst : List (Item K V E) → Type 0
   TurnsFirst [] = Unit {0}
   TurnsFirst (plan.Turn ∷ rest) = InTurn rest
   TurnsFirst (plan.Apply ∷ rest) = InTurn rest
@@ -57,136 +57,141 @@ module _ {K V : Type 0} where
   TurnsFirst (_ ∷ rest) = weigh of_turn rest ≡ 0
 
   -- The turn is the call's exactly where it is in one.
-  pub record TurnFits (turn : Option ℕ) (n : ℕ) (plan : List (Item K V)) : Type 0 where
+  pub record TurnFits (turn : Option ℕ) (n : ℕ) (plan : List (Item K V E)) : Type 0 where
     pub first : TurnsFirst plan
     pub has : turn ≡ Some n → InTurn plan
     pub applies : InTurn plan → turn ≡ Some n
 
-  abbrev IsMid : Option (Call K V) → Type 0
+  abbrev IsMid : Option (Call K V E) → Type 0
   IsMid None = ⊥
   IsMid (Some c) = c.mode ≡ mode.Mid
 
   -- ---- plans with no part of a turn, and plans within one
 
-  calm_first : (plan : List (Item K V)) → weigh of_turn plan ≡ 0 → TurnsFirst plan
+  calm_first : (plan : List (Item K V E)) → weigh of_turn plan ≡ 0 → TurnsFirst plan
   calm_first [] h = tt
   calm_first (plan.Turn ∷ rest) h = absurd (omega arith)
   calm_first (plan.Apply ∷ rest) h = absurd (omega arith)
   calm_first (plan.End ∷ rest) h = absurd (omega arith)
   calm_first (_ ∷ rest) h = omega arith
 
-  calm_not : (plan : List (Item K V)) → weigh of_turn plan ≡ 0 → ¬ InTurn plan
+  calm_not : (plan : List (Item K V E)) → weigh of_turn plan ≡ 0 → ¬ InTurn plan
   calm_not [] h = λ t. t
   calm_not (plan.Apply ∷ rest) h = absurd (omega arith)
   calm_not (plan.End ∷ rest) h = absurd (omega arith)
   calm_not (_ ∷ rest) h = λ t. t
 
-  in_first : (plan : List (Item K V)) → InTurn plan → TurnsFirst plan
+  in_first : (plan : List (Item K V E)) → InTurn plan → TurnsFirst plan
   in_first (plan.Apply ∷ rest) h = h
   in_first (plan.End ∷ rest) h = h
   in_first [] h = absurd h
   in_first (_ ∷ rest) h = absurd h
 
-  calm_fits : (turn : Option ℕ) (n : ℕ) (plan : List (Item K V)) → weigh of_turn plan ≡ 0 → turn ≢ Some n → TurnFits turn n plan
+  calm_fits : (turn : Option ℕ) (n : ℕ) (plan : List (Item K V E)) → weigh of_turn plan ≡ 0 → turn ≢ Some n → TurnFits turn n plan
   calm_fits turn n plan h not = record { first = calm_first plan h; has = λ e. absurd (not e); applies = λ t. absurd (calm_not plan h t) }
 
   -- ---- how a call goes on
 
-  goes_calm : (c : Call K V) (rest : List (Item K V)) → weigh of_turn rest ≡ 0 → weigh of_turn (plan_left (goes c rest).left) ≡ 0
+  goes_calm : (c : Call K V E) (rest : List (Item K V E)) → weigh of_turn rest ≡ 0 → weigh of_turn (plan_left (goes c rest).left) ≡ 0
   goes_calm c (plan.Reply a ∷ []) h = refl
   goes_calm c (plan.Reply a ∷ x ∷ rest) h = h
   goes_calm c [] h = h
   goes_calm c (item ∷ rest) h = h
 
-  goes_fits : (turn : Option ℕ) (n : ℕ) (c : Call K V) (rest : List (Item K V)) → TurnFits turn n rest →
+  goes_fits : (turn : Option ℕ) (n : ℕ) (c : Call K V E) (rest : List (Item K V E)) → TurnFits turn n rest →
       TurnFits turn n (plan_left (goes c rest).left)
   goes_fits turn n c (plan.Reply a ∷ []) f = record { first = tt; has = f.has; applies = f.applies }
   goes_fits turn n c (plan.Reply a ∷ x ∷ rest) f = f
   goes_fits turn n c [] f = f
   goes_fits turn n c (item ∷ rest) f = f
 
-  goes_mid : (c : Call K V) (rest : List (Item K V)) → InTurn (plan_left (goes c rest).left) → IsMid (goes c rest).left
+  goes_mid : (c : Call K V E) (rest : List (Item K V E)) → InTurn (plan_left (goes c rest).left) → IsMid (goes c rest).left
   goes_mid c (plan.Reply a ∷ []) h = h
   goes_mid c (plan.Reply a ∷ x ∷ rest) h = refl
   goes_mid c [] h = refl
   goes_mid c (item ∷ rest) h = refl
 
-  keeps_calm : (c : Call K V) → weigh of_turn (plan_left (keeps c).left) ≡ 0
+  keeps_calm : (c : Call K V E) → weigh of_turn (plan_left (keeps c).left) ≡ 0
   keeps_calm c = kept_next (λ v. weigh of_turn (plan_left v.left) ≡ 0) c (λ off. refl) (λ on. refl)
 
-  misses_calm : (c : Call K V) (aim : Aim K) → weigh of_turn (plan_left (misses c aim).left) ≡ 0
+  misses_calm : (c : Call K V E) (aim : Aim K V) → weigh of_turn (plan_left (misses c aim).left) ≡ 0
   misses_calm c plan.To_answer = refl
-  misses_calm c (plan.To_load load) = refl
-  misses_calm c (plan.To_own load) = refl
+  misses_calm c (plan.To_load sought) = refl
+  misses_calm c (plan.To_own sought) = refl
+  misses_calm c (plan.To_insert key value) =
+      put_plans (λ p. weigh of_turn (plan_left (goes c p).left) ≡ 0) c.rules key value _ refl refl
   misses_calm c (plan.To_evict key stamp cause) = keeps_calm c
 
-  finds_calm : (c : Call K V) (aim : Aim K) (there : K) (stored : Stored V) →
+  finds_calm : (c : Call K V E) (aim : Aim K V) (there : K) (stored : Stored V) →
       weigh of_turn (plan_left (finds_pair c aim there stored).left) ≡ 0
   finds_calm c plan.To_answer there stored = refl
-  finds_calm c (plan.To_load load) there stored = refl
-  finds_calm c (plan.To_own load) there stored = refl
+  finds_calm c (plan.To_load sought) there stored = refl
+  finds_calm c (plan.To_insert under new) there stored = refl
+  finds_calm c (plan.To_own sought) there stored = refl
   finds_calm c (plan.To_evict key stamp cause) there stored =
       chosen_by (λ v. weigh of_turn (plan_left v.left) ≡ 0) c key stamp cause there stored
       (λ other. keeps_calm c) (λ same. refl)
 
-  hits_calm : (c : Call K V) (aim : Aim K) (value : V) → weigh of_turn c.plan ≡ 0 →
+  hits_calm : (c : Call K V E) (aim : Aim K V) (value : V) → weigh of_turn c.plan ≡ 0 →
       weigh of_turn (plan_left (hits c aim value).left) ≡ 0
   hits_calm c plan.To_answer value h = refl
-  hits_calm c (plan.To_load load) value h = refl
-  hits_calm c (plan.To_own load) value h = refl
+  hits_calm c (plan.To_load sought) value h = refl
+  hits_calm c (plan.To_insert under new) value h = refl
+  hits_calm c (plan.To_own sought) value h = refl
   hits_calm c (plan.To_evict key stamp cause) value h = h
 
-  either_calm : (b : Bool) (x y : Next K V) → weigh of_turn (plan_left x.left) ≡ 0 → weigh of_turn (plan_left y.left) ≡ 0 →
+  either_calm : (b : Bool) (x y : Next K V E) → weigh of_turn (plan_left x.left) ≡ 0 → weigh of_turn (plan_left y.left) ≡ 0 →
       weigh of_turn (plan_left (cond b x y).left) ≡ 0
   either_calm true x y h k = h
   either_calm false x y h k = k
 
-  read_calm : (c : Call K V) (load : Load K) (with : Settled V) → weigh of_turn c.plan ≡ 0 →
-      weigh of_turn (plan_left (after_read c load (found.ReadSettled with)).left) ≡ 0
-  read_calm c load (settled.Ready value) h = refl
-  read_calm c load settled.NotYet h = h
-  read_calm c load settled.Aborted h = either_calm (c.aborts + 1 == retries) _ _ refl refl
+  read_calm : (c : Call K V E) (sought : Sought K) (with : Settled V E) → weigh of_turn c.plan ≡ 0 →
+      weigh of_turn (plan_left (after_read c sought (found.ReadSettled with)).left) ≡ 0
+  read_calm c sought (settled.Ready value) h = refl
+  read_calm c sought (settled.Err error) h = refl
+  read_calm c sought settled.Nothing h = refl
+  read_calm c sought settled.NotYet h = h
+  read_calm c sought settled.Aborted h = either_calm (c.aborts + 1 == retries) _ _ refl refl
 
-  told_calm : (c : Call K V) (load : Load K) (given : Told V) → weigh of_turn c.plan ≡ 0 →
+  told_calm : (c : Call K V E) (load : Load K) (given : Told V E) → weigh of_turn c.plan ≡ 0 →
       weigh of_turn (plan_left (after_told c load (found.TakeTold (Some given))).left) ≡ 0
   told_calm c load (answer.Value value) h =
       loaded_plans (λ p. weigh of_turn (plan_left (goes c p).left) ≡
       0) c.rules load value refl refl refl
+  told_calm c load answer.Nothing h = refl
+  told_calm c load (answer.Err error) h = refl
   told_calm c load answer.Done h = h
   told_calm c load answer.Off h = h
 
-  form_calm : (rules : Rules) (p : List (Item K V)) → IsFresh rules p → weigh of_turn p ≡ 0
-  form_calm rules p (Disabled a d) = refl
+  form_calm : (rules : Rules) (p : List (Item K V E)) → IsFresh rules p → weigh of_turn p ≡ 0
+  form_calm rules p (Disabled a d plain) = refl
   form_calm rules p _ = refl
-
-  fresh_calm : (rules : Rules) (start : Start K V) → weigh of_turn (plan_of rules start) ≡ 0
-  fresh_calm rules start = form_calm rules (plan_of rules start) (fresh_plan rules start)
 
   -- ---- a step
 
   -- what a step has to show
-  record Turns (turn : Option ℕ) (n : ℕ) (new : Option ℕ) (left : Option (Call K V)) : Type 0 where
+  record Turns (turn : Option ℕ) (n : ℕ) (new : Option ℕ) (left : Option (Call K V E)) : Type 0 where
     fits : TurnFits new n (plan_left left)
     mid : InTurn (plan_left left) → IsMid left
     others : (m : ℕ) → (n == m) ≡ false → (new ≡ Some m) ↔ (turn ≡ Some m)
 
   -- the call that has the turn is one that finds it free, and no other
-  free_other : (d : DeskPart K V) (n m : ℕ) → is_free_for d n ≡ true → (n == m) ≡ false → d.turn ≢ Some m
+  free_other : (d : DeskPart K V E) (n m : ℕ) → is_free_for d n ≡ true → (n == m) ≡ false → d.turn ≢ Some m
   free_other d n m free h e = false≢true (sym (other_number n m h) ∙ sym (ap (λ o. option_map_or (λ v. v == n) o true) e) ∙ free)
 
   module _ (turn : Option ℕ) (n : ℕ) where
-    calm : {left : Option (Call K V)} → weigh of_turn (plan_left left) ≡ 0 → turn ≢ Some n → Turns turn n turn left
+    calm : {left : Option (Call K V E)} → weigh of_turn (plan_left left) ≡ 0 → turn ≢ Some n → Turns turn n turn left
     calm {left = l} h not = record {
       fits = calm_fits turn n (plan_left l) h not;
       mid = λ t. absurd (calm_not (plan_left l) h t);
       others = λ m d. (λ e. e, λ e. e);
     }
 
-  module _ (eq : K → K → Bool) (w : World K V) (n : ℕ) (c : Call K V) where
-    abbrev Leaves : World K V → Next K V → Type 0
+  module _ (eq : K → K → Bool) (w : World K V E) (n : ℕ) (c : Call K V E) where
+    abbrev Leaves : World K V E → Next K V E → Type 0
     Leaves new next = Turns w.desk.turn n new.desk.turn next.left
 
-    on_item : (item : Item K V) (rest : List (Item K V)) → c.plan ≡ item ∷ rest → TurnFits w.desk.turn n (item ∷ rest) →
+    on_item : (item : Item K V E) (rest : List (Item K V E)) → c.plan ≡ item ∷ rest → TurnFits w.desk.turn n (item ∷ rest) →
         Outcomes eq Leaves w n c item rest
     on_item plan.Drain rest e q = (
       λ none. calm _ n (goes_calm c rest q.first) q.has,
@@ -244,16 +249,18 @@ module _ {K V : Type 0} where
           λ k stored some. calm _ n (finds_calm c aim k stored) q.has,
         )
     on_item (plan.Judge aim key stored) rest e q =
-        let c_calm : weigh of_turn c.plan ≡ 0 = omega (arith, ap (weigh of_turn) e, q.first) in
-        calm _ n (hits_calm c aim stored.value c_calm) q.has
-    on_item (plan.Own load) rest e q = (
+        let c_calm : weigh of_turn c.plan ≡ 0 = omega (arith, ap (weigh of_turn) e, q.first) in (
+          (λ seen. calm _ n (hits_calm c aim stored.value c_calm) q.has),
+          λ unseen. calm _ n (misses_calm c aim) q.has,
+        )
+    on_item (plan.Own sought) rest e q = (
       λ able none. calm _ n refl q.has,
       λ disabled none. calm _ n refl q.has,
       λ owner some. calm _ n refl q.has,
     )
-    on_item (plan.Read load) rest e q =
+    on_item (plan.Read sought) rest e q =
         let c_calm : weigh of_turn c.plan ≡ 0 = omega (arith, ap (weigh of_turn) e, q.first) in
-        (λ none. calm _ n c_calm q.has, λ with some. calm _ n (read_calm c load with c_calm) q.has)
+        (λ none. calm _ n c_calm q.has, λ with some. calm _ n (read_calm c sought with c_calm) q.has)
     on_item (plan.Settle with) rest e q = calm _ n (goes_calm c rest q.first) q.has
     on_item (plan.Ask load) rest e q = calm _ n refl q.has
     on_item (plan.Told load) rest e q =
@@ -283,20 +290,20 @@ module _ {K V : Type 0} where
     on_item plan.Idle rest e q = calm _ n (goes_calm c rest q.first) q.has
     on_item (plan.Reply answer) rest e q = calm _ n refl q.has
 
-    on_plan : (plan : List (Item K V)) → c.plan ≡ plan → TurnFits w.desk.turn n c.plan → OnStep eq Leaves w n c plan
+    on_plan : (plan : List (Item K V E)) → c.plan ≡ plan → TurnFits w.desk.turn n c.plan → OnStep eq Leaves w n c plan
     on_plan [] e f = calm _ n (ap (weigh of_turn) e) (λ h. subst InTurn e (f.has h))
     on_plan (item ∷ rest) e f = outcomes eq Leaves w n c item rest (on_item item rest e (subst (TurnFits w.desk.turn n) e f))
 
   -- ---- of a state
 
   -- Whoever has the turn is a live call in the midst of it.
-  pub record IsTurning (s : State K V) : Type 0 where
+  pub record IsTurning (s : State K V E) : Type 0 where
     pub balanced : IsBalanced s
     pub fits : (n : ℕ) → TurnFits s.world.desk.turn n (plan_left (s.calls n))
     pub mid : (n : ℕ) → InTurn (plan_left (s.calls n)) → IsMid (s.calls n)
 
-  turns : (s : State K V) (n : ℕ) (w : World K V) (left : Option (Call K V)) → IsTurning s → Turns s.world.desk.turn n w.desk.turn left →
-      let t : State K V = record { world = w; calls = put_at s.calls n left } in
+  turns : (s : State K V E) (n : ℕ) (w : World K V E) (left : Option (Call K V E)) → IsTurning s → Turns s.world.desk.turn n w.desk.turn left →
+      let t : State K V E = record { world = w; calls = put_at s.calls n left } in
       IsBalanced t → IsTurning t
   turns s n w left i b balanced = record { balanced = balanced; fits = λ m. fit m (n == m) refl; mid = λ m. between m (n == m) refl }
     where
@@ -315,20 +322,20 @@ module _ {K V : Type 0} where
           (subst (λ v. InTurn (plan_left v) → IsMid v) (sym (put_here s.calls n left)) b.mid)
       between m false e = subst (λ v. InTurn (plan_left v) → IsMid v) (sym (put_there s.calls n left m e)) (i.mid m)
 
-module _ {K V : Type 0} (eq : K → K → Bool) where
-  turning_step : (s t : State K V) (n : ℕ) (turn : Turn K V) → IsTurning s → Step eq s n turn t → IsTurning t
+module _ {K V E : Type 0} (eq : K → K → Bool) where
+  turning_step : (s t : State K V E) (n : ℕ) (turn : Turn K V E) → IsTurning s → Step eq s n turn t → IsTurning t
   turning_step s t n turn i step =
-      let c : Call K V = step.call in
+      let c : Call K V E = step.call in
       let fits : TurnFits s.world.desk.turn n c.plan = subst (λ v. TurnFits s.world.desk.turn n (plan_left v)) step.live (i.fits n) in
       let kept : IsBalanced t → IsTurning t =
       step_cases eq (λ new next. Turns s.world.desk.turn n new.desk.turn next.left) (λ v _. IsBalanced v → IsTurning v) s t n turn step
       (on_plan eq s.world n c c.plan refl fits) (λ w next b. turns s n w next.left i b) in
       kept ((balanced_kept eq).step s t n turn i.balanced step)
 
-  pub turning_kept : IsKept eq (IsTurning {K = K} {V = V})
+  pub turning_kept : IsKept eq (IsTurning {K = K} {V = V} {E = E})
   turning_kept = record {
-    fresh = λ rules size has_log. record {
-      balanced = (balanced_kept eq).fresh rules size has_log;
+    fresh = λ rules size tests has_log. record {
+      balanced = (balanced_kept eq).fresh rules size tests has_log;
       fits = λ n. record { first = tt; has = λ e. absurd (none_some e); applies = λ t. absurd t };
       mid = λ n t. t;
     };
@@ -337,7 +344,7 @@ module _ {K V : Type 0} (eq : K → K → Bool) where
         let new : ℕ = s.world.desk.last + 1 in
         let free : plan_left (s.calls new) ≡ [] = ap plan_left (next_free s i.balanced) in
         turns s new _ (Some (fresh_call s.world.desk.rules start)) i
-        (calm s.world.desk.turn new (fresh_calm s.world.desk.rules start) (λ e. subst InTurn free ((i.fits new).has e)))
+        (calm s.world.desk.turn new (form_calm s.world.desk.rules _ (fresh_plan s.world.desk.rules start)) (λ e. subst InTurn free ((i.fits new).has e)))
         ((balanced_kept eq).start s start i.balanced);
     step = turning_step;
     tell = λ s n given asked i. record { balanced = (balanced_kept eq).tell s n given asked i.balanced; fits = i.fits; mid = i.mid };
@@ -348,27 +355,27 @@ module _ {K V : Type 0} (eq : K → K → Bool) where
         turns s n _ None i (calm s.world.desk.turn n refl idle) ((balanced_kept eq).drop s n c live between i.balanced);
   }
 
-  in_applies : (plan : List (Item K V)) → InTurn plan → IsApplying plan
+  in_applies : (plan : List (Item K V E)) → InTurn plan → IsApplying plan
   in_applies (plan.Apply ∷ rest) h = in_applies rest h
   in_applies (plan.End ∷ rest) h = tt
   in_applies [] h = h
   in_applies (_ ∷ rest) h = absurd h
 
-  applies_in : (plan : List (Item K V)) → TurnsFirst plan → IsApplying plan → InTurn plan
+  applies_in : (plan : List (Item K V E)) → TurnsFirst plan → IsApplying plan → InTurn plan
   applies_in (plan.Apply ∷ rest) f h = f
   applies_in (plan.End ∷ rest) f h = f
   applies_in [] f h = h
   applies_in (_ ∷ rest) f h = absurd h
 
   -- a call that is in a turn has it
-  holds : (s : State K V) (n : ℕ) (o : Option (Call K V)) → s.calls n ≡ o → InTurn (plan_left o) → IsMid o → AppliesLog s n
+  holds : (s : State K V E) (n : ℕ) (o : Option (Call K V E)) → s.calls n ≡ o → InTurn (plan_left o) → IsMid o → AppliesLog s n
   holds s n None e t m = absurd t
   holds s n (Some c) e t m = record { call = c; live = e; between = m; applying = in_applies c.plan t }
 
-  pub in_turning : (s : State K V) → IsReached eq s → IsTurning s
+  pub in_turning : (s : State K V E) → IsReached eq s → IsTurning s
   in_turning s h = in_reached eq IsTurning turning_kept s h
 
-  pub turn_held : TurnIsHeld K V eq
+  pub turn_held : TurnIsHeld K V E eq
   turn_held s n h =
       let i : IsTurning s = in_turning s h in (
         λ e. let t = (i.fits n).has e in holds s n (s.calls n) refl t (i.mid n t),

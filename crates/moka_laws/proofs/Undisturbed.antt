@@ -1,5 +1,6 @@
 -- An insert and then a get, with no step of others between.
 use Rattle.std.proofs.Common.{◌≡◌, ℕ, zero, suc, ◌+◌, Bool, true, false, cond, List, [], ◌∷◌, Option, Some, None, refl, sym, ap, ◌∙◌, subst}
+use Rattle.std.proofs.lemmas.Bool.{false≢true}
 use Rattle.moka_hist.specs.State.{State, World, Call, DeskPart}
 use Rattle.moka_hist.specs.Plan.{Item, get_plan, insert_plan, is_disabled, plan_of}
 use Rattle.moka_hist.specs.Plan as plan
@@ -21,17 +22,17 @@ use Rattle.moka_laws.proofs.Steady.{goings_rules, step_rules}
 use Rattle.moka_laws.proofs.StepCases.{OnStep, step_cases}
 use Rattle.moka_laws.proofs.Outcomes.{outcomes, on_desk}
 
-same_answer : {K V : Type 0} (a b : Answer V) → ◌≡◌ {A = Turn K V} (turn.Answer a) (turn.Answer b) → a ≡ b
+same_answer : {K V E : Type 0} (a b : Answer V E) → ◌≡◌ {A = Turn K V E} (turn.Answer a) (turn.Answer b) → a ≡ b
 same_answer a b e = cc
 
 -- what is stored by key
 abbrev Map : Type 0 → Type 0 → Type 0
 Map K V = K → Option (K × Stored V)
 
-module _ {K V : Type 0} where
+module _ {K V E : Type 0} where
   -- the item neither looks a key up nor stores anything: it takes owed writes up, posts one, or has
   -- part in a lock or a notice
-  abbrev IsPosting : Item K V → Type 0
+  abbrev IsPosting : Item K V E → Type 0
   IsPosting (plan.Ended number) = Unit {0}
   IsPosting (plan.Lock key) = Unit {0}
   IsPosting (plan.Unlock wrote) = Unit {0}
@@ -45,11 +46,11 @@ module _ {K V : Type 0} where
   IsPosting _ = ⊥
 
   -- the plan has such items, and then is this one
-  data Before (last : List (Item K V)) : List (Item K V) → Type 0 where
+  data Before (last : List (Item K V E)) : List (Item K V E) → Type 0 where
     Here : Before last last
-    Then : (item : Item K V) (rest : List (Item K V)) → IsPosting item → Before last rest → Before last (item ∷ rest)
+    Then : (item : Item K V E) (rest : List (Item K V E)) → IsPosting item → Before last rest → Before last (item ∷ rest)
 
-  before_reply : (last : List (Item K V)) (a : Answer V) (p : List (Item K V)) → p ≡ plan.Reply a ∷ [] → Before last p → last ≡ plan.Reply a ∷ []
+  before_reply : (last : List (Item K V E)) (a : Answer V E) (p : List (Item K V E)) → p ≡ plan.Reply a ∷ [] → Before last p → last ≡ plan.Reply a ∷ []
   before_reply last a p e Here = e
   before_reply last a p e (Then plan.Drain rest i b) = cc
   before_reply last a p e (Then (plan.Post write) rest i b) = cc
@@ -63,23 +64,23 @@ module _ {K V : Type 0} where
   before_reply last a p e (Then plan.Heard rest i b) = cc
   before_reply last a p e (Then _ rest i b) = absurd i
 
-  module _ (Phase : Map K V → List (Item K V) → Type 0) (Ends : Map K V → Answer V → Type 0) where
+  module _ (Phase : Map K V → List (Item K V E) → Type 0) (Ends : Map K V → Answer V E → Type 0) where
     -- How a call goes on: in a phase, or with an end.
-    record Goes (new : World K V) (next : Next K V) : Type 0 where
-      going : next.turn ≡ turn.Going → (c : Call K V) × (next.left ≡ Some c) × Phase new.table.stored c.plan
-      ends : (a : Answer V) → next.turn ≡ turn.Answer a → Ends new.table.stored a
+    record Goes (new : World K V E) (next : Next K V E) : Type 0 where
+      going : next.turn ≡ turn.Going → (c : Call K V E) × (next.left ≡ Some c) × Phase new.table.stored c.plan
+      ends : (a : Answer V E) → next.turn ≡ turn.Answer a → Ends new.table.stored a
 
-    on : (w : World K V) (c : Call K V) (rest : List (Item K V)) → Phase w.table.stored rest →
+    on : (w : World K V E) (c : Call K V E) (rest : List (Item K V E)) → Phase w.table.stored rest →
         Goes w (record { left = Some (record c { mode = mode.Mid; plan = rest }); turn = turn.Going })
     on w c rest p = record { going = λ e. (record c { mode = mode.Mid; plan = rest }, refl, p); ends = λ a e. cc }
 
-    parks : (w : World K V) (c : Call K V) → Goes w (waits c)
+    parks : (w : World K V E) (c : Call K V E) → Goes w (waits c)
     parks w c = record { going = λ e. cc; ends = λ a e. cc }
 
-    ended : (w : World K V) (a : Answer V) → Ends w.table.stored a → Goes w (answers a)
+    ended : (w : World K V E) (a : Answer V E) → Ends w.table.stored a → Goes w (answers a)
     ended w a h = record { going = λ e. cc; ends = λ b e. subst (Ends w.table.stored) (same_answer a b e) h }
 
-    goes_cases : (w : World K V) (c : Call K V) (rest : List (Item K V)) → ((a : Answer V) → rest ≡ plan.Reply a ∷ [] → Ends w.table.stored a) →
+    goes_cases : (w : World K V E) (c : Call K V E) (rest : List (Item K V E)) → ((a : Answer V E) → rest ≡ plan.Reply a ∷ [] → Ends w.table.stored a) →
         Phase w.table.stored rest → Goes w (goes c rest)
     goes_cases w c (plan.Reply a ∷ []) h p = ended w a (h a refl)
     goes_cases w c (plan.Reply a ∷ x ∷ rest) h p = on w c (plan.Reply a ∷ x ∷ rest) p
@@ -87,12 +88,12 @@ module _ {K V : Type 0} where
     goes_cases w c (item ∷ rest) h p = on w c (item ∷ rest) p
 
     -- while the plan takes up and posts writes it stays before its last part, and nothing is stored
-    module _ (eq : K → K → Bool) (w : World K V) (n : ℕ) (c : Call K V) (last : List (Item K V))
-        (phase : (p : List (Item K V)) → Before last p → Phase w.table.stored p) (end : (a : Answer V) → last ≡ plan.Reply a ∷ [] → Ends w.table.stored a) where
-      follows : (d : DeskPart K V) (rest : List (Item K V)) → Before last rest → Goes (on_desk eq w d) (goes c rest)
+    module _ (eq : K → K → Bool) (w : World K V E) (n : ℕ) (c : Call K V E) (last : List (Item K V E))
+        (phase : (p : List (Item K V E)) → Before last p → Phase w.table.stored p) (end : (a : Answer V E) → last ≡ plan.Reply a ∷ [] → Ends w.table.stored a) where
+      follows : (d : DeskPart K V E) (rest : List (Item K V E)) → Before last rest → Goes (on_desk eq w d) (goes c rest)
       follows d rest b = goes_cases (on_desk eq w d) c rest (λ a e. end a (before_reply last a rest e b)) (phase rest b)
 
-      before_step : (p : List (Item K V)) → OnStep eq Goes w n c last → Before last p → OnStep eq Goes w n c p
+      before_step : (p : List (Item K V E)) → OnStep eq Goes w n c last → Before last p → OnStep eq Goes w n c p
       before_step p here Here = here
       before_step p here (Then plan.Drain rest i b) = outcomes eq Goes w n c plan.Drain rest (
         (λ e. follows w.desk rest b),
@@ -121,47 +122,48 @@ module _ {K V : Type 0} where
       before_step p here (Then plan.End rest i b) = outcomes eq Goes w n c plan.End rest (follows _ rest b)
       before_step p here (Then _ rest i b) = absurd i
 
-    module _ (eq : K → K → Bool) (n : ℕ) (steps : (w : World K V) (c : Call K V) → Phase w.table.stored c.plan → OnStep eq Goes w n c c.plan) where
+    module _ (eq : K → K → Bool) (n : ℕ) (steps : (w : World K V E) (c : Call K V E) → Phase w.table.stored c.plan → OnStep eq Goes w n c c.plan) where
       -- the live call is in the phase
-      abbrev In : State K V → Type 0
-      In s = (c : Call K V) × (s.calls n ≡ Some c) × Phase s.world.table.stored c.plan
+      abbrev In : State K V E → Type 0
+      In s = (c : Call K V E) × (s.calls n ≡ Some c) × Phase s.world.table.stored c.plan
 
       -- each step leaves it in the phase, or ends it
-      one_step : (s t : State K V) (r : Turn K V) → In s → Step eq s n r t → (r ≡ turn.Going → In t) × ((a : Answer V) → r ≡ turn.Answer a → Ends t.world.table.stored a)
+      one_step : (s t : State K V E) (r : Turn K V E) → In s → Step eq s n r t → (r ≡ turn.Going → In t) × ((a : Answer V E) → r ≡ turn.Answer a → Ends t.world.table.stored a)
       one_step s t r i step =
           let is : i.0 ≡ step.call = some_same (sym i.1 ∙ step.live) in
-          step_cases eq Goes (λ v r. (r ≡ turn.Going → In v) × ((a : Answer V) → r ≡ turn.Answer a → Ends v.world.table.stored a)) s t n r step
-          (steps s.world step.call (subst (λ (d : Call K V). Phase s.world.table.stored d.plan) is i.2))
+          step_cases eq Goes (λ v r. (r ≡ turn.Going → In v) × ((a : Answer V E) → r ≡ turn.Answer a → Ends v.world.table.stored a)) s t n r step
+          (steps s.world step.call (subst (λ (d : Call K V E). Phase s.world.table.stored d.plan) is i.2))
           (λ w next g. ((λ e. let d = g.going e in (d.0, put_here s.calls n next.left ∙ d.1, d.2)), g.ends))
 
-      more_steps : (k : ℕ) (s t : State K V) → In s → Goings eq Any k s n t → In t
+      more_steps : (k : ℕ) (s t : State K V E) → In s → Goings eq Any k s n t → In t
       unfolding Goings
       more_steps zero s t i going = subst In (sym going) i
       more_steps (suc k) s t i going = (one_step going.0 t turn.Going (more_steps k s going.0 i going.1) going.2).0 refl
 
-      in_end : (s t : State K V) (a : Answer V) → In s → AnswersAlone eq s n a t → Ends t.world.table.stored a
+      in_end : (s t : State K V E) (a : Answer V E) → In s → AnswersAlone eq s n a t → Ends t.world.table.stored a
       in_end s t a i alone = (one_step alone.mid t (turn.Answer a) (more_steps alone.going s alone.mid i alone.goes) alone.last).1 a refl
 
-module _ {K V : Type 0} (eq : K → K → Bool) (key q : K) (value : V) (same : eq key q ≡ true) where
+module _ {K V : Type 0} where
   -- the value is stored at the key
-  abbrev Has : Map K V → Type 0
-  Has stored = (k : K) × (seen : Stored V) × (stored q ≡ Some (k, seen)) × (seen.value ≡ value)
+  abbrev Has : K → V → Map K V → Type 0
+  Has q value stored = (k : K) × (seen : Stored V) × (stored q ≡ Some (k, seen)) × (seen.value ≡ value)
 
+module _ {K V E : Type 0} (eq : K → K → Bool) (key q : K) (value : V) (same : eq key q ≡ true) where
   -- ---- the insert
 
-  done : List (Item K V)
+  done : List (Item K V E)
   done = plan.Reply answer.Done ∷ []
 
-  data Inserts (stored : Map K V) : List (Item K V) → Type 0 where
-    Early : (p : List (Item K V)) → Before (plan.Moment (plan.To_store key value) ∷
+  data Inserts (stored : Map K V) : List (Item K V E) → Type 0 where
+    Early : (p : List (Item K V E)) → Before (plan.Moment (plan.To_store key value) ∷
         plan.Reply answer.Done ∷ []) p → Inserts stored p
     Writing : (moment : ℕ) → Inserts stored (plan.Write key value moment ∷ plan.Reply answer.Done ∷ [])
-    Late : (p : List (Item K V)) → Has stored → Before (plan.Reply answer.Done ∷ []) p → Inserts stored p
+    Late : (p : List (Item K V E)) → Has q value stored → Before (plan.Reply answer.Done ∷ []) p → Inserts stored p
 
-  abbrev Inserted : Map K V → Answer V → Type 0
-  Inserted stored a = Has stored
+  abbrev Inserted : Map K V → Answer V E → Type 0
+  Inserted stored a = Has q value stored
 
-  inserts : (n : ℕ) (w : World K V) (c : Call K V) (p : List (Item K V)) → c.plan ≡ p → Inserts w.table.stored p → OnStep eq (Goes Inserts Inserted) w n c p
+  inserts : (n : ℕ) (w : World K V E) (c : Call K V E) (p : List (Item K V E)) → c.plan ≡ p → Inserts w.table.stored p → OnStep eq (Goes Inserts Inserted) w n c p
   inserts n w c p e (Early q b) =
       before_step Inserts Inserted eq w n c (plan.Moment (plan.To_store key value) ∷
       plan.Reply answer.Done ∷ []) (λ r d. Early r d) (λ a f. cc) p
@@ -178,7 +180,7 @@ module _ {K V : Type 0} (eq : K → K → Bool) (key q : K) (value : V) (same : 
         (Then (plan.Unlock true) _ tt (Then (plan.Post _) _ tt Here)))),
   )
     where
-      has : Has (written eq n w.table key (record { value = value; stamp = n; modified = moment })).stored
+      has : Has q value (written eq n w.table key (record { value = value; stamp = n; modified = moment })).stored
       has = (
         key,
         record { value = value; stamp = n; modified = moment },
@@ -192,31 +194,33 @@ module _ {K V : Type 0} (eq : K → K → Bool) (key q : K) (value : V) (same : 
 
   -- ---- the get
 
-  data Looks (stored : Map K V) : List (Item K V) → Type 0 where
-    Seeking : (p : List (Item K V)) → Has stored → Before (plan.Get plan.To_answer q ∷ []) p → Looks stored p
+  data Looks (stored : Map K V) : List (Item K V E) → Type 0 where
+    Seeking : (p : List (Item K V E)) → Has q value stored → Before (plan.Get plan.To_answer q ∷ []) p → Looks stored p
     Judging : (k : K) (seen : Stored V) → seen.value ≡ value → Looks stored (plan.Judge plan.To_answer k seen ∷ [])
 
-  abbrev Finds : Map K V → Answer V → Type 0
+  abbrev Finds : Map K V → Answer V E → Type 0
   Finds stored a = a ≡ answer.Found (Some value)
 
-  looks : (n : ℕ) (w : World K V) (c : Call K V) (p : List (Item K V)) → c.plan ≡ p → Looks w.table.stored p → OnStep eq (Goes Looks Finds) w n c p
+  looks : (n : ℕ) (w : World K V E) (c : Call K V E) (p : List (Item K V E)) → c.plan ≡ p → Looks w.table.stored p → OnStep eq (Goes Looks Finds) w n c p
   looks n w c p e (Seeking r has b) =
       before_step Looks Finds eq w n c (plan.Get plan.To_answer q ∷ []) (λ v d. Seeking v has d) (λ a f. cc) p (
         (λ more. record { going = λ f. (record c { mode = mode.Mid }, refl, subst (Looks w.table.stored) (sym e) (Seeking r has b)); ends = λ a f. cc }),
         λ found t o.
             rw (o.1, o.0 ∙ ap answer_of has.2) (on Looks Finds _ c (plan.Judge plan.To_answer has.0 has.1 ∷ []) (Judging has.0 has.1 has.3)),
       ) b
-  looks n w c p e (Judging k seen is) = outcomes eq (Goes Looks Finds) w n c (plan.Judge plan.To_answer k seen) []
-      (ended Looks Finds _ (answer.Found (Some seen.value)) (ap (λ v. answer.Found (Some v)) is))
+  looks n w c p e (Judging k seen is) = outcomes eq (Goes Looks Finds) w n c (plan.Judge plan.To_answer k seen) [] (
+    (λ sees. ended Looks Finds _ (answer.Found (Some seen.value)) (ap (λ v. answer.Found (Some v)) is)),
+    λ unseen. absurd (false≢true (sym unseen)),
+  )
 
   -- ---- both
 
-  found : (s t u : State K V) (n : ℕ) (a : Answer V) → is_disabled s.world.desk.rules ≡ false →
+  found : (s t u : State K V E) (n : ℕ) (a : Answer V E) → is_disabled s.world.desk.rules ≡ false →
       s.calls n ≡ Some (fresh_call s.world.desk.rules (start.Insert key value)) →
       AnswersAlone eq s n answer.Done t →
       AnswersAlone eq (started t (start.Get q)) (t.world.desk.last + 1) a u → a ≡ answer.Found (Some value)
   found s t u n a able live inserted got =
-      let has : Has t.world.table.stored =
+      let has : Has q value t.world.table.stored =
       in_end Inserts Inserted eq n (λ w c p. inserts n w c c.plan refl p) s t answer.Done
       (fresh_call s.world.desk.rules (start.Insert key value), live, early) inserted in
       in_end Looks Finds eq (t.world.desk.last + 1) (λ w c p. looks (t.world.desk.last + 1) w c c.plan refl p) (started t (start.Get q)) u a (
@@ -226,8 +230,8 @@ module _ {K V : Type 0} (eq : K → K → Bool) (key q : K) (value : V) (same : 
         seeking has,
       ) got
     where
-      early : Inserts s.world.table.stored (plan_of s.world.desk.rules (start.Insert key value))
-      early = subst (λ b. Inserts s.world.table.stored (insert_plan b s.world.desk.rules key value))
+      early : Inserts s.world.table.stored (plan_of {E = E} s.world.desk.rules (start.Insert key value))
+      early = subst (λ b. Inserts s.world.table.stored (insert_plan {E = E} b s.world.desk.rules key value))
           (sym able)
           (put_plans (Inserts s.world.table.stored) s.world.desk.rules key value
           (plan.Reply answer.Done ∷ [])
@@ -239,13 +243,13 @@ module _ {K V : Type 0} (eq : K → K → Bool) (key q : K) (value : V) (same : 
       rules = step_rules eq inserted.mid t n _ inserted.last ∙
           goings_rules eq Any inserted.going s inserted.mid n inserted.goes
 
-      seeking : Has t.world.table.stored → Looks t.world.table.stored
-          (plan_of t.world.desk.rules (start.Get q))
-      seeking has = subst (λ b. Looks t.world.table.stored (get_plan b q))
+      seeking : Has q value t.world.table.stored → Looks t.world.table.stored
+          (plan_of {E = E} t.world.desk.rules (start.Get q))
+      seeking has = subst (λ b. Looks t.world.table.stored (get_plan {E = E} b q))
           (sym (ap is_disabled rules ∙ able))
           (Seeking _ has (Then plan.Drain _ tt Here))
 
-module _ {K V : Type 0} (eq : K → K → Bool) where
-  pub inserted_is_found : InsertThenGet K V eq
+module _ {K V E : Type 0} (eq : K → K → Bool) where
+  pub inserted_is_found : InsertThenGet K V E eq
   inserted_is_found s t u n key q value a h able live inserted same got =
       found eq key q value same s t u n a able live inserted got

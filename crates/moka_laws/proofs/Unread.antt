@@ -23,21 +23,21 @@ use Rattle.moka_laws.proofs.Sums.{sum_to, sum_has, sum_zero, sum_suc}
 use Rattle.moka_laws.proofs.Kept.{IsKept, in_reached}
 use Rattle.moka_laws.proofs.Weights.{weigh}
 use Rattle.moka_laws.proofs.Owning.{plan_left}
-use Rattle.moka_laws.proofs.Plans.{IsTail, Answering, Settling, IsDrained, Looking, Putting, IsPosted, Draining, Ended, Locking, IsPlan, Posted, Drained, Posting, Hearing, Noticing, Listening, Unlocking, Turning, Applying, Ending, Judging, Owning, Reading, Asking, Telling, Writing, Removing, Locking_out, Choosing, Finding, Chosen, Taking, Freeing, Idling}
+use Rattle.moka_laws.proofs.Plans.{IsTail, Answering, Settling, IsDrained, Looking, Putting, IsPosted, Draining, Ended, Locking, IsPlan, Posted, Drained, Posting, Hearing, Noticing, Listening, Unlocking, Turning, Applying, Ending, Judging, Owning, Giving, Reading, Asking, Telling, Writing, Removing, Locking_out, Choosing, Finding, Chosen, Taking, Freeing, Idling}
 use Rattle.moka_laws.proofs.Reading.{joins, reader_joins}
 use Rattle.moka_laws.proofs.Roles.{Fits, awaited, owners}
 use Rattle.moka_laws.proofs.Safe.{IsWell, well_kept, in_well}
 use Rattle.moka_laws.proofs.Served.{joined_live}
 
-module _ {K V : Type 0} where
+module _ {K V E : Type 0} where
   -- what is kept somebody has still to read
-  abbrev Awaited : DeskPart K V → Type 0
+  abbrev Awaited : DeskPart K V E → Type 0
   Awaited d = (o : ℕ) → IsSome (d.settled o) → 0 < d.readers o
 
   -- ---- what a visit keeps
 
   -- one more waits for an owner
-  joins_awaited : (d : DeskPart K V) (owner : ℕ) → Awaited d → (o : ℕ) → IsSome (d.settled o) → 0 < put_at d.readers owner (d.readers owner + 1) o
+  joins_awaited : (d : DeskPart K V E) (owner : ℕ) → Awaited d → (o : ℕ) → IsSome (d.settled o) → 0 < put_at d.readers owner (d.readers owner + 1) o
   joins_awaited d owner a o some = by (owner == o)
     where
       by : (b : Bool) → 0 < cond b (d.readers owner + 1) (d.readers o)
@@ -45,7 +45,7 @@ module _ {K V : Type 0} where
       by false = a o some
 
   -- one fewer waits for an owner, and the last takes away what is kept
-  reads_awaited : (d : DeskPart K V) (call : ℕ) → Awaited d → (o : ℕ) → IsSome (settled_without d call o) → 0 < readers_without d call o
+  reads_awaited : (d : DeskPart K V E) (call : ℕ) → Awaited d → (o : ℕ) → IsSome (settled_without d call o) → 0 < readers_without d call o
   reads_awaited d call a o some = by (is_reader_of d call o) (d.readers o == 1) refl some
     where
       by : (x y : Bool) → (d.readers o == 1) ≡ y → is_some (cond (x && y) None (d.settled o)) ≡ true → 0 < cond x (d.readers o - 1) (d.readers o)
@@ -54,7 +54,7 @@ module _ {K V : Type 0} where
       by true false e some = let more = a o some in grind (arith, nat_tests)
 
   -- an owner ends, and that is kept where somebody waits for it
-  ends_awaited : (d : DeskPart K V) (call : ℕ) (with : Settled V) (kept : ℕ → Option (Settled V)) (o : ℕ) → IsSome (settled_with d call with kept o) →
+  ends_awaited : (d : DeskPart K V E) (call : ℕ) (with : Settled V E) (kept : ℕ → Option (Settled V E)) (o : ℕ) → IsSome (settled_with d call with kept o) →
       (is_some (d.owning call) ≡ true) × ((call ≡ o) × (0 < d.readers o)) ⊎ IsSome (kept o)
   ends_awaited d call with kept o some = by (is_some (d.owning call)) (nat_lt 0 (d.readers call)) (call == o) refl refl refl some
     where
@@ -68,18 +68,18 @@ module _ {K V : Type 0} where
       by true false z e f g some = inr some
       by false y z e f g some = inr some
 
-  claimed_awaited : (eq : K → K → Bool) (d : DeskPart K V) (call : ℕ) (load : Load K) (owner : Option ℕ) → Awaited d → Awaited (claimed eq d call load owner)
+  claimed_awaited : (eq : K → K → Bool) (d : DeskPart K V E) (call : ℕ) (load : Load K) (owner : Option ℕ) → Awaited d → Awaited (claimed eq d call load owner)
   claimed_awaited eq d call load None a = a
   claimed_awaited eq d call load (Some owner) a = joins_awaited d owner a
 
-  settled_awaited : (d : DeskPart K V) (call : ℕ) (with : Settled V) → Awaited d → Awaited (settled_as d call with)
+  settled_awaited : (d : DeskPart K V E) (call : ℕ) (with : Settled V E) → Awaited d → Awaited (settled_as d call with)
   settled_awaited d call with a o some = by (ends_awaited d call with d.settled o some)
     where
       by : (is_some (d.owning call) ≡ true) × ((call ≡ o) × (0 < d.readers o)) ⊎ IsSome (d.settled o) → 0 < d.readers o
       by (inl h) = h.1.1
       by (inr h) = a o h
 
-  visit_awaited : (eq : K → K → Bool) (d : DeskPart K V) (made : Visit K V) → Awaited d → Awaited (makes eq d made)
+  visit_awaited : (eq : K → K → Bool) (d : DeskPart K V E) (made : Visit K V E) → Awaited d → Awaited (makes eq d made)
   visit_awaited eq d (visit.WaitOrOwn call key kind) a = claimed_awaited eq d call _ _ a
   visit_awaited eq d (visit.ReadSettled call) a = by (is_some (settlement_for d call)) refl
     where
@@ -95,7 +95,7 @@ module _ {K V : Type 0} where
   visit_awaited eq d _ a = a
 
   -- a call that leaves owns nothing or waits for nobody
-  left_awaited : (d : DeskPart K V) (call : ℕ) (held : Option Owed) → (is_some (d.owning call) ≡ true → is_some (d.joined call) ≡ false) → Awaited d →
+  left_awaited : (d : DeskPart K V E) (call : ℕ) (held : Option Owed) → (is_some (d.owning call) ≡ true → is_some (d.joined call) ≡ false) → Awaited d →
       Awaited (left d call held)
   left_awaited d call held alone a o some = by (ends_awaited d call settled.Aborted (settled_without d call) o some)
     where
@@ -110,27 +110,28 @@ module _ {K V : Type 0} where
   -- ---- plans of owners and of those that wait
 
   -- no plan is one of both
-  abbrev OneRole : List (Item K V) → Type 0
+  abbrev OneRole : List (Item K V E) → Type 0
   OneRole p = (weigh owners p ≡ 0) ⊎ (awaited p ≡ None)
 
-  pub tail_role : (p : List (Item K V)) → IsTail p → awaited p ≡ None
+  pub tail_role : (p : List (Item K V E)) → IsTail p → awaited p ≡ None
   tail_role p (Answering a) = refl
   tail_role p (Settling with a) = refl
 
-  pub drained_role : (p : List (Item K V)) → IsDrained p → awaited p ≡ None
+  pub drained_role : (p : List (Item K V E)) → IsDrained p → awaited p ≡ None
   drained_role p (Looking aim key l) = refl
-  drained_role p (Owning load) = refl
+  drained_role p (Owning sought) = refl
+  drained_role p (Giving a) = refl
   drained_role p (Removing removal key) = refl
   drained_role p (Locking_out removal key) = refl
   drained_role p (Putting key value rest t) = tail_role rest t
   drained_role p (Locking key value rest t) = tail_role rest t
 
-  pub posted_role : (p : List (Item K V)) → IsPosted p → awaited p ≡ None
+  pub posted_role : (p : List (Item K V E)) → IsPosted p → awaited p ≡ None
   posted_role p (Draining rest d) = drained_role rest d
   posted_role p (Ended rest t) = tail_role rest t
 
-  plan_role : (p : List (Item K V)) → IsPlan p → OneRole p
-  plan_role p (Reading load) = inl refl
+  plan_role : (p : List (Item K V E)) → IsPlan p → OneRole p
+  plan_role p (Reading sought) = inl refl
   plan_role p (Posted rest d) = inr (posted_role rest d)
   plan_role p (Drained rest d) = inr (drained_role rest d)
   plan_role p (Posting x rest d) = inr (posted_role rest d)
@@ -152,36 +153,36 @@ module _ {K V : Type 0} where
   plan_role p (Idling a) = inr refl
   plan_role p (Writing key value moment rest t) = inr (tail_role rest t)
 
-  role_alone : (o : Option (Load K)) (j : Option ℕ) (p : List (Item K V)) → Fits o j p → OneRole p → is_some o ≡ true → is_some j ≡ false
+  role_alone : (o : Option (Load K)) (j : Option ℕ) (p : List (Item K V E)) → Fits o j p → OneRole p → is_some o ≡ true → is_some j ≡ false
   role_alone o j p f (inl none) own = let one = ap (λ b. cond {A = ℕ} b 1 0) own in absurd (omega (arith, f.owning))
   role_alone o j p f (inr none) own = f.waiting ∙ ap is_some none
 
-module _ {K V : Type 0} (eq : K → K → Bool) where
-  record IsAwaited (s : State K V) : Type 0 where
+module _ {K V E : Type 0} (eq : K → K → Bool) where
+  record IsAwaited (s : State K V E) : Type 0 where
     well : IsWell eq s
     awaited : Awaited s.world.desk
 
-  access_awaited : (n : ℕ) (w new : World K V) (a : Access K V) (g : Got K V) → Gets eq n w a g new → Awaited w.desk → Awaited new.desk
-  access_awaited n w new (On_table o) (got.Table table.Going) gets h = subst (λ (v : World K V). Awaited v.desk) (sym gets.1) h
-  access_awaited n w new (On_table o) (got.Table (table.Decided answer)) gets h = subst (λ (v : World K V). Awaited v.desk) (sym gets.2) h
-  access_awaited n w new (On_desk made) (got.Desk f) gets h = subst (λ (v : World K V). Awaited v.desk) (sym gets.1) (visit_awaited eq w.desk made h)
+  access_awaited : (n : ℕ) (w new : World K V E) (a : Access K V E) (g : Got K V E) → Gets eq n w a g new → Awaited w.desk → Awaited new.desk
+  access_awaited n w new (On_table o) (got.Table table.Going) gets h = subst (λ (v : World K V E). Awaited v.desk) (sym gets.1) h
+  access_awaited n w new (On_table o) (got.Table (table.Decided answer)) gets h = subst (λ (v : World K V E). Awaited v.desk) (sym gets.2) h
+  access_awaited n w new (On_desk made) (got.Desk f) gets h = subst (λ (v : World K V E). Awaited v.desk) (sym gets.1) (visit_awaited eq w.desk made h)
   access_awaited n w new (On_table o) (got.Desk f) gets h = absurd gets
   access_awaited n w new (On_desk made) (got.Table turn) gets h = absurd gets
 
   -- a live call that owns waits for nobody
-  alone_live : (s : State K V) (n : ℕ) (c : Call K V) → IsWell eq s → s.calls n ≡ Some c → is_some (s.world.desk.owning n) ≡ true → is_some (s.world.desk.joined n) ≡ false
+  alone_live : (s : State K V E) (n : ℕ) (c : Call K V E) → IsWell eq s → s.calls n ≡ Some c → is_some (s.world.desk.owning n) ≡ true → is_some (s.world.desk.joined n) ≡ false
   alone_live s n c well live =
       role_alone (s.world.desk.owning n) (s.world.desk.joined n) c.plan
       (subst (λ v. Fits (s.world.desk.owning n) (s.world.desk.joined n) (plan_left v)) live (well.served.fits n)) (plan_role c.plan (well.asking.known n c live).plan)
 
   awaited_kept : IsKept eq IsAwaited
   awaited_kept = record {
-    fresh = λ rules size has_log. record { well = (well_kept eq).fresh rules size has_log; awaited = λ o some. absurd (false≢true some) };
+    fresh = λ rules size tests has_log. record { well = (well_kept eq).fresh rules size tests has_log; awaited = λ o some. absurd (false≢true some) };
     at = λ s moment i. record { well = (well_kept eq).at s moment i.well; awaited = i.awaited };
     start = λ s start i. record { well = (well_kept eq).start s start i.well; awaited = i.awaited };
     step = λ s t n turn i step. record {
       well = (well_kept eq).step s t n turn i.well step;
-      awaited = subst (λ (v : State K V). Awaited v.world.desk) (sym step.after)
+      awaited = subst (λ (v : State K V E). Awaited v.world.desk) (sym step.after)
           (access_awaited n s.world step.world (access_of n step.call) step.given step.gets i.awaited);
     };
     tell = λ s n given asked i. record { well = (well_kept eq).tell s n given asked i.well; awaited = i.awaited };
@@ -194,11 +195,11 @@ module _ {K V : Type 0} (eq : K → K → Bool) where
 
   -- ---- the count
 
-  same_count : (d : DeskPart K V) (k o : ℕ) → how_many k (λ n. is_reader_of d n o) ≡ sum_to k (λ m. joins o (d.joined m))
+  same_count : (d : DeskPart K V E) (k o : ℕ) → how_many k (λ n. is_reader_of d n o) ≡ sum_to k (λ m. joins o (d.joined m))
   same_count d zero o = omega (arith, reader_joins d 0 o, sum_zero (λ m. joins o (d.joined m)))
   same_count d (suc k) o = let less = same_count d k o in omega (arith, reader_joins d (suc k) o, sum_suc k (λ m. joins o (d.joined m)))
 
-  pub readers_counted : ReadersAreCounted K V eq
+  pub readers_counted : ReadersAreCounted K V E eq
   readers_counted s owner h =
       let i = (in_well eq s h).served in
       record {
@@ -207,7 +208,7 @@ module _ {K V : Type 0} (eq : K → K → Bool) where
         numbered = λ n e. let c = joined_live eq (s.calls n) (s.world.desk.owning n) (s.world.desk.joined n) owner (i.fits n) e in i.balanced.numbered n c.0 c.1;
       }
 
-  pub unread_kept : NothingUnreadIsKept K V eq
+  pub unread_kept : NothingUnreadIsKept K V E eq
   unread_kept s owner h some =
       let i = in_reached eq IsAwaited awaited_kept s h in
       let more = sum_has s.world.desk.last (λ m. joins owner (s.world.desk.joined m)) (omega (arith, i.well.served.counted owner, i.awaited owner some)) in

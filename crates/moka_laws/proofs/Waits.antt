@@ -1,6 +1,7 @@
 -- When a step waits.
 use Rattle.std.proofs.Common.{◌≡◌, ◌≢◌, ◌↔◌, ℕ, ◌+◌, ◌==◌, Bool, true, false, List, [], ◌∷◌, Option, Some, None, IsNone, is_some, refl, sym, ap, ◌∙◌, subst}
 use Rattle.std.proofs.lemmas.Bool.{false≢true}
+use Rattle.moka_hist.specs.declared.replies.Answer.TheVariants as reply
 use Rattle.moka_hist.specs.State.{World, Call}
 use Rattle.moka_hist.specs.Plan.{Item, Aim, told_on}
 use Rattle.moka_hist.specs.Plan as plan
@@ -11,6 +12,7 @@ use Rattle.moka_hist.specs.Missing.{IsMissing}
 use Rattle.moka_hist.specs.declared.records.Mode.TheVariants as mode
 use Rattle.moka_hist.specs.declared.records.Stored.{Stored}
 use Rattle.moka_hist.specs.declared.loads.Load.{Load}
+use Rattle.moka_hist.specs.declared.loads.Sought.{Sought}
 use Rattle.moka_hist.specs.declared.events.Told.{Told}
 use Rattle.moka_hist.specs.declared.events.Told.TheVariants as answer
 use Rattle.moka_hist.specs.declared.visits.Settled.{Settled}
@@ -19,110 +21,121 @@ use Rattle.moka_hist.specs.declared.visits.Found.TheVariants as found
 use Rattle.moka_hist.specs.declared.accesses.Turn.TheVariants as turn
 use Rattle.moka_laws.specs.Waiting.{WaitsByCause, WaitsFor}
 use Rattle.moka_laws.proofs.Counting.{none_some}
-use Rattle.moka_laws.proofs.Rules.{loaded_plans, kept_next, chosen_next}
+use Rattle.moka_laws.proofs.Rules.{put_plans, loaded_plans, kept_next, chosen_next}
 use Rattle.moka_laws.proofs.Plans.{IsLook, IsTail, Answering, IsDrained, Looking, IsPosted, Draining, Ended, IsPlan, Posted, Drained, Judging, calls_known}
 use Rattle.moka_laws.proofs.StepCases.{OnStep, step_cases}
 use Rattle.moka_laws.proofs.Outcomes.{Outcomes, outcomes}
-use Rattle.moka_laws.proofs.Answering.{IsValue, HasAnswers, answering, settlement_ready}
+use Rattle.moka_laws.proofs.Answering.{IsGiven, HasAnswers, answering, settlement_ready}
 use Rattle.moka_laws.proofs.Asking.{AsksWhole, ask_open, ask_closed, in_asking, whole}
 
 not_none : {A : Type 0} {a : A} (o : Option A) → o ≡ Some a → ¬ IsNone o
 not_none None e = λ h. none_some e
 not_none (Some a) e = λ h. false≢true (sym h)
 
-module _ {K V : Type 0} where
+module _ {K V E : Type 0} where
   -- the step doesn't wait
-  abbrev GoesOn : Next K V → Type 0
+  abbrev GoesOn : Next K V E → Type 0
   GoesOn next = next.turn ≢ turn.Wait
 
-  goes_on : (c : Call K V) (rest : List (Item K V)) → GoesOn (goes c rest)
+  goes_on : (c : Call K V E) (rest : List (Item K V E)) → GoesOn (goes c rest)
   goes_on c (plan.Reply a ∷ []) = λ e. cc
   goes_on c (plan.Reply a ∷ x ∷ rest) = λ e. cc
   goes_on c [] = λ e. cc
   goes_on c (_ ∷ rest) = λ e. cc
 
-  keeps_on : (c : Call K V) → GoesOn (keeps c)
+  keeps_on : (c : Call K V E) → GoesOn (keeps c)
   keeps_on c = kept_next GoesOn c (λ off e. cc) (λ on e. cc)
 
-  misses_on : (c : Call K V) (aim : Aim K) → GoesOn (misses c aim)
+  misses_on : (c : Call K V E) (aim : Aim K V) → GoesOn (misses c aim)
   misses_on c plan.To_answer = λ e. cc
-  misses_on c (plan.To_load load) = λ e. cc
-  misses_on c (plan.To_own load) = λ e. cc
+  misses_on c (plan.To_load sought) = λ e. cc
+  misses_on c (plan.To_own sought) = λ e. cc
+  misses_on c (plan.To_insert key value) =
+      let after : List (Item K V E) = plan.Reply (reply.Loaded value true) ∷ [] in
+      put_plans (λ p. GoesOn (goes c p)) c.rules key value after
+      (goes_on c (plan.Drain ∷ plan.Moment (plan.To_store key value) ∷ after))
+      (goes_on c (plan.Drain ∷ plan.Lock key ∷ plan.Moment (plan.To_store key value) ∷ after))
   misses_on c (plan.To_evict key stamp cause) = keeps_on c
 
-  finds_on : (c : Call K V) (aim : Aim K) (k : K) (stored : Stored V) →
+  finds_on : (c : Call K V E) (aim : Aim K V) (k : K) (stored : Stored V) →
       GoesOn (finds_pair c aim k stored)
   finds_on c plan.To_answer k stored = λ e. cc
-  finds_on c (plan.To_load load) k stored = λ e. cc
-  finds_on c (plan.To_own load) k stored = λ e. cc
+  finds_on c (plan.To_load sought) k stored = λ e. cc
+  finds_on c (plan.To_insert under new) k stored = λ e. cc
+  finds_on c (plan.To_own sought) k stored = λ e. cc
   finds_on c (plan.To_evict key stamp cause) k stored =
       chosen_next GoesOn c key stamp cause k stored (λ off e. cc) (λ on e. cc) (λ e. cc)
 
-  hits_on : (c : Call K V) (aim : Aim K) (value : V) → IsLook aim → GoesOn (hits c aim value)
+  hits_on : (c : Call K V E) (aim : Aim K V) (value : V) → IsLook aim → GoesOn (hits c aim value)
   hits_on c plan.To_answer value l = λ e. cc
-  hits_on c (plan.To_load load) value l = λ e. cc
-  hits_on c (plan.To_own load) value l = λ e. cc
+  hits_on c (plan.To_load sought) value l = λ e. cc
+  hits_on c (plan.To_insert under new) value l = λ e. cc
+  hits_on c (plan.To_own sought) value l = λ e. cc
   hits_on c (plan.To_evict key stamp cause) value l = absurd l
 
-  read_on : (c : Call K V) (load : Load K) (with : Settled V) → Some with ≢ Some settled.NotYet →
-      GoesOn (after_read c load (found.ReadSettled with))
-  read_on c load (settled.Ready value) h = λ e. cc
-  read_on c load settled.NotYet h = absurd (h refl)
-  read_on c load settled.Aborted h = by (c.aborts + 1 == retries) refl
+  read_on : (c : Call K V E) (sought : Sought K) (with : Settled V E) → Some with ≢ Some settled.NotYet →
+      GoesOn (after_read c sought (found.ReadSettled with))
+  read_on c sought (settled.Ready value) h = λ e. cc
+  read_on c sought (settled.Err error) h = λ e. cc
+  read_on c sought settled.Nothing h = λ e. cc
+  read_on c sought settled.NotYet h = absurd (h refl)
+  read_on c sought settled.Aborted h = by (c.aborts + 1 == retries) refl
     where
-      by : (b : Bool) → (c.aborts + 1 == retries) ≡ b → GoesOn (after_abort c load)
+      by : (b : Bool) → (c.aborts + 1 == retries) ≡ b → GoesOn (after_abort c sought)
       by true e = rw e (λ e. cc)
       by false e = rw e (λ e. cc)
 
-  tells_on : (c : Call K V) (load : Load K) (given : Told V) → IsValue (Some given) →
+  tells_on : (c : Call K V E) (load : Load K) (given : Told V E) → IsGiven (Some given) →
       GoesOn (after_told c load (found.TakeTold (Some given)))
   tells_on c load (answer.Value value) is =
-      let after : List (Item K V) = told_on value in
+      let after : List (Item K V E) = told_on value in
       loaded_plans (λ p. GoesOn (goes c p)) c.rules load value (goes_on c after)
       (goes_on c (plan.Drain ∷ plan.Moment (plan.To_store load.key value) ∷ after))
       (goes_on c (plan.Drain ∷ plan.Lock load.key ∷ plan.Moment (plan.To_store load.key value)
       ∷ after))
+  tells_on c load answer.Nothing is = λ e. cc
+  tells_on c load (answer.Err error) is = λ e. cc
   tells_on c load answer.Done is = absurd is
   tells_on c load answer.Off is = absurd is
 
   -- what the plan judges first, if anything, may be seen
-  abbrev Judges : List (Item K V) → Type 0
+  abbrev Judges : List (Item K V E) → Type 0
   Judges (plan.Judge aim key stored ∷ rest) = IsLook aim
   Judges _ = Unit {0}
 
-  tail_judges : (p : List (Item K V)) → IsTail p → Judges p
+  tail_judges : (p : List (Item K V E)) → IsTail p → Judges p
   tail_judges p (Answering a) = tt
   tail_judges p _ = tt
 
-  drained_judges : (p : List (Item K V)) → IsDrained p → Judges p
+  drained_judges : (p : List (Item K V E)) → IsDrained p → Judges p
   drained_judges p (Looking aim key l) = tt
   drained_judges p _ = tt
 
-  posted_judges : (p : List (Item K V)) → IsPosted p → Judges p
+  posted_judges : (p : List (Item K V E)) → IsPosted p → Judges p
   posted_judges p (Draining rest d) = tt
   posted_judges p (Ended rest t) = tail_judges rest t
 
-  plan_judges : (p : List (Item K V)) → IsPlan p → Judges p
+  plan_judges : (p : List (Item K V E)) → IsPlan p → Judges p
   plan_judges p (Judging aim key stored l) = l
   plan_judges p (Posted rest d) = posted_judges rest d
   plan_judges p (Drained rest d) = drained_judges rest d
   plan_judges p _ = tt
 
   -- what a step has to show: it waits where Q holds, and then it changes nothing
-  record Waits (w : World K V) (c : Call K V) (Q : Type 0) (new : World K V) (next : Next K V) : Type 0 where
+  record Waits (w : World K V E) (c : Call K V E) (Q : Type 0) (new : World K V E) (next : Next K V E) : Type 0 where
     cause : (next.turn ≡ turn.Wait) ↔ Q
     world : next.turn ≡ turn.Wait → new ≡ w
     left : next.turn ≡ turn.Wait → next.left ≡ Some (record c { mode = mode.Parked })
 
-  module _ (w : World K V) (c : Call K V) where
-    never : {Q : Type 0} {new : World K V} {next : Next K V} → ¬ Q → GoesOn next → Waits w c Q new next
+  module _ (w : World K V E) (c : Call K V E) where
+    never : {Q : Type 0} {new : World K V E} {next : Next K V E} → ¬ Q → GoesOn next → Waits w c Q new next
     never not g = record { cause = (λ e. absurd (g e), λ q. absurd (not q)); world = λ e. absurd (g e); left = λ e. absurd (g e) }
 
     always : {Q : Type 0} → Q → Waits w c Q w (waits c)
     always q = record { cause = (λ e. q, λ q. refl); world = λ e. refl; left = λ e. refl }
 
-  module _ (eq : K → K → Bool) (w : World K V) (n : ℕ) (c : Call K V) (has : HasAnswers w.desk) (asked : AsksWhole w.desk n c.plan) where
-    on_item : (item : Item K V) (rest : List (Item K V)) → c.plan ≡ item ∷ rest →
+  module _ (eq : K → K → Bool) (w : World K V E) (n : ℕ) (c : Call K V E) (has : HasAnswers w.desk) (asked : AsksWhole w.desk n c.plan) where
+    on_item : (item : Item K V E) (rest : List (Item K V E)) → c.plan ≡ item ∷ rest →
         Judges (item ∷ rest) →
         Outcomes eq (Waits w c (IsMissing w.desk n item)) w n c item rest
     on_item plan.Drain rest p l = (
@@ -151,22 +164,25 @@ module _ {K V : Type 0} where
       (λ none. never w c (λ q. q) (misses_on c aim)),
       λ k stored some. never w c (λ q. q) (finds_on c aim k stored),
     )
-    on_item (plan.Judge aim key stored) rest p l = never w c (λ q. q) (hits_on c aim stored.value l)
-    on_item (plan.Own load) rest p l = (
+    on_item (plan.Judge aim key stored) rest p l = (
+      (λ seen. never w c (λ q. q) (hits_on c aim stored.value l)),
+      λ unseen. never w c (λ q. q) (misses_on c aim),
+    )
+    on_item (plan.Own sought) rest p l = (
       (λ able e. never w c (λ q. q) (λ e. cc)),
       (λ not e. never w c (λ q. q) (λ e. cc)),
       λ owner e. never w c (λ q. q) (λ e. cc),
     )
-    on_item (plan.Read load) rest p l = (
+    on_item (plan.Read sought) rest p l = (
       λ e. always w c (ap is_some e),
-      λ with e. never w c (not_none _ e) (read_on c load with (settlement_ready w.desk n with has e)),
+      λ with e. never w c (not_none _ e) (read_on c sought with (settlement_ready w.desk n with has e)),
     )
     on_item (plan.Settle with) rest p l = never w c (λ q. q) (goes_on c rest)
     on_item (plan.Ask load) rest p l = never w c (λ q. q) (λ e. cc)
     on_item (plan.Told load) rest p l = (
       λ e. always w c (ask_open w.desk n load rest (subst (AsksWhole w.desk n) p asked) (ap is_some e)),
       λ given e. never w c (ask_closed w.desk n load rest (subst (AsksWhole w.desk n) p asked)
-          (ap is_some e)) (tells_on c load given (subst IsValue e (has.told n))),
+          (ap is_some e)) (tells_on c load given (subst IsGiven e (has.told n))),
     )
     on_item (plan.Holds key stamp cause there stored) rest p l =
         ((λ e. never w c (λ q. q) (λ f. cc)), λ e. never w c (λ q. q) (keeps_on c))
@@ -188,14 +204,14 @@ module _ {K V : Type 0} where
     on_item plan.Idle rest p l = never w c (λ q. q) (goes_on c rest)
     on_item (plan.Reply answer) rest p l = never w c (λ q. q) (λ e. cc)
 
-module _ {K V : Type 0} (eq : K → K → Bool) where
+module _ {K V E : Type 0} (eq : K → K → Bool) where
   -- a call that a look-up gives is the one that another gives
-  one_call : {o : Option (Call K V)} (a b : Call K V) → o ≡ Some a → o ≡ Some b → a ≡ b
+  one_call : {o : Option (Call K V E)} (a b : Call K V E) → o ≡ Some a → o ≡ Some b → a ≡ b
   one_call a b e f = cc
 
-  pub by_cause : WaitsByCause K V eq
+  pub by_cause : WaitsByCause K V E eq
   by_cause s t n c item rest reply h live e step =
-      let M : World K V → Next K V → Type 0 = Waits s.world c (IsMissing s.world.desk n item) in
+      let M : World K V E → Next K V E → Type 0 = Waits s.world c (IsMissing s.world.desk n item) in
       let on_plan : OnStep eq M s.world n c c.plan =
       subst (λ p. OnStep eq M s.world n c p) (sym e)
       (outcomes eq M s.world n c item rest

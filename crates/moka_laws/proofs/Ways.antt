@@ -30,40 +30,43 @@ use Rattle.moka_bound.proofs.Size.{access_size}
 use Rattle.moka_laws.specs.Bounded.{LogsHaveRoom, StepsAreBounded, StepEventsAreBounded}
 use Rattle.moka_laws.proofs.Counting.{none_some, put_here, same_number}
 use Rattle.moka_laws.proofs.Kept.{IsKept, in_reached}
-use Rattle.moka_laws.proofs.Plans.{IsTail, Answering, Settling, IsDrained, Looking, Owning, Putting, Removing, Locking_out, IsPosted, Draining, Ended, Locking, IsPlan, Posted, Drained, Posting, Hearing, Noticing, Listening, Unlocking, Turning, Applying, Ending, Judging, Reading, Asking, Telling, Writing, Choosing, Finding, Chosen, Taking, Freeing, Idling, calls_known}
+use Rattle.moka_laws.proofs.Plans.{IsTail, Answering, Settling, IsDrained, Looking, Owning, Giving, Putting, Removing, Locking_out, IsPosted, Draining, Ended, Locking, IsPlan, Posted, Drained, Posting, Hearing, Noticing, Listening, Unlocking, Turning, Applying, Ending, Judging, Reading, Asking, Telling, Writing, Choosing, Finding, Chosen, Taking, Freeing, Idling, calls_known}
 use Rattle.moka_laws.proofs.Reached.{step_reached, steps_reached}
 
 -- ---- what a plan takes at most
 
-judge_few : {K : Type 0} (most aborts : ℕ) (aim : Aim K) → judge_steps most aborts aim ≤ most + 406
-judge_few most aborts plan.To_answer = omega arith
-judge_few most aborts (plan.To_load load) = omega arith
-judge_few most aborts (plan.To_own load) = omega arith
-judge_few most aborts (plan.To_evict key stamp cause) = omega arith
+judge_few : {K V : Type 0} (owed most aborts : ℕ) (aim : Aim K V) →
+    judge_steps owed most aborts aim ≤ 8 * owed + most + 406
+judge_few owed most aborts plan.To_answer = omega arith
+judge_few owed most aborts (plan.To_load sought) = omega arith
+judge_few owed most aborts (plan.To_own sought) = omega arith
+judge_few owed most aborts (plan.To_insert key value) = omega arith
+judge_few owed most aborts (plan.To_evict key stamp cause) = omega arith
 
-module _ {K V : Type 0} (owed most aborts left : ℕ) (within : left ≤ most) where
-  tail_steps : (room : Bool) (l : ℕ) (p : List (Item K V)) → IsTail p → steps_of owed most aborts room l p ≤ 2
+module _ {K V E : Type 0} (owed most aborts left : ℕ) (within : left ≤ most) where
+  tail_steps : (room : Bool) (l : ℕ) (p : List (Item K V E)) → IsTail p → steps_of owed most aborts room l p ≤ 2
   tail_steps room l p (Answering a) = omega arith
   tail_steps room l p (Settling with a) = omega arith
 
   -- a put's tail, after which a key more may be stored
-  put_steps : (m l : ℕ) (p : List (Item K V)) → IsTail p → steps_of owed m aborts false l p ≤ 2
+  put_steps : (m l : ℕ) (p : List (Item K V E)) → IsTail p → steps_of owed m aborts false l p ≤ 2
   put_steps m l p (Answering a) = omega arith
   put_steps m l p (Settling with a) = omega arith
 
-  drained_steps : (room : Bool) (l : ℕ) (p : List (Item K V)) → l ≤ most → IsDrained p → steps_of owed most aborts room l p ≤ 2 * most + 408
-  drained_steps room l p h (Looking aim key look) = omega (arith, h, judge_few most aborts aim)
-  drained_steps room l p h (Owning load) = omega (arith, h)
+  drained_steps : (room : Bool) (l : ℕ) (p : List (Item K V E)) → l ≤ most → IsDrained p → steps_of owed most aborts room l p ≤ 8 * owed + 2 * most + 408
+  drained_steps room l p h (Looking aim key look) = omega (arith, h, judge_few owed most aborts aim)
+  drained_steps room l p h (Owning sought) = omega (arith, h)
+  drained_steps room l p h (Giving a) = omega arith
   drained_steps room l p h (Removing removal key) = omega (arith, h)
   drained_steps room l p h (Locking_out removal key) = omega (arith, h)
   drained_steps room l p h (Putting key value rest t) = omega (arith, put_steps (most + growth) (most + growth) rest t)
   drained_steps room l p h (Locking key value rest t) = omega (arith, put_steps (most + growth) (most + growth) rest t)
 
-  posted_steps : (room : Bool) (l : ℕ) (p : List (Item K V)) → IsPosted p → steps_of owed most aborts room l p ≤ 8 * owed + 2 * most + 409
+  posted_steps : (room : Bool) (l : ℕ) (p : List (Item K V E)) → IsPosted p → steps_of owed most aborts room l p ≤ 16 * owed + 2 * most + 409
   posted_steps room l p (Draining rest d) = omega (arith, drained_steps false most rest (omega arith) d)
   posted_steps room l p (Ended rest t) = omega (arith, tail_steps room l rest t)
 
-  few_steps : (room : Bool) (p : List (Item K V)) → IsPlan p → steps_of owed most aborts room left p ≤ 8 * owed + 2 * most + 416
+  few_steps : (room : Bool) (p : List (Item K V E)) → IsPlan p → steps_of owed most aborts room left p ≤ 16 * owed + 2 * most + 416
   few_steps room p (Posted rest d) = omega (arith, posted_steps room left rest d)
   few_steps room p (Drained rest d) = omega (arith, drained_steps room left rest within d)
   few_steps room p (Posting x rest d) = omega (arith, post_worst room, posted_steps false most rest d)
@@ -75,8 +78,8 @@ module _ {K V : Type 0} (owed most aborts left : ℕ) (within : left ≤ most) w
   few_steps room p (Turning x rest d) = omega (arith, posted_steps false most rest d)
   few_steps room p (Applying x rest d) = omega (arith, posted_steps false most rest d)
   few_steps room p (Ending x rest d) = omega (arith, post_worst room, posted_steps false most rest d)
-  few_steps room p (Judging aim key stored look) = omega (arith, judge_few most aborts aim)
-  few_steps room p (Reading load) = omega arith
+  few_steps room p (Judging aim key stored look) = omega (arith, judge_few owed most aborts aim)
+  few_steps room p (Reading sought) = omega arith
   few_steps room p (Asking load) = omega arith
   few_steps room p (Telling load) = omega arith
   few_steps room p (Writing key value moment rest t) = omega (arith, within, put_steps (most + growth) (most + growth) rest t)
@@ -90,10 +93,6 @@ module _ {K V : Type 0} (owed most aborts left : ℕ) (within : left ≤ most) w
 -- ---- what each access does to it
 
 module _ {K V : Type 0} (eq : K → K → Bool) where
-  -- no more keys are stored than ever were
-  abbrev KeysWerePeak : State K V → Type 0
-  KeysWerePeak s = s.world.table.keys ≤ s.world.table.peak
-
   operation_peak : (n : ℕ) (w t : TablePart K V) (o : TableOp K V) (answer : TableAnswer K V) → Operates eq n w o answer t → w.keys ≤ w.peak → t.keys ≤ t.peak
   operation_peak n w t (op.Get key) answer o h = subst (λ (v : TablePart K V). v.keys ≤ v.peak) (sym o.1) h
   operation_peak n w t (op.InsertOrModify key stored) answer o h = subst (λ (v : TablePart K V). v.keys ≤ v.peak) (sym o.1) (omega arith)
@@ -119,28 +118,6 @@ module _ {K V : Type 0} (eq : K → K → Bool) where
       by None = h
       by (Some pair) = omega (arith, h)
 
-  access_peak : (n : ℕ) (w new : World K V) (a : Access K V) (g : Got K V) → Gets eq n w a g new → w.table.keys ≤ w.table.peak → new.table.keys ≤ new.table.peak
-  access_peak n w new (step.On_table o) (got.Table table.Going) gets h = subst (λ (v : World K V). v.table.keys ≤ v.table.peak) (sym gets.1) h
-  access_peak n w new (step.On_table o) (got.Table (table.Decided answer)) gets h =
-      subst (λ (v : World K V). v.table.keys ≤ v.table.peak) (sym gets.2) (operation_peak n w.table gets.0 o answer gets.1 h)
-  access_peak n w new (step.On_desk made) (got.Desk found) gets h = subst (λ (v : World K V). v.table.keys ≤ v.table.peak) (sym gets.1) h
-  access_peak n w new _ _ gets h = absurd gets
-
-  peak_step : (s t : State K V) (n : ℕ) (turn : Turn K V) → KeysWerePeak s → Step eq s n turn t → KeysWerePeak t
-  peak_step s t n turn h st =
-      subst KeysWerePeak (sym st.after) (access_peak n s.world st.world (access_of n st.call) st.given st.gets h)
-
-  peak_kept : IsKept {K = K} {V = V} eq KeysWerePeak
-  peak_kept = record {
-    fresh = λ rules size has_log. omega arith;
-    at = λ s moment h. h;
-    start = λ s start h. h;
-    step = peak_step;
-    tell = λ s n answer asked h. h;
-    hear = λ s n off running h. h;
-    drop = λ s n c live between h. h;
-  }
-
   -- how long operations stay undecided, after an access that is not the first of a write
   written : (n : ℕ) (w : TablePart K V) (key : K) (stored : Stored V) → w.keys ≤ w.peak →
       most_undecided (written_to eq n w key stored) ≤ most_undecided w + 48
@@ -150,32 +127,59 @@ module _ {K V : Type 0} (eq : K → K → Bool) where
       by true = omega (arith, h)
       by false = omega (arith, h)
 
-  desk_not : (f : Found V) → ◌≡◌ {A = Got K V} (got.Desk f) (got.Table table.Going) → ⊥
+module _ {K V E : Type 0} (eq : K → K → Bool) where
+  -- no more keys are stored than ever were
+  abbrev KeysWerePeak : State K V E → Type 0
+  KeysWerePeak s = s.world.table.keys ≤ s.world.table.peak
+
+  access_peak : (n : ℕ) (w new : World K V E) (a : Access K V E) (g : Got K V E) → Gets eq n w a g new → w.table.keys ≤ w.table.peak → new.table.keys ≤ new.table.peak
+  access_peak n w new (step.On_table o) (got.Table table.Going) gets h = subst (λ (v : World K V E). v.table.keys ≤ v.table.peak) (sym gets.1) h
+  access_peak n w new (step.On_table o) (got.Table (table.Decided answer)) gets h =
+      subst (λ (v : World K V E). v.table.keys ≤ v.table.peak) (sym gets.2) (operation_peak eq n w.table gets.0 o answer gets.1 h)
+  access_peak n w new (step.On_desk made) (got.Desk found) gets h = subst (λ (v : World K V E). v.table.keys ≤ v.table.peak) (sym gets.1) h
+  access_peak n w new _ _ gets h = absurd gets
+
+  peak_step : (s t : State K V E) (n : ℕ) (turn : Turn K V E) → KeysWerePeak s → Step eq s n turn t → KeysWerePeak t
+  peak_step s t n turn h st =
+      subst KeysWerePeak (sym st.after) (access_peak n s.world st.world (access_of n st.call) st.given st.gets h)
+
+  peak_kept : IsKept {K = K} {V = V} {E = E} eq KeysWerePeak
+  peak_kept = record {
+    fresh = λ rules size tests has_log. omega arith;
+    at = λ s moment h. h;
+    start = λ s start h. h;
+    step = peak_step;
+    tell = λ s n answer asked h. h;
+    hear = λ s n off running h. h;
+    drop = λ s n c live between h. h;
+  }
+
+  desk_not : (f : Found V E) → ◌≡◌ {A = Got K V E} (got.Desk f) (got.Table table.Going) → ⊥
   desk_not f e = cc
 
-  decided_not : (g : TableAnswer K V) → ◌≡◌ {A = Got K V} (got.Table (table.Decided g)) (got.Table table.Going) → ⊥
+  decided_not : (g : TableAnswer K V) → ◌≡◌ {A = Got K V E} (got.Table (table.Decided g)) (got.Table table.Going) → ⊥
   decided_not g e = cc
 
-  decided_shortens : (n : ℕ) (w : World K V) (t : TablePart K V) (o : TableOp K V) (g : TableAnswer K V) → Operates eq n w.table o g t →
+  decided_shortens : (n : ℕ) (w : World K V E) (t : TablePart K V) (o : TableOp K V) (g : TableAnswer K V) → Operates eq n w.table o g t →
       w.table.keys ≤ w.table.peak →
-      Shortens (work_in n w) (work_in n (record w { table = t; stay = decided_by n })) (step.On_table o) (got.Table (table.Decided g))
+      Shortens {E = E} (work_in n w) (work_in n (record w { table = t; stay = decided_by n })) (step.On_table o) (got.Table (table.Decided g))
   decided_shortens n w t (op.Get key) g o h =
-      subst (λ v. Shortens (work_in n w) (work_in n (record w { table = v; stay = decided_by n })) (step.On_table (op.Get key)) (got.Table (table.Decided g)))
+      subst (λ v. Shortens {E = E} (work_in n w) (work_in n (record w { table = v; stay = decided_by n })) (step.On_table (op.Get key)) (got.Table (table.Decided g)))
       (sym o.1) (record { within = omega arith; raises = omega arith; going = λ e. absurd (decided_not g e) })
   decided_shortens n w t (op.InsertOrModify key stored) g o h =
       subst
-      (λ v. Shortens (work_in n w) (work_in n (record w { table = v; stay = decided_by n })) (step.On_table (op.InsertOrModify key stored))
+      (λ v. Shortens {E = E} (work_in n w) (work_in n (record w { table = v; stay = decided_by n })) (step.On_table (op.InsertOrModify key stored))
       (got.Table (table.Decided g)))
-      (sym o.1) (record { within = omega arith; raises = written n w.table key stored h; going = λ e. absurd (decided_not g e) })
+      (sym o.1) (record { within = omega arith; raises = written eq n w.table key stored h; going = λ e. absurd (decided_not g e) })
   decided_shortens n w t (op.InsertIfAbsent key stored) g o h =
       subst
-      (λ v. Shortens (work_in n w) (work_in n (record w { table = v; stay = decided_by n }))
+      (λ v. Shortens {E = E} (work_in n w) (work_in n (record w { table = v; stay = decided_by n }))
       (step.On_table (op.InsertIfAbsent key stored))
       (got.Table (table.Decided g)))
       (sym o.1) (by (w.table.stored key))
     where
       by : (there : Option (K × Stored V)) →
-          Shortens (work_in n w)
+          Shortens {E = E} (work_in n w)
           (work_in n (record w {
             table = by_pair there w.table (written_to eq n w.table key stored);
             stay = decided_by n;
@@ -183,7 +187,7 @@ module _ {K V : Type 0} (eq : K → K → Bool) where
           (step.On_table (op.InsertIfAbsent key stored)) (got.Table (table.Decided g))
       by None = record {
         within = omega arith;
-        raises = written n w.table key stored h;
+        raises = written eq n w.table key stored h;
         going = λ e. absurd (decided_not g e);
       }
       by (Some pair) = record {
@@ -194,13 +198,13 @@ module _ {K V : Type 0} (eq : K → K → Bool) where
       }
   decided_shortens n w t (op.RemoveIf key stamp) g o h =
       subst
-      (λ v. Shortens (work_in n w) (work_in n (record w { table = v; stay = decided_by n }))
+      (λ v. Shortens {E = E} (work_in n w) (work_in n (record w { table = v; stay = decided_by n }))
       (step.On_table (op.RemoveIf key stamp))
       (got.Table (table.Decided g)))
       (sym o.1) (by (taken_by stamp (w.table.stored key)))
     where
       by : (out : Option (K × Stored V)) →
-          Shortens (work_in n w)
+          Shortens {E = E} (work_in n w)
           (work_in n (record w {
             table = by_pair out (removed eq n w.table key) w.table;
             stay =
@@ -220,31 +224,31 @@ module _ {K V : Type 0} (eq : K → K → Bool) where
             (decided_not g e);
       }
 
-  shortens_in : (n : ℕ) (w new : World K V) (a : Access K V) (g : Got K V) → Gets eq n w a g new → w.table.keys ≤ w.table.peak →
-      Shortens (work_in n w) (work_in n new) a g
+  shortens_in : (n : ℕ) (w new : World K V E) (a : Access K V E) (g : Got K V E) → Gets eq n w a g new → w.table.keys ≤ w.table.peak →
+      Shortens {E = E} (work_in n w) (work_in n new) a g
   shortens_in n w new (step.On_table o) (got.Table table.Going) gets h =
       let once : times_of (stayed w.stay n) n ≡ times_of w.stay n + 1 = ap (λ b. cond b (times_of w.stay n + 1) 0) (same_number n) in
-      subst (λ v. Shortens (work_in n w) (work_in n v) (step.On_table o) (got.Table table.Going)) (sym gets.1)
+      subst (λ v. Shortens {E = E} (work_in n w) (work_in n v) (step.On_table o) (got.Table table.Going)) (sym gets.1)
       (record { within = omega arith; raises = omega arith; going = λ e. omega (arith, once, gets.0) })
   shortens_in n w new (step.On_table o) (got.Table (table.Decided answer)) gets h =
-      subst (λ v. Shortens (work_in n w) (work_in n v) (step.On_table o) (got.Table (table.Decided answer))) (sym gets.2)
+      subst (λ v. Shortens {E = E} (work_in n w) (work_in n v) (step.On_table o) (got.Table (table.Decided answer))) (sym gets.2)
       (decided_shortens n w gets.0 o answer gets.1 h)
   shortens_in n w new (step.On_desk made) (got.Desk found) gets h =
-      subst (λ v. Shortens (work_in n w) (work_in n v) (step.On_desk made) (got.Desk found)) (sym gets.1)
+      subst (λ v. Shortens {E = E} (work_in n w) (work_in n v) (step.On_desk made) (got.Desk found)) (sym gets.1)
       (record { within = omega arith; raises = omega arith; going = λ e. absurd (desk_not found e) })
   shortens_in n w new _ _ gets h = absurd gets
 
   -- ---- the log's room
 
-  abbrev HasLog : State K V → Type 0
+  abbrev HasLog : State K V E → Type 0
   HasLog s = 0 < s.world.desk.size
 
-  log_step : (s t : State K V) (n : ℕ) (turn : Turn K V) → HasLog s → Step eq s n turn t → HasLog t
+  log_step : (s t : State K V E) (n : ℕ) (turn : Turn K V E) → HasLog s → Step eq s n turn t → HasLog t
   log_step s t n turn h st = subst HasLog (sym st.after) (omega (arith, h, access_size eq n s.world st.world (access_of n st.call) st.given st.gets))
 
-  log_kept : IsKept {K = K} {V = V} eq HasLog
+  log_kept : IsKept {K = K} {V = V} {E = E} eq HasLog
   log_kept = record {
-    fresh = λ rules size has_log. has_log;
+    fresh = λ rules size tests has_log. has_log;
     at = λ s moment h. h;
     start = λ s start h. h;
     step = log_step;
@@ -253,17 +257,17 @@ module _ {K V : Type 0} (eq : K → K → Bool) where
     drop = λ s n c live between h. h;
   }
 
-  pub logs_have_room : LogsHaveRoom K V eq
+  pub logs_have_room : LogsHaveRoom K V E eq
   logs_have_room s h = in_reached eq HasLog log_kept s h
 
   -- ---- a step, and steps one after the other
 
-  same_call : (c d : Call K V) → Some c ≡ Some d → c ≡ d
+  same_call : (c d : Call K V E) → Some c ≡ Some d → c ≡ d
   same_call c d e = cc
 
   -- a step that leaves the call going leaves it live, with fewer steps ahead
-  pub step_falls : (s t : State K V) (n : ℕ) (c : Call K V) → IsReached eq s → s.calls n ≡ Some c → Step eq s n turn.Going t →
-      (d : Call K V) × (t.calls n ≡ Some d) × (ahead (work_in n t.world) d < ahead (work_in n s.world) c)
+  pub step_falls : (s t : State K V E) (n : ℕ) (c : Call K V E) → IsReached eq s → s.calls n ≡ Some c → Step eq s n turn.Going t →
+      (d : Call K V E) × (t.calls n ≡ Some d) × (ahead (work_in n t.world) d < ahead (work_in n s.world) c)
   step_falls s t n c h live st =
       let is : c ≡ st.call = same_call c st.call (sym live ∙ st.live) in
       let f = going_falls eq n st.call s.world st.world st.given (work_in n s.world) (work_in n st.world)
@@ -271,19 +275,19 @@ module _ {K V : Type 0} (eq : K → K → Bool) where
       (record { owed = refl; logged = refl; size = refl }) (record { owed = refl; logged = refl; size = refl })
       (shortens_in n s.world st.world (access_of n st.call) st.given st.gets (in_reached eq KeysWerePeak peak_kept s h)) (sym st.turns) in (
         f.0,
-        ap (λ (v : State K V). v.calls n) st.after ∙ put_here s.calls n (next_of n st.call st.given).left ∙ ap (λ v. v.left) f.1,
+        ap (λ (v : State K V E). v.calls n) st.after ∙ put_here s.calls n (next_of n st.call st.given).left ∙ ap (λ v. v.left) f.1,
         rw (is, st.after) f.2,
       )
 
-  ahead_bounded : (s : State K V) (n : ℕ) (c : Call K V) → IsReached eq s → s.calls n ≡ Some c → ahead (work_in n s.world) c < step_bound s
+  ahead_bounded : (s : State K V E) (n : ℕ) (c : Call K V E) → IsReached eq s → s.calls n ≡ Some c → ahead (work_in n s.world) c < step_bound s
   ahead_bounded s n c h live =
       let most = most_undecided s.world.table in
       let few = few_steps (length s.world.desk.owed) most c.aborts (most - times_of s.world.stay n) (omega arith)
       (nat_lt (length s.world.desk.log) s.world.desk.size) c.plan (calls_known eq s h n c live).plan in
       omega (arith, few)
 
-  going_falls_by : (k : ℕ) (s t : State K V) (n : ℕ) (c : Call K V) → IsReached eq s → s.calls n ≡ Some c → Goings eq Any k s n t →
-      (d : Call K V) × (t.calls n ≡ Some d) × (k + ahead (work_in n t.world) d ≤ ahead (work_in n s.world) c)
+  going_falls_by : (k : ℕ) (s t : State K V E) (n : ℕ) (c : Call K V E) → IsReached eq s → s.calls n ≡ Some c → Goings eq Any k s n t →
+      (d : Call K V E) × (t.calls n ≡ Some d) × (k + ahead (work_in n t.world) d ≤ ahead (work_in n s.world) c)
   unfolding Goings
   going_falls_by zero s t n c h live going = rw going (c, live, omega arith)
   going_falls_by (suc k) s t n c h live going =
@@ -291,50 +295,50 @@ module _ {K V : Type 0} (eq : K → K → Bool) where
       let last = step_falls going.0 t n before.0 (steps_reached eq Any k s going.0 n h going.1) before.1 going.2 in
       (last.0, last.1, omega (arith, before.2, last.2))
 
-  none_left : (k : ℕ) (s t : State K V) (n : ℕ) → s.calls n ≡ None → Goings eq Any k s n t → k ≡ 0
+  none_left : (k : ℕ) (s t : State K V E) (n : ℕ) → s.calls n ≡ None → Goings eq Any k s n t → k ≡ 0
   unfolding Goings
   none_left zero s t n none going = refl
   none_left (suc k) s t n none going = by k going.1 (none_left k s going.0 n none going.1)
     where
       by : (j : ℕ) → Goings eq Any j s n going.0 → j ≡ 0 → suc k ≡ 0
-      by zero g e = absurd (none_some (sym none ∙ ap (λ (v : State K V). v.calls n) (sym g) ∙ going.2.live))
+      by zero g e = absurd (none_some (sym none ∙ ap (λ (v : State K V E). v.calls n) (sym g) ∙ going.2.live))
       by (suc j) g e = absurd (omega (arith, e))
 
-  pub steps_bounded : StepsAreBounded K V eq
+  pub steps_bounded : StepsAreBounded K V E eq
   steps_bounded k s t n h going = by (s.calls n) refl
     where
-      by : (o : Option (Call K V)) → s.calls n ≡ o → k < step_bound s
+      by : (o : Option (Call K V E)) → s.calls n ≡ o → k < step_bound s
       by None e = omega (arith, none_left k s t n e going)
       by (Some c) e = omega (arith, (going_falls_by k s t n c h e going).2, ahead_bounded s n c h e)
 
   -- ---- events
 
-  is_going : (t : Turn K V) → reply.Going ≡ reply_of t → t ≡ turn.Going
+  is_going : (t : Turn K V E) → reply.Going ≡ reply_of t → t ≡ turn.Going
   is_going turn.Going e = refl
   is_going turn.Wait e = cc
   is_going (turn.Ask a) e = cc
   is_going (turn.Answer a) e = cc
 
   -- the event was a step of the live call, which leaves it going
-  going_event : (s t : State K V) (n : ℕ) → Happens eq (IsLawful eq) s (event.Step n) reply.Going t →
-      (c : Call K V) × (s.calls n ≡ Some c) × Step eq s n turn.Going t
+  going_event : (s t : State K V E) (n : ℕ) → Happens eq (IsLawful eq) s (event.Step n) reply.Going t →
+      (c : Call K V E) × (s.calls n ≡ Some c) × Step eq s n turn.Going t
   going_event s t n h = by (s.calls n) refl h
     where
       refused : Refuses s refusal.UnknownCall reply.Going t → ⊥
       refused r = let e = r.reply in cc
 
-      by : (o : Option (Call K V)) → s.calls n ≡ o → MatchOption o (Refuses s refusal.UnknownCall reply.Going t) (λ _. Steps eq s n reply.Going t) →
-          (c : Call K V) × (s.calls n ≡ Some c) × Step eq s n turn.Going t
+      by : (o : Option (Call K V E)) → s.calls n ≡ o → MatchOption o (Refuses s refusal.UnknownCall reply.Going t) (λ _. Steps eq s n reply.Going t) →
+          (c : Call K V E) × (s.calls n ≡ Some c) × Step eq s n turn.Going t
       by None e r = absurd (refused r)
       by (Some c) e steps = (c, e, subst (λ v. Step eq s n v t) (is_going steps.turn steps.reply) steps.step)
 
-  pub step_events_bounded : StepEventsAreBounded K V eq
+  pub step_events_bounded : StepEventsAreBounded K V E eq
   step_events_bounded zero s t n h run = omega arith
   step_events_bounded (suc k) s t n h run =
       let first = going_event s run.0 n run.1 in
       omega (arith, events_fall (suc k) s t n first.0 h first.1 run, ahead_bounded s n first.0 h first.1)
     where
-      events_fall : (k : ℕ) (s t : State K V) (n : ℕ) (c : Call K V) → IsReached eq s → s.calls n ≡ Some c →
+      events_fall : (k : ℕ) (s t : State K V E) (n : ℕ) (c : Call K V E) → IsReached eq s → s.calls n ≡ Some c →
           Run eq (IsLawful eq) s (replicate k (event.Step n)) (replicate k reply.Going) t → k ≤ ahead (work_in n s.world) c
       events_fall zero s t n c h live run = omega arith
       events_fall (suc k) s t n c h live run =

@@ -10,18 +10,18 @@ use Rattle.moka_hist.specs.declared.replies.Answer.{Answer}
 use Rattle.moka_hist.specs.declared.replies.Answer.TheVariants as answer
 
 -- The call makes steps, one after the other, by the last of which it answers.
-pub record AnswersAlone {K V : Type 0} (eq : K → K → Bool) (s : State K V) (n : ℕ) (a : Answer V)
-    (t : State K V) : Type 0 where
+pub record AnswersAlone {K V E : Type 0} (eq : K → K → Bool) (s : State K V E) (n : ℕ)
+    (a : Answer V E) (t : State K V E) : Type 0 where
   pub going : ℕ
-  pub mid : State K V
+  pub mid : State K V E
   pub goes : Goings eq Any going s n mid
   pub last : Step eq mid n (turn.Answer a) t
 
 -- an insert, and then a get of an equal key, give the inserted value, where no other call makes a
 -- step between, and the cache is not disabled
-abbrev pub InsertThenGet : (K V : Type 0) → (K → K → Bool) → Type 0
-InsertThenGet K V eq =
-    (s t u : State K V) (n : ℕ) (key q : K) (value : V) (a : Answer V) →
+abbrev pub InsertThenGet : (K V E : Type 0) → (K → K → Bool) → Type 0
+InsertThenGet K V E eq =
+    (s t u : State K V E) (n : ℕ) (key q : K) (value : V) (a : Answer V E) →
     IsReached eq s → is_disabled s.world.desk.rules ≡ false → s.calls n ≡ Some
     (fresh_call s.world.desk.rules (start.Insert key value)) →
     AnswersAlone eq s n answer.Done t →

@@ -15,34 +15,37 @@ use Rattle.moka_hist.specs.declared.replies.Reply.{Reply}
 use Rattle.moka_hist.specs.declared.writes.Place.TheVariants as place
 use Rattle.moka_laws.specs.Starting.{WasStarted}
 
--- the answer of a call that was started for this says that it has stored a value: an insert's, and
--- a load's whose own initializer gave the value
-abbrev pub says_stored : {K V : Type 0} → Start K V → Answer V → Bool
+-- the answer of a call that was started for this says that it has stored a value: an insert's, a
+-- load's whose own initializer gave the value, and an or_insert's that found none
+abbrev pub says_stored : {K V E : Type 0} → Start K V → Answer V E → Bool
 says_stored (start.Insert key value) answer.Done = true
-says_stored (start.GetWith key) (answer.Loaded value fresh) = fresh
+says_stored (start.GetWith key replace) (answer.Loaded value fresh) = fresh
+says_stored (start.Optional key) (answer.Loaded value fresh) = fresh
+says_stored (start.Try key) (answer.Loaded value fresh) = fresh
+says_stored (start.OrInsert key own) (answer.Loaded value fresh) = fresh
 says_stored _ _ = false
 
 -- the write of this number is in the log, or applied
-abbrev pub IsPosted : {K V : Type 0} → State K V → ℕ → Type 0
+abbrev pub IsPosted : {K V E : Type 0} → State K V E → ℕ → Type 0
 IsPosted s n = StandsAt s place.Logged n ⊎ StandsAt s place.Applied n
 
 -- a call whose answer says that it has stored a value has committed its write, unless the cache is
 -- disabled
-abbrev pub StoredIsCommitted : (K V : Type 0) → (K → K → Bool) → Type 0
-StoredIsCommitted K V eq =
-    (s t : State K V) (start : Start K V) (n : ℕ) (a : Answer V) → WasStarted eq start n s →
+abbrev pub StoredIsCommitted : (K V E : Type 0) → (K → K → Bool) → Type 0
+StoredIsCommitted K V E eq =
+    (s t : State K V E) (start : Start K V) (n : ℕ) (a : Answer V E) → WasStarted eq start n s →
     is_disabled s.world.desk.rules ≡ false → Step eq s n (turn.Answer a) t → says_stored start a ≡
     true →
     Contains t.world.table.committed n
 
 -- where a call answers that has committed a write, that is logged or applied
-abbrev pub AnsweredIsPosted : (K V : Type 0) → (K → K → Bool) → Type 0
-AnsweredIsPosted K V eq =
-    (s t : State K V) (n : ℕ) (a : Answer V) → IsReached eq s → Step eq s n (turn.Answer a) t →
+abbrev pub AnsweredIsPosted : (K V E : Type 0) → (K → K → Bool) → Type 0
+AnsweredIsPosted K V E eq =
+    (s t : State K V E) (n : ℕ) (a : Answer V E) → IsReached eq s → Step eq s n (turn.Answer a) t →
     Contains t.world.table.committed n → IsPosted t n
 
 -- a write that is logged or applied stays so
-abbrev pub PostedStays : (K V : Type 0) → (K → K → Bool) → Type 0
-PostedStays K V eq =
-    (s t : State K V) (es : List (Event K V)) (rs : List (Reply K V)) (n : ℕ) →
+abbrev pub PostedStays : (K V E : Type 0) → (K → K → Bool) → Type 0
+PostedStays K V E eq =
+    (s t : State K V E) (es : List (Event K V E)) (rs : List (Reply K V E)) (n : ℕ) →
     IsReached eq s → Run eq (IsLawful eq) s es rs t → IsPosted s n → IsPosted t n

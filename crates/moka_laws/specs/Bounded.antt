@@ -8,19 +8,19 @@ use Rattle.moka_hist.specs.declared.events.Event.TheVariants as event
 use Rattle.moka_hist.specs.declared.replies.Reply.TheVariants as reply
 
 -- in every reached state the log has room for a write, or would have where it was empty
-abbrev pub LogsHaveRoom : (K V : Type 0) → (K → K → Bool) → Type 0
-LogsHaveRoom K V eq = (s : State K V) → IsReached eq s → 0 < s.world.desk.size
+abbrev pub LogsHaveRoom : (K V E : Type 0) → (K → K → Bool) → Type 0
+LogsHaveRoom K V E eq = (s : State K V E) → IsReached eq s → 0 < s.world.desk.size
 
 -- from a reached state on, the steps of one call that leave it going, one after the other, are
 -- fewer than the bound
-abbrev pub StepsAreBounded : (K V : Type 0) → (K → K → Bool) → Type 0
-StepsAreBounded K V eq =
-    (k : ℕ) (s t : State K V) (n : ℕ) → IsReached eq s → Goings eq Any k s n t → k < step_bound s
+abbrev pub StepsAreBounded : (K V E : Type 0) → (K → K → Bool) → Type 0
+StepsAreBounded K V E eq =
+    (k : ℕ) (s t : State K V E) (n : ℕ) → IsReached eq s → Goings eq Any k s n t → k < step_bound s
 
 -- so are they as events: of as many steps of one call as the bound says, one has another reply than
 -- Going
-abbrev pub StepEventsAreBounded : (K V : Type 0) → (K → K → Bool) → Type 0
-StepEventsAreBounded K V eq =
-    (k : ℕ) (s t : State K V) (n : ℕ) → IsReached eq s →
+abbrev pub StepEventsAreBounded : (K V E : Type 0) → (K → K → Bool) → Type 0
+StepEventsAreBounded K V E eq =
+    (k : ℕ) (s t : State K V E) (n : ℕ) → IsReached eq s →
     Run eq (IsLawful eq) s (replicate k (event.Step n)) (replicate k reply.Going) t →
     k < step_bound s

@@ -9,6 +9,7 @@ pub mod OwnKeys
 pub mod Bounded
 pub mod Sound
 pub mod Listening
+pub mod Loads
 pub mod Readers
 pub mod Answered
 pub mod Alone

@@ -9,12 +9,12 @@ use Rattle.moka_hist.specs.Visits.{is_running}
 
 -- in every reached state each replaced or removed record has its notice, and no write is logged
 -- while its notice runs
-abbrev pub ReachedNoticesAreSettled : (K V : Type 0) → (K → K → Bool) → Type 0
-ReachedNoticesAreSettled K V eq = (s : State K V) → IsReached eq s → NoticesAreSettled s
+abbrev pub ReachedNoticesAreSettled : (K V E : Type 0) → (K → K → Bool) → Type 0
+ReachedNoticesAreSettled K V E eq = (s : State K V E) → IsReached eq s → NoticesAreSettled s
 
 -- in every reached state those calls hold locks that are between their locking and their freeing
-abbrev pub ReachedLocksAreHeld : (K V : Type 0) → (K → K → Bool) → Type 0
-ReachedLocksAreHeld K V eq = (s : State K V) → IsReached eq s → LocksAreHeld s
+abbrev pub ReachedLocksAreHeld : (K V E : Type 0) → (K → K → Bool) → Type 0
+ReachedLocksAreHeld K V E eq = (s : State K V E) → IsReached eq s → LocksAreHeld s
 
 module _ {K V : Type 0} where
   -- the key that a moment is taken for
@@ -22,37 +22,38 @@ module _ {K V : Type 0} where
   changed_key (plan.To_store key value) = key
   changed_key (plan.To_take_out removal key) = key
 
+module _ {K V E : Type 0} where
   -- the key that the plan is to write or to take out, to look up for that, or to tell the listener
   -- of
-  abbrev pub key_of : List (Item K V) → Option K
-  key_of (plan.Get (plan.To_evict key stamp cause) at ∷ rest) = Some at
-  key_of (plan.Holds key stamp cause there stored ∷ rest) = Some key
-  key_of (plan.Moment change ∷ rest) = Some (changed_key change)
-  key_of (plan.Write key value moment ∷ rest) = Some key
-  key_of (plan.Out removal key ∷ rest) = Some key
-  key_of (plan.Notice key old cause upsert ∷ rest) = Some key
-  key_of _ = None
+  abbrev pub locked_key : List (Item K V E) → Option K
+  locked_key (plan.Get (plan.To_evict key stamp cause) at ∷ rest) = Some at
+  locked_key (plan.Holds key stamp cause there stored ∷ rest) = Some key
+  locked_key (plan.Moment change ∷ rest) = Some (changed_key change)
+  locked_key (plan.Write key value moment ∷ rest) = Some key
+  locked_key (plan.Out removal key ∷ rest) = Some key
+  locked_key (plan.Notice key old cause upsert ∷ rest) = Some key
+  locked_key _ = None
 
 -- in every reached state under a listener a call holds the lock of the key that it is to write or
 -- to take out, to look up for that, or to tell of
-abbrev pub KeysAreLocked : (K V : Type 0) → (K → K → Bool) → Type 0
-KeysAreLocked K V eq =
-    (s : State K V) (n : ℕ) (c : Call K V) (key : K) → IsReached eq s →
-    s.world.desk.rules.listener ≡ true → s.calls n ≡ Some c → key_of c.plan ≡ Some key →
+abbrev pub KeysAreLocked : (K V E : Type 0) → (K → K → Bool) → Type 0
+KeysAreLocked K V E eq =
+    (s : State K V E) (n : ℕ) (c : Call K V E) (key : K) → IsReached eq s →
+    s.world.desk.rules.listener ≡ true → s.calls n ≡ Some c → locked_key c.plan ≡ Some key →
     s.world.desk.locked n ≡ Some key
 
 -- in every reached state no two calls hold locks of equal keys
-abbrev pub LocksAreOne : (K V : Type 0) → (K → K → Bool) → Type 0
-LocksAreOne K V eq =
-    (s : State K V) (n m : ℕ) (a b : K) → IsReached eq s → s.world.desk.locked n ≡ Some a →
+abbrev pub LocksAreOne : (K V E : Type 0) → (K → K → Bool) → Type 0
+LocksAreOne K V E eq =
+    (s : State K V E) (n m : ℕ) (a b : K) → IsReached eq s → s.world.desk.locked n ≡ Some a →
     s.world.desk.locked m ≡ Some b → eq a b ≡ true → n ≡ m
 
 -- in every reached state the notices of a key stand in the order of its writes
-abbrev pub ReachedNoticesAreInOrder : (K V : Type 0) → (K → K → Bool) → Type 0
-ReachedNoticesAreInOrder K V eq = (s : State K V) → IsReached eq s → NoticesAreInOrder eq s
+abbrev pub ReachedNoticesAreInOrder : (K V E : Type 0) → (K → K → Bool) → Type 0
+ReachedNoticesAreInOrder K V E eq = (s : State K V E) → IsReached eq s → NoticesAreInOrder eq s
 
 -- in every reached state no number has two open asks: a call's own, and the listener's
-abbrev pub AsksAreOne : (K V : Type 0) → (K → K → Bool) → Type 0
-AsksAreOne K V eq =
-    (s : State K V) (n : ℕ) → IsReached eq s →
+abbrev pub AsksAreOne : (K V E : Type 0) → (K → K → Bool) → Type 0
+AsksAreOne K V E eq =
+    (s : State K V E) (n : ℕ) → IsReached eq s →
     IsSome (s.world.desk.asks n) → is_running s.world.desk n ≢ true

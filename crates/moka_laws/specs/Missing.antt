@@ -10,26 +10,27 @@ use Rattle.moka_hist.specs.Notices.{HoldsLock}
 use Rattle.moka_hist.specs.Telling.{is_asked}
 use Rattle.moka_hist.specs.declared.events.Told.TheVariants as told
 use Rattle.moka_hist.specs.declared.loads.Load.{Load}
+use Rattle.moka_hist.specs.declared.loads.Sought.{Sought}
 use Rattle.moka_hist.specs.declared.records.Mode.TheVariants as mode
 
-module _ {K V : Type 0} where
+module _ {K V E : Type 0} where
   -- the plan applies the log, and then ends the turn
-  abbrev pub IsApplying : List (Item K V) → Type 0
+  abbrev pub IsApplying : List (Item K V E) → Type 0
   IsApplying (plan.Apply ∷ rest) = IsApplying rest
   IsApplying (plan.End ∷ rest) = Unit {0}
   IsApplying _ = ⊥
 
   -- The live call of this number applies the log: it is between two steps, where it can't be
   -- dropped, and what it does next waits for nothing.
-  pub record AppliesLog (s : State K V) (n : ℕ) : Type 0 where
-    pub call : Call K V
+  pub record AppliesLog (s : State K V E) (n : ℕ) : Type 0 where
+    pub call : Call K V E
     pub live : s.calls n ≡ Some call
     pub between : call.mode ≡ mode.Mid
     pub applying : IsApplying call.plan
 
   -- the live call of this number owns a load that is equal to the one given
-  pub record OwnsAlike (eq : K → K → Bool) (s : State K V) (n : ℕ) (load : Load K) : Type 0 where
-    pub call : Call K V
+  pub record OwnsAlike (eq : K → K → Bool) (s : State K V E) (n : ℕ) (load : Load K) : Type 0 where
+    pub call : Call K V E
     pub live : s.calls n ≡ Some call
     pub owned : Load K
     pub owning : s.world.desk.owning n ≡ Some owned
@@ -37,7 +38,7 @@ module _ {K V : Type 0} where
 
   -- The call waits for an owner, which is live and owns an equal load, or whose end is there to be
   -- read.
-  pub record HasOwner (eq : K → K → Bool) (s : State K V) (n : ℕ) (load : Load K) : Type 0 where
+  pub record HasOwner (eq : K → K → Bool) (s : State K V E) (n : ℕ) (load : Load K) : Type 0 where
     pub owner : ℕ
     pub joined : s.world.desk.joined n ≡ Some owner
     pub served : OwnsAlike eq s owner load ⊎ IsSome (s.world.desk.settled owner)
@@ -46,10 +47,10 @@ module _ {K V : Type 0} where
   -- from the owner, which owns an equal load; from the call that holds the key's lock, which is
   -- live and frees it; as the answer to the own ask, which is open; or as the listener's answer to
   -- the own notice or to that of an owed write, which it would take.
-  abbrev pub CanCome : (K → K → Bool) → State K V → ℕ → Item K V → Type 0
+  abbrev pub CanCome : (K → K → Bool) → State K V E → ℕ → Item K V E → Type 0
   CanCome eq s n plan.Turn = (holder : ℕ) × (s.world.desk.turn ≡ Some holder) × AppliesLog s holder
-  CanCome eq s n (plan.Read load) =
-      (owner : ℕ) × (s.world.desk.joined n ≡ Some owner) × OwnsAlike eq s owner load
+  CanCome eq s n (plan.Read sought) =
+      (owner : ℕ) × (s.world.desk.joined n ≡ Some owner) × OwnsAlike eq s owner sought.load
   CanCome eq s n (plan.Told load) = IsSome (s.world.desk.asks n)
   CanCome eq s n (plan.Lock key) =
       (holder : ℕ) × (s.world.desk.locks key ≡ Some holder) × HoldsLock s holder
@@ -58,19 +59,20 @@ module _ {K V : Type 0} where
   CanCome eq s n _ = ⊥
 
 -- in every reached state a call has the turn exactly where it applies the log
-abbrev pub TurnIsHeld : (K V : Type 0) → (K → K → Bool) → Type 0
-TurnIsHeld K V eq =
-    (s : State K V) (n : ℕ) → IsReached eq s → (s.world.desk.turn ≡ Some n) ↔ AppliesLog s n
+abbrev pub TurnIsHeld : (K V E : Type 0) → (K → K → Bool) → Type 0
+TurnIsHeld K V E eq =
+    (s : State K V E) (n : ℕ) → IsReached eq s → (s.world.desk.turn ≡ Some n) ↔ AppliesLog s n
 
 -- in every reached state each call that waits for the owner of a load has one
-abbrev pub WaitersHaveOwners : (K V : Type 0) → (K → K → Bool) → Type 0
-WaitersHaveOwners K V eq =
-    (s : State K V) (n : ℕ) (c : Call K V) (load : Load K) (rest : List (Item K V)) →
-    IsReached eq s → s.calls n ≡ Some c → c.plan ≡ plan.Read load ∷ rest → HasOwner eq s n load
+abbrev pub WaitersHaveOwners : (K V E : Type 0) → (K → K → Bool) → Type 0
+WaitersHaveOwners K V E eq =
+    (s : State K V E) (n : ℕ) (c : Call K V E) (sought : Sought K) (rest : List (Item K V E)) →
+    IsReached eq s → s.calls n ≡ Some c → c.plan ≡ plan.Read sought ∷ rest →
+    HasOwner eq s n sought.load
 
 -- in every reached state what a live call misses can still come
-abbrev pub MissingCanCome : (K V : Type 0) → (K → K → Bool) → Type 0
-MissingCanCome K V eq =
-    (s : State K V) (n : ℕ) (c : Call K V) (item : Item K V) (rest : List (Item K V)) →
+abbrev pub MissingCanCome : (K V E : Type 0) → (K → K → Bool) → Type 0
+MissingCanCome K V E eq =
+    (s : State K V E) (n : ℕ) (c : Call K V E) (item : Item K V E) (rest : List (Item K V E)) →
     IsReached eq s → s.calls n ≡ Some c → c.plan ≡ item ∷ rest → IsMissing s.world.desk n item →
     CanCome eq s n item

@@ -10,9 +10,10 @@ use Rattle.moka_hist.specs.Run.{Run, IsReached}
 use Rattle.moka_hist.specs.declared.accesses.Turn.{Turn}
 use Rattle.moka_hist.specs.declared.accesses.Turn.TheVariants as turn
 use Rattle.moka_hist.specs.declared.events.Event.{Event}
-use Rattle.moka_hist.specs.declared.replies.Answer.TheVariants as answer
+use Rattle.moka_hist.specs.declared.replies.Answer.{Answer}
 use Rattle.moka_hist.specs.declared.replies.Reply.{Reply}
-use Rattle.moka_hist.specs.declared.visits.Settled.TheVariants as settled
+use Rattle.moka_hist.specs.declared.visits.Settled.{Settled}
+use Rattle.moka_laws.specs.Loads.{said_of}
 
 -- how many of the numbers up to the last pass the test
 abbrev pub how_many : ℕ → (ℕ → Bool) → ℕ
@@ -21,7 +22,7 @@ how_many (suc k) test = how_many k test + cond (test (suc k)) 1 0
 
 -- `readers` counts the calls that wait for the owner, each of which is live and has a number that
 -- was given out.
-pub record AreCounted {K V : Type 0} (s : State K V) (owner : ℕ) : Type 0 where
+pub record AreCounted {K V E : Type 0} (s : State K V E) (owner : ℕ) : Type 0 where
   pub count :
       s.world.desk.readers owner
       ≡ how_many s.world.desk.last (λ n. is_reader_of s.world.desk n owner)
@@ -29,31 +30,31 @@ pub record AreCounted {K V : Type 0} (s : State K V) (owner : ℕ) : Type 0 wher
   pub numbered : (n : ℕ) → s.world.desk.joined n ≡ Some owner → n ≤ s.world.desk.last
 
 -- in every reached state `readers` counts exactly those that wait
-abbrev pub ReadersAreCounted : (K V : Type 0) → (K → K → Bool) → Type 0
-ReadersAreCounted K V eq = (s : State K V) (owner : ℕ) → IsReached eq s → AreCounted s owner
+abbrev pub ReadersAreCounted : (K V E : Type 0) → (K → K → Bool) → Type 0
+ReadersAreCounted K V E eq = (s : State K V E) (owner : ℕ) → IsReached eq s → AreCounted s owner
 
 -- in every reached state how an owner ended is kept only where a call has still to read it
-abbrev pub NothingUnreadIsKept : (K V : Type 0) → (K → K → Bool) → Type 0
-NothingUnreadIsKept K V eq =
-    (s : State K V) (owner : ℕ) → IsReached eq s → IsSome (s.world.desk.settled owner) →
+abbrev pub NothingUnreadIsKept : (K V E : Type 0) → (K → K → Bool) → Type 0
+NothingUnreadIsKept K V E eq =
+    (s : State K V E) (owner : ℕ) → IsReached eq s → IsSome (s.world.desk.settled owner) →
     (n : ℕ) × (s.world.desk.joined n ≡ Some owner)
 
--- the step by which a live call ends its load with this value
-pub record Settles {K V : Type 0} (eq : K → K → Bool) (s : State K V) (owner : ℕ) (value : V)
-    (t : State K V) : Type 0 where
-  pub call : Call K V
-  pub rest : List (Item K V)
+-- the step by which a live call ends its load so
+pub record Settles {K V E : Type 0} (eq : K → K → Bool) (s : State K V E) (owner : ℕ)
+    (with : Settled V E) (t : State K V E) : Type 0 where
+  pub call : Call K V E
+  pub rest : List (Item K V E)
   pub live : s.calls owner ≡ Some call
-  pub settling : call.plan ≡ plan.Settle (settled.Ready value) ∷ rest
-  pub turn : Turn K V
+  pub settling : call.plan ≡ plan.Settle with ∷ rest
+  pub turn : Turn K V E
   pub step : Step eq s owner turn t
 
--- a call that waits for an owner as that ends its load with a value answers that value with its
--- next step, whatever other calls do before
-abbrev pub WaitersAnswerSettled : (K V : Type 0) → (K → K → Bool) → Type 0
-WaitersAnswerSettled K V eq =
-    (s t u v : State K V) (es : List (Event K V)) (rs : List (Reply K V)) (owner n : ℕ) (value : V)
-    (reply : Turn K V) →
-    IsReached eq s → s.world.desk.joined n ≡ Some owner → Settles eq s owner value t →
-    Run eq (IsLawful eq) t es rs u → u.world.desk.joined n ≡ Some owner →
-    Step eq u n reply v → reply ≡ turn.Answer (answer.Loaded value false)
+-- a call that waits for an owner as that ends its load with a value, an error or nothing answers
+-- that with its next step, whatever other calls do before: a value as not fresh
+abbrev pub WaitersAnswerSettled : (K V E : Type 0) → (K → K → Bool) → Type 0
+WaitersAnswerSettled K V E eq =
+    (s t u v : State K V E) (es : List (Event K V E)) (rs : List (Reply K V E)) (owner n : ℕ)
+    (with : Settled V E) (said : Answer V E) (reply : Turn K V E) →
+    IsReached eq s → s.world.desk.joined n ≡ Some owner → Settles eq s owner with t →
+    said_of with false ≡ Some said → Run eq (IsLawful eq) t es rs u →
+    u.world.desk.joined n ≡ Some owner → Step eq u n reply v → reply ≡ turn.Answer said

@@ -14,41 +14,43 @@ use Rattle.moka_hist.specs.declared.visits.Visit.{Visit}
 use Rattle.moka_hist.specs.declared.writes.Owed.{Owed}
 
 -- a desk where nothing has happened is sound
-abbrev pub FreshIsSound : (K V : Type 0) → (K → K → Bool) → Type 0
-FreshIsSound K V eq = (rules : Rules) (size : ℕ) → SoundDesk eq (fresh_desk K V rules size)
+abbrev pub FreshIsSound : (K V E : Type 0) → (K → K → Bool) → Type 0
+FreshIsSound K V E eq =
+    (rules : Rules) (size : ℕ) (tests : ℕ → K → V → Bool) →
+    SoundDesk eq (fresh_desk K V E rules size tests)
 
 -- each visit that a sound desk allows leaves it sound
-abbrev pub VisitsKeepSound : (K V : Type 0) → (K → K → Bool) → Type 0
-VisitsKeepSound K V eq =
-    (w : DeskPart K V) (made : Visit K V) → SoundDesk eq w → MayVisit w made →
+abbrev pub VisitsKeepSound : (K V E : Type 0) → (K → K → Bool) → Type 0
+VisitsKeepSound K V E eq =
+    (w : DeskPart K V E) (made : Visit K V E) → SoundDesk eq w → MayVisit w made →
     SoundDesk eq (makes eq w made)
 
 -- so does a call that leaves, with no write but one that it holds
-abbrev pub LeavingKeepsSound : (K V : Type 0) → (K → K → Bool) → Type 0
-LeavingKeepsSound K V eq =
-    (w : DeskPart K V) (call : ℕ) (held : Option Owed) →
+abbrev pub LeavingKeepsSound : (K V E : Type 0) → (K → K → Bool) → Type 0
+LeavingKeepsSound K V E eq =
+    (w : DeskPart K V E) (call : ℕ) (held : Option Owed) →
     SoundDesk eq w → MayLeave w call (option_map (λ o. o.write) held) →
     SoundDesk eq (left w call held)
 
 -- so does a write that is decided, an answer that is told, a number that is given out, and a clock
 -- that moves on
-abbrev pub DecidingKeepsSound : (K V : Type 0) → (K → K → Bool) → Type 0
-DecidingKeepsSound K V eq =
-    (w : DeskPart K V) (call : ℕ) → SoundDesk eq w → SoundDesk eq (decided w call)
+abbrev pub DecidingKeepsSound : (K V E : Type 0) → (K → K → Bool) → Type 0
+DecidingKeepsSound K V E eq =
+    (w : DeskPart K V E) (call : ℕ) → SoundDesk eq w → SoundDesk eq (decided w call)
 
-abbrev pub TellingKeepsSound : (K V : Type 0) → (K → K → Bool) → Type 0
-TellingKeepsSound K V eq =
-    (w : DeskPart K V) (call : ℕ) (given : Told V) → SoundDesk eq w →
+abbrev pub TellingKeepsSound : (K V E : Type 0) → (K → K → Bool) → Type 0
+TellingKeepsSound K V E eq =
+    (w : DeskPart K V E) (call : ℕ) (given : Told V E) → SoundDesk eq w →
     SoundDesk eq (told w call given)
 
-abbrev pub EnteringKeepsSound : (K V : Type 0) → (K → K → Bool) → Type 0
-EnteringKeepsSound K V eq =
-    (w : DeskPart K V) (n : ℕ) → SoundDesk eq w → SoundDesk eq (record w { last = n })
+abbrev pub EnteringKeepsSound : (K V E : Type 0) → (K → K → Bool) → Type 0
+EnteringKeepsSound K V E eq =
+    (w : DeskPart K V E) (n : ℕ) → SoundDesk eq w → SoundDesk eq (record w { last = n })
 
-abbrev pub ClockKeepsSound : (K V : Type 0) → (K → K → Bool) → Type 0
-ClockKeepsSound K V eq =
-    (w : DeskPart K V) (moment : ℕ) → SoundDesk eq w → SoundDesk eq (record w { clock = moment })
+abbrev pub ClockKeepsSound : (K V E : Type 0) → (K → K → Bool) → Type 0
+ClockKeepsSound K V E eq =
+    (w : DeskPart K V E) (moment : ℕ) → SoundDesk eq w → SoundDesk eq (record w { clock = moment })
 
 -- in every reached state the desk is sound
-abbrev pub ReachedIsSound : (K V : Type 0) → (K → K → Bool) → Type 0
-ReachedIsSound K V eq = (s : State K V) → IsReached eq s → SoundDesk eq s.world.desk
+abbrev pub ReachedIsSound : (K V E : Type 0) → (K → K → Bool) → Type 0
+ReachedIsSound K V E eq = (s : State K V E) → IsReached eq s → SoundDesk eq s.world.desk

@@ -3,12 +3,12 @@
 ghost use Rattle.moka_laws.specs.Held.{CallsMayLeave, DeskKnowsHeld};
 
 /// Cites the law that in every reached state the desk knows each write that a live call holds.
-pub fn held_are_known<K: Eq, V>()
-    ensures known { DeskKnowsHeld K V K.eq }
+pub fn held_are_known<K: Eq, V, E>()
+    ensures known { DeskKnowsHeld K V E K.eq }
 {}
 
 /// Cites the law that in every reached state each live call may leave the write that its plan
 /// holds, and where that holds none has taken none up.
-pub fn calls_may_leave<K: Eq, V>()
-    ensures leaves { CallsMayLeave K V K.eq }
+pub fn calls_may_leave<K: Eq, V, E>()
+    ensures leaves { CallsMayLeave K V E K.eq }
 {}

@@ -10,6 +10,7 @@ mod bounded;
 mod held;
 mod lawful;
 mod listening;
+mod loads;
 mod missing;
 mod moving;
 mod reaching;
@@ -30,11 +31,15 @@ pub use listening::{
     asks_are_one, keys_are_locked, locks_are_held, locks_are_one, notices_are_in_order,
     notices_are_settled,
 };
+pub use loads::{
+    aborts_are_counted, answers_fit, error_by_cause, exhausted_at_last, nothing_by_cause,
+    opened_by_owners, own_ends_are_told, owners_answer_settled, settlements_fit, tests_are_two,
+};
 pub use missing::{missing_can_come, turn_is_held, waiters_have_owners};
 pub use moving::{calls_are_safe, move_is_step, moves_are_steps, polled_is_poll};
 pub use reaching::{
     fresh_is_reached, live_was_started, reached_by_event, reached_by_run, reached_by_step,
-    reached_by_steps, run_goes_on,
+    reached_by_steps, run_goes_on, runs_are_ways,
 };
 pub use readers::{nothing_unread_is_kept, readers_are_counted, waiters_answer_settled};
 pub use removals::{

@@ -5,37 +5,37 @@ ghost use Rattle.moka_laws.specs.Listening.{AsksAreOne, KeysAreLocked, LocksAreO
 /// Cites the law that in every reached state, where a listener is set, each committed write that
 /// replaced a record has one notice, due or opened; there is no other; none was skipped before the
 /// listener was off; and no write is logged or applied while its notice runs.
-pub fn notices_are_settled<K: Eq, V>()
-    ensures settled { ReachedNoticesAreSettled K V K.eq }
+pub fn notices_are_settled<K: Eq, V, E>()
+    ensures settled { ReachedNoticesAreSettled K V E K.eq }
 {}
 
 /// Cites the law that in every reached state a call holds a lock exactly where it is live and
 /// between its locking and its freeing, and nobody does without a listener.
-pub fn locks_are_held<K: Eq, V>()
-    ensures held { ReachedLocksAreHeld K V K.eq }
+pub fn locks_are_held<K: Eq, V, E>()
+    ensures held { ReachedLocksAreHeld K V E K.eq }
 {}
 
 /// Cites the law that in every reached state, where a listener is set, the key that a live call is
 /// to write or to take out, to look up for that, or to tell the listener of, is the one whose lock
 /// it holds.
-pub fn keys_are_locked<K: Eq, V>()
-    ensures locked { KeysAreLocked K V K.eq }
+pub fn keys_are_locked<K: Eq, V, E>()
+    ensures locked { KeysAreLocked K V E K.eq }
 {}
 
 /// Cites the law that in every reached state no two calls hold locks of equal keys.
-pub fn locks_are_one<K: Eq, V>()
-    ensures one { LocksAreOne K V K.eq }
+pub fn locks_are_one<K: Eq, V, E>()
+    ensures one { LocksAreOne K V E K.eq }
 {}
 
 /// Cites the law that in every reached state the notices of a key were opened in the order in which
 /// their writes were committed, and one runs beside an earlier one only once that one's call is
 /// gone.
-pub fn notices_are_in_order<K: Eq, V>()
-    ensures ordered { ReachedNoticesAreInOrder K V K.eq }
+pub fn notices_are_in_order<K: Eq, V, E>()
+    ensures ordered { ReachedNoticesAreInOrder K V E K.eq }
 {}
 
 /// Cites the law that in every reached state no number has two open asks: while a call's own is
 /// open, no notice of its number runs.
-pub fn asks_are_one<K: Eq, V>()
-    ensures one { AsksAreOne K V K.eq }
+pub fn asks_are_one<K: Eq, V, E>()
+    ensures one { AsksAreOne K V E K.eq }
 {}

@@ -1,39 +1,45 @@
 //! Which states a run can reach, and how a run goes on.
 
-ghost use Rattle.moka_laws.specs.Reaching.{FreshIsReached, LiveWasStarted, ReachedByEvent, ReachedByRun, ReachedByStep, ReachedBySteps, RunGoesOn};
+ghost use Rattle.moka_laws.specs.Reaching.{FreshIsReached, LiveWasStarted, ReachedByEvent, ReachedByRun, ReachedByStep, ReachedBySteps, RunGoesOn, RunsAreWays};
 
 /// Cites the law that a fresh cache is reached, with a log of any size but 0.
-pub fn fresh_is_reached<K: Eq, V>()
-    ensures reached { FreshIsReached K V K.eq }
+pub fn fresh_is_reached<K: Eq, V, E>()
+    ensures reached { FreshIsReached K V E K.eq }
 {}
 
 /// Cites the law that an event on a reached state leaves a reached state.
-pub fn reached_by_event<K: Eq, V>()
-    ensures reached { ReachedByEvent K V K.eq }
+pub fn reached_by_event<K: Eq, V, E>()
+    ensures reached { ReachedByEvent K V E K.eq }
 {}
 
 /// Cites the law that a step of a live call on a reached state leaves a reached state.
-pub fn reached_by_step<K: Eq, V>()
-    ensures reached { ReachedByStep K V K.eq }
+pub fn reached_by_step<K: Eq, V, E>()
+    ensures reached { ReachedByStep K V E K.eq }
 {}
 
 /// Cites the law that steps of a live call on a reached state leave a reached state.
-pub fn reached_by_steps<K: Eq, V>()
-    ensures reached { ReachedBySteps K V K.eq }
+pub fn reached_by_steps<K: Eq, V, E>()
+    ensures reached { ReachedBySteps K V E K.eq }
 {}
 
 /// Cites the law that events on a reached state leave a reached state.
-pub fn reached_by_run<K: Eq, V>()
-    ensures reached { ReachedByRun K V K.eq }
+pub fn reached_by_run<K: Eq, V, E>()
+    ensures reached { ReachedByRun K V E K.eq }
 {}
 
 /// Cites the law that every live call of a reached state was started on a reached state, from which
 /// some events led here.
-pub fn live_was_started<K: Eq, V>()
-    ensures started { LiveWasStarted K V K.eq }
+pub fn live_was_started<K: Eq, V, E>()
+    ensures started { LiveWasStarted K V E K.eq }
 {}
 
 /// Cites the law that a run goes on by one event at its end.
-pub fn run_goes_on<K: Eq, V>()
-    ensures goes_on { RunGoesOn K V K.eq }
+pub fn run_goes_on<K: Eq, V, E>()
+    ensures goes_on { RunGoesOn K V E K.eq }
+{}
+
+/// Cites the law that whatever happens from a state on is, for each call, a way of its own steps
+/// and of events that leave it alone; so what is said of such ways is said of every run.
+pub fn runs_are_ways<K: Eq, V, E>()
+    ensures ways { RunsAreWays K V E K.eq }
 {}

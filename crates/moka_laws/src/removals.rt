@@ -4,48 +4,48 @@ ghost use Rattle.moka_laws.specs.Removals.{ChosenStands, DisabledStoresNothing, 
 
 /// Cites the law that in every reached state of a cache of capacity 0 no record is stored, none
 /// ever was, and no write or notice stands anywhere.
-pub fn disabled_stores_nothing<K: Eq, V>()
-    ensures nothing { DisabledStoresNothing K V K.eq }
+pub fn disabled_stores_nothing<K: Eq, V, E>()
+    ensures nothing { DisabledStoresNothing K V E K.eq }
 {}
 
 /// Cites the law that in every reached state only a live call has places of a write: of the write
 /// that it holds, or of a change that isn't decided yet.
-pub fn places_come_back<K: Eq, V>()
-    ensures back { PlacesComeBack K V K.eq }
+pub fn places_come_back<K: Eq, V, E>()
+    ensures back { PlacesComeBack K V E K.eq }
 {}
 
 /// Cites the law that a call that was started to take a record out, and answers, has committed a
 /// removal and answers what it took out, which then is stored no longer; or has committed none, and
 /// answers that.
-pub fn removals_answer<K: Eq, V>()
-    ensures answers { RemovalsAnswer K V K.eq }
+pub fn removals_answer<K: Eq, V, E>()
+    ensures answers { RemovalsAnswer K V E K.eq }
 {}
 
 /// Cites the law that a call that was started to remove what a key has answers a value exactly
 /// where it has committed a removal.
-pub fn remove_answers_taken<K: Eq, V>()
-    ensures taken { RemoveAnswersTaken K V K.eq }
+pub fn remove_answers_taken<K: Eq, V, E>()
+    ensures taken { RemoveAnswersTaken K V E K.eq }
 {}
 
 /// Cites the law that a call that was started to evict a record, and answers Evicted, has committed
 /// the removal of the record of that stamp, which then is stored no longer.
-pub fn evicted_is_out<K: Eq, V>()
-    ensures out { EvictedIsOut K V K.eq }
+pub fn evicted_is_out<K: Eq, V, E>()
+    ensures out { EvictedIsOut K V E K.eq }
 {}
 
 /// Cites the law that on a reached state a call keeps the record that was chosen to leave exactly
 /// where it stands under the key no longer, or the cause doesn't hold.
-pub fn kept_by_cause<K: Eq, V>()
-    ensures kept { KeptByCause K V K.eq }
+pub fn kept_by_cause<K: Eq, V, E>()
+    ensures kept { KeptByCause K V E K.eq }
 {}
 
 /// Cites the law that in every reached state, where a listener is set, the chosen record that a
 /// call is about to take out stands under its key.
-pub fn chosen_stands<K: Eq, V>()
-    ensures stands { ChosenStands K V K.eq }
+pub fn chosen_stands<K: Eq, V, E>()
+    ensures stands { ChosenStands K V E K.eq }
 {}
 
 /// Cites the law that in every reached state records of one stamp stand under equal keys.
-pub fn stamps_are_one<K: Eq, V>()
-    ensures one { StampsAreOne K V K.eq }
+pub fn stamps_are_one<K: Eq, V, E>()
+    ensures one { StampsAreOne K V E K.eq }
 {}

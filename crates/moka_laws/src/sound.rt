@@ -3,43 +3,43 @@
 ghost use Rattle.moka_laws.specs.Sound.{ClockKeepsSound, DecidingKeepsSound, EnteringKeepsSound, FreshIsSound, LeavingKeepsSound, ReachedIsSound, TellingKeepsSound, VisitsKeepSound};
 
 /// Cites the law that a desk where nothing has happened is sound.
-pub fn fresh_is_sound<K: Eq, V>()
-    ensures sound { FreshIsSound K V K.eq }
+pub fn fresh_is_sound<K: Eq, V, E>()
+    ensures sound { FreshIsSound K V E K.eq }
 {}
 
 /// Cites the law that each visit that a sound desk allows leaves it sound.
-pub fn visits_keep_sound<K: Eq, V>()
-    ensures sound { VisitsKeepSound K V K.eq }
+pub fn visits_keep_sound<K: Eq, V, E>()
+    ensures sound { VisitsKeepSound K V E K.eq }
 {}
 
 /// Cites the law that a call that leaves a sound desk, with no write but one that it holds, leaves
 /// it sound.
-pub fn leaving_keeps_sound<K: Eq, V>()
-    ensures sound { LeavingKeepsSound K V K.eq }
+pub fn leaving_keeps_sound<K: Eq, V, E>()
+    ensures sound { LeavingKeepsSound K V E K.eq }
 {}
 
 /// Cites the law that a sound desk stays so as a write is decided.
-pub fn deciding_keeps_sound<K: Eq, V>()
-    ensures sound { DecidingKeepsSound K V K.eq }
+pub fn deciding_keeps_sound<K: Eq, V, E>()
+    ensures sound { DecidingKeepsSound K V E K.eq }
 {}
 
 /// Cites the law that a sound desk stays so as an answer is told.
-pub fn telling_keeps_sound<K: Eq, V>()
-    ensures sound { TellingKeepsSound K V K.eq }
+pub fn telling_keeps_sound<K: Eq, V, E>()
+    ensures sound { TellingKeepsSound K V E K.eq }
 {}
 
 /// Cites the law that a sound desk stays so as a call number is given out.
-pub fn entering_keeps_sound<K: Eq, V>()
-    ensures sound { EnteringKeepsSound K V K.eq }
+pub fn entering_keeps_sound<K: Eq, V, E>()
+    ensures sound { EnteringKeepsSound K V E K.eq }
 {}
 
 /// Cites the law that a sound desk stays so as the clock moves on.
-pub fn clock_keeps_sound<K: Eq, V>()
-    ensures sound { ClockKeepsSound K V K.eq }
+pub fn clock_keeps_sound<K: Eq, V, E>()
+    ensures sound { ClockKeepsSound K V E K.eq }
 {}
 
 /// Cites the law that in every reached state the desk is sound: no write stands twice or with two
 /// calls, and a load and its owner are one to one.
-pub fn reached_is_sound<K: Eq, V>()
-    ensures sound { ReachedIsSound K V K.eq }
+pub fn reached_is_sound<K: Eq, V, E>()
+    ensures sound { ReachedIsSound K V E K.eq }
 {}

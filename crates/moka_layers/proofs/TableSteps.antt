@@ -1,10 +1,10 @@
 -- A step of the table is the reference's.
-use Rattle.std.proofs.Common.{◌≡◌, ◌≢◌, ◌<◌, ◌≤◌, ◌==◌, ℕ, ◌+◌, ◌-◌, max, Bool, true, false, cond, Option, Some, None, is_some, IsSome, IfSome, refl, sym, ap, subst, ◌∙◌, ◌⊎◌, inl, inr, arith}
+use Rattle.std.proofs.Common.{◌≡◌, ◌≢◌, ◌<◌, ◌≤◌, ◌==◌, ℕ, ◌+◌, ◌-◌, max, Bool, true, false, cond, Option, Some, None, is_some, IsSome, refl, sym, ap, subst, ◌∙◌, ◌⊎◌, inl, inr, arith}
 use Rattle.std.proofs.lemmas.Bool.Decides.{eqb_tells}
 use Rattle.std.specs.declared.cmp.PartialEq as PartialEq
 use Rattle.std.specs.declared.hash.Hash as Hash
 use Rattle.moka_hist.specs.Bound.{times_of, stayed, decided_by, most_undecided}
-use Rattle.moka_hist.specs.State.{Stay, TablePart, World}
+use Rattle.moka_hist.specs.State.{Stay, TablePart}
 use Rattle.moka_hist.specs.Step as step
 use Rattle.moka_hist.specs.Finite.{put_key}
 use Rattle.moka_hist.specs.Tables.{Operates, answer_of, by_pair, removed, taken_by, written}
@@ -15,13 +15,13 @@ use Rattle.moka_hist.specs.declared.tables.TableAnswer.{TableAnswer}
 use Rattle.moka_hist.specs.declared.tables.TableTurn.{TableTurn}
 use Rattle.moka_hist.specs.declared.tables.TableTurn.TheVariants as turn
 use Rattle.moka_hist.specs.declared.accesses.Got.TheVariants as got
-use Rattle.moka_bound.specs.Falling.{Shortens, raised}
+use Rattle.moka_bound.specs.Falling.{raised}
 use Rattle.moka_init.specs.Grounds.{Accesses}
-use Rattle.moka_table.specs.Map.{Moves, most_steps, keys_after}
+use Rattle.moka_table.specs.Map.{Moves, most_steps}
+use Rattle.moka_hist.specs.declared.record_tests.Tests as Tests
 use Rattle.moka_table.specs.declared.table.Table as Table
 use Rattle.moka_desk.specs.declared.state.Desk.{Desk}
-use Rattle.moka_layers.specs.Layers.{TableIs, BegunIs, WorldIs, GroundIs, OthersStay, Serves, account_of, left_in, most_on}
-use Rattle.moka_layers.specs.declared.layers.Layers.{Layers}
+use Rattle.moka_layers.specs.Layers.{TableIs, BegunIs, Serves, account_of, most_on}
 
 -- what a table says of one step of an operation
 pub record Stepped {K V T C : Type 0} (t : Table.Ghosts T K V C) (eq : K → K → Bool) (o : TableOp K V) (old : T) (call : C) (turned : TableTurn K V) (new : T) (on : C) : Type 0 where
@@ -219,30 +219,30 @@ module _ {K V T C : Type 0} (t : Table.Ghosts T K V C) (eq : K → K → Bool) w
           }
 
   -- by how much a step may raise how long operations stay undecided
-  raises : (o : TableOp K V) (old new : T) (call on : C) (turned : TableTurn K V) → Stepped t eq o old call turned new on
-      → most_on t new ≤ most_on t old + raised (step.On_table o) (got.Table turned)
-  raises o old new call on turn.Going s = omega (arith, s.peak, s.first, s.moves.1, s.holds)
-  raises (op.Get key) old new call on (turn.Decided answer) s = omega (arith, s.peak, s.first, s.moves.2, s.holds)
-  raises (op.InsertOrModify key stored) old new call on (turn.Decided answer) s =
+  raises : (E : Type 0) (o : TableOp K V) (old new : T) (call on : C) (turned : TableTurn K V) → Stepped t eq o old call turned new on
+      → most_on t new ≤ most_on t old + raised {E = E} (step.On_table o) (got.Table turned)
+  raises E o old new call on turn.Going s = omega (arith, s.peak, s.first, s.moves.1, s.holds)
+  raises E (op.Get key) old new call on (turn.Decided answer) s = omega (arith, s.peak, s.first, s.moves.2, s.holds)
+  raises E (op.InsertOrModify key stored) old new call on (turn.Decided answer) s =
       let more = one_more (is_some (t.map old key)) (t.count old) in
       let count : t.count new ≡ cond (is_some (t.map old key)) (t.count old) (t.count old + 1) = s.moves.2 in
       omega (arith, s.peak, s.first, count, more, s.holds)
-  raises (op.InsertIfAbsent key stored) old new call on (turn.Decided answer) s =
+  raises E (op.InsertIfAbsent key stored) old new call on (turn.Decided answer) s =
       let more = one_more (is_some (t.map old key)) (t.count old) in
       let count : t.count new ≡ cond (is_some (t.map old key)) (t.count old) (t.count old + 1) = s.moves.2 in
       omega (arith, s.peak, s.first, count, more, s.holds)
-  raises (op.RemoveIf key stamp) old new call on (turn.Decided answer) s =
+  raises E (op.RemoveIf key stamp) old new call on (turn.Decided answer) s =
       let fewer = no_more (is_some (taken_by stamp (t.map old key))) (t.count old) in
       let count : t.count new ≡ cond (is_some (taken_by stamp (t.map old key))) (t.count old - 1) (t.count old) = s.moves.2 in
       omega (arith, s.peak, s.first, count, fewer, s.holds)
 
-module _ {K V T C : Type 0} {same : PartialEq.Ghosts K} {hash : Hash.Ghosts K} (t : Table.Ghosts T K V C) (eq : K → K → Bool) where
+module _ {K V E T C Q : Type 0} {same : PartialEq.Ghosts K} {hash : Hash.Ghosts K} (t : Table.Ghosts T K V C) (q : Tests.Ghosts Q K V) (eq : K → K → Bool) where
   -- an undecided step
-  pub going_serves : (o : TableOp K V) (old new : T) (call on : C) (desk : Desk K V same hash) (n : ℕ) → Stepped t eq o old call turn.Going new on
+  pub going_serves : (o : TableOp K V) (old new : T) (call on : C) (desk : Desk K V E same hash) (tests : Q) (n : ℕ) → Stepped t eq o old call turn.Going new on
       → t.operation_of call ≡ Some o
-      → Serves eq t (record { table = old; desk = desk; call = n; begun = Some call }) (step.On_table o) (got.Table turn.Going)
-      (record { table = new; desk = desk; call = n; begun = Some on })
-  going_serves o old new call on desk n s is_o = λ w h may.
+      → Serves eq t q (record { table = old; desk = desk; tests = tests; call = n; begun = Some call }) (step.On_table o) (got.Table turn.Going)
+      (record { table = new; desk = desk; tests = tests; call = n; begun = Some on })
+  going_serves o old new call on desk tests n s is_o = λ w h may.
       let is = still_is t eq o old new call on w.table s h.world.table in
       let own = times_own n (times_of w.stay n + 1) in
       let nears = s.nears refl in
@@ -253,7 +253,7 @@ module _ {K V T C : Type 0} {same : PartialEq.Ghosts K} {hash : Hash.Ghosts K} (
         record w { stay = stayed w.stay n },
         (omega (arith, patient, nears), refl),
         record {
-          world = record { table = is; desk = h.world.desk; stay = h.given };
+          world = record { table = is; desk = h.world.desk; tests = h.world.tests; stay = h.given };
           begun = record {
             fits = (undecided.1, subst (λ (x : Option (TableOp K V)). IsSome x) (sym undecided.0) h.begun.fits.1);
             within = omega (arith, was, nears, s.first, raised_by);
@@ -265,18 +265,18 @@ module _ {K V T C : Type 0} {same : PartialEq.Ghosts K} {hash : Hash.Ghosts K} (
       )
 
   -- a step that decides
-  pub decided_serves : (o : TableOp K V) (old new : T) (call on : C) (desk : Desk K V same hash) (n : ℕ) (answer : TableAnswer K V)
+  pub decided_serves : (o : TableOp K V) (old new : T) (call on : C) (desk : Desk K V E same hash) (tests : Q) (n : ℕ) (answer : TableAnswer K V)
       → Stepped t eq o old call (turn.Decided answer) new on
-      → Serves eq t (record { table = old; desk = desk; call = n; begun = Some call }) (step.On_table o) (got.Table (turn.Decided answer))
-      (record { table = new; desk = desk; call = n; begun = None })
-  decided_serves o old new call on desk n answer s = λ w h may.
+      → Serves eq t q (record { table = old; desk = desk; tests = tests; call = n; begun = Some call }) (step.On_table o) (got.Table (turn.Decided answer))
+      (record { table = new; desk = desk; tests = tests; call = n; begun = None })
+  decided_serves o old new call on desk tests n answer s = λ w h may.
       let d = decides t eq n o old new call on answer w.table s h.world.table in
       let own = times_own n 0 in
       let most = most_within t eq new d.after d.is in (
         record w { table = d.after; stay = decided_by n },
         (d.after, d.operates, refl),
         record {
-          world = record { table = d.is; desk = h.world.desk; stay = h.given };
+          world = record { table = d.is; desk = h.world.desk; tests = h.world.tests; stay = h.given };
           begun = record { fits = tt; within = omega arith; patient = omega (arith, own, most) };
           given = h.given;
         },
@@ -284,11 +284,11 @@ module _ {K V T C : Type 0} {same : PartialEq.Ghosts K} {hash : Hash.Ghosts K} (
       )
 
   -- what is told of it
-  pub going_tells : (o : TableOp K V) (old new : T) (call on : C) (desk : Desk K V same hash) (n : ℕ) → Stepped t eq o old call turn.Going new on
+  pub going_tells : (o : TableOp K V) (old new : T) (call on : C) (desk : Desk K V E same hash) (tests : Q) (n : ℕ) → Stepped t eq o old call turn.Going new on
       → t.operation_of call ≡ Some o → t.left old call ≤ most_on t old
-      → Accesses (account_of t (record { table = old; desk = desk; call = n; begun = Some call })) (step.On_table o) (got.Table turn.Going)
-      (account_of t (record { table = new; desk = desk; call = n; begun = Some on }))
-  going_tells o old new call on desk n s is_o within =
+      → Accesses (account_of t (record { table = old; desk = desk; tests = tests; call = n; begun = Some call })) (step.On_table o) (got.Table turn.Going)
+      (account_of t (record { table = new; desk = desk; tests = tests; call = n; begun = Some on }))
+  going_tells o old new call on desk tests n s is_o within =
       let nears = s.nears refl in
       record {
         form = tt;
@@ -297,16 +297,16 @@ module _ {K V T C : Type 0} {same : PartialEq.Ghosts K} {hash : Hash.Ghosts K} (
         tells = λ before e. absurd (cc);
         shortens = record {
           within = omega (arith, within, nears, s.first, s.peak);
-          raises = raises t eq o old new call on turn.Going s;
+          raises = raises t eq E o old new call on turn.Going s;
           going = λ e. nears;
         };
       }
 
-  pub decided_tells : (o : TableOp K V) (old new : T) (call on : C) (desk : Desk K V same hash) (n : ℕ) (answer : TableAnswer K V)
+  pub decided_tells : (o : TableOp K V) (old new : T) (call on : C) (desk : Desk K V E same hash) (tests : Q) (n : ℕ) (answer : TableAnswer K V)
       → Stepped t eq o old call (turn.Decided answer) new on
-      → Accesses (account_of t (record { table = old; desk = desk; call = n; begun = Some call })) (step.On_table o) (got.Table (turn.Decided answer))
-      (account_of t (record { table = new; desk = desk; call = n; begun = None }))
-  decided_tells o old new call on desk n answer s =
+      → Accesses (account_of t (record { table = old; desk = desk; tests = tests; call = n; begun = Some call })) (step.On_table o) (got.Table (turn.Decided answer))
+      (account_of t (record { table = new; desk = desk; tests = tests; call = n; begun = None }))
+  decided_tells o old new call on desk tests n answer s =
       record {
         form = tt;
         call = refl;
@@ -314,7 +314,7 @@ module _ {K V T C : Type 0} {same : PartialEq.Ghosts K} {hash : Hash.Ghosts K} (
         tells = λ before e. absurd (cc);
         shortens = record {
           within = omega arith;
-          raises = raises t eq o old new call on (turn.Decided answer) s;
+          raises = raises t eq E o old new call on (turn.Decided answer) s;
           going = λ e. absurd (cc);
         };
       }

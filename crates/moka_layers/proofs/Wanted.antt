@@ -1,5 +1,5 @@
 -- Which access is wanted, and what it finds begun.
-use Rattle.std.proofs.Common.{◌≡◌, ◌≤◌, ◌<◌, ℕ, ◌+◌, Bool, true, false, cond, Option, Some, None, IfSome, IsSome, is_some, refl, sym, ap, subst, ◌∙◌, arith}
+use Rattle.std.proofs.Common.{◌≡◌, ◌≤◌, ℕ, ◌+◌, Bool, true, false, cond, Option, Some, None, IfSome, IsSome, is_some, not, refl, sym, ap, subst, ◌∙◌, arith}
 use Rattle.std.specs.declared.cmp.PartialEq as PartialEq
 use Rattle.std.specs.declared.hash.Hash as Hash
 use Rattle.moka_hist.specs.Bound.{times_of, most_undecided}
@@ -8,79 +8,80 @@ use Rattle.moka_hist.specs.Finite.{put_at}
 use Rattle.moka_hist.specs.State.{DeskPart, World}
 use Rattle.moka_hist.specs.Step.{Access, May}
 use Rattle.moka_hist.specs.Step as step
-use Rattle.moka_hist.specs.Visits.{makes, claimed, is_unlocked_for, locked_by, settlement_for, readers_without, settled_without}
-use Rattle.moka_hist.specs.declared.loads.Load.{Load}
+use Rattle.moka_hist.specs.Visits.{finds, makes, judged, claimed, is_unlocked_for, locked_by, settlement_for, readers_without, settled_without}
 use Rattle.moka_hist.specs.declared.tables.TableOp.{TableOp}
-use Rattle.moka_hist.specs.declared.tables.TableTurn.TheVariants as turn
 use Rattle.moka_hist.specs.declared.visits.Visit.{Visit}
 use Rattle.moka_hist.specs.declared.visits.Visit.TheVariants as visit
 use Rattle.moka_hist.specs.declared.visits.Found.{Found}
+use Rattle.moka_hist.specs.declared.visits.Found.TheVariants as found
 use Rattle.moka_hist.specs.declared.accesses.Want.{Want}
 use Rattle.moka_hist.specs.declared.accesses.Want.TheVariants as want
 use Rattle.moka_hist.specs.declared.accesses.Got.{Got}
 use Rattle.moka_hist.specs.declared.accesses.Got.TheVariants as got
 use Rattle.moka_init.specs.Grounds.{Accesses, MayWant, wanted}
+use Rattle.moka_hist.specs.declared.record_tests.Tests as Tests
 use Rattle.moka_table.specs.declared.table.Table as Table
+use Rattle.moka_desk.specs.StandsFor.{StandsFor}
 use Rattle.moka_desk.specs.declared.state.Desk.{Desk}
-use Rattle.moka_layers.specs.Layers.{BegunIs, GroundIs, Serves, account_of, left_in, most_on, operation_in}
-use Rattle.moka_layers.specs.Visiting.{VisitIs}
+use Rattle.moka_layers.specs.Layers.{GroundIs, Serves, account_of, left_in, most_on, operation_in}
+use Rattle.moka_layers.specs.Visiting.{VisitBy, test_holds}
 use Rattle.moka_layers.specs.declared.layers.Layers.{Layers}
 
-module _ {K V : Type 0} where
-  one : (a b : Access K V) → Some a ≡ Some b → a ≡ b
+module _ {K V E : Type 0} where
+  one : (a b : Access K V E) → Some a ≡ Some b → a ≡ b
   one a b e = cc
 
   -- a world allows what is to begin, or a visit, where nothing is begun
-  pub begin_may : (w : World K V) (begun : Option (TableOp K V)) (wish : Want K V) (o : TableOp K V) → wish ≡ want.Begin o → MayWant w begun wish → begun ≡ None
-  begin_may w begun wish o is may = by begun (subst (λ (v : Want K V). MayWant w begun v) is may)
+  pub begin_may : (w : World K V E) (begun : Option (TableOp K V)) (wish : Want K V E) (o : TableOp K V) → wish ≡ want.Begin o → MayWant w begun wish → begun ≡ None
+  begin_may w begun wish o is may = by begun (subst (λ (v : Want K V E). MayWant w begun v) is may)
     where
       by : (b : Option (TableOp K V)) → MayWant w b (want.Begin o) → b ≡ None
       by None may = refl
       by (Some x) may = absurd may
 
-  pub visit_may : (w : World K V) (begun : Option (TableOp K V)) (wish : Want K V) (v : Visit K V) → wish ≡ want.Desk v → MayWant w begun wish
+  pub visit_may : (w : World K V E) (begun : Option (TableOp K V)) (wish : Want K V E) (v : Visit K V E) → wish ≡ want.Desk v → MayWant w begun wish
       → (begun ≡ None) × MayVisit w.desk v
-  visit_may w begun wish v is may = by begun (subst (λ (x : Want K V). MayWant w begun x) is may)
+  visit_may w begun wish v is may = by begun (subst (λ (x : Want K V E). MayWant w begun x) is may)
     where
       by : (b : Option (TableOp K V)) → MayWant w b (want.Desk v) → (b ≡ None) × MayVisit w.desk v
       by None may = (refl, may)
       by (Some x) may = absurd may
 
   -- one that is gone on with was begun
-  pub table_may : (w : World K V) (begun : Option (TableOp K V)) (wish : Want K V) → wish ≡ want.Table → MayWant w begun wish → IsSome begun
-  table_may w begun wish is may = by begun (subst (λ (v : Want K V). MayWant w begun v) is may)
+  pub table_may : (w : World K V E) (begun : Option (TableOp K V)) (wish : Want K V E) → wish ≡ want.Table → MayWant w begun wish → IsSome begun
+  table_may w begun wish is may = by begun (subst (λ (v : Want K V E). MayWant w begun v) is may)
     where
       by : (b : Option (TableOp K V)) → MayWant w b want.Table → IsSome b
       by None may = absurd may
       by (Some x) may = refl
 
   -- what is wanted then
-  pub wanted_begin : (begun : Option (TableOp K V)) (wish : Want K V) (access : Access K V) (o : TableOp K V) → wish ≡ want.Begin o → wanted begun wish ≡ Some access
+  pub wanted_begin : (begun : Option (TableOp K V)) (wish : Want K V E) (access : Access K V E) (o : TableOp K V) → wish ≡ want.Begin o → wanted begun wish ≡ Some access
       → step.On_table o ≡ access
-  wanted_begin begun wish access o is e = by begun (subst (λ (v : Want K V). wanted begun v ≡ Some access) is e)
+  wanted_begin begun wish access o is e = by begun (subst (λ (v : Want K V E). wanted begun v ≡ Some access) is e)
     where
       by : (b : Option (TableOp K V)) → wanted b (want.Begin o) ≡ Some access → step.On_table o ≡ access
       by None e = one _ _ e
       by (Some x) e = absurd (cc)
 
-  pub wanted_visit : (begun : Option (TableOp K V)) (wish : Want K V) (access : Access K V) (v : Visit K V) → wish ≡ want.Desk v → wanted begun wish ≡ Some access
+  pub wanted_visit : (begun : Option (TableOp K V)) (wish : Want K V E) (access : Access K V E) (v : Visit K V E) → wish ≡ want.Desk v → wanted begun wish ≡ Some access
       → step.On_desk v ≡ access
-  wanted_visit begun wish access v is e = by begun (subst (λ (x : Want K V). wanted begun x ≡ Some access) is e)
+  wanted_visit begun wish access v is e = by begun (subst (λ (x : Want K V E). wanted begun x ≡ Some access) is e)
     where
       by : (b : Option (TableOp K V)) → wanted b (want.Desk v) ≡ Some access → step.On_desk v ≡ access
       by None e = one _ _ e
       by (Some x) e = absurd (cc)
 
-  pub wanted_table : (begun : Option (TableOp K V)) (wish : Want K V) (access : Access K V) → wish ≡ want.Table → wanted begun wish ≡ Some access
+  pub wanted_table : (begun : Option (TableOp K V)) (wish : Want K V E) (access : Access K V E) → wish ≡ want.Table → wanted begun wish ≡ Some access
       → (o : TableOp K V) × (begun ≡ Some o) × (step.On_table o ≡ access)
-  wanted_table begun wish access is e = by begun (subst (λ (v : Want K V). wanted begun v ≡ Some access) is e)
+  wanted_table begun wish access is e = by begun (subst (λ (v : Want K V E). wanted begun v ≡ Some access) is e)
     where
       by : (b : Option (TableOp K V)) → wanted b want.Table ≡ Some access → (o : TableOp K V) × (b ≡ Some o) × (step.On_table o ≡ access)
       by None e = absurd (cc)
       by (Some o) e = (o, refl, one _ _ e)
 
   -- no visit gives a call number out
-  pub last_same : (eq : K → K → Bool) (w : DeskPart K V) (v : Visit K V) → (makes eq w v).last ≡ w.last
+  pub last_same : (eq : K → K → Bool) (w : DeskPart K V E) (v : Visit K V E) → (makes eq w v).last ≡ w.last
   last_same eq w (visit.WaitOrOwn n key kind) = by (w.owners (record { key = key; kind = kind }))
     where
       by : (o : Option ℕ) → (claimed eq w n (record { key = key; kind = kind }) o).last ≡ w.last
@@ -98,6 +99,25 @@ module _ {K V : Type 0} where
       by false = refl
   last_same eq w _ = refl
 
+  -- nor changes what the tests answer
+  pub tests_same : (eq : K → K → Bool) (w : DeskPart K V E) (v : Visit K V E) → (makes eq w v).tests ≡ w.tests
+  tests_same eq w (visit.WaitOrOwn n key kind) = by (w.owners (record { key = key; kind = kind }))
+    where
+      by : (o : Option ℕ) → (claimed eq w n (record { key = key; kind = kind }) o).tests ≡ w.tests
+      by None = refl
+      by (Some owner) = refl
+  tests_same eq w (visit.ReadSettled n) = by (is_some (settlement_for w n))
+    where
+      by : (b : Bool) → (cond b (record w { joined = put_at w.joined n None; readers = readers_without w n; settled = settled_without w n }) w).tests ≡ w.tests
+      by true = refl
+      by false = refl
+  tests_same eq w (visit.LockKey n key) = by (is_unlocked_for w n key)
+    where
+      by : (b : Bool) → (locked_by eq w n key b).tests ≡ w.tests
+      by true = refl
+      by false = refl
+  tests_same eq w _ = refl
+
 module _ {K V T C : Type 0} (t : Table.Ghosts T K V C) where
   -- an operation that was begun is of something
   pub none_begun : (table : T) (begun : Option C) → IfSome begun (λ c. t.fits table c × IsSome (t.operation_of c)) → operation_in t begun ≡ None → begun ≡ None
@@ -108,15 +128,15 @@ module _ {K V T C : Type 0} (t : Table.Ghosts T K V C) where
   some_begun None e = e
   some_begun (Some c) e = refl
 
-module _ {K V T C : Type 0} {same : PartialEq.Ghosts K} {hash : Hash.Ghosts K} (t : Table.Ghosts T K V C) (eq : K → K → Bool) where
+module _ {K V E T C Q : Type 0} {same : PartialEq.Ghosts K} {hash : Hash.Ghosts K} (t : Table.Ghosts T K V C) (q : Tests.Ghosts Q K V) (eq : K → K → Bool) where
   -- the layers for a call that begins an operation
-  pub begins : (layers : Layers K V T C same hash) (c : C) (o : TableOp K V) (w : World K V) → layers.begun ≡ None → t.operation_of c ≡ Some o → t.fits layers.table c
-      → t.left layers.table c ≤ most_on t layers.table → GroundIs eq t layers w → GroundIs eq t (record layers { begun = Some c }) w
+  pub begins : (layers : Layers K V E T C Q same hash) (c : C) (o : TableOp K V) (w : World K V E) → layers.begun ≡ None → t.operation_of c ≡ Some o → t.fits layers.table c
+      → t.left layers.table c ≤ most_on t layers.table → GroundIs eq t q layers w → GroundIs eq t q (record layers { begun = Some c }) w
   begins layers c o w none is_o fits left h =
       let patient : times_of w.stay layers.call + most_on t layers.table ≤ most_undecided w.table =
       subst (λ (b : Option C). times_of w.stay layers.call + left_in t layers.table b ≤ most_undecided w.table) none h.begun.patient in
       record {
-        world = record { table = h.world.table; desk = h.world.desk; stay = h.world.stay };
+        world = record { table = h.world.table; desk = h.world.desk; tests = h.world.tests; stay = h.world.stay };
         begun = record {
           fits = (fits, subst (λ (x : Option (TableOp K V)). IsSome x) (sym is_o) refl);
           within = left;
@@ -126,18 +146,18 @@ module _ {K V T C : Type 0} {same : PartialEq.Ghosts K} {hash : Hash.Ghosts K} (
       }
 
   -- the layers where the operation ends that was begun without memory: none is begun, as before
-  pub begins_none : (old new : Layers K V T C same hash) (w : World K V) → old.begun ≡ None → new.call ≡ old.call → most_on t new.table ≡ most_on t old.table
-      → GroundIs eq t old w → GroundIs eq t new w → GroundIs eq t (record new { begun = None }) w
+  pub begins_none : (old new : Layers K V E T C Q same hash) (w : World K V E) → old.begun ≡ None → new.call ≡ old.call → most_on t new.table ≡ most_on t old.table
+      → GroundIs eq t q old w → GroundIs eq t q new w → GroundIs eq t q (record new { begun = None }) w
   begins_none old new w none call most was h =
       let patient : times_of w.stay old.call + most_on t old.table ≤ most_undecided w.table =
       subst (λ (b : Option C). times_of w.stay old.call + left_in t old.table b ≤ most_undecided w.table) none was.begun.patient in
       record {
-        world = record { table = h.world.table; desk = h.world.desk; stay = h.world.stay };
+        world = record { table = h.world.table; desk = h.world.desk; tests = h.world.tests; stay = h.world.stay };
         begun = record { fits = tt; within = omega arith; patient = rw (call, most) patient };
         given = h.given;
       }
 
-  pub begin_tells : (layers : Layers K V T C same hash) (c : C) (o : TableOp K V) (given : Got K V) (new : Layers K V T C same hash) → layers.begun ≡ None
+  pub begin_tells : (layers : Layers K V E T C Q same hash) (c : C) (o : TableOp K V) (given : Got K V E) (new : Layers K V E T C Q same hash) → layers.begun ≡ None
       → t.left layers.table c ≤ most_on t layers.table
       → Accesses (account_of t (record layers { begun = Some c })) (step.On_table o) given (account_of t new)
       → Accesses (account_of t layers) (step.On_table o) given (account_of t new)
@@ -156,15 +176,24 @@ module _ {K V T C : Type 0} {same : PartialEq.Ghosts K} {hash : Hash.Ghosts K} (
       }
 
   -- the layers of a call that goes on with its operation
-  pub with_begun : (layers : Layers K V T C same hash) (c : C) → layers.begun ≡ Some c → record layers { begun = Some c } ≡ layers
+  pub with_begun : (layers : Layers K V E T C Q same hash) (c : C) → layers.begun ≡ Some c → record layers { begun = Some c } ≡ layers
   with_begun layers c e = ap (λ b. record layers { begun = b }) (sym e)
 
+  -- what a visit made by the tests is, from a state whose tests answer so
+  made_by : (answers : ℕ → K → V → Bool) (old new : Desk K V E same hash) (v : Visit K V E) (f : Found V E) → VisitBy eq answers old v f new
+      → (w : DeskPart K V E) → StandsFor eq old w → answers ≡ w.tests → MayVisit w v → (f ≡ finds w v) × StandsFor eq new (makes eq w v)
+  made_by answers old new (visit.Judge replace key stored) f is w stands tests may =
+      subst (λ (a : ℕ → K → V → Bool). (f ≡ found.Judge (not (test_holds a replace key stored.value)))
+      × StandsFor eq new (judged w stored.stamp stored.modified (not (test_holds a replace key stored.value)))) tests (is.made w stands)
+  made_by answers old new _ f is w stands tests may = is.made w stands may
+
   -- a visit, where nothing is begun
-  pub visit_serves : (table : T) (old new : Desk K V same hash) (n : ℕ) (begun : Option C) (v : Visit K V) (f : Found V) → begun ≡ None → VisitIs eq old v f new
-      → Serves eq t (record { table = table; desk = old; call = n; begun = begun }) (step.On_desk v) (got.Desk f)
-      (record { table = table; desk = new; call = n; begun = None })
-  visit_serves table old new n begun v f none is = λ w h may.
-      let m = is.made w.desk h.world.desk may in
+  pub visit_serves : (table : T) (tests : Q) (old new : Desk K V E same hash) (n : ℕ) (begun : Option C) (v : Visit K V E) (f : Found V E) → begun ≡ None
+      → VisitBy eq (q.answers tests) old v f new
+      → Serves eq t q (record { table = table; desk = old; tests = tests; call = n; begun = begun }) (step.On_desk v) (got.Desk f)
+      (record { table = table; desk = new; tests = tests; call = n; begun = None })
+  visit_serves table tests old new n begun v f none is = λ w h may.
+      let m = made_by (q.answers tests) old new v f is w.desk h.world.desk h.world.tests may in
       let last = last_same eq w.desk v in
       let stay = h.world.stay in
       let given = h.given in
@@ -173,7 +202,7 @@ module _ {K V T C : Type 0} {same : PartialEq.Ghosts K} {hash : Hash.Ghosts K} (
         record w { desk = makes eq w.desk v },
         (m.0, refl),
         record {
-          world = record { table = h.world.table; desk = m.1; stay = omega (arith, stay, last) };
+          world = record { table = h.world.table; desk = m.1; tests = h.world.tests ∙ sym (tests_same eq w.desk v); stay = omega (arith, stay, last) };
           begun = record { fits = tt; within = omega arith; patient = patient };
           given = omega (arith, given, last);
         },

@@ -1,5 +1,5 @@
 -- What the layers of a cache stand for.
-use Rattle.std.specs.Prelude.{◌≡◌, ◌≢◌, ◌≤◌, ℕ, ◌+◌, Bool, length, Option, Some, None, IfSome}
+use Rattle.std.specs.Prelude.{◌≡◌, ◌≢◌, ◌≤◌, ℕ, ◌+◌, Bool, Option, IfSome}
 use Rattle.std.specs.Prelude.{IsSome}
 use Rattle.std.specs.Option.{option_and_then, option_map_or}
 use Rattle.std.specs.declared.cmp.PartialEq as PartialEq
@@ -7,6 +7,7 @@ use Rattle.std.specs.declared.hash.Hash as Hash
 use Rattle.moka_hist.specs.Bound.{times_of, most_undecided}
 use Rattle.moka_hist.specs.State.{Stay, TablePart, World}
 use Rattle.moka_hist.specs.Step.{Access, Gets, May}
+use Rattle.moka_hist.specs.declared.record_tests.Tests as Tests
 use Rattle.moka_hist.specs.declared.tables.TableOp.{TableOp}
 use Rattle.moka_hist.specs.declared.accesses.Got.{Got}
 use Rattle.moka_hist.specs.declared.accesses.Want.{Want}
@@ -48,26 +49,29 @@ pub record BegunIs {K V T C : Type 0} (t : Table.Ghosts T K V C) (table : T) (ca
   pub within : left_in t table begun ≤ most_on t table
   pub patient : times_of stay call + left_in t table begun ≤ most_undecided part
 
--- Table and desk are those of the world. Who made its last step on the table had a number given
--- out.
-pub record WorldIs {K V T C : Type 0} {same : PartialEq.Ghosts K} {hash : Hash.Ghosts K}
-    (eq : K → K → Bool) (t : Table.Ghosts T K V C) (layers : Layers K V T C same hash)
-    (w : World K V) : Type 0 where
+-- Table and desk are those of the world, and the tests answer as its desk has it. Who made its last
+-- step on the table had a number given out.
+pub record WorldIs {K V E T C Q : Type 0} {same : PartialEq.Ghosts K} {hash : Hash.Ghosts K}
+    (eq : K → K → Bool) (t : Table.Ghosts T K V C) (q : Tests.Ghosts Q K V)
+    (layers : Layers K V E T C Q same hash)
+    (w : World K V E) : Type 0 where
   pub table : TableIs t layers.table w.table
   pub desk : desk.StandsFor eq layers.desk w.desk
+  pub tests : q.answers layers.tests ≡ w.desk.tests
   pub stay : w.stay.call ≤ w.desk.last
 
 -- They are so for the call that reaches them, with what it has begun.
-pub record GroundIs {K V T C : Type 0} {same : PartialEq.Ghosts K} {hash : Hash.Ghosts K}
-    (eq : K → K → Bool) (t : Table.Ghosts T K V C) (layers : Layers K V T C same hash)
-    (w : World K V) : Type 0 where
-  pub world : WorldIs eq t layers w
+pub record GroundIs {K V E T C Q : Type 0} {same : PartialEq.Ghosts K} {hash : Hash.Ghosts K}
+    (eq : K → K → Bool) (t : Table.Ghosts T K V C) (q : Tests.Ghosts Q K V)
+    (layers : Layers K V E T C Q same hash)
+    (w : World K V E) : Type 0 where
+  pub world : WorldIs eq t q layers w
   pub begun : BegunIs t layers.table layers.call layers.begun w.table w.stay
   pub given : layers.call ≤ w.desk.last
 
-module _ {K V T C : Type 0} {same : PartialEq.Ghosts K} {hash : Hash.Ghosts K} where
+module _ {K V E T C Q : Type 0} {same : PartialEq.Ghosts K} {hash : Hash.Ghosts K} where
   -- what is before the call there
-  abbrev pub work_of : Table.Ghosts T K V C → Layers K V T C same hash → Work
+  abbrev pub work_of : Table.Ghosts T K V C → Layers K V E T C Q same hash → Work
   work_of t layers = record {
     owed = owed_in layers.desk;
     logged = logged_in layers.desk;
@@ -77,38 +81,39 @@ module _ {K V T C : Type 0} {same : PartialEq.Ghosts K} {hash : Hash.Ghosts K} w
   }
 
   -- what the layers tell of themselves; the accesses that were made they don't tell
-  abbrev pub account_of : Table.Ghosts T K V C → Layers K V T C same hash → Account K V
+  abbrev pub account_of : Table.Ghosts T K V C → Layers K V E T C Q same hash → Account K V E
   account_of t layers = record {
     call = layers.call;
     begun = operation_in t layers.begun;
-    made = nothing_told K V;
+    made = nothing_told K V E;
     work = work_of t layers;
   }
 
   -- some world that they stand for allows what is wanted
-  abbrev pub Allows : (K → K → Bool) → Table.Ghosts T K V C → Layers K V T C same hash → Want K V
-      → Type 0
-  Allows eq t layers wish =
-      (w : World K V) × GroundIs eq t layers w × MayWant w (operation_in t layers.begun) wish
+  abbrev pub Allows : (K → K → Bool) → Table.Ghosts T K V C → Tests.Ghosts Q K V
+      → Layers K V E T C Q same hash → Want K V E → Type 0
+  Allows eq t q layers wish = (w : World K V E) × GroundIs eq t q layers w
+      × MayWant w (operation_in t layers.begun) wish
 
   -- what other calls have begun there they may still go on with
-  abbrev pub OthersStay : Table.Ghosts T K V C → Layers K V T C same hash → World K V
-      → Layers K V T C same hash → World K V → Type 0
+  abbrev pub OthersStay : Table.Ghosts T K V C → Layers K V E T C Q same hash → World K V E
+      → Layers K V E T C Q same hash → World K V E → Type 0
   OthersStay t old w new after =
       (n : ℕ) (begun : Option C) → old.call ≢ n → BegunIs t old.table n begun w.table w.stay
       → BegunIs t new.table n begun after.table after.stay
 
   -- the access gave this, and made its change to each world that the layers stood for and that
   -- allows it
-  abbrev pub Serves : (K → K → Bool) → Table.Ghosts T K V C → Layers K V T C same hash → Access K V
-      → Got K V → Layers K V T C same hash → Type 0
-  Serves eq t old access given new =
-      (w : World K V) → GroundIs eq t old w → May w access
-      → (after : World K V) × Gets eq old.call w access given after × GroundIs eq t new after
+  abbrev pub Serves : (K → K → Bool) → Table.Ghosts T K V C → Tests.Ghosts Q K V
+      → Layers K V E T C Q same hash → Access K V E → Got K V E → Layers K V E T C Q same hash
+      → Type 0
+  Serves eq t q old access given new =
+      (w : World K V E) → GroundIs eq t q old w → May w access
+      → (after : World K V E) × Gets eq old.call w access given after × GroundIs eq t q new after
       × OthersStay t old w new after
 
   -- the layers stand for what they stood for
-  abbrev pub LayersStay : (K → K → Bool) → Table.Ghosts T K V C → Layers K V T C same hash
-      → Layers K V T C same hash → Type 0
-  LayersStay eq t old new =
-      (w : World K V) → GroundIs eq t old w → GroundIs eq t new w × OthersStay t old w new w
+  abbrev pub LayersStay : (K → K → Bool) → Table.Ghosts T K V C → Tests.Ghosts Q K V
+      → Layers K V E T C Q same hash → Layers K V E T C Q same hash → Type 0
+  LayersStay eq t q old new =
+      (w : World K V E) → GroundIs eq t q old w → GroundIs eq t q new w × OthersStay t old w new w

@@ -6,27 +6,31 @@ ghost use Rattle.moka_layers.specs.Counted.{counted};
 
 use crate::visits::make_visit;
 use moka_desk::Desk;
-use moka_hist::{Got, TableOp, TableTurn, Visit, Want};
+use moka_hist::{Got, TableOp, TableTurn, Tests, Visit, Want};
 use moka_init::{Alone, Ground};
 use moka_table::Table;
 use std::alloc::AllocError;
 use std::hash::Hash;
 
-/// The table, the desk, and the call that reaches them, with the table operation that it has begun.
+/// The table, the desk, and the call that reaches them, with the table operation that it has begun;
+/// and the tests by which calls judge what they find.
 #[derive(Drop)]
-pub struct Layers<K: Eq + Hash, V, T, C> {
+pub struct Layers<K: Eq + Hash, V, E, T, C, Q> {
     pub table: T,
-    pub desk: Desk<K, V>,
+    pub desk: Desk<K, V, E>,
     pub call: u64,
     pub begun: Option<C>,
+    pub tests: Q,
 }
 
-impl<K: Eq + Hash + Clone + Drop, V: Clone + Drop, C: Drop, T: Table<K, V, Call = C> + Drop> Layers<
-    K,
-    V,
-    T,
-    C,
-> {
+impl<
+    K: Eq + Hash + Clone + Drop,
+    V: Clone + Drop,
+    E: Clone + Drop,
+    C: Drop,
+    T: Table<K, V, Call = C> + Drop,
+    Q: Tests<K, V> + Drop,
+> Layers<K, V, E, T, C, Q> {
     ghost use Rattle.moka_hist.specs.Conditions.{MayVisit};
     ghost use Rattle.moka_hist.specs.State.{World};
     ghost use Rattle.moka_hist.specs.Step.{Access, On_table, On_desk};
@@ -38,19 +42,20 @@ impl<K: Eq + Hash + Clone + Drop, V: Clone + Drop, C: Drop, T: Table<K, V, Call 
 
     // Makes a step of the operation that was begun. It stays begun where it is undecided, or memory
     // was wanting.
-    fn go_on(&mut self, mut call: C) -> Result<Got<K, V>, AllocError>
+    fn go_on(&mut self, mut call: C) -> Result<Got<K, V, E>, AllocError>
         requires keys { IsExact K.is_clone }
         requires values { IsExact V.is_clone }
+        requires errors { IsExact E.is_clone }
         requires fits { T.fits self.old.table call }
         requires within { T.left self.old.table call ≤ most_on T.Table self.old.table }
         ensures serves { IfOk result (λ given. (o : TableOp K V) → T.operation_of call ≡ Some o
-            → Serves K.eq T.Table (record self.old { begun = Some call }) (On_table o) given
+            → Serves K.eq T.Table Q.Tests (record self.old { begun = Some call }) (On_table o) given
             self.new) }
         ensures tells { IfOk result (λ given. (o : TableOp K V) → T.operation_of call ≡ Some o
             → Accesses (account_of T.Table (record self.old { begun = Some call })) (On_table o)
             given (account_of T.Table self.new)) }
         ensures err { OnErr result
-            (LayersStay K.eq T.Table (record self.old { begun = Some call }) self.new) }
+            (LayersStay K.eq T.Table Q.Tests (record self.old { begun = Some call }) self.new) }
         ensures err_account { OnErr result (account_of T.Table self.new
             ≡ account_of T.Table (record self.old { begun = Some call })) }
         ensures call { self.new.call ≡ self.old.call }
@@ -72,15 +77,16 @@ impl<K: Eq + Hash + Clone + Drop, V: Clone + Drop, C: Drop, T: Table<K, V, Call 
     }
 
     // Begins an operation, with its first step. Without memory none is begun.
-    fn begin(&mut self, operation: TableOp<K, V>) -> Result<Got<K, V>, AllocError>
+    fn begin(&mut self, operation: TableOp<K, V>) -> Result<Got<K, V, E>, AllocError>
         requires keys { IsExact K.is_clone }
         requires values { IsExact V.is_clone }
+        requires errors { IsExact E.is_clone }
         requires none { self.old.begun ≡ None }
         ensures serves { IfOk result (λ given.
-            Serves K.eq T.Table self.old (On_table operation) given self.new) }
+            Serves K.eq T.Table Q.Tests self.old (On_table operation) given self.new) }
         ensures tells { IfOk result (λ given. Accesses (account_of T.Table self.old)
             (On_table operation) given (account_of T.Table self.new)) }
-        ensures err { OnErr result (LayersStay K.eq T.Table self.old self.new) }
+        ensures err { OnErr result (LayersStay K.eq T.Table Q.Tests self.old self.new) }
         ensures err_account { OnErr result
             (account_of T.Table self.new ≡ account_of T.Table self.old) }
         ensures call { self.new.call ≡ self.old.call }
@@ -96,19 +102,20 @@ impl<K: Eq + Hash + Clone + Drop, V: Clone + Drop, C: Drop, T: Table<K, V, Call 
     }
 
     // Goes on with the operation that was begun.
-    fn resume(&mut self) -> Result<Got<K, V>, AllocError>
+    fn resume(&mut self) -> Result<Got<K, V, E>, AllocError>
         requires keys { IsExact K.is_clone }
         requires values { IsExact V.is_clone }
-        requires stands { (w : World K V) × GroundIs K.eq T.Table self.old w }
+        requires errors { IsExact E.is_clone }
+        requires stands { (w : World K V E) × GroundIs K.eq T.Table Q.Tests self.old w }
         requires begun { IsSome self.old.begun }
         ensures serves { IfOk result (λ given. (o : TableOp K V)
             → operation_in T.Table self.old.begun ≡ Some o
-            → Serves K.eq T.Table self.old (On_table o) given self.new) }
+            → Serves K.eq T.Table Q.Tests self.old (On_table o) given self.new) }
         ensures tells { IfOk result (λ given. (o : TableOp K V)
             → operation_in T.Table self.old.begun ≡ Some o
             → Accesses (account_of T.Table self.old) (On_table o) given
             (account_of T.Table self.new)) }
-        ensures err { OnErr result (LayersStay K.eq T.Table self.old self.new) }
+        ensures err { OnErr result (LayersStay K.eq T.Table Q.Tests self.old self.new) }
         ensures err_account { OnErr result
             (account_of T.Table self.new ≡ account_of T.Table self.old) }
         ensures call { self.new.call ≡ self.old.call }
@@ -120,46 +127,49 @@ impl<K: Eq + Hash + Clone + Drop, V: Clone + Drop, C: Drop, T: Table<K, V, Call 
     }
 
     // Makes a visit. A call that visits the desk has no operation begun.
-    fn visit(&mut self, visit: Visit<K, V>) -> Result<Got<K, V>, AllocError>
+    fn visit(&mut self, visit: Visit<K, V, E>) -> Result<Got<K, V, E>, AllocError>
         requires keys { IsExact K.is_clone }
         requires values { IsExact V.is_clone }
-        requires may { (w : World K V) × GroundIs K.eq T.Table self.old w × MayVisit w.desk visit }
+        requires errors { IsExact E.is_clone }
+        requires may { (w : World K V E) × GroundIs K.eq T.Table Q.Tests self.old w
+            × MayVisit w.desk visit }
         requires none { self.old.begun ≡ None }
         ensures serves { IfOk result (λ given.
-            Serves K.eq T.Table self.old (On_desk visit) given self.new) }
+            Serves K.eq T.Table Q.Tests self.old (On_desk visit) given self.new) }
         ensures tells { IfOk result (λ given. Accesses (account_of T.Table self.old)
             (On_desk visit) given (account_of T.Table self.new)) }
-        ensures err { OnErr result (LayersStay K.eq T.Table self.old self.new) }
-        ensures err_needs { OnErr result ((w : World K V) → GroundIs K.eq T.Table self.old w
-            → VisitNeedsMemory w.desk visit) }
+        ensures err { OnErr result (LayersStay K.eq T.Table Q.Tests self.old self.new) }
+        ensures err_needs { OnErr result ((w : World K V E)
+            → GroundIs K.eq T.Table Q.Tests self.old w → VisitNeedsMemory w.desk visit) }
         ensures err_account { OnErr result
             (account_of T.Table self.new ≡ account_of T.Table self.old) }
         ensures call { self.new.call ≡ self.old.call }
     {
-        let found = make_visit(&mut self.desk, visit)?;
+        let found = make_visit(&mut self.desk, &self.tests, visit)?;
         self.begun = None;
         Ok(Got::Desk(found))
     }
 
     /// Makes the wanted access. After want of memory the layers stand for what they stood for. What
     /// other calls have begun they may still go on with, whatever is accessed.
-    pub fn access(&mut self, want: Want<K, V>) -> Result<Got<K, V>, AllocError>
+    pub fn access(&mut self, want: Want<K, V, E>) -> Result<Got<K, V, E>, AllocError>
         requires keys { IsExact K.is_clone }
         requires values { IsExact V.is_clone }
-        requires allows { Allows K.eq T.Table self.old want }
+        requires errors { IsExact E.is_clone }
+        requires allows { Allows K.eq T.Table Q.Tests self.old want }
         // What it gives, and what is told then.
         ensures serves { IfOk result (λ given. OfWanted (account_of T.Table self.old) want
-            (λ access. Serves K.eq T.Table self.old access given self.new)) }
+            (λ access. Serves K.eq T.Table Q.Tests self.old access given self.new)) }
         ensures tells { IfOk result (λ given. OfWanted (account_of T.Table self.old) want
             (λ access. Accesses (account_of T.Table self.old) access given
             (account_of T.Table self.new))) }
         ensures call { self.new.call ≡ self.old.call }
         // Without memory.
-        ensures err { OnErr result (LayersStay K.eq T.Table self.old self.new) }
+        ensures err { OnErr result (LayersStay K.eq T.Table Q.Tests self.old self.new) }
         ensures err_account { OnErr result
             (account_of T.Table self.new ≡ account_of T.Table self.old) }
         ensures err_needs { OnErr result (OfWanted (account_of T.Table self.old) want
-            (Lacks (GroundIs K.eq T.Table self.old) NeedsMemory)) }
+            (Lacks (GroundIs K.eq T.Table Q.Tests self.old) NeedsMemory)) }
     {
         match want {
             Want::Begin(operation) => self.begin(operation),
@@ -169,17 +179,21 @@ impl<K: Eq + Hash + Clone + Drop, V: Clone + Drop, C: Drop, T: Table<K, V, Call 
     }
 }
 
-impl<K: Eq + Hash + Clone + Drop, V: Clone + Drop, C: Drop, T: Table<K, V, Call = C> + Drop> Ground<
-    K,
-    V,
-> for Layers<K, V, T, C> {
+impl<
+    K: Eq + Hash + Clone + Drop,
+    V: Clone + Drop,
+    E: Clone + Drop,
+    C: Drop,
+    T: Table<K, V, Call = C> + Drop,
+    Q: Tests<K, V> + Drop,
+> Ground<K, V, E> for Layers<K, V, E, T, C, Q> {
     ghost use Rattle.moka_hist.specs.State.{World};
     ghost use Rattle.moka_init.specs.Grounds.{Accesses, Gives, Lacks, NeedsMemory, OfWanted};
     ghost use Rattle.moka_layers.specs.Layers.{GroundIs, Allows, account_of};
 
-    ghost stands = { λ l w. GroundIs K.eq T.Table l w };
+    ghost stands = { λ l w. GroundIs K.eq T.Table Q.Tests l w };
 
-    ghost fits = { λ l want. Allows K.eq T.Table l want };
+    ghost fits = { λ l want. Allows K.eq T.Table Q.Tests l want };
 
     ghost account = { λ l. account_of T.Table l };
 
@@ -193,16 +207,17 @@ impl<K: Eq + Hash + Clone + Drop, V: Clone + Drop, C: Drop, T: Table<K, V, Call 
 
     ghost keeps_on = { λ a b c before after. after ∙ before };
 
-    ghost counts = { λ l w stands. counted _ K.eq l w stands };
+    ghost counts = { λ l w stands. counted _ _ K.eq l w stands };
 
-    fn access(&mut self, want: Want<K, V>) -> Result<Got<K, V>, AllocError>
+    fn access(&mut self, want: Want<K, V, E>) -> Result<Got<K, V, E>, AllocError>
         requires keys { IsExact K.is_clone }
         requires values { IsExact V.is_clone }
-        requires fits { Allows K.eq T.Table self.old want }
+        requires errors { IsExact E.is_clone }
+        requires fits { Allows K.eq T.Table Q.Tests self.old want }
         // What it gives, and what is told then.
         ensures gives { IfOk result (λ given. OfWanted (account_of T.Table self.old) want
-            (λ access. Gives K.eq self.old.call (GroundIs K.eq T.Table self.old) access given
-            (GroundIs K.eq T.Table self.new))) }
+            (λ access. Gives K.eq self.old.call (GroundIs K.eq T.Table Q.Tests self.old) access
+            given (GroundIs K.eq T.Table Q.Tests self.new))) }
         ensures tells { IfOk result (λ given. OfWanted (account_of T.Table self.old) want
             (λ access. Accesses (account_of T.Table self.old) access given
             (account_of T.Table self.new))) }
@@ -210,16 +225,21 @@ impl<K: Eq + Hash + Clone + Drop, V: Clone + Drop, C: Drop, T: Table<K, V, Call 
         // Without memory.
         ensures err { OnErr result
             (account_of T.Table self.new ≡ account_of T.Table self.old) }
-        ensures err_stands { OnErr result ((w : World K V) → GroundIs K.eq T.Table self.old w
-            → GroundIs K.eq T.Table self.new w) }
+        ensures err_stands { OnErr result ((w : World K V E)
+            → GroundIs K.eq T.Table Q.Tests self.old w
+            → GroundIs K.eq T.Table Q.Tests self.new w) }
         ensures err_needs { OnErr result (OfWanted (account_of T.Table self.old) want
-            (Lacks (GroundIs K.eq T.Table self.old) NeedsMemory)) }
+            (Lacks (GroundIs K.eq T.Table Q.Tests self.old) NeedsMemory)) }
     {
         Layers::access(self, want)
     }
 }
 
-impl<K: Eq + Hash + Clone + Drop, V: Clone + Drop, C: Drop, T: Table<K, V, Call = C> + Drop> Alone<
-    K,
-    V,
-> for Layers<K, V, T, C> {}
+impl<
+    K: Eq + Hash + Clone + Drop,
+    V: Clone + Drop,
+    E: Clone + Drop,
+    C: Drop,
+    T: Table<K, V, Call = C> + Drop,
+    Q: Tests<K, V> + Drop,
+> Alone<K, V, E> for Layers<K, V, E, T, C, Q> {}

@@ -1,24 +1,31 @@
 //! The visits of the desk that flows make.
-ghost use Rattle.std.specs.Prelude.{IfOk, OnErr};
+ghost use Rattle.std.specs.Prelude.{◌≡◌, IfOk, OnErr};
 ghost use Rattle.moka_hist.specs.Finite.{IsExact};
 ghost use Rattle.moka_desk.specs.StandsFor.{Can};
+ghost use Rattle.moka_init.specs.Forms.{IsFoundBy};
 ghost use Rattle.moka_layers.specs.Visiting.{HoldsIs, JudgeIs, DeskStays, VisitLacks, VisitIs};
+ghost use Rattle.moka_layers.specs.Visiting.{VisitBy, test_holds};
 
 use moka_desk::Desk;
-use moka_hist::{Cause, Found, Load, Settled, Takes, Visit};
+use moka_hist::{Cause, Found, Load, Settled, Stored, Takes, Tests, Visit};
 use std::alloc::AllocError;
 use std::hash::Hash;
 
 /// Makes the visit. After want of memory the desk stands for what it stood for. Which calls it woke
 /// is let go: nobody polls them here.
-pub(crate) fn make_visit<K: Eq + Hash + Clone + Drop, V: Clone + Drop>(
-    desk: &mut Desk<K, V>,
-    visit: Visit<K, V>,
-) -> Result<Found<V>, AllocError>
+pub(crate) fn make_visit<
+    K: Eq + Hash + Clone + Drop,
+    V: Clone + Drop,
+    E: Clone + Drop,
+    Q: Tests<K, V>,
+>(desk: &mut Desk<K, V, E>, tests: &Q, visit: Visit<K, V, E>) -> Result<Found<V, E>, AllocError>
     requires keys { IsExact K.is_clone }
     requires values { IsExact V.is_clone }
+    requires errors { IsExact E.is_clone }
     requires can { Can K.eq desk.old visit }
-    ensures ok { IfOk result (λ found. VisitIs K.eq desk.old visit found desk.new) }
+    ensures form { IfOk result (λ found. IsFoundBy visit found) }
+    ensures ok { IfOk result (λ found.
+        VisitBy K.eq (Q.answers tests.now) desk.old visit found desk.new) }
     ensures err { OnErr result (DeskStays K.eq desk.old desk.new) }
     ensures err_needs { OnErr result (VisitLacks K.eq desk.old visit) }
 {
@@ -38,7 +45,11 @@ pub(crate) fn make_visit<K: Eq + Hash + Clone + Drop, V: Clone + Drop>(
             upsert,
         } => open_notice(desk, call, key, value, stamp, modified, cause, upsert),
         Visit::StampMoment { call } => stamp_moment(desk, call),
-        Visit::Judge { stored, .. } => judge(desk, stored.stamp, stored.modified),
+        Visit::Judge {
+            replace,
+            key,
+            stored,
+        } => judge_by(desk, tests, replace, &key, &stored),
         Visit::Holds { stored, cause, .. } => {
             Ok(holds(desk, stored.stamp, stored.modified, cause))
         }
@@ -54,10 +65,10 @@ pub(crate) fn make_visit<K: Eq + Hash + Clone + Drop, V: Clone + Drop>(
     }
 }
 
-fn stamp_moment<K: Eq + Hash + Clone + Drop, V: Clone + Drop>(
-    desk: &mut Desk<K, V>,
+fn stamp_moment<K: Eq + Hash + Clone + Drop, V: Clone + Drop, E: Clone + Drop>(
+    desk: &mut Desk<K, V, E>,
     call: u64,
-) -> Result<Found<V>, AllocError>
+) -> Result<Found<V, E>, AllocError>
     requires { Can K.eq desk.old (Visit.StampMoment call) }
     ensures ok { IfOk result (λ found.
         VisitIs K.eq desk.old (Visit.StampMoment call) found desk.new) }
@@ -67,34 +78,66 @@ fn stamp_moment<K: Eq + Hash + Clone + Drop, V: Clone + Drop>(
     Ok(Found::StampMoment(moment))
 }
 
-fn judge<K: Eq + Hash + Clone + Drop, V: Clone + Drop>(
-    desk: &mut Desk<K, V>,
-    stamp: u64,
-    modified: u64,
-) -> Result<Found<V>, AllocError>
-    ensures ok { IfOk result (λ found. JudgeIs K.eq desk.old stamp modified found desk.new) }
+// Judges the record by the tests, which the desk does not have.
+fn judge_by<K: Eq + Hash + Clone + Drop, V: Clone + Drop, E: Clone + Drop, Q: Tests<K, V>>(
+    desk: &mut Desk<K, V, E>,
+    tests: &Q,
+    replace: Option<u64>,
+    key: &K,
+    stored: &Stored<V>,
+) -> Result<Found<V, E>, AllocError>
+    ensures ok { IfOk result (λ found. JudgeIs K.eq desk.old
+        (test_holds (Q.answers tests.now) replace key.now stored.now.value)
+        stored.now.stamp stored.now.modified found desk.new) }
     ensures err { OnErr result (DeskStays K.eq desk.old desk.new) }
 {
-    let seen = desk.judge(stamp, modified)?;
+    let replaced = is_replaced(tests, replace, key, &stored.value);
+    judge(desk, replaced, stored.stamp, stored.modified)
+}
+
+// Whether the test of this number, if there is one, holds on the key and the value.
+fn is_replaced<K, V, Q: Tests<K, V>>(tests: &Q, replace: Option<u64>, key: &K, value: &V) -> bool
+    ensures { result ≡ test_holds (Q.answers tests.now) replace key.now value.now }
+{
+    match replace {
+        Some(test) => tests.holds(test, key, value),
+        None => false,
+    }
+}
+
+// Judges a record on which the call's test holds, if it is replaced.
+fn judge<K: Eq + Hash + Clone + Drop, V: Clone + Drop, E: Clone + Drop>(
+    desk: &mut Desk<K, V, E>,
+    replaced: bool,
+    stamp: u64,
+    modified: u64,
+) -> Result<Found<V, E>, AllocError>
+    ensures ok { IfOk result (λ found.
+        JudgeIs K.eq desk.old replaced stamp modified found desk.new) }
+    ensures err { OnErr result (DeskStays K.eq desk.old desk.new) }
+{
+    let seen = desk.judge(replaced, stamp, modified)?;
     Ok(Found::Judge(seen))
 }
 
-fn holds<K: Eq + Hash + Clone + Drop, V: Clone + Drop>(
-    desk: &mut Desk<K, V>,
+#[cold]
+#[inline(never)]
+fn holds<K: Eq + Hash + Clone + Drop, V: Clone + Drop, E: Clone + Drop>(
+    desk: &mut Desk<K, V, E>,
     stamp: u64,
     modified: u64,
     cause: Cause,
-) -> Found<V>
+) -> Found<V, E>
     ensures { HoldsIs K.eq desk.old stamp modified cause result desk.new }
 {
     Found::Holds(desk.holds(stamp, modified, cause))
 }
 
-fn wait_or_own<K: Eq + Hash + Clone + Drop, V: Clone + Drop>(
-    desk: &mut Desk<K, V>,
+fn wait_or_own<K: Eq + Hash + Clone + Drop, V: Clone + Drop, E: Clone + Drop>(
+    desk: &mut Desk<K, V, E>,
     call: u64,
     load: Load<K>,
-) -> Result<Found<V>, AllocError>
+) -> Result<Found<V, E>, AllocError>
     requires keys { IsExact K.is_clone }
     requires can { Can K.eq desk.old (Visit.WaitOrOwn call load.key load.kind) }
     ensures ok { IfOk result (λ found.
@@ -105,11 +148,12 @@ fn wait_or_own<K: Eq + Hash + Clone + Drop, V: Clone + Drop>(
     Ok(Found::WaitOrOwn(claim))
 }
 
-fn read_settled<K: Eq + Hash + Clone + Drop, V: Clone + Drop>(
-    desk: &mut Desk<K, V>,
+fn read_settled<K: Eq + Hash + Clone + Drop, V: Clone + Drop, E: Clone + Drop>(
+    desk: &mut Desk<K, V, E>,
     call: u64,
-) -> Result<Found<V>, AllocError>
+) -> Result<Found<V, E>, AllocError>
     requires values { IsExact V.is_clone }
+    requires errors { IsExact E.is_clone }
     requires can { Can K.eq desk.old (Visit.ReadSettled call) }
     ensures ok { IfOk result (λ found.
         VisitIs K.eq desk.old (Visit.ReadSettled call) found desk.new) }
@@ -119,11 +163,11 @@ fn read_settled<K: Eq + Hash + Clone + Drop, V: Clone + Drop>(
     Ok(Found::ReadSettled(settled))
 }
 
-fn open_ask<K: Eq + Hash + Clone + Drop, V: Clone + Drop>(
-    desk: &mut Desk<K, V>,
+fn open_ask<K: Eq + Hash + Clone + Drop, V: Clone + Drop, E: Clone + Drop>(
+    desk: &mut Desk<K, V, E>,
     call: u64,
     takes: Takes,
-) -> Result<Found<V>, AllocError>
+) -> Result<Found<V, E>, AllocError>
     requires { Can K.eq desk.old (Visit.OpenAsk call takes) }
     ensures ok { IfOk result (λ found.
         VisitIs K.eq desk.old (Visit.OpenAsk call takes) found desk.new) }
@@ -133,11 +177,11 @@ fn open_ask<K: Eq + Hash + Clone + Drop, V: Clone + Drop>(
     Ok(Found::OpenAsk)
 }
 
-fn settle<K: Eq + Hash + Clone + Drop, V: Clone + Drop>(
-    desk: &mut Desk<K, V>,
+fn settle<K: Eq + Hash + Clone + Drop, V: Clone + Drop, E: Clone + Drop>(
+    desk: &mut Desk<K, V, E>,
     call: u64,
-    with: Settled<V>,
-) -> Found<V>
+    with: Settled<V, E>,
+) -> Found<V, E>
     requires { Can K.eq desk.old (Visit.Settle call with) }
     ensures { VisitIs K.eq desk.old (Visit.Settle call with) result desk.new }
 {
@@ -145,10 +189,12 @@ fn settle<K: Eq + Hash + Clone + Drop, V: Clone + Drop>(
     Found::Settle
 }
 
-fn end_turn<K: Eq + Hash + Clone + Drop, V: Clone + Drop>(
-    desk: &mut Desk<K, V>,
+#[cold]
+#[inline(never)]
+fn end_turn<K: Eq + Hash + Clone + Drop, V: Clone + Drop, E: Clone + Drop>(
+    desk: &mut Desk<K, V, E>,
     call: u64,
-) -> Found<V>
+) -> Found<V, E>
     requires { Can K.eq desk.old (Visit.EndTurn call) }
     ensures { VisitIs K.eq desk.old (Visit.EndTurn call) result desk.new }
 {
@@ -156,11 +202,13 @@ fn end_turn<K: Eq + Hash + Clone + Drop, V: Clone + Drop>(
     Found::EndTurn
 }
 
-fn notice_ended<K: Eq + Hash + Clone + Drop, V: Clone + Drop>(
-    desk: &mut Desk<K, V>,
+#[cold]
+#[inline(never)]
+fn notice_ended<K: Eq + Hash + Clone + Drop, V: Clone + Drop, E: Clone + Drop>(
+    desk: &mut Desk<K, V, E>,
     call: u64,
     notice: u64,
-) -> Result<Found<V>, AllocError>
+) -> Result<Found<V, E>, AllocError>
     ensures ok { IfOk result (λ found.
         VisitIs K.eq desk.old (Visit.NoticeEnded call notice) found desk.new) }
     ensures err { OnErr result (DeskStays K.eq desk.old desk.new) }
@@ -170,11 +218,13 @@ fn notice_ended<K: Eq + Hash + Clone + Drop, V: Clone + Drop>(
     Ok(Found::NoticeEnded(ended))
 }
 
-fn lock_key<K: Eq + Hash + Clone + Drop, V: Clone + Drop>(
-    desk: &mut Desk<K, V>,
+#[cold]
+#[inline(never)]
+fn lock_key<K: Eq + Hash + Clone + Drop, V: Clone + Drop, E: Clone + Drop>(
+    desk: &mut Desk<K, V, E>,
     call: u64,
     key: K,
-) -> Result<Found<V>, AllocError>
+) -> Result<Found<V, E>, AllocError>
     requires keys { IsExact K.is_clone }
     requires can { Can K.eq desk.old (Visit.LockKey call key) }
     ensures ok { IfOk result (λ found.
@@ -185,11 +235,13 @@ fn lock_key<K: Eq + Hash + Clone + Drop, V: Clone + Drop>(
     Ok(Found::LockKey(locked))
 }
 
-fn unlock_key<K: Eq + Hash + Clone + Drop, V: Clone + Drop>(
-    desk: &mut Desk<K, V>,
+#[cold]
+#[inline(never)]
+fn unlock_key<K: Eq + Hash + Clone + Drop, V: Clone + Drop, E: Clone + Drop>(
+    desk: &mut Desk<K, V, E>,
     call: u64,
     wrote: bool,
-) -> Found<V>
+) -> Found<V, E>
     requires { Can K.eq desk.old (Visit.UnlockKey call wrote) }
     ensures { VisitIs K.eq desk.old (Visit.UnlockKey call wrote) result desk.new }
 {
@@ -197,8 +249,10 @@ fn unlock_key<K: Eq + Hash + Clone + Drop, V: Clone + Drop>(
     Found::UnlockKey
 }
 
-fn open_notice<K: Eq + Hash + Clone + Drop, V: Clone + Drop>(
-    desk: &mut Desk<K, V>,
+#[cold]
+#[inline(never)]
+fn open_notice<K: Eq + Hash + Clone + Drop, V: Clone + Drop, E: Clone + Drop>(
+    desk: &mut Desk<K, V, E>,
     call: u64,
     key: K,
     value: V,
@@ -206,7 +260,7 @@ fn open_notice<K: Eq + Hash + Clone + Drop, V: Clone + Drop>(
     modified: u64,
     cause: Option<Cause>,
     upsert: bool,
-) -> Result<Found<V>, AllocError>
+) -> Result<Found<V, E>, AllocError>
     requires { Can K.eq desk.old
         (Visit.OpenNotice call key value stamp modified cause upsert) }
     ensures ok { IfOk result (λ found. VisitIs K.eq desk.old
@@ -217,10 +271,12 @@ fn open_notice<K: Eq + Hash + Clone + Drop, V: Clone + Drop>(
     Ok(Found::OpenNotice(told))
 }
 
-fn take_turn<K: Eq + Hash + Clone + Drop, V: Clone + Drop>(
-    desk: &mut Desk<K, V>,
+#[cold]
+#[inline(never)]
+fn take_turn<K: Eq + Hash + Clone + Drop, V: Clone + Drop, E: Clone + Drop>(
+    desk: &mut Desk<K, V, E>,
     call: u64,
-) -> Result<Found<V>, AllocError>
+) -> Result<Found<V, E>, AllocError>
     requires { Can K.eq desk.old (Visit.TakeTurn call) }
     ensures ok { IfOk result (λ found.
         VisitIs K.eq desk.old (Visit.TakeTurn call) found desk.new) }

@@ -19,6 +19,11 @@ and each other line is an event:
   start get KEY              a call looks the key up
   start insert KEY VALUE     a call stores the value under the key
   start get_with KEY         a call looks the key up, and loads its value where there is none
+  start get_with KEY if TEST the same, and loads it again where the test holds on the record found:
+                             test 0 never, another where it divides the value
+  start optional KEY         a call looks the key up, and loads its value, or finds that it has none
+  start try KEY              a call looks the key up, and loads its value, or fails with an error
+  start or_insert KEY VALUE  a call looks the key up, and stores the value where there is none
   start invalidate KEY       a call takes the key's record out
   start remove KEY           a call takes the key's record out, and answers its value
   start evict KEY STAMP CAUSE
@@ -26,11 +31,14 @@ and each other line is an event:
                              and has to leave for this cause: Expired, Explicit, Replaced or Size
   step CALL                  the call makes one step
   poll CALL                  the call makes steps until it waits, asks or answers
-  tell CALL value VALUE      the open ask of the call is told the value
+  tell CALL value VALUE      the open ask of the call is told the value of its load
+  tell CALL nothing          the open ask of an optional is told that there is none
+  tell CALL error ERROR      the open ask of a try is told why it fails
   tell CALL done             the open notice of this number ends: the listener has heard
   tell CALL off              the same, and the listener hears of no further record
   drop CALL                  the call is dropped where it stands
-Keys and values are below 2^32, moments, stamps and calls below 2^64, all in decimal.
+Keys, values and errors are below 2^32, moments, tests, stamps and calls below 2^64, all in
+decimal.
 Calls are numbered from 1, as they are started. A record's stamp is the call that wrote it.
 A call that waits is not woken: it is polled again.
 

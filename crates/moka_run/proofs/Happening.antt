@@ -13,6 +13,10 @@ match_true b P Q e p = subst (λ (x : Bool). MatchBool x P Q) (sym e) p
 pub match_false : (b : Bool) (P Q : Type 0) → b ≡ false → Q → MatchBool b P Q
 match_false b P Q e q = subst (λ (x : Bool). MatchBool x P Q) (sym e) q
 
+-- of a number that no live call has
+pub match_none : {C : Type 0} (o : Option C) (P : Type 0) (Q : C → Type 0) → o ≡ None → P → MatchOption o P Q
+match_none {C} o P Q e p = subst (λ (x : Option C). MatchOption x P Q) (sym e) p
+
 pub not_true : (b : Bool) → not b ≡ true → b ≡ false
 not_true true e = sym e
 not_true false e = refl
@@ -22,16 +26,16 @@ pub given_out : (b : Bool) (n x : ℕ) → Some n ≡ cond b None (Some x) → (
 given_out true n x e = absurd (cc)
 given_out false n x e = (refl, cc)
 
-module _ {K V : Type 0} (eq : K → K → Bool) where
+module _ {K V E : Type 0} (eq : K → K → Bool) where
   -- a step of a live call
-  pub happens_step : (s : State K V) (n : ℕ) (c : Call K V) (r : Reply K V) (t : State K V) → s.calls n ≡ Some c → Steps eq s n r t → Happens eq Any s (event.Step n) r t
+  pub happens_step : (s : State K V E) (n : ℕ) (c : Call K V E) (r : Reply K V E) (t : State K V E) → s.calls n ≡ Some c → Steps eq s n r t → Happens eq Any s (event.Step n) r t
   happens_step s n c r t live steps =
-      subst (λ (o : Option (Call K V)). MatchOption o (Refuses s refusal.UnknownCall r t) (λ _. Steps eq s n r t)) (sym live) steps
+      subst (λ (o : Option (Call K V E)). MatchOption o (Refuses s refusal.UnknownCall r t) (λ _. Steps eq s n r t)) (sym live) steps
 
   -- a drop of a live call
-  pub happens_drop : (s : State K V) (n : ℕ) (c : Call K V) (r : Reply K V) (t : State K V) → s.calls n ≡ Some c → Drops s n c c.mode r t → Happens eq Any s (event.Drop n) r t
+  pub happens_drop : (s : State K V E) (n : ℕ) (c : Call K V E) (r : Reply K V E) (t : State K V E) → s.calls n ≡ Some c → Drops s n c c.mode r t → Happens eq Any s (event.Drop n) r t
   happens_drop s n c r t live drops =
-      subst (λ (o : Option (Call K V)). MatchOption o (Refuses s refusal.UnknownCall r t) (λ d. Drops s n d d.mode r t)) (sym live) drops
+      subst (λ (o : Option (Call K V E)). MatchOption o (Refuses s refusal.UnknownCall r t) (λ d. Drops s n d d.mode r t)) (sym live) drops
 
 module _ {R E : Type 0} where
   -- what holds of a reply, where no steps of a poll were made

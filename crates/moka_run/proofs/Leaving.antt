@@ -14,12 +14,12 @@ writes_of : (notice : Option ℕ) (o : Option Write) → option_map (λ (v : Owe
 writes_of notice None = refl
 writes_of notice (Some write) = refl
 
-module _ {K V : Type 0} where
+module _ {K V E : Type 0} where
   -- the call may leave what it holds
-  pub may_leave : (s : State K V) (n k : ℕ) (c : Call K V) (held : Option Owed) → s.calls n ≡ Some c → k ≡ n → held ≡ owed_by k c → MayAllLeave s
+  pub may_leave : (s : State K V E) (n k : ℕ) (c : Call K V E) (held : Option Owed) → s.calls n ≡ Some c → k ≡ n → held ≡ owed_by k c → MayAllLeave s
       → MayLeave s.world.desk n (option_map (λ (v : Owed). v.write) held)
   may_leave s n k c held live number is all =
       subst (λ (o : Option Write). MayLeave s.world.desk n o) (sym (ap (option_map (λ (v : Owed). v.write)) is ∙ writes_of _ (held_by c.plan))) (all n c live)
 
-  pub owed_here : (n k : ℕ) (c : Call K V) (held : Option Owed) → k ≡ n → held ≡ owed_by k c → held ≡ owed_by n c
+  pub owed_here : (n k : ℕ) (c : Call K V E) (held : Option Owed) → k ≡ n → held ≡ owed_by k c → held ≡ owed_by n c
   owed_here n k c held number is = is ∙ ap (λ m. owed_by m c) number

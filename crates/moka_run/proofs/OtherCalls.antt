@@ -8,6 +8,7 @@ use Rattle.moka_hist.specs.Step as step
 use Rattle.moka_hist.specs.declared.tables.TableTurn.TheVariants as table
 use Rattle.moka_hist.specs.declared.accesses.Got.{Got}
 use Rattle.moka_hist.specs.declared.accesses.Got.TheVariants as got
+use Rattle.moka_hist.specs.declared.record_tests.Tests as Tests
 use Rattle.moka_layers.specs.Layers.{GroundIs, OthersStay}
 use Rattle.moka_layers.specs.declared.layers.Layers.{Layers}
 use Rattle.moka_layers.proofs.Wanted.{last_same}
@@ -16,19 +17,19 @@ use Rattle.moka_run.specs.Machine.{Reaches}
 use Rattle.moka_run.specs.TheTable.{TheCall, TheTable, the_table}
 use Rattle.moka_run.specs.declared.calls.Calls.{Calls}
 
-module _ {K V : Type 0} (eq : K → K → Bool) where
+module _ {K V E : Type 0} (eq : K → K → Bool) where
   -- no access gives a call number out
-  pub gets_last : (n : ℕ) (w new : World K V) (a : Access K V) (g : Got K V) → Gets eq n w a g new → new.desk.last ≡ w.desk.last
+  pub gets_last : (n : ℕ) (w new : World K V E) (a : Access K V E) (g : Got K V E) → Gets eq n w a g new → new.desk.last ≡ w.desk.last
   gets_last n w new (step.On_table o) (got.Table table.Going) gets = ap (λ v. v.desk.last) gets.1
   gets_last n w new (step.On_table o) (got.Table (table.Decided answer)) gets = ap (λ v. v.desk.last) gets.2
   gets_last n w new (step.On_desk made) (got.Desk found) gets = ap (λ v. v.desk.last) gets.1 ∙ last_same eq w.desk made
   gets_last n w new _ _ gets = absurd gets
 
-module _ {K V : Type 0} {same : PartialEq.Ghosts K} {hash : Hash.Ghosts K} (eq : K → K → Bool) where
+module _ {K V E T : Type 0} {same : PartialEq.Ghosts K} {hash : Hash.Ghosts K} (eq : K → K → Bool) (q : Tests.Ghosts T K V) where
   -- where no call number was given out, and the others may go on with what they have begun
-  pub still_reaches : (old new : Layers K V (TheTable K V) (TheCall K V) same hash) (calls : Calls K V) (w after : World K V) → new.call ≡ old.call
-      → after.desk.last ≡ w.desk.last → GroundIs eq (the_table eq) new after → OthersStay (the_table eq) old w new after
-      → Reaches eq (record { layers = old; calls = calls }) w → Reaches eq (record { layers = new; calls = calls }) after
+  pub still_reaches : (old new : Layers K V E (TheTable K V) (TheCall K V) T same hash) (calls : Calls K V E) (w after : World K V E) → new.call ≡ old.call
+      → after.desk.last ≡ w.desk.last → GroundIs eq (the_table eq) q new after → OthersStay (the_table eq) old w new after
+      → Reaches eq q (record { layers = old; calls = calls }) w → Reaches eq q (record { layers = new; calls = calls }) after
   still_reaches old new calls w after call last layers stay h =
       record {
         layers = layers;

@@ -32,9 +32,9 @@ set_at f n a = by (set_or_other f n a n)
     by (inl e) = e.1
     by (inr e) = absurd (e.0 refl)
 
-module _ {K V : Type 0} where
+module _ {K V E : Type 0} where
   -- the calls in the places, where one place was set
-  pub set_calls : (old new : ℕ → Option (Running K V)) (others : ℕ → Option (Call K V)) (n : ℕ) (o : Option (Running K V)) (out : Option (Call K V))
+  pub set_calls : (old new : ℕ → Option (Running K V E)) (others : ℕ → Option (Call K V E)) (n : ℕ) (o : Option (Running K V E)) (out : Option (Call K V E))
       → option_map call_in o ≡ out → ((k : ℕ) → new k ≡ put_at old n o k) → ((k : ℕ) → n ≢ k → option_map call_in (old k) ≡ others k)
       → (k : ℕ) → option_map call_in (new k) ≡ put_at others n out k
   set_calls old new others n o out is news olds k = by (eqb_tells n k)
@@ -44,9 +44,9 @@ module _ {K V : Type 0} where
       by (inr e) = ap (option_map call_in) (news k ∙ ap (λ b. cond b o (old k)) e.0) ∙ olds k e.1 ∙ sym (ap (λ b. cond b out (others k)) e.0)
 
   -- what holds of each running call, where one place was set
-  pub set_each : (Q : ℕ → Running K V → Type 0) (old new : ℕ → Option (Running K V)) (n : ℕ) (o : Option (Running K V)) → ((x : Running K V) → o ≡ Some x → Q n x)
-      → ((k : ℕ) → new k ≡ put_at old n o k) → ((k : ℕ) (x : Running K V) → old k ≡ Some x → Q k x)
-      → (k : ℕ) (x : Running K V) → new k ≡ Some x → Q k x
+  pub set_each : (Q : ℕ → Running K V E → Type 0) (old new : ℕ → Option (Running K V E)) (n : ℕ) (o : Option (Running K V E)) → ((x : Running K V E) → o ≡ Some x → Q n x)
+      → ((k : ℕ) → new k ≡ put_at old n o k) → ((k : ℕ) (x : Running K V E) → old k ≡ Some x → Q k x)
+      → (k : ℕ) (x : Running K V E) → new k ≡ Some x → Q k x
   set_each Q old new n o is news olds k x e = by (set_or_other old n o k)
     where
       by : ((n ≡ k) × (put_at old n o k ≡ o)) ⊎ ((n ≢ k) × (put_at old n o k ≡ old k)) → Q k x
@@ -54,7 +54,7 @@ module _ {K V : Type 0} where
       by (inr f) = olds k x (sym f.1 ∙ sym (news k) ∙ e)
 
   -- the calls that run, where one place was set
-  pub runs_at : (old new : ℕ → Option (Option (Running K V))) (n : ℕ) (p : Option (Option (Running K V))) → ((k : ℕ) → new k ≡ put_at old n p k)
+  pub runs_at : (old new : ℕ → Option (Option (Running K V E))) (n : ℕ) (p : Option (Option (Running K V E))) → ((k : ℕ) → new k ≡ put_at old n p k)
       → (k : ℕ) → runs_in (new k) ≡ put_at (λ m. runs_in (old m)) n (runs_in p) k
   runs_at old new n p news k = ap runs_in (news k) ∙ by (n == k)
     where
@@ -63,27 +63,27 @@ module _ {K V : Type 0} where
       by false = refl
 
   -- where a place is it is used, where one was set
-  pub set_used : (old new : ℕ → Option (Option (Running K V))) (n : ℕ) (p : Option (Option (Running K V))) → ((k : ℕ) → new k ≡ put_at old n p k) → IsUsed p
+  pub set_used : (old new : ℕ → Option (Option (Running K V E))) (n : ℕ) (p : Option (Option (Running K V E))) → ((k : ℕ) → new k ≡ put_at old n p k) → IsUsed p
       → ((k : ℕ) → n ≢ k → IsUsed (old k)) → (k : ℕ) → IsUsed (new k)
-  set_used old new n p news is olds k = subst (λ (x : Option (Option (Running K V))). IsUsed x) (sym (news k)) (by (set_or_other old n p k))
+  set_used old new n p news is olds k = subst (λ (x : Option (Option (Running K V E))). IsUsed x) (sym (news k)) (by (set_or_other old n p k))
     where
       by : ((n ≡ k) × (put_at old n p k ≡ p)) ⊎ ((n ≢ k) × (put_at old n p k ≡ old k)) → IsUsed (put_at old n p k)
-      by (inl e) = subst (λ (x : Option (Option (Running K V))). IsUsed x) (sym e.1) is
-      by (inr e) = subst (λ (x : Option (Option (Running K V))). IsUsed x) (sym e.1) (olds k e.0)
+      by (inl e) = subst (λ (x : Option (Option (Running K V E))). IsUsed x) (sym e.1) is
+      by (inr e) = subst (λ (x : Option (Option (Running K V E))). IsUsed x) (sym e.1) (olds k e.0)
 
   -- no call runs in a place that was emptied
-  pub none_runs : (p : Option (Option (Running K V))) → runs_in (emptied p) ≡ None
+  pub none_runs : (p : Option (Option (Running K V E))) → runs_in (emptied p) ≡ None
   none_runs None = refl
   none_runs (Some r) = refl
 
   -- a place that is used and in which no call runs is none
-  unused : (p : Option (Option (Running K V))) → runs_in p ≡ None → IsUsed p → p ≡ emptied p
+  unused : (p : Option (Option (Running K V E))) → runs_in p ≡ None → IsUsed p → p ≡ emptied p
   unused None none is = refl
   unused (Some None) none is = let f : false ≡ true = is refl in absurd (cc)
   unused (Some (Some r)) none is = absurd (cc)
 
   -- taking what isn't there changes nothing
-  pub untaken : (old new : ℕ → Option (Option (Running K V))) (n : ℕ) → runs_in (old n) ≡ None → IsUsed (old n) → ((k : ℕ) → new k ≡ put_at old n (emptied (old n)) k)
+  pub untaken : (old new : ℕ → Option (Option (Running K V E))) (n : ℕ) → runs_in (old n) ≡ None → IsUsed (old n) → ((k : ℕ) → new k ≡ put_at old n (emptied (old n)) k)
       → (k : ℕ) → new k ≡ old k
   untaken old new n none is news k = by (set_or_other old n (emptied (old n)) k)
     where

@@ -9,7 +9,7 @@ use Rattle.moka_run.specs.Calls.{opening_of}
 use Rattle.moka_run.specs.Report.{waiting, all_notices}
 
 -- the two lists, one after the other, are all notices
-pub notices_joined : {K V : Type 0} (calls : List (ℕ × Call K V)) (s : State K V) (none first second : List (Notice K V)) (numbers : List ℕ) (due : List (Visit K V))
+pub notices_joined : {K V E : Type 0} (calls : List (ℕ × Call K V E)) (s : State K V E) (none first second : List (Notice K V)) (numbers : List ℕ) (due : List (Visit K V E))
     → none ≡ [] → first ≡ none ++ filter_map s.world.desk.notices numbers → numbers ≡ s.world.desk.opened
     → second ≡ first ++ filter_map (waiting s.world.desk) due → due ≡ filter_map opening_of calls
     → second ≡ all_notices calls s

@@ -10,7 +10,7 @@ use Rattle.moka_hist.specs.declared.writes.Write.{Write}
 use Rattle.moka_run.specs.Report.{at_place, held_number, all_places}
 
 -- the four lists, one after the other, are all places
-pub places_joined : {K V : Type 0} (calls : List (ℕ × Call K V)) (s : State K V) (none first second third fourth : List (ℕ × Place)) (numbers : List ℕ) (owed : List Owed) (log applied : List Write)
+pub places_joined : {K V E : Type 0} (calls : List (ℕ × Call K V E)) (s : State K V E) (none first second third fourth : List (ℕ × Place)) (numbers : List ℕ) (owed : List Owed) (log applied : List Write)
     → none ≡ [] → first ≡ none ++ at_place place.Held numbers → numbers ≡ filter_map held_number calls
     → second ≡ first ++ at_place place.Owed (map (λ o. number_of o.write) owed) → owed ≡ s.world.desk.owed
     → third ≡ second ++ at_place place.Logged (map number_of log) → log ≡ s.world.desk.log

@@ -15,8 +15,8 @@ use Rattle.moka_run.specs.declared.report.Report.{Report}
 use Rattle.moka_run.proofs.ByKey.{sorted_list}
 
 -- a text of the replies, of the stored pairs sorted by key, and of the places reports the run
-pub reported : (rules : Rules) (log : ℕ) (events : List (Event ℕ ℕ)) (report : Report ℕ ℕ) (sorted entries : List (ℕ × Stored ℕ)) (replies : List (Reply ℕ ℕ)) (places : List (ℕ × Place)) (notices : List (Notice ℕ ℕ)) (text : List ℕ)
-    → RunsFresh rules log events report → ReachedIsUnderOwnKeys ℕ ℕ nat_eq
+pub reported : (rules : Rules) (log : ℕ) (events : List (Event ℕ ℕ ℕ)) (report : Report ℕ ℕ ℕ) (sorted entries : List (ℕ × Stored ℕ)) (replies : List (Reply ℕ ℕ ℕ)) (places : List (ℕ × Place)) (notices : List (Notice ℕ ℕ)) (text : List ℕ)
+    → RunsFresh rules log events report → ReachedIsUnderOwnKeys ℕ ℕ ℕ nat_eq
     → IsPermutation report.entries sorted → IsSortedByKey (λ e. e.0) nat_cmp sorted
     → replies ≡ report.replies → entries ≡ sorted → places ≡ report.places → notices ≡ report.notices
     → text ≡ report_text replies entries places notices → ReportsRun rules log events text

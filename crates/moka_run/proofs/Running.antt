@@ -10,6 +10,7 @@ use Rattle.moka_init.specs.declared.flow.Flow.{Flow}
 use Rattle.moka_init.specs.FlowPlan.{call_of}
 use Rattle.moka_init.specs.Grounds.{HasBegun}
 use Rattle.moka_layers.specs.Layers.{BegunIs, TableIs, operation_in}
+use Rattle.moka_hist.specs.declared.record_tests.Tests as Tests
 use Rattle.moka_run.specs.Calls.{place_at, running_at}
 use Rattle.moka_run.specs.Machine.{IsOf, IsOut, Without, MachineIs}
 use Rattle.moka_run.specs.TheTable.{TheCall, TheTable, the_table}
@@ -34,22 +35,23 @@ module _ {K V : Type 0} (eq : K → K → Bool) where
       let none = not_last stay last n called less in
       record { fits = tt; within = omega arith; patient = omega (arith, none, is.peak) }
 
+module _ {K V E : Type 0} (eq : K → K → Bool) where
   -- a call that was started before another
-  pub given_before : (table : TheTable K V) (part : TablePart K V) (stay : Stay) (last more n : ℕ) (r : Running K V) → last ≤ more → IsOf eq table part stay last n r
+  pub given_before : (table : TheTable K V) (part : TablePart K V) (stay : Stay) (last more n : ℕ) (r : Running K V E) → last ≤ more → IsOf eq table part stay last n r
       → IsOf eq table part stay more n r
   given_before table part stay last more n r less is =
       let given = is.given in
       record { number = is.number; live = is.live; on = is.on; begun = is.begun; given = omega (arith, given, less) }
 
-module _ {K V : Type 0} {same : PartialEq.Ghosts K} {hash : Hash.Ghosts K} (eq : K → K → Bool) where
+module _ {K V E T : Type 0} {same : PartialEq.Ghosts K} {hash : Hash.Ghosts K} (eq : K → K → Bool) (q : Tests.Ghosts T K V) where
   -- the call is back in its place
-  pub back_in : (m : Machine K V same hash) (n : ℕ) (flow : Flow K V) (begun after : Option (TheCall K V)) (new : Calls K V) (others : ℕ → Option (Call K V)) (w : World K V)
+  pub back_in : (m : Machine K V E T same hash) (n : ℕ) (flow : Flow K V E) (begun after : Option (TheCall K V)) (new : Calls K V E) (others : ℕ → Option (Call K V E)) (w : World K V E)
       → begun ≡ m.layers.begun
       → ((k : ℕ) → place_at new k ≡ put_at (place_at m.calls) n (Some (Some (record { flow = flow; begun = begun }))) k)
-      → Without eq m n others w → IsOut eq m flow
-      → MachineIs eq (record { layers = record m.layers { begun = after }; calls = new }) (record { world = w; calls = put_at others n (Some (call_of flow)) })
+      → Without eq q m n others w → IsOut eq m flow
+      → MachineIs eq q (record { layers = record m.layers { begun = after }; calls = new }) (record { world = w; calls = put_at others n (Some (call_of flow)) })
   back_in m n flow begun after new others w same_begun puts h out =
-      let back : Running K V = record { flow = flow; begun = begun } in
+      let back : Running K V E = record { flow = flow; begun = begun } in
       let layers = h.reaches.layers in
       let runs = runs_at (place_at m.calls) (place_at new) n (Some (Some back)) puts in
       let is : IsOf eq m.layers.table w.table w.stay w.desk.last n back =
@@ -62,22 +64,22 @@ module _ {K V : Type 0} {same : PartialEq.Ghosts K} {hash : Hash.Ghosts K} (eq :
         given = subst (λ (k : ℕ). k ≤ w.desk.last) h.number layers.given;
       } in
       record {
-        world = record { table = layers.world.table; desk = layers.world.desk; stay = layers.world.stay };
+        world = record { table = layers.world.table; desk = layers.world.desk; tests = layers.world.tests; stay = layers.world.stay };
         calls = set_calls (running_at m.calls) (running_at new) others n (Some back) (Some (call_of flow)) refl runs h.calls;
         each = set_each (IsOf eq m.layers.table w.table w.stay w.desk.last) (running_at m.calls) (running_at new) n (Some back)
-            (λ x e. let f : back ≡ x = cc in subst (λ (r : Running K V). IsOf eq m.layers.table w.table w.stay w.desk.last n r) f is) runs h.reaches.each;
+            (λ x e. let f : back ≡ x = cc in subst (λ (r : Running K V E). IsOf eq m.layers.table w.table w.stay w.desk.last n r) f is) runs h.reaches.each;
         used = set_used (place_at m.calls) (place_at new) n (Some (Some back)) puts (λ e. e) (λ k ne. h.reaches.used k (λ e. ne (sym h.number ∙ e)));
       }
 
   -- the call has given its place up
-  pub gone_out : (m : Machine K V same hash) (n : ℕ) (new : Calls K V) (others : ℕ → Option (Call K V)) (w : World K V)
-      → ((k : ℕ) → place_at new k ≡ put_at (place_at m.calls) n None k) → Without eq m n others w
-      → MachineIs eq (record { layers = record m.layers { begun = None }; calls = new }) (record { world = w; calls = put_at others n None })
+  pub gone_out : (m : Machine K V E T same hash) (n : ℕ) (new : Calls K V E) (others : ℕ → Option (Call K V E)) (w : World K V E)
+      → ((k : ℕ) → place_at new k ≡ put_at (place_at m.calls) n None k) → Without eq q m n others w
+      → MachineIs eq q (record { layers = record m.layers { begun = None }; calls = new }) (record { world = w; calls = put_at others n None })
   gone_out m n new others w puts h =
       let layers = h.reaches.layers in
       let runs = runs_at (place_at m.calls) (place_at new) n None puts in
       record {
-        world = record { table = layers.world.table; desk = layers.world.desk; stay = layers.world.stay };
+        world = record { table = layers.world.table; desk = layers.world.desk; tests = layers.world.tests; stay = layers.world.stay };
         calls = set_calls (running_at m.calls) (running_at new) others n None None refl runs h.calls;
         each = set_each (IsOf eq m.layers.table w.table w.stay w.desk.last) (running_at m.calls) (running_at new) n None (λ x e. absurd (cc)) runs h.reaches.each;
         used = set_used (place_at m.calls) (place_at new) n None puts (λ e. e) (λ k ne. h.reaches.used k (λ e. ne (sym h.number ∙ e)));

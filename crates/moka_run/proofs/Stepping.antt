@@ -9,29 +9,30 @@ use Rattle.moka_init.specs.FlowPlan.{StandsStill}
 use Rattle.moka_init.specs.Grounds.{Account, IsOn}
 use Rattle.moka_init.proofs.Still.{live_still, on_still}
 use Rattle.moka_layers.specs.Layers.{account_of}
+use Rattle.moka_hist.specs.declared.record_tests.Tests as Tests
 use Rattle.moka_run.specs.Calls.{running_at}
 use Rattle.moka_run.specs.Machine.{IsOut, Reaches, Without, call_in}
 use Rattle.moka_run.specs.TheTable.{the_table}
 use Rattle.moka_run.specs.declared.calls.Calls.{Calls}
 use Rattle.moka_run.specs.declared.machine.Machine.{Machine}
 
-module _ {K V : Type 0} {same : PartialEq.Ghosts K} {hash : Hash.Ghosts K} (eq : K → K → Bool) where
+module _ {K V E T : Type 0} {same : PartialEq.Ghosts K} {hash : Hash.Ghosts K} (eq : K → K → Bool) (q : Tests.Ghosts T K V) where
   -- the other calls are as they were
-  pub still_without : (old new : Machine K V same hash) (n : ℕ) (before after : Flow K V) (others : ℕ → Option (Call K V)) (w mid : World K V)
+  pub still_without : (old new : Machine K V E T same hash) (n : ℕ) (before after : Flow K V E) (others : ℕ → Option (Call K V E)) (w mid : World K V E)
       → IsOn (account_of (the_table eq) old.layers) before → IsOn (account_of (the_table eq) new.layers) after → after.call ≡ before.call
-      → new.calls ≡ old.calls → Reaches eq new mid → Without eq old n others w → Without eq new n others mid
+      → new.calls ≡ old.calls → Reaches eq q new mid → Without eq q old n others w → Without eq q new n others mid
   still_without old new n before after others w mid was is number calls reaches h =
       record {
         reaches = reaches;
         number = is.call ∙ number ∙ sym was.call ∙ h.number;
-        calls = subst (λ (m : Calls K V). (k : ℕ) → n ≢ k → option_map call_in (running_at m k) ≡ others k) (sym calls) h.calls;
+        calls = subst (λ (m : Calls K V E). (k : ℕ) → n ≢ k → option_map call_in (running_at m k) ≡ others k) (sym calls) h.calls;
       }
 
   -- the flow stands for what it stood for
-  pub still_out : (old new : Machine K V same hash) (before after : Flow K V) → StandsStill before after
+  pub still_out : (old new : Machine K V E T same hash) (before after : Flow K V E) → StandsStill before after
       → account_of (the_table eq) new.layers ≡ account_of (the_table eq) old.layers → IsOut eq old before → IsOut eq new after
   still_out old new before after is account out =
       record {
-        on = on_still (account_of (the_table eq) new.layers) before after is (subst (λ (a : Account K V). IsOn a before) (sym account) out.on);
+        on = on_still (account_of (the_table eq) new.layers) before after is (subst (λ (a : Account K V E). IsOn a before) (sym account) out.on);
         live = live_still before after is out.live;
       }

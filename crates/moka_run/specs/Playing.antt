@@ -19,6 +19,7 @@ use Rattle.moka_hist.specs.declared.writes.Place.{Place}
 use Rattle.moka_table.specs.Map.{Pairs}
 use Rattle.moka_text.specs.ReportText.{report_text}
 use Rattle.moka_text.specs.ScheduleText.{Says, IsFirstBad}
+use Rattle.moka_run.specs.NumberTest.{number_test}
 use Rattle.moka_run.specs.Report.{AreNotices, ArePlaces, Reports}
 use Rattle.moka_run.specs.declared.report.Report.{Report}
 use Rattle.moka_run.specs.declared.status.Status.{Status}
@@ -38,20 +39,21 @@ pub record ListsByKey (entries : List (ℕ × Stored ℕ)) (stored : Pairs ℕ �
   pub ascending : IsStrictlyIncreasing (keys_of entries)
 
 -- What was run on a fresh cache with a log of this size is to be reported so.
-pub record RunsFresh (rules : Rules) (log : ℕ) (events : List (Event ℕ ℕ))
-    (report : Report ℕ ℕ) : Type 0 where
-  pub final : State ℕ ℕ
-  pub run : Run nat_eq (IsLawful nat_eq) (fresh ℕ ℕ rules log) events report.replies final
+pub record RunsFresh (rules : Rules) (log : ℕ) (events : List (Event ℕ ℕ ℕ))
+    (report : Report ℕ ℕ ℕ) : Type 0 where
+  pub final : State ℕ ℕ ℕ
+  pub run : Run nat_eq (IsLawful nat_eq) (fresh ℕ ℕ ℕ rules log number_test) events
+      report.replies final
   pub reports : Reports nat_eq report.entries report.places report.notices final
   pub reached : IsReached nat_eq final
 
 -- The text reports a run of the reference cache on the events, from a fresh cache with a log of
 -- this size, in which each state is lawful: its replies, and what stands after it.
-pub record ReportsRun (rules : Rules) (log : ℕ) (events : List (Event ℕ ℕ))
+pub record ReportsRun (rules : Rules) (log : ℕ) (events : List (Event ℕ ℕ ℕ))
     (text : List ℕ) : Type 0 where
-  pub replies : List (Reply ℕ ℕ)
-  pub final : State ℕ ℕ
-  pub run : Run nat_eq (IsLawful nat_eq) (fresh ℕ ℕ rules log) events replies final
+  pub replies : List (Reply ℕ ℕ ℕ)
+  pub final : State ℕ ℕ ℕ
+  pub run : Run nat_eq (IsLawful nat_eq) (fresh ℕ ℕ ℕ rules log number_test) events replies final
   pub entries : List (ℕ × Stored ℕ)
   pub stored : ListsByKey entries final.world.table.stored
   pub places : List (ℕ × Place)
@@ -64,7 +66,7 @@ pub record ReportsRun (rules : Rules) (log : ℕ) (events : List (Event ℕ ℕ)
 pub record IsReport (bytes text : List ℕ) : Type 0 where
   pub log : ℕ
   pub rules : Rules
-  pub events : List (Event ℕ ℕ)
+  pub events : List (Event ℕ ℕ ℕ)
   pub says : Says bytes log rules events
   pub report : ReportsRun rules log events text
 
@@ -112,7 +114,7 @@ pub record FindsBadLine (left left' : Option (List ℕ)) (line : ℕ) : Type 0 w
 -- no text both says a schedule and has a bad line
 abbrev pub SaysOrIsBad : Type 0
 SaysOrIsBad =
-    (text : List ℕ) (log : ℕ) (rules : Rules) (events : List (Event ℕ ℕ)) (line : ℕ)
+    (text : List ℕ) (log : ℕ) (rules : Rules) (events : List (Event ℕ ℕ ℕ)) (line : ℕ)
     → Says text log rules events → IsFirstBad text line → ⊥
 
 -- how a play may end once the source was read to its end
@@ -145,7 +147,7 @@ pub record IsDue (bytes : List ℕ) (ended : Status) : Type 0 where
   pub too_long : most_bytes < length bytes → EndsAs status.TooLong ended
   pub bad_line : (line : ℕ) → length bytes ≤ most_bytes → IsFirstBad bytes line
       → EndsAs (status.BadLine line) ended
-  pub done : (log : ℕ) (rules : Rules) (events : List (Event ℕ ℕ)) → length bytes ≤ most_bytes
+  pub done : (log : ℕ) (rules : Rules) (events : List (Event ℕ ℕ ℕ)) → length bytes ≤ most_bytes
       → Says bytes log rules events → EndsAs status.Done ended
 
 -- the status after the source failed so

@@ -6,6 +6,7 @@ ghost use Rattle.moka_text.specs.ScheduleText.{IsFirstBad, Says, rules_of};
 ghost use Rattle.moka_run.specs.Playing.{IsReport, ReportsRun, RunsFresh};
 
 use crate::machine::Machine;
+use crate::number_tests::NumberTests;
 use crate::report::Report;
 use crate::run;
 use moka_hist::{Event, Rules, Stored};
@@ -28,15 +29,15 @@ fn run_fresh(
     alloc: Global,
     rules: Rules,
     log: usize,
-    events: &[Event<u32, u32>],
-) -> Result<Report<u32, u32>, AllocError>
+    events: &[Event<u32, u32, u32>],
+) -> Result<Report<u32, u32, u32>, AllocError>
     requires rules { rules ≡ rules_of rules.max_capacity rules.listener }
     requires least { 1 ≤ log }
     requires most { log ≤ 65536 }
     ensures { IfOk result (λ report. RunsFresh rules log events.now report) }
 {
-    moka_laws::reached_by_lawful_run::<u32, u32>();
-    let mut machine = Machine::build(alloc, rules, log)?;
+    moka_laws::reached_by_lawful_run::<u32, u32, u32>();
+    let mut machine = Machine::build(alloc, rules, log, NumberTests)?;
     match run(alloc, &mut machine, events) {
         Ok(report) => Ok(report),
         Err(_) => Err(AllocError),
@@ -48,8 +49,8 @@ fn run_given(
     alloc: Global,
     rules: Rules,
     log: usize,
-    events: Vec<Event<u32, u32>>,
-) -> Result<Report<u32, u32>, AllocError>
+    events: Vec<Event<u32, u32, u32>>,
+) -> Result<Report<u32, u32, u32>, AllocError>
     requires rules { rules ≡ rules_of rules.max_capacity rules.listener }
     requires least { 1 ≤ log }
     requires most { log ≤ 65536 }
@@ -64,14 +65,14 @@ fn report_on(
     alloc: Global,
     rules: Rules,
     log: usize,
-    events: Vec<Event<u32, u32>>,
+    events: Vec<Event<u32, u32, u32>>,
 ) -> Result<String, AllocError>
     requires rules { rules ≡ rules_of rules.max_capacity rules.listener }
     requires least { 1 ≤ log }
     requires most { log ≤ 65536 }
     ensures { IfOk result (λ text. ReportsRun rules log events.items (string_bytes text)) }
 {
-    moka_laws::stored_under_own_keys::<u32, u32>();
+    moka_laws::stored_under_own_keys::<u32, u32, u32>();
     let report = run_given(alloc, rules, log, events)?;
     let Report {
         replies,

@@ -17,19 +17,19 @@ use std::collections::HashMap;
 
 /// A call that runs: its flow, and its table operation where one was begun.
 #[derive(Drop)]
-pub(crate) struct Running<K, V> {
-    pub(crate) flow: Flow<K, V>,
+pub(crate) struct Running<K, V, E> {
+    pub(crate) flow: Flow<K, V, E>,
     pub(crate) begun: Option<TheCall<K, V>>,
 }
 
 /// The live calls, by number. A call that is being stepped is taken out, and its place stays until
 /// it is put back or forgotten.
 #[derive(Drop)]
-pub(crate) struct Calls<K, V> {
-    places: HashMap<u64, Option<Running<K, V>>>,
+pub(crate) struct Calls<K, V, E> {
+    places: HashMap<u64, Option<Running<K, V, E>>>,
 }
 
-impl<K: Drop, V: Drop> Calls<K, V> {
+impl<K: Drop, V: Drop, E: Drop> Calls<K, V, E> {
     /// No calls. It takes no memory.
     pub(crate) fn new(alloc: Global) -> Self
         ensures { (n : ℕ) → place_at result n ≡ None }
@@ -48,7 +48,7 @@ impl<K: Drop, V: Drop> Calls<K, V> {
     }
 
     /// A call starts to run. There is room, so it takes no memory.
-    pub(crate) fn add(&mut self, call: u64, running: Running<K, V>)
+    pub(crate) fn add(&mut self, call: u64, running: Running<K, V, E>)
         requires { 0 < spare self.old.places }
         ensures { (n : ℕ) → place_at self.new n
             ≡ put_at (place_at self.old) call (Some (Some running)) n }
@@ -60,7 +60,7 @@ impl<K: Drop, V: Drop> Calls<K, V> {
     }
 
     /// Takes a running call out, and leaves its place.
-    pub(crate) fn take(&mut self, call: u64) -> Option<Running<K, V>>
+    pub(crate) fn take(&mut self, call: u64) -> Option<Running<K, V, E>>
         ensures taken { result ≡ running_at self.old call }
         ensures rest { (n : ℕ) → place_at self.new n
             ≡ put_at (place_at self.old) call (emptied (place_at self.old call)) n }
@@ -73,7 +73,7 @@ impl<K: Drop, V: Drop> Calls<K, V> {
     }
 
     /// Puts a call back that was taken out. It takes no memory.
-    pub(crate) fn put_back(&mut self, call: u64, running: Running<K, V>)
+    pub(crate) fn put_back(&mut self, call: u64, running: Running<K, V, E>)
         requires { HasPlace self.old call }
         ensures { (n : ℕ) → place_at self.new n
             ≡ put_at (place_at self.old) call (Some (Some running)) n }
@@ -106,10 +106,11 @@ impl<K: Drop, V: Drop> Calls<K, V> {
     }
 
     /// Lists the visits that open the notices of running calls that are due.
-    pub(crate) fn due(&self, alloc: Global) -> Result<Vec<Visit<K, V>>, AllocError>
+    pub(crate) fn due(&self, alloc: Global) -> Result<Vec<Visit<K, V, E>>, AllocError>
     where
         K: Clone,
         V: Clone,
+        E: Clone,
         requires keys { IsExact K.is_clone }
         requires values { IsExact V.is_clone }
         ensures { IfOk result (λ visits. AreNumbered (running_at self.now)
@@ -126,9 +127,9 @@ impl<K: Drop, V: Drop> Calls<K, V> {
 }
 
 /// The visit that opens the notice of the call of this place, where that is due.
-fn due_at<K: Clone + Drop, V: Clone + Drop>(
-    place: &Option<Running<K, V>>,
-) -> Result<Option<Visit<K, V>>, AllocError>
+fn due_at<K: Clone + Drop, V: Clone + Drop, E: Clone + Drop>(
+    place: &Option<Running<K, V, E>>,
+) -> Result<Option<Visit<K, V, E>>, AllocError>
     requires keys { IsExact K.is_clone }
     requires values { IsExact V.is_clone }
     ensures { IfOk result (λ due. due ≡ due_in place.now) }
@@ -140,7 +141,7 @@ fn due_at<K: Clone + Drop, V: Clone + Drop>(
 }
 
 /// The number of the write that the call of this place holds, where one runs.
-fn held_number<K, V>(place: &Option<Running<K, V>>) -> Option<u64>
+fn held_number<K, V, E>(place: &Option<Running<K, V, E>>) -> Option<u64>
     ensures { result ≡ held_in place.now }
 {
     match place {

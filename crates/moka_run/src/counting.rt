@@ -8,11 +8,13 @@ ghost use Rattle.moka_hist.specs.Run.{IsReached};
 ghost use Rattle.moka_init.specs.Grounds.{access_at};
 ghost use Rattle.moka_run.specs.Calls.{HasPlace};
 ghost use Rattle.moka_layers.specs.Counted.{counted};
+ghost use Rattle.moka_run.specs.NumberTest.{number_tests};
 ghost use Rattle.moka_run.specs.Machine.{IsOut, IsValid, TakenOut};
 
 use crate::machine::Machine;
+use crate::number_tests::NumberTests;
 use crate::runs::run;
-use moka_hist::{Event, Got, Refusal, Reply, Rules, Want};
+use moka_hist::{Event, Got, Refusal, Reply, Rules, Tests, Want};
 use moka_init::{Alone, Flow, Ground, step};
 use moka_text::read_schedule;
 use std::alloc::{AllocError, Global};
@@ -22,21 +24,25 @@ use std::test::Fail;
 
 // A machine, and how many accesses were made on it.
 #[derive(Drop)]
-struct Counting<K: Eq + Hash, V> {
-    machine: Machine<K, V>,
+struct Counting<K: Eq + Hash, V, E, T> {
+    machine: Machine<K, V, E, T>,
     accesses: u64,
 }
 
-impl<K: Eq + Hash + Clone + Drop, V: Clone + Drop> Ground<K, V> for Counting<K, V> {
+impl<K: Eq + Hash + Clone + Drop, V: Clone + Drop, E: Clone + Drop, T: Tests<K, V> + Drop> Ground<
+    K,
+    V,
+    E,
+> for Counting<K, V, E, T> {
     ghost use Rattle.moka_hist.specs.State.{World};
     ghost use Rattle.moka_init.specs.Grounds.{Accesses, Gives, Lacks, NeedsMemory, OfWanted};
     ghost use Rattle.moka_layers.specs.Layers.{account_of};
     ghost use Rattle.moka_run.specs.Machine.{Reaches, Allows};
     ghost use Rattle.moka_run.specs.TheTable.{the_table};
 
-    ghost stands = { λ c w. Reaches K.eq c.machine w };
+    ghost stands = { λ c w. Reaches K.eq T.Tests c.machine w };
 
-    ghost fits = { λ c want. Allows K.eq c.machine want };
+    ghost fits = { λ c want. Allows K.eq T.Tests c.machine want };
 
     ghost account = { λ c. account_of (the_table K.eq) c.machine.layers };
 
@@ -50,17 +56,20 @@ impl<K: Eq + Hash + Clone + Drop, V: Clone + Drop> Ground<K, V> for Counting<K, 
 
     ghost keeps_on = { λ a b c before after. after ∙ before };
 
-    ghost counts = { λ c w stands. counted (the_table K.eq) K.eq c.machine.layers w stands.layers };
+    ghost counts = { λ c w stands.
+        counted (the_table K.eq) T.Tests K.eq c.machine.layers w stands.layers };
 
-    fn access(&mut self, want: Want<K, V>) -> Result<Got<K, V>, AllocError>
+    fn access(&mut self, want: Want<K, V, E>) -> Result<Got<K, V, E>, AllocError>
         requires keys { IsExact K.is_clone }
         requires values { IsExact V.is_clone }
-        requires fits { Allows K.eq self.old.machine want }
+        requires errors { IsExact E.is_clone }
+        requires fits { Allows K.eq T.Tests self.old.machine want }
         // What it gives, and what is told then.
         ensures gives { IfOk result (λ given.
             OfWanted (account_of (the_table K.eq) self.old.machine.layers) want
-            (λ access. Gives K.eq self.old.machine.layers.call (Reaches K.eq self.old.machine)
-            access given (Reaches K.eq self.new.machine))) }
+            (λ access. Gives K.eq self.old.machine.layers.call
+            (Reaches K.eq T.Tests self.old.machine) access given
+            (Reaches K.eq T.Tests self.new.machine))) }
         ensures tells { IfOk result (λ given.
             OfWanted (account_of (the_table K.eq) self.old.machine.layers) want
             (λ access. Accesses (account_of (the_table K.eq) self.old.machine.layers) access given
@@ -69,43 +78,48 @@ impl<K: Eq + Hash + Clone + Drop, V: Clone + Drop> Ground<K, V> for Counting<K, 
         // Without memory.
         ensures err { OnErr result (account_of (the_table K.eq) self.new.machine.layers
             ≡ account_of (the_table K.eq) self.old.machine.layers) }
-        ensures err_stands { OnErr result ((w : World K V) → Reaches K.eq self.old.machine w
-            → Reaches K.eq self.new.machine w) }
+        ensures err_stands { OnErr result ((w : World K V E)
+            → Reaches K.eq T.Tests self.old.machine w → Reaches K.eq T.Tests self.new.machine w) }
         ensures err_needs { OnErr result
             (OfWanted (account_of (the_table K.eq) self.old.machine.layers) want
-            (Lacks (Reaches K.eq self.old.machine) NeedsMemory)) }
+            (Lacks (Reaches K.eq T.Tests self.old.machine) NeedsMemory)) }
     {
         self.accesses = self.accesses.saturating_add(1);
         self.machine.access(want)
     }
 }
 
-impl<K: Eq + Hash + Clone + Drop, V: Clone + Drop> Alone<K, V> for Counting<K, V> {}
+impl<K: Eq + Hash + Clone + Drop, V: Clone + Drop, E: Clone + Drop, T: Tests<K, V> + Drop> Alone<
+    K,
+    V,
+    E,
+> for Counting<K, V, E, T> {}
 
 // A machine after a step, with the reply, or None where memory was wanting, and the accesses made.
 #[derive(Drop)]
-struct Counted<K: Eq + Hash, V> {
-    machine: Machine<K, V>,
-    reply: Option<Reply<K, V>>,
+struct Counted<K: Eq + Hash, V, E, T> {
+    machine: Machine<K, V, E, T>,
+    reply: Option<Reply<K, V, E>>,
     accesses: u64,
 }
 
 // Makes a step of the call that was taken out, on a ground that counts.
-fn step_out<K: Eq + Hash + Clone + Drop, V: Clone + Drop>(
-    machine: Machine<K, V>,
+fn step_out<K: Eq + Hash + Clone + Drop, V: Clone + Drop, E: Clone + Drop, T: Tests<K, V> + Drop>(
+    machine: Machine<K, V, E, T>,
     call: u64,
-    mut flow: Flow<K, V>,
-) -> Counted<K, V>
+    mut flow: Flow<K, V, E>,
+) -> Counted<K, V, E, T>
     requires keys { IsExact K.is_clone }
     requires values { IsExact V.is_clone }
+    requires errors { IsExact E.is_clone }
     requires place { HasPlace machine.calls call }
     requires out { IsOut K.eq machine flow }
-    requires taken { (s : State K V) × TakenOut K.eq machine call flow s × IsReached K.eq s
-        × May s.world (access_at flow) }
-    ensures { IsValid K.eq result.machine }
+    requires taken { (s : State K V E) × TakenOut K.eq T.Tests machine call flow s
+        × IsReached K.eq s × May s.world (access_at flow) }
+    ensures { IsValid K.eq T.Tests result.machine }
 {
-    moka_laws::move_is_step::<K, V>();
-    moka_laws::reached_by_step::<K, V>();
+    moka_laws::move_is_step::<K, V, E>();
+    moka_laws::reached_by_step::<K, V, E>();
     let mut counting = Counting {
         machine,
         accesses: 0,
@@ -136,16 +150,19 @@ fn step_out<K: Eq + Hash + Clone + Drop, V: Clone + Drop>(
 }
 
 // Makes a step of a call, on a ground that counts.
-fn counted_step<K: Eq + Hash + Clone + Drop, V: Clone + Drop>(
-    mut machine: Machine<K, V>,
-    call: u64,
-) -> Counted<K, V>
+fn counted_step<
+    K: Eq + Hash + Clone + Drop,
+    V: Clone + Drop,
+    E: Clone + Drop,
+    T: Tests<K, V> + Drop,
+>(mut machine: Machine<K, V, E, T>, call: u64) -> Counted<K, V, E, T>
     requires keys { IsExact K.is_clone }
     requires values { IsExact V.is_clone }
-    requires valid { IsValid K.eq machine }
-    ensures { IsValid K.eq result.machine }
+    requires errors { IsExact E.is_clone }
+    requires valid { IsValid K.eq T.Tests machine }
+    ensures { IsValid K.eq T.Tests result.machine }
 {
-    moka_laws::calls_are_safe::<K, V>();
+    moka_laws::calls_are_safe::<K, V, E>();
     match machine.take_out(call) {
         None => Counted {
             machine,
@@ -160,14 +177,14 @@ fn counted_step<K: Eq + Hash + Clone + Drop, V: Clone + Drop>(
 // than one, or none, or memory was wanting.
 #[derive(Drop)]
 struct Driven {
-    machine: Machine<u32, u32>,
+    machine: Machine<u32, u32, u32, NumberTests>,
     accesses: Option<u64>,
 }
 
 // Makes a step of a call that lives.
-fn drive_step(machine: Machine<u32, u32>, call: u64) -> (Driven, bool)
-    requires { IsValid nat_eq machine }
-    ensures { IsValid nat_eq result.0.machine }
+fn drive_step(machine: Machine<u32, u32, u32, NumberTests>, call: u64) -> (Driven, bool)
+    requires { IsValid nat_eq number_tests machine }
+    ensures { IsValid nat_eq number_tests result.0.machine }
 {
     let Counted {
         machine,
@@ -179,9 +196,9 @@ fn drive_step(machine: Machine<u32, u32>, call: u64) -> (Driven, bool)
 }
 
 // Makes steps of a call, at most a hundred, up to the first that doesn't leave it going.
-fn drive_poll(mut machine: Machine<u32, u32>, call: u64) -> Driven
-    requires { IsValid nat_eq machine }
-    ensures { IsValid nat_eq result.machine }
+fn drive_poll(mut machine: Machine<u32, u32, u32, NumberTests>, call: u64) -> Driven
+    requires { IsValid nat_eq number_tests machine }
+    ensures { IsValid nat_eq number_tests result.machine }
 {
     for made in 0..100_u64 {
         let (driven, going) = drive_step(machine, call);
@@ -203,9 +220,13 @@ fn drive_poll(mut machine: Machine<u32, u32>, call: u64) -> Driven
 }
 
 // Carries an event out, and tells how many accesses its steps made.
-fn drive(alloc: Global, mut machine: Machine<u32, u32>, event: &Event<u32, u32>) -> Driven
-    requires { IsValid nat_eq machine }
-    ensures { IsValid nat_eq result.machine }
+fn drive(
+    alloc: Global,
+    mut machine: Machine<u32, u32, u32, NumberTests>,
+    event: &Event<u32, u32, u32>,
+) -> Driven
+    requires { IsValid nat_eq number_tests machine }
+    ensures { IsValid nat_eq number_tests result.machine }
 {
     match event {
         Event::Step { call } => drive_step(machine, *call).0,
@@ -238,7 +259,7 @@ fn accesses_of(alloc: Global, row: &str) -> Result<Option<u64>, AllocError> {
         listener: schedule.rules.listener,
         closures: false,
     };
-    let mut machine = Machine::build(alloc, rules, schedule.log)?;
+    let mut machine = Machine::build(alloc, rules, schedule.log, NumberTests)?;
     let mut total: u64 = 0;
     for event in &schedule.events {
         let driven = drive(alloc, machine, event);
@@ -296,10 +317,35 @@ fn each_step_makes_one_access_at_every_point_of_every_flow(rt: HostRuntime) -> R
              tell 2 done / poll 2 / start evict 1 1 Size / poll 3",
             6 + 5 + 3 + 3,
         ),
+        // Loads that fail, find nothing, or load again, and values stored where none is.
+        (
+            "cache log=8 / start optional 1 / start optional 1 / poll 1 / poll 2 / \
+             tell 1 nothing / poll 1 / poll 2",
+            5 + 4 + 2 + 1,
+        ),
+        (
+            "cache log=8 / start try 1 / start try 1 / poll 1 / poll 2 / tell 1 error 3 / \
+             poll 1 / poll 2",
+            5 + 4 + 2 + 1,
+        ),
+        (
+            "cache log=8 / start insert 1 4 / poll 1 / start get_with 1 if 2 / poll 2 / \
+             tell 2 value 5 / poll 2 / start get_with 1 if 2 / poll 3",
+            4 + 7 + 6 + 3,
+        ),
+        (
+            "cache log=8 / start or_insert 1 6 / poll 1 / start or_insert 1 7 / poll 2",
+            6 + 3,
+        ),
         // A disabled cache.
         (
             "cache cap=0 / start insert 1 5 / poll 1 / start get_with 1 / poll 2 / \
              tell 2 value 7 / poll 2",
+            1 + 3 + 2,
+        ),
+        (
+            "cache cap=0 / start or_insert 1 6 / poll 1 / start try 1 / poll 2 / \
+             tell 2 error 7 / poll 2",
             1 + 3 + 2,
         ),
     ];

@@ -11,6 +11,7 @@ mod laws;
 mod lists;
 mod machine;
 mod notices;
+mod number_tests;
 mod playing;
 mod reaching;
 mod report;
@@ -21,6 +22,7 @@ mod steps;
 
 pub use laws::says_or_is_bad;
 pub use machine::Machine;
+pub use number_tests::NumberTests;
 pub use playing::play;
 pub use report::{Memory, NoticeList, PlaceList, ReplyList, Report};
 pub use runs::run;

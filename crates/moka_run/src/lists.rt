@@ -9,7 +9,7 @@ ghost use Rattle.moka_run.specs.Report.{at_place, all_places, ArePlaces, Reports
 
 use crate::machine::Machine;
 use crate::report::{NoticeList, PlaceList};
-use moka_hist::{Owed, Place, Write};
+use moka_hist::{Owed, Place, Tests, Write};
 use moka_table::{EntryList, Table};
 use std::alloc::{AllocError, Global};
 use std::collections::VecDeque;
@@ -87,12 +87,17 @@ fn push_queue(
     Ok(())
 }
 
-impl<K: Eq + Hash + Clone + Drop, V: Clone + Drop> Machine<K, V> {
+impl<K: Eq + Hash + Clone + Drop, V: Clone + Drop, E: Clone + Drop, T: Tests<K, V> + Drop> Machine<
+    K,
+    V,
+    E,
+    T,
+> {
     /// Lists each stored pair once, in any order.
     pub fn entries(&self, alloc: Global) -> Result<EntryList<K, V>, AllocError>
         requires keys { IsExact K.is_clone }
         requires values { IsExact V.is_clone }
-        ensures { IfOk result (λ pairs. (s : State K V) → MachineIs K.eq self.now s
+        ensures { IfOk result (λ pairs. (s : State K V E) → MachineIs K.eq T.Tests self.now s
             → ListsPairs K.eq pairs s.world.table.stored) }
     {
         self.layers.table.pairs(alloc)
@@ -100,7 +105,7 @@ impl<K: Eq + Hash + Clone + Drop, V: Clone + Drop> Machine<K, V> {
 
     /// Lists each committed write by its number, with the place where it stands, ascending.
     pub fn places(&self, alloc: Global) -> Result<PlaceList, AllocError>
-        ensures { IfOk result (λ places. (s : State K V) → MachineIs K.eq self.now s
+        ensures { IfOk result (λ places. (s : State K V E) → MachineIs K.eq T.Tests self.now s
             → ArePlaces places s) }
     {
         let mut places = self.unsorted(alloc)?;
@@ -110,8 +115,8 @@ impl<K: Eq + Hash + Clone + Drop, V: Clone + Drop> Machine<K, V> {
 
     /// The same places in another order: held, owed, logged, applied.
     fn unsorted(&self, alloc: Global) -> Result<Vec<(u64, Place)>, AllocError>
-        ensures { IfOk result (λ places. (s : State K V) → MachineIs K.eq self.now s
-            → (calls : List (ℕ × Call K V)) × Lists nat_eq calls s.calls
+        ensures { IfOk result (λ places. (s : State K V E) → MachineIs K.eq T.Tests self.now s
+            → (calls : List (ℕ × Call K V E)) × Lists nat_eq calls s.calls
             × (places.items ≡ all_places calls s)) }
     {
         let held = self.calls.held(alloc)?;
@@ -133,13 +138,15 @@ pub(crate) struct ReportLists<K, V> {
 }
 
 /// Makes the lists of a report on the machine's state.
-pub(crate) fn list_all<K: Eq + Hash + Clone + Drop, V: Clone + Drop>(
-    alloc: Global,
-    machine: &Machine<K, V>,
-) -> Result<ReportLists<K, V>, AllocError>
+pub(crate) fn list_all<
+    K: Eq + Hash + Clone + Drop,
+    V: Clone + Drop,
+    E: Clone + Drop,
+    T: Tests<K, V> + Drop,
+>(alloc: Global, machine: &Machine<K, V, E, T>) -> Result<ReportLists<K, V>, AllocError>
     requires keys { IsExact K.is_clone }
     requires values { IsExact V.is_clone }
-    ensures { IfOk result (λ lists. (s : State K V) → MachineIs K.eq machine.now s
+    ensures { IfOk result (λ lists. (s : State K V E) → MachineIs K.eq T.Tests machine.now s
         → Reports K.eq lists.entries lists.places lists.notices s) }
 {
     Ok(ReportLists {

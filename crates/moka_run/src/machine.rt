@@ -6,7 +6,7 @@ use crate::calls::Calls;
 use crate::serving::unpolled;
 use moka_desk::Desk;
 use moka_engine::Policy;
-use moka_hist::{Event, Reply, Rules};
+use moka_hist::{Event, Reply, Rules, Tests};
 use moka_init::Unfinished;
 use moka_layers::Layers;
 use moka_table::{PlainCall, PlainTable};
@@ -27,12 +27,17 @@ pub(crate) type TheCall<K, V> = PlainCall<K, V>;
 /// make a `ByteStr` (`ByteStr::from_string`), of a `Vec<u8>` a `Bytes`, and for an `Arc<T>` take
 /// the `Shared<T>` of `moka_uses`, whose callers show each.
 #[derive(Drop)]
-pub struct Machine<K: Eq + Hash, V> {
-    pub(crate) layers: Layers<K, V, TheTable<K, V>, TheCall<K, V>>,
-    pub(crate) calls: Calls<K, V>,
+pub struct Machine<K: Eq + Hash, V, E, T> {
+    pub(crate) layers: Layers<K, V, E, TheTable<K, V>, TheCall<K, V>, T>,
+    pub(crate) calls: Calls<K, V, E>,
 }
 
-impl<K: Eq + Hash + Clone + Drop, V: Clone + Drop> Machine<K, V> {
+impl<K: Eq + Hash + Clone + Drop, V: Clone + Drop, E: Clone + Drop, T: Tests<K, V> + Drop> Machine<
+    K,
+    V,
+    E,
+    T,
+> {
     ghost use Rattle.moka_hist.specs.State.{State, fresh};
     ghost use Rattle.moka_text.specs.ScheduleText.{rules_of};
     ghost use Rattle.moka_run.specs.Machine.{MachineIs, IsValid, Serves, Stops};
@@ -40,13 +45,14 @@ impl<K: Eq + Hash + Clone + Drop, V: Clone + Drop> Machine<K, V> {
 
     /// A fresh cache of these rules, of which none is set but that a capacity and a listener may
     /// be, with a log of this many writes: 1 to 65536. One of capacity 0 is disabled: it stores
-    /// nothing.
-    pub fn build(alloc: Global, rules: Rules, log: usize) -> Result<Self, AllocError>
+    /// nothing. Its calls ask these tests.
+    pub fn build(alloc: Global, rules: Rules, log: usize, tests: T) -> Result<Self, AllocError>
         requires rules { rules ≡ rules_of rules.max_capacity rules.listener }
         requires least { 1 ≤ log }
         requires most { log ≤ 65536 }
-        ensures fresh { IfOk result (λ m. MachineIs K.eq m (fresh K V rules log)) }
-        ensures valid { IfOk result (λ m. IsValid K.eq m) }
+        ensures fresh { IfOk result (λ m. MachineIs K.eq T.Tests m
+            (fresh K V E rules log (T.answers tests))) }
+        ensures valid { IfOk result (λ m. IsValid K.eq T.Tests m) }
     {
         let desk = Desk::new(alloc, rules, log)?;
         Ok(Machine {
@@ -55,6 +61,7 @@ impl<K: Eq + Hash + Clone + Drop, V: Clone + Drop> Machine<K, V> {
                 desk,
                 call: 0,
                 begun: None,
+                tests,
             },
             calls: Calls::new(alloc),
         })
@@ -62,7 +69,8 @@ impl<K: Eq + Hash + Clone + Drop, V: Clone + Drop> Machine<K, V> {
 
     /// Tells the rules that the cache was built with.
     pub fn policy(&self) -> Policy
-        ensures { (s : State K V) → MachineIs K.eq self.now s → result.rules ≡ s.world.desk.rules }
+        ensures { (s : State K V E) → MachineIs K.eq T.Tests self.now s
+            → result.rules ≡ s.world.desk.rules }
     {
         Policy {
             rules: self.layers.desk.rules(),
@@ -71,13 +79,14 @@ impl<K: Eq + Hash + Clone + Drop, V: Clone + Drop> Machine<K, V> {
 
     /// Carries one event out, or refuses it. Want of memory tells how many steps of a poll were
     /// made; of any other event nothing was done then.
-    pub fn serve(&mut self, event: &Event<K, V>) -> Result<Reply<K, V>, Unfinished>
+    pub fn serve(&mut self, event: &Event<K, V, E>) -> Result<Reply<K, V, E>, Unfinished>
         requires keys { IsExact K.is_clone }
         requires values { IsExact V.is_clone }
-        requires valid { IsValid K.eq self.old }
-        ensures serves { IfOk result (λ r. Serves K.eq self.old event.now r self.new) }
-        ensures stops { IfErr result (λ u. Stops K.eq self.old event.now u.steps self.new) }
-        ensures needs { OnErr result ((s : State K V) → MachineIs K.eq self.new s
+        requires errors { IsExact E.is_clone }
+        requires valid { IsValid K.eq T.Tests self.old }
+        ensures serves { IfOk result (λ r. Serves K.eq T.Tests self.old event.now r self.new) }
+        ensures stops { IfErr result (λ u. Stops K.eq T.Tests self.old event.now u.steps self.new) }
+        ensures needs { OnErr result ((s : State K V E) → MachineIs K.eq T.Tests self.new s
             → MayStopIn s event.now) }
     {
         match event {

@@ -13,17 +13,22 @@ ghost use Rattle.moka_run.specs.Report.{AreNotices, all_notices, waiting};
 use crate::machine::Machine;
 use crate::report::NoticeList;
 use moka_desk::Desk;
-use moka_hist::{Notice, NoticeState, Visit};
+use moka_hist::{Notice, NoticeState, Tests, Visit};
 use std::alloc::{AllocError, Global};
 use std::hash::Hash;
 
-impl<K: Eq + Hash + Clone + Drop, V: Clone + Drop> Machine<K, V> {
+impl<K: Eq + Hash + Clone + Drop, V: Clone + Drop, E: Clone + Drop, T: Tests<K, V> + Drop> Machine<
+    K,
+    V,
+    E,
+    T,
+> {
     /// Lists each notice, ascending by number: those that were opened, and as waiting those that
     /// are due, with the cause that they would be opened with now.
     pub fn notices(&self, alloc: Global) -> Result<NoticeList<K, V>, AllocError>
         requires keys { IsExact K.is_clone }
         requires values { IsExact V.is_clone }
-        ensures { IfOk result (λ notices. (s : State K V) → MachineIs K.eq self.now s
+        ensures { IfOk result (λ notices. (s : State K V E) → MachineIs K.eq T.Tests self.now s
             → AreNotices notices s) }
     {
         let mut notices = self.unsorted_notices(alloc)?;
@@ -35,8 +40,8 @@ impl<K: Eq + Hash + Clone + Drop, V: Clone + Drop> Machine<K, V> {
     fn unsorted_notices(&self, alloc: Global) -> Result<Vec<Notice<K, V>>, AllocError>
         requires keys { IsExact K.is_clone }
         requires values { IsExact V.is_clone }
-        ensures { IfOk result (λ notices. (s : State K V) → MachineIs K.eq self.now s
-            → (calls : List (ℕ × Call K V)) × Lists nat_eq calls s.calls
+        ensures { IfOk result (λ notices. (s : State K V E) → MachineIs K.eq T.Tests self.now s
+            → (calls : List (ℕ × Call K V E)) × Lists nat_eq calls s.calls
             × (notices.items ≡ all_notices calls s)) }
     {
         let due = self.calls.due(alloc)?;
@@ -48,14 +53,14 @@ impl<K: Eq + Hash + Clone + Drop, V: Clone + Drop> Machine<K, V> {
 }
 
 // Appends the notices of these numbers that were opened.
-fn push_opened<K: Eq + Hash + Clone + Drop, V: Clone + Drop>(
+fn push_opened<K: Eq + Hash + Clone + Drop, V: Clone + Drop, E: Clone + Drop>(
     notices: &mut Vec<Notice<K, V>>,
-    desk: &Desk<K, V>,
+    desk: &Desk<K, V, E>,
     numbers: &[u64],
 ) -> Result<(), AllocError>
     requires keys { IsExact K.is_clone }
     requires values { IsExact V.is_clone }
-    ensures { OnOk result ((w : DeskPart K V) → DeskStandsFor K.eq desk.now w
+    ensures { OnOk result ((w : DeskPart K V E) → DeskStandsFor K.eq desk.now w
         → notices.new.items ≡ notices.old.items ++ filter_map w.notices numbers.now) }
 {
     for number in numbers {
@@ -67,12 +72,12 @@ fn push_opened<K: Eq + Hash + Clone + Drop, V: Clone + Drop>(
 }
 
 // Appends the notices that these visits are to open, as waiting.
-fn push_due<K: Eq + Hash + Clone + Drop, V: Clone + Drop>(
+fn push_due<K: Eq + Hash + Clone + Drop, V: Clone + Drop, E: Clone + Drop>(
     notices: &mut Vec<Notice<K, V>>,
-    desk: &Desk<K, V>,
-    due: Vec<Visit<K, V>>,
+    desk: &Desk<K, V, E>,
+    due: Vec<Visit<K, V, E>>,
 ) -> Result<(), AllocError>
-    ensures { OnOk result ((w : DeskPart K V) → DeskStandsFor K.eq desk.now w
+    ensures { OnOk result ((w : DeskPart K V E) → DeskStandsFor K.eq desk.now w
         → notices.new.items ≡ notices.old.items ++ filter_map (waiting w) due.items) }
 {
     for visit in due {
@@ -84,11 +89,11 @@ fn push_due<K: Eq + Hash + Clone + Drop, V: Clone + Drop>(
 }
 
 // The notice that the visit is to open, as it waits.
-fn waiting<K: Eq + Hash + Clone + Drop, V: Clone + Drop>(
-    desk: &Desk<K, V>,
-    visit: Visit<K, V>,
+fn waiting<K: Eq + Hash + Clone + Drop, V: Clone + Drop, E: Clone + Drop>(
+    desk: &Desk<K, V, E>,
+    visit: Visit<K, V, E>,
 ) -> Option<Notice<K, V>>
-    ensures { (w : DeskPart K V) → DeskStandsFor K.eq desk.now w → result ≡ waiting w visit }
+    ensures { (w : DeskPart K V E) → DeskStandsFor K.eq desk.now w → result ≡ waiting w visit }
 {
     match visit {
         Visit::OpenNotice {

@@ -6,12 +6,17 @@ ghost use Rattle.moka_run.specs.Running.{ToldNeedsMemory};
 
 use crate::calls::Running;
 use crate::machine::Machine;
-use moka_hist::{Mode, Refusal, Reply, Start, Told};
+use moka_hist::{Mode, Refusal, Reply, Start, Tests, Told};
 use moka_init::{Flow, Unfinished};
 use std::alloc::AllocError;
 use std::hash::Hash;
 
-impl<K: Eq + Hash + Clone + Drop, V: Clone + Drop> Machine<K, V> {
+impl<K: Eq + Hash + Clone + Drop, V: Clone + Drop, E: Clone + Drop, T: Tests<K, V> + Drop> Machine<
+    K,
+    V,
+    E,
+    T,
+> {
     ghost use Rattle.moka_hist.specs.declared.events.Event.{Event};
     ghost use Rattle.moka_hist.specs.Dropping.{dropped};
     ghost use Rattle.moka_laws.specs.Held.{MayAllLeave};
@@ -21,11 +26,12 @@ impl<K: Eq + Hash + Clone + Drop, V: Clone + Drop> Machine<K, V> {
     ghost use Rattle.moka_desk.specs.StandsFor.{StandsFor as DeskStandsFor, Becomes as DeskBecomes};
     ghost use Rattle.moka_init.specs.FlowPlan.{call_of};
     ghost use Rattle.moka_run.specs.Calls.{HasPlace};
-    ghost use Rattle.moka_run.specs.Machine.{MachineIs, TakenOut, IsOut, IsValid, Serves, KeepsState};
+    ghost use Rattle.moka_run.specs.Machine.{MachineIs, TakenOut, IsOut, IsValid};
+    ghost use Rattle.moka_run.specs.Machine.{Serves, KeepsState};
 
     /// Moves the clock on. It takes no memory.
-    pub(crate) fn at(&mut self, moment: u64) -> Reply<K, V>
-        ensures { Serves K.eq self.old (Event.At moment) result self.new }
+    pub(crate) fn at(&mut self, moment: u64) -> Reply<K, V, E>
+        ensures { Serves K.eq T.Tests self.old (Event.At moment) result self.new }
     {
         if self.layers.desk.at(moment) {
             Reply::At
@@ -35,12 +41,13 @@ impl<K: Eq + Hash + Clone + Drop, V: Clone + Drop> Machine<K, V> {
     }
 
     /// Starts a call under the next number.
-    pub(crate) fn start(&mut self, start: &Start<K, V>) -> Result<Reply<K, V>, AllocError>
+    pub(crate) fn start(&mut self, start: &Start<K, V>) -> Result<Reply<K, V, E>, AllocError>
         requires keys { IsExact K.is_clone }
         requires values { IsExact V.is_clone }
+        requires errors { IsExact E.is_clone }
         ensures serves { IfOk result (λ r.
-            Serves K.eq self.old (Event.Start start.now) r self.new) }
-        ensures err { OnErr result (KeepsState K.eq self.old self.new) }
+            Serves K.eq T.Tests self.old (Event.Start start.now) r self.new) }
+        ensures err { OnErr result (KeepsState K.eq T.Tests self.old self.new) }
     {
         let start = cloned_start(start)?;
         self.make_room()?;
@@ -50,15 +57,15 @@ impl<K: Eq + Hash + Clone + Drop, V: Clone + Drop> Machine<K, V> {
     // Makes room for one more call.
     fn make_room(&mut self) -> Result<(), AllocError>
         ensures room { OnOk result (0 < spare self.new.calls.places) }
-        ensures same { KeepsState K.eq self.old self.new }
+        ensures same { KeepsState K.eq T.Tests self.old self.new }
     {
         self.calls.reserve()
     }
 
     // Starts a call. There is room for it, so it takes no memory.
-    fn enter(&mut self, start: Start<K, V>) -> Reply<K, V>
+    fn enter(&mut self, start: Start<K, V>) -> Reply<K, V, E>
         requires { 0 < spare self.old.calls.places }
-        ensures { Serves K.eq self.old (Event.Start start) result self.new }
+        ensures { Serves K.eq T.Tests self.old (Event.Start start) result self.new }
     {
         match self.layers.desk.enter() {
             None => Reply::Refused(Refusal::CallsSpent),
@@ -72,11 +79,16 @@ impl<K: Eq + Hash + Clone + Drop, V: Clone + Drop> Machine<K, V> {
 
     /// Answers the open ask of a call, or of the listener by the number of its notice. Who waited
     /// for it is let go: nobody polls calls here but events.
-    pub(crate) fn tell(&mut self, call: u64, answer: &Told<V>) -> Result<Reply<K, V>, AllocError>
-        requires { IsExact V.is_clone }
+    pub(crate) fn tell(
+        &mut self,
+        call: u64,
+        answer: &Told<V, E>,
+    ) -> Result<Reply<K, V, E>, AllocError>
+        requires values { IsExact V.is_clone }
+        requires errors { IsExact E.is_clone }
         ensures serves { IfOk result (λ r.
-            Serves K.eq self.old (Event.Tell call answer.now) r self.new) }
-        ensures err { OnErr result (KeepsState K.eq self.old self.new) }
+            Serves K.eq T.Tests self.old (Event.Tell call answer.now) r self.new) }
+        ensures err { OnErr result (KeepsState K.eq T.Tests self.old self.new) }
         ensures err_needs { OnErr result (ToldNeedsMemory answer.now) }
     {
         let answer = cloned_told(answer)?;
@@ -88,8 +100,8 @@ impl<K: Eq + Hash + Clone + Drop, V: Clone + Drop> Machine<K, V> {
     }
 
     // Tells the desk the answer. Answers whether an ask was open that takes it.
-    fn tell_desk(&mut self, call: u64, answer: Told<V>) -> bool
-        ensures finds { (w : DeskPart K V) → DeskStandsFor K.eq self.old.layers.desk w
+    fn tell_desk(&mut self, call: u64, answer: Told<V, E>) -> bool
+        ensures finds { (w : DeskPart K V E) → DeskStandsFor K.eq self.old.layers.desk w
             → result ≡ is_asked w call answer }
         ensures makes { DeskBecomes K.eq self.old.layers.desk
             (λ w. if result then told w call answer else w) self.new.layers.desk }
@@ -101,11 +113,11 @@ impl<K: Eq + Hash + Clone + Drop, V: Clone + Drop> Machine<K, V> {
     }
 
     /// Drops a call where it stands, unless it is between two steps. It takes no memory.
-    pub(crate) fn drop_call(&mut self, call: u64) -> Reply<K, V>
-        requires { IsValid K.eq self.old }
-        ensures { Serves K.eq self.old (Event.Drop call) result self.new }
+    pub(crate) fn drop_call(&mut self, call: u64) -> Reply<K, V, E>
+        requires { IsValid K.eq T.Tests self.old }
+        ensures { Serves K.eq T.Tests self.old (Event.Drop call) result self.new }
     {
-        moka_laws::calls_may_leave::<K, V>();
+        moka_laws::calls_may_leave::<K, V, E>();
         match self.take_out(call) {
             None => Reply::Refused(Refusal::UnknownCall),
             Some(flow) => self.drop_out(call, flow),
@@ -113,13 +125,15 @@ impl<K: Eq + Hash + Clone + Drop, V: Clone + Drop> Machine<K, V> {
     }
 
     // Drops the call that was taken out, or puts it back.
-    fn drop_out(&mut self, call: u64, flow: Flow<K, V>) -> Reply<K, V>
+    #[inline(always)]
+    fn drop_out(&mut self, call: u64, flow: Flow<K, V, E>) -> Reply<K, V, E>
         requires place { HasPlace self.old.calls call }
         requires is { IsOut K.eq self.old flow }
-        requires taken { (s : State K V) × TakenOut K.eq self.old call flow s × MayAllLeave s }
-        ensures { (s : State K V) → TakenOut K.eq self.old call flow s → MayAllLeave s
-            → (t : State K V) × Drops s call (call_of flow) flow.mode result t
-            × MachineIs K.eq self.new t }
+        requires taken { (s : State K V E) × TakenOut K.eq T.Tests self.old call flow s
+            × MayAllLeave s }
+        ensures { (s : State K V E) → TakenOut K.eq T.Tests self.old call flow s → MayAllLeave s
+            → (t : State K V E) × Drops s call (call_of flow) flow.mode result t
+            × MachineIs K.eq T.Tests self.new t }
     {
         match flow.mode() {
             Mode::Mid => {
@@ -132,12 +146,14 @@ impl<K: Eq + Hash + Clone + Drop, V: Clone + Drop> Machine<K, V> {
     }
 
     // Drops the call that was taken out: what it holds is left to others.
-    fn leave(&mut self, call: u64, flow: Flow<K, V>) -> Reply<K, V>
+    fn leave(&mut self, call: u64, flow: Flow<K, V, E>) -> Reply<K, V, E>
         requires is { IsOut K.eq self.old flow }
-        requires taken { (s : State K V) × TakenOut K.eq self.old call flow s × MayAllLeave s }
+        requires taken { (s : State K V E) × TakenOut K.eq T.Tests self.old call flow s
+            × MayAllLeave s }
         ensures reply { result ≡ Reply.Dropped }
-        ensures leaves { (s : State K V) → TakenOut K.eq self.old call flow s → MayAllLeave s
-            → MachineIs K.eq self.new (dropped s call (call_of flow)) }
+        ensures leaves { (s : State K V E) → TakenOut K.eq T.Tests self.old call flow s
+            → MayAllLeave s
+            → MachineIs K.eq T.Tests self.new (dropped s call (call_of flow)) }
     {
         let held = flow.held();
         drop(flow);
@@ -164,9 +180,25 @@ fn cloned_start<K: Clone + Drop, V: Clone + Drop>(
             let value = value.clone()?;
             Ok(Start::Insert { key, value })
         }
-        Start::GetWith { key } => {
+        Start::GetWith { key, replace } => {
             let key = key.clone()?;
-            Ok(Start::GetWith { key })
+            Ok(Start::GetWith {
+                key,
+                replace: *replace,
+            })
+        }
+        Start::Optional { key } => {
+            let key = key.clone()?;
+            Ok(Start::Optional { key })
+        }
+        Start::Try { key } => {
+            let key = key.clone()?;
+            Ok(Start::Try { key })
+        }
+        Start::OrInsert { key, value } => {
+            let key = key.clone()?;
+            let value = value.clone()?;
+            Ok(Start::OrInsert { key, value })
         }
         Start::Invalidate { key } => {
             let key = key.clone()?;
@@ -187,8 +219,11 @@ fn cloned_start<K: Clone + Drop, V: Clone + Drop>(
     }
 }
 
-fn cloned_told<V: Clone + Drop>(answer: &Told<V>) -> Result<Told<V>, AllocError>
-    requires { IsExact V.is_clone }
+fn cloned_told<V: Clone + Drop, E: Clone + Drop>(
+    answer: &Told<V, E>,
+) -> Result<Told<V, E>, AllocError>
+    requires values { IsExact V.is_clone }
+    requires errors { IsExact E.is_clone }
     ensures same { IfOk result (λ same. same ≡ answer.now) }
     ensures err { OnErr result (ToldNeedsMemory answer.now) }
 {
@@ -197,15 +232,20 @@ fn cloned_told<V: Clone + Drop>(answer: &Told<V>) -> Result<Told<V>, AllocError>
             let value = value.clone()?;
             Ok(Told::Value(value))
         }
+        Told::Nothing => Ok(Told::Nothing),
+        Told::Err(error) => {
+            let error = error.clone()?;
+            Ok(Told::Err(error))
+        }
         Told::Done => Ok(Told::Done),
         Told::Off => Ok(Told::Off),
     }
 }
 
 // An event that isn't a poll makes no steps.
-pub(crate) fn unpolled<K, V>(
-    reply: Result<Reply<K, V>, AllocError>,
-) -> Result<Reply<K, V>, Unfinished>
+pub(crate) fn unpolled<K, V, E>(
+    reply: Result<Reply<K, V, E>, AllocError>,
+) -> Result<Reply<K, V, E>, Unfinished>
     ensures { MatchResult result (λ r. reply ≡ Ok r) (λ u. (u.steps ≡ 0) × (is_ok reply ≡ false)) }
 {
     match reply {

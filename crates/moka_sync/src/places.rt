@@ -71,11 +71,7 @@ pub(crate) fn sweep(alloc: Global, tickets: &Tickets, places: &mut LinkedList<Pl
 }
 
 /// Drops the places that do not stand, where they are more than those that do.
-pub(crate) fn sweep_stale(
-    alloc: Global,
-    tickets: &Tickets,
-    places: &mut LinkedList<Place>,
-)
+pub(crate) fn sweep_stale(alloc: Global, tickets: &Tickets, places: &mut LinkedList<Place>)
     ensures same { standing_places (ticket_of tickets.now) places.new
         ≡ standing_places (ticket_of tickets.now) places.old }
     ensures below { (next : ℕ) → AreBelow next places.old → AreBelow next places.new }
@@ -98,11 +94,7 @@ pub(crate) fn forget(tickets: &mut Tickets, places: &LinkedList<Place>)
 }
 
 /// Puts the one node at the end of what is kept, where its place stands.
-fn keep_standing(
-    tickets: &Tickets,
-    mut node: LinkedList<Place>,
-    kept: &mut LinkedList<Place>,
-)
+fn keep_standing(tickets: &Tickets, mut node: LinkedList<Place>, kept: &mut LinkedList<Place>)
     requires one { length node ≡ 1 }
     requires fits { length kept.old + 1 < 2 ^ 63 }
     ensures { kept.new ≡ kept.old ++ standing_places (ticket_of tickets.now) node }

@@ -3,7 +3,7 @@ use Rattle.std.proofs.Common.{◌≡◌, ℕ, ◌<◌, ◌≤◌, ◌^◌, Bool,
 use Rattle.std.specs.Bool.{Decides}
 use Rattle.std.specs.Fmt.{decimal}
 use Rattle.std.specs.Option.{option_map, option_and_then, unwrap_or}
-use Rattle.std.specs.List.{AllByRecursion, position_or_len}
+use Rattle.std.specs.List.{position_or_len}
 use Rattle.std.specs.Prelude.{codes, nat_le, ◌&&◌}
 use Rattle.std.proofs.lemmas.Bool.{leb-true, le-leb}
 use Rattle.std.proofs.lemmas.Bool.Decides.{Decides-and}
@@ -14,32 +14,11 @@ use Rattle.moka_text.specs.Words.{call_in, after, before_byte, from_byte}
 use Rattle.moka_text.specs.ScheduleText.{option_words, switch, rules_of, IsCacheLine}
 use Rattle.moka_text.specs.ScheduleReading.{said_in, cut_option, unless_left, within, cap_of, log_of, switch_of, made_of, options_of, cache_of}
 use Rattle.moka_text.proofs.Numbers.{own}
-use Rattle.moka_text.proofs.Splitting.{before_here, before_later, from_here, from_later}
-use Rattle.moka_text.proofs.Spelled.{mapped, bound, weaker, after_is, number_is, chosen, no_space, call_some}
-
--- what may follow an option: nothing, or a space
-abbrev Ends : List ℕ → Type 0
-Ends [] = Unit {0}
-Ends (b ∷ bytes) = eqb b 32 ≡ true
-
--- what is said has no space
-abbrev HasNoSpace : List ℕ → Type 0
-HasNoSpace = AllByRecursion (λ b. eqb b 32 ≡ false)
+use Rattle.moka_text.proofs.Spelled.{Ends, HasNoSpace, mapped, bound, weaker, after_is, number_is, chosen, no_space, call_some, said_before, rest_from}
 
 ends_words : (name : List ℕ) (said : Option (List ℕ)) (rest : List ℕ) → Ends rest → Ends (option_words name said ++ rest)
 ends_words name None rest h = h
 ends_words name (Some said) rest h = refl
-
--- what is said ends where what follows begins
-said_before : (said rest : List ℕ) → HasNoSpace said → Ends rest → before_byte 32 (said ++ rest) ≡ said
-said_before [] [] h ends = refl
-said_before [] (b ∷ rest) h ends = before_here 32 b rest ends
-said_before (b ∷ said) rest h ends = before_later 32 b (said ++ rest) h.0 ∙ ap (λ t. b ∷ t) (said_before said rest h.1 ends)
-
-rest_from : (said rest : List ℕ) → HasNoSpace said → Ends rest → from_byte 32 (said ++ rest) ≡ rest
-rest_from [] [] h ends = refl
-rest_from [] (b ∷ rest) h ends = from_here 32 b rest ends
-rest_from (b ∷ said) rest h ends = from_later 32 b (said ++ rest) h.0 ∙ rest_from said rest h.1 ends
 
 -- an option that isn't set, before one of another name
 misses : (front name : List ℕ) (said : Option (List ℕ)) (rest : List ℕ) → ((s : List ℕ) → after front ((32 ∷ name ++ s) ++ rest) ≡ None) → after front rest ≡ None → after front (option_words name said ++ rest) ≡ None

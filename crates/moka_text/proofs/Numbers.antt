@@ -6,8 +6,9 @@ use Rattle.std.specs.Result.{OkIff, result_ok}
 use Rattle.std.specs.Str.{bytes_eq}
 use Rattle.std.specs.Str.Parse.{AllDigits, digits_value}
 use Rattle.std.proofs.lemmas.Str.{digit_value_digit}
-use Rattle.std.proofs.lemmas.Str.Parse.{IsNumeralModel, numerals_by_value, tells_digits, digit_at, digits_value-take-le}
+use Rattle.std.proofs.lemmas.Str.Parse.{IsNumeralModel, numerals_by_value, tells_digits, digit_at, digits_value_short, digits_value-take-le}
 use Rattle.std.proofs.lemmas.Int.Digits.{digits_value_more}
+use Rattle.std.proofs.lemmas.List.{length-take}
 use Rattle.std.proofs.lemmas.Fmt.{digits_decimal, digits_value-decimal, decimal-digits_value, decimal_nonempty, first_decimal, decimal_digit, decimal_injective}
 use Rattle.std.proofs.lemmas.Slice.Eq.{bytes_eq-Decides}
 use Rattle.std.proofs.lemmas.Bool.Decides.{Decides-and, Decides-ltb}
@@ -31,6 +32,12 @@ value_past limit ds i lt past digits =
     let e = value_more ds i lt (digit_at ds i digits lt) in
     let m = digits_value-take-le 10 ds (i + 1) (omega arith) in
     omega arith
+
+-- a front of 18 digits at most, and a digit more, are of 64 bits
+pub front_fits : (ds : List ℕ) (i : ℕ) → i ≤ 18 → AllDigits 10 (take i ds) → digits_value 10 (take i ds) * 10 + 9 < 2 ^ 64
+front_fits ds i few digits =
+    let short = digits_value_short own (take i ds) 18 digits (omega (arith, few, length-take i ds)) in
+    omega (arith, short)
 
 -- only zero begins with a zero
 pub one_zero : (n : ℕ) → n < 2 ^ 64 → get_or (decimal n) 0 0 ≡ 48 → length (decimal n) ≡ 1

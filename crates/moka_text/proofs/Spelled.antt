@@ -21,11 +21,11 @@ use Rattle.moka_hist.specs.declared.events.Event.{Event}
 use Rattle.moka_hist.specs.declared.events.Event.TheVariants as event
 use Rattle.moka_hist.specs.declared.rules.Cause.{Cause}
 use Rattle.moka_hist.specs.declared.rules.Cause.TheVariants as cause
-use Rattle.moka_text.specs.Words.{number_in, call_in, key_in, cause_word, after, before_byte, after_byte}
-use Rattle.moka_text.specs.ScheduleText.{chosen_words, start_words, told_words, event_line, StartFits, ToldFits, EventFits, SpellsNone}
-use Rattle.moka_text.specs.ScheduleReading.{pair_of, cause_of, chosen_of, evict_of, start_by, start_of, told_of, tell_of, event_by, event_of}
+use Rattle.moka_text.specs.Words.{number_in, call_in, key_in, cause_word, after, before_byte, after_byte, from_byte}
+use Rattle.moka_text.specs.ScheduleText.{chosen_words, replace_words, start_words, told_words, event_line, StartFits, ToldFits, EventFits, SpellsNone}
+use Rattle.moka_text.specs.ScheduleReading.{pair_of, cause_of, chosen_of, evict_of, replace_of, load_of, start_by, start_of, told_alone, told_of, tell_of, event_by, event_of}
 use Rattle.moka_text.proofs.Numbers.{own, number_some, number_found}
-use Rattle.moka_text.proofs.Splitting.{before_here, before_later, after_here, after_later}
+use Rattle.moka_text.proofs.Splitting.{before_here, before_later, after_here, after_later, from_here, from_later}
 
 -- what holds of the value of each part holds of the value of the whole
 pub mapped : {X Y : Type 0} (P : Y → Type 0) (f : X → Y) (o : Option X) → IfSome o (λ x. P (f x)) → IfSome (option_map f o) P
@@ -64,6 +64,26 @@ cut_at (b ∷ front) rest mark h =
     let later = cut_at front rest mark h.1 in
     (before_later mark b (front ++ mark ∷ rest) h.0 ∙ ap (λ t. b ∷ t) later.0, after_later mark b (front ++ mark ∷ rest) h.0 ∙ later.1)
 
+-- what may follow a word: nothing, or a space
+abbrev pub Ends : List ℕ → Type 0
+Ends [] = Unit {0}
+Ends (b ∷ bytes) = eqb b 32 ≡ true
+
+-- a word has no space
+abbrev pub HasNoSpace : List ℕ → Type 0
+HasNoSpace = AllByRecursion (λ b. eqb b 32 ≡ false)
+
+-- a word ends where what follows begins
+pub said_before : (said rest : List ℕ) → HasNoSpace said → Ends rest → before_byte 32 (said ++ rest) ≡ said
+said_before [] [] h ends = refl
+said_before [] (b ∷ rest) h ends = before_here 32 b rest ends
+said_before (b ∷ said) rest h ends = before_later 32 b (said ++ rest) h.0 ∙ ap (λ t. b ∷ t) (said_before said rest h.1 ends)
+
+pub rest_from : (said rest : List ℕ) → HasNoSpace said → Ends rest → from_byte 32 (said ++ rest) ≡ rest
+rest_from [] [] h ends = refl
+rest_from [] (b ∷ rest) h ends = from_here 32 b rest ends
+rest_from (b ∷ said) rest h ends = from_later 32 b (said ++ rest) h.0 ∙ rest_from said rest h.1 ends
+
 -- a digit is no space
 pub no_space : (ds : List ℕ) → AllDigits 10 ds → AllByRecursion (λ b. eqb b 32 ≡ false) ds
 no_space [] h = tt
@@ -97,27 +117,49 @@ evict_read : (k s : ℕ) (c : Cause) → k < 2 ^ 32 → s < 2 ^ 64 → evict_of 
 unfolding evict_of
 evict_read k s c h j = let cut = spaced k (chosen_words s c) (omega arith) in rw (cut.0, cut.1, key_some k h, chosen_read s c j) refl
 
+ends_replace : (replace : Option ℕ) → Ends (replace_words replace)
+ends_replace None = tt
+ends_replace (Some test) = refl
+
+replace_read : (replace : Option ℕ) → IfSome replace (λ test. test < 2 ^ 64) → replace_of (replace_words replace) ≡ Some replace
+unfolding replace_of
+replace_read None h = refl
+replace_read (Some test) h = rw (call_some test h) refl
+
+load_read : (k : ℕ) (replace : Option ℕ) → k < 2 ^ 32 → IfSome replace (λ test. test < 2 ^ 64) → load_of (decimal k ++ replace_words replace) ≡ Some (k, replace)
+unfolding load_of
+load_read k replace h j =
+    let close = no_space (decimal k) (digits_decimal own k (omega arith)) in
+    let front = said_before (decimal k) (replace_words replace) close (ends_replace replace) in
+    let rest = rest_from (decimal k) (replace_words replace) close (ends_replace replace) in
+    rw (front, rest, key_some k h, replace_read replace j) refl
+
 start_read : (s : Start ℕ ℕ) → StartFits s → start_of (start_words s) ≡ Some s
 unfolding start_by
 start_read (start.Get key) h = rw (key_some key h) refl
 start_read (start.Insert key value) h = rw (pair_read key value h.0 h.1) refl
-start_read (start.GetWith key) h = rw (key_some key h) refl
+start_read (start.GetWith key replace) h = rw (load_read key replace h.0 h.1) refl
+start_read (start.Optional key) h = rw (key_some key h) refl
+start_read (start.Try key) h = rw (key_some key h) refl
+start_read (start.OrInsert key value) h = rw (pair_read key value h.0 h.1) refl
 start_read (start.Invalidate key) h = rw (key_some key h) refl
 start_read (start.Remove key) h = rw (key_some key h) refl
 start_read (start.Evict key stamp cause) h = rw (evict_read key stamp cause h.0 h.1) refl
 
-told_read : (t : Told ℕ) → ToldFits t → told_of (told_words t) ≡ Some t
-unfolding told_of
+told_read : (t : Told ℕ ℕ) → ToldFits t → told_of (told_words t) ≡ Some t
+unfolding told_alone told_of
 told_read (told.Value value) h = rw (key_some value h) refl
+told_read told.Nothing h = refl
+told_read (told.Err error) h = rw (key_some error h) refl
 told_read told.Done h = refl
 told_read told.Off h = refl
 
-tell_read : (call : ℕ) (t : Told ℕ) → call < 2 ^ 64 → ToldFits t → tell_of (decimal call ++ 32 ∷ told_words t) ≡ Some (call, t)
+tell_read : (call : ℕ) (t : Told ℕ ℕ) → call < 2 ^ 64 → ToldFits t → tell_of (decimal call ++ 32 ∷ told_words t) ≡ Some (call, t)
 unfolding tell_of
 tell_read call t h j = let cut = spaced call (told_words t) h in rw (cut.0, cut.1, call_some call h, told_read t j) refl
 
 -- each event's own line is read as that event
-pub event_read : (e : Event ℕ ℕ) → EventFits e → event_of (event_line e) ≡ Some e
+pub event_read : (e : Event ℕ ℕ ℕ) → EventFits e → event_of (event_line e) ≡ Some e
 unfolding event_by
 event_read (event.At moment) h = rw (call_some moment h) refl
 event_read (event.Start s) h = rw (start_read s h) refl
@@ -179,6 +221,28 @@ evict_is bytes =
     bound _ _ (λ chosen. Some (key, chosen)) (chosen_of (after_byte 32 bytes)) (chosen_is (after_byte 32 bytes)) (λ chosen j.
     (rejoined bytes (decimal key) (chosen_words chosen.0 chosen.1) h.0 j.0 (some_spaced (decimal chosen.0) (cause_word chosen.1)), (h.1, j.1))))
 
+-- a front up to the first space, and the rest from it on
+cut_off : (bytes front rest : List ℕ) → before_byte 32 bytes ≡ front → from_byte 32 bytes ≡ rest → bytes ≡ front ++ rest
+cut_off bytes front rest e f =
+    sym (take-append-drop (position_or_len (λ b. eqb b 32) bytes) bytes) ∙ ap (λ t. t ++ from_byte 32 bytes) e ∙ ap (λ t. front ++ t) f
+
+replace_is : (bytes : List ℕ) → IfSome (replace_of bytes) (λ r. (bytes ≡ replace_words r) × IfSome r (λ test. test < 2 ^ 64))
+unfolding replace_of
+replace_is [] = (refl, tt)
+replace_is (b ∷ bytes) =
+    mapped (λ r. (b ∷ bytes ≡ replace_words r) × IfSome r (λ test. test < 2 ^ 64)) Some _ (bound _ _ call_in (after (codes " if ") (b ∷ bytes)) (after_is (codes " if ") (b ∷ bytes)) (λ rest e.
+    weaker _ _ (call_in rest) (number_is (2 ^ 64) rest) (λ n h. (e ∙ ap (λ t. codes " if " ++ t) h.0, h.1))))
+
+load_is : (bytes : List ℕ) → IfSome (load_of bytes) (λ l. (bytes ≡ decimal l.0 ++ replace_words l.1) × ((l.0 < 2 ^ 32) × IfSome l.1 (λ test. test < 2 ^ 64)))
+unfolding load_of
+load_is bytes =
+    bound _ _ (λ key. option_and_then (λ replace. Some (key, replace)) (replace_of (from_byte 32 bytes))) (key_in (before_byte 32 bytes)) (number_is (2 ^ 32) (before_byte 32 bytes)) (λ key h.
+    bound _ _ (λ replace. Some (key, replace)) (replace_of (from_byte 32 bytes)) (replace_is (from_byte 32 bytes)) (λ replace j.
+    (cut_off bytes (decimal key) (replace_words replace) h.0 j.0, (h.1, j.1))))
+
+some_load : (k : ℕ) (replace : Option ℕ) → k < 2 ^ 32 → 0 < length (decimal k ++ replace_words replace)
+some_load k replace h = let some = decimal_nonempty k (omega arith) in omega (arith, some, length-append (decimal k) (replace_words replace))
+
 -- where what follows a line's first word is spelled so, so is the line
 after_word : {X Y : Type 0} (words : X → List ℕ) (Fits : X → Type 0) (P : Y → Type 0) (f : X → Y) (name bytes : List ℕ) (o : Option X) → ((x : X) → Fits x → 0 < length (words x)) → IfSome o (λ x. (after_byte 32 bytes ≡ words x) × Fits x) → ((x : X) → bytes ≡ name ++ 32 ∷ words x → Fits x → P (f x)) → bytes_eq (before_byte 32 bytes) name ≡ true → IfSome (option_map f o) P
 after_word words Fits P f name bytes o some is so word =
@@ -195,29 +259,44 @@ start_is bytes =
     let word : List ℕ = before_byte 32 bytes in
     chosen P (bytes_eq word (codes "get")) _ _ (number_after (2 ^ 32) P start.Get (codes "get") bytes (omega arith) (λ n e h. (e, h)))
     (chosen P (bytes_eq word (codes "insert")) _ _ (after_word (λ p. decimal p.0 ++ 32 ∷ decimal p.1) (λ p. (p.0 < 2 ^ 32) × (p.1 < 2 ^ 32)) P (λ p. start.Insert p.0 p.1) (codes "insert") bytes (pair_of (after_byte 32 bytes)) (λ p h. some_spaced (decimal p.0) (decimal p.1)) (pair_is (after_byte 32 bytes)) (λ p e h. (e, h)))
-    (chosen P (bytes_eq word (codes "get_with")) _ _ (number_after (2 ^ 32) P start.GetWith (codes "get_with") bytes (omega arith) (λ n e h. (e, h)))
+    (chosen P (bytes_eq word (codes "get_with")) _ _ (after_word (λ l. decimal l.0 ++ replace_words l.1) (λ l. (l.0 < 2 ^ 32) × IfSome l.1 (λ test. test < 2 ^ 64)) P (λ l. start.GetWith l.0 l.1) (codes "get_with") bytes (load_of (after_byte 32 bytes)) (λ l h. some_load l.0 l.1 h.0) (load_is (after_byte 32 bytes)) (λ l e h. (e, h)))
+    (chosen P (bytes_eq word (codes "optional")) _ _ (number_after (2 ^ 32) P start.Optional (codes "optional") bytes (omega arith) (λ n e h. (e, h)))
+    (chosen P (bytes_eq word (codes "try")) _ _ (number_after (2 ^ 32) P start.Try (codes "try") bytes (omega arith) (λ n e h. (e, h)))
+    (chosen P (bytes_eq word (codes "or_insert")) _ _ (after_word (λ p. decimal p.0 ++ 32 ∷ decimal p.1) (λ p. (p.0 < 2 ^ 32) × (p.1 < 2 ^ 32)) P (λ p. start.OrInsert p.0 p.1) (codes "or_insert") bytes (pair_of (after_byte 32 bytes)) (λ p h. some_spaced (decimal p.0) (decimal p.1)) (pair_is (after_byte 32 bytes)) (λ p e h. (e, h)))
     (chosen P (bytes_eq word (codes "invalidate")) _ _ (number_after (2 ^ 32) P start.Invalidate (codes "invalidate") bytes (omega arith) (λ n e h. (e, h)))
     (chosen P (bytes_eq word (codes "remove")) _ _ (number_after (2 ^ 32) P start.Remove (codes "remove") bytes (omega arith) (λ n e h. (e, h)))
-    (chosen P (bytes_eq word (codes "evict")) _ _ (after_word (λ t. decimal t.0 ++ 32 ∷ chosen_words t.1.0 t.1.1) (λ t. (t.0 < 2 ^ 32) × (t.1.0 < 2 ^ 64)) P (λ t. start.Evict t.0 t.1.0 t.1.1) (codes "evict") bytes (evict_of (after_byte 32 bytes)) (λ t h. some_spaced (decimal t.0) (chosen_words t.1.0 t.1.1)) (evict_is (after_byte 32 bytes)) (λ t e h. (e, h))) tt)))))
+    (chosen P (bytes_eq word (codes "evict")) _ _ (after_word (λ t. decimal t.0 ++ 32 ∷ chosen_words t.1.0 t.1.1) (λ t. (t.0 < 2 ^ 32) × (t.1.0 < 2 ^ 64)) P (λ t. start.Evict t.0 t.1.0 t.1.1) (codes "evict") bytes (evict_of (after_byte 32 bytes)) (λ t h. some_spaced (decimal t.0) (chosen_words t.1.0 t.1.1)) (evict_is (after_byte 32 bytes)) (λ t e h. (e, h))) tt))))))))
+
+alone_is : (bytes : List ℕ) → IfSome (told_alone bytes) (λ t. (bytes ≡ told_words t) × ToldFits t)
+unfolding told_alone
+alone_is bytes =
+    let P : Told ℕ ℕ → Type 0 = λ t. (bytes ≡ told_words t) × ToldFits t in
+    chosen P (bytes_eq bytes (codes "nothing")) _ _ (λ h. ((bytes_eq-Decides bytes (codes "nothing")).0 h, tt))
+    (chosen P (bytes_eq bytes (codes "done")) _ _ (λ h. ((bytes_eq-Decides bytes (codes "done")).0 h, tt))
+    (chosen P (bytes_eq bytes (codes "off")) _ _ (λ h. ((bytes_eq-Decides bytes (codes "off")).0 h, tt)) tt))
 
 told_is : (bytes : List ℕ) → IfSome (told_of bytes) (λ t. (bytes ≡ told_words t) × ToldFits t)
 unfolding told_of
 told_is bytes =
-    let P : Told ℕ → Type 0 = λ t. (bytes ≡ told_words t) × ToldFits t in
-    chosen P (bytes_eq bytes (codes "done")) _ _ (λ h. ((bytes_eq-Decides bytes (codes "done")).0 h, tt))
-    (chosen P (bytes_eq bytes (codes "off")) _ _ (λ h. ((bytes_eq-Decides bytes (codes "off")).0 h, tt))
-    (mapped P told.Value _ (bound _ _ key_in (after (codes "value ") bytes) (after_is (codes "value ") bytes) (λ rest e.
-    weaker _ _ (key_in rest) (number_is (2 ^ 32) rest) (λ n h. (e ∙ ap (λ t. codes "value " ++ t) h.0, h.1))))))
+    let P : Told ℕ ℕ → Type 0 = λ t. (bytes ≡ told_words t) × ToldFits t in
+    let word : List ℕ = before_byte 32 bytes in
+    chosen P (bytes_eq word (codes "value")) _ _ (number_after (2 ^ 32) P told.Value (codes "value") bytes (omega arith) (λ n e h. (e, h)))
+    (chosen P (bytes_eq word (codes "error")) _ _ (number_after (2 ^ 32) P told.Err (codes "error") bytes (omega arith) (λ n e h. (e, h))) (alone_is bytes))
 
-some_words : (t : Told ℕ) → 0 < length (told_words t)
+some_words : (t : Told ℕ ℕ) → 0 < length (told_words t)
 some_words (told.Value value) = omega arith
+some_words told.Nothing = omega arith
+some_words (told.Err error) = omega arith
 some_words told.Done = omega arith
 some_words told.Off = omega arith
 
 some_start : (s : Start ℕ ℕ) → 0 < length (start_words s)
 some_start (start.Get key) = omega arith
 some_start (start.Insert key value) = omega arith
-some_start (start.GetWith key) = omega arith
+some_start (start.GetWith key replace) = omega arith
+some_start (start.Optional key) = omega arith
+some_start (start.Try key) = omega arith
+some_start (start.OrInsert key value) = omega arith
 some_start (start.Invalidate key) = omega arith
 some_start (start.Remove key) = omega arith
 some_start (start.Evict key stamp cause) = omega arith
@@ -233,7 +312,7 @@ tell_is bytes =
 pub event_is : (line : List ℕ) → IfSome (event_of line) (λ e. (line ≡ event_line e) × EventFits e)
 unfolding event_by
 event_is line =
-    let P : Event ℕ ℕ → Type 0 = λ e. (line ≡ event_line e) × EventFits e in
+    let P : Event ℕ ℕ ℕ → Type 0 = λ e. (line ≡ event_line e) × EventFits e in
     let word : List ℕ = before_byte 32 line in
     let rest : List ℕ = after_byte 32 line in
     chosen P (bytes_eq word (codes "at")) _ _ (number_after (2 ^ 64) P event.At (codes "at") line (omega arith) (λ n e h. (e, h)))

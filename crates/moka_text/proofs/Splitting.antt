@@ -57,12 +57,12 @@ lines_cut [] h = absurd (omega arith)
 lines_cut (b ∷ bs) h = line_step b bs (lines_cut bs) (eqb b 10) refl
 
 -- what is read goes after what was read
-pub front_front : (done more : List (Event ℕ ℕ)) (r : Result (List (Event ℕ ℕ)) ℕ) → with_front done (with_front more r) ≡ with_front (done ++ more) r
+pub front_front : (done more : List (Event ℕ ℕ ℕ)) (r : Result (List (Event ℕ ℕ ℕ)) ℕ) → with_front done (with_front more r) ≡ with_front (done ++ more) r
 front_front done more (Ok events) = ap Ok (sym (append_assoc done more events))
 front_front done more (Err number) = refl
 
 -- a line that spells an event
-pub read_one : (done : List (Event ℕ ℕ)) (number : ℕ) (rest : List ℕ) (e : Event ℕ ℕ) → 0 < length rest → Some e ≡ event_of (before_byte 10 rest) → with_front (done ++ e ∷ []) (events_from (number + 1) (lines (after_byte 10 rest))) ≡ with_front done (events_from number (lines rest))
+pub read_one : (done : List (Event ℕ ℕ ℕ)) (number : ℕ) (rest : List ℕ) (e : Event ℕ ℕ ℕ) → 0 < length rest → Some e ≡ event_of (before_byte 10 rest) → with_front (done ++ e ∷ []) (events_from (number + 1) (lines (after_byte 10 rest))) ≡ with_front done (events_from number (lines rest))
 read_one done number rest e some is =
     sym (front_front done (e ∷ []) (events_from (number + 1) (lines (after_byte 10 rest))))
     ∙ ap (with_front done) (ap (λ n. with_front (e ∷ []) (events_from n (lines (after_byte 10 rest)))) (add-one number)
@@ -70,13 +70,13 @@ read_one done number rest e some is =
     ∙ ap (events_from number) (sym (lines_cut rest some)))
 
 -- a line that spells none
-pub read_none : (done : List (Event ℕ ℕ)) (number : ℕ) (rest : List ℕ) → 0 < length rest → None ≡ event_of (before_byte 10 rest) → with_front done (events_from number (lines rest)) ≡ Err number
+pub read_none : (done : List (Event ℕ ℕ ℕ)) (number : ℕ) (rest : List ℕ) → 0 < length rest → None ≡ event_of (before_byte 10 rest) → with_front done (events_from number (lines rest)) ≡ Err number
 read_none done number rest some is =
     ap (with_front done) (ap (events_from number) (lines_cut rest some)
     ∙ ap (λ o. event_then number o (events_from (suc number) (lines (after_byte 10 rest)))) (sym is))
 
 -- the front of what is read leaves a bad line's number as it is
-with_front_bad : (done : List (Event ℕ ℕ)) (r : Result (List (Event ℕ ℕ)) ℕ) (bad : ℕ) → with_front done r ≡ Err bad → r ≡ Err bad
+with_front_bad : (done : List (Event ℕ ℕ ℕ)) (r : Result (List (Event ℕ ℕ ℕ)) ℕ) (bad : ℕ) → with_front done r ≡ Err bad → r ≡ Err bad
 with_front_bad done (Ok events) bad e = absurd cc
 with_front_bad done (Err number) bad e = e
 
@@ -84,14 +84,14 @@ with_front_bad done (Err number) bad e = e
 bad_later : (number : ℕ) (ls : List (List ℕ)) (bad : ℕ) → events_from number ls ≡ Err bad → number ≤ bad
 bad_later number [] bad e = absurd cc
 bad_later number (l ∷ ls) bad e = by (event_of l) (λ f. bad_later (suc number) ls bad f) e where
-  by : (o : Option (Event ℕ ℕ)) → (events_from (suc number) ls ≡ Err bad → suc number ≤ bad) → event_then number o (events_from (suc number) ls) ≡ Err bad → number ≤ bad
+  by : (o : Option (Event ℕ ℕ ℕ)) → (events_from (suc number) ls ≡ Err bad → suc number ≤ bad) → event_then number o (events_from (suc number) ls) ≡ Err bad → number ≤ bad
   by None later f = let same : number ≡ bad = cc in omega (arith, same)
   by (Some x) later f = let less = later (with_front_bad (x ∷ []) (events_from (suc number) ls) bad f) in omega (arith, less)
 
 -- what is read past an event takes memory
-pub takes_memory : (done : List (Event ℕ ℕ)) (e : Event ℕ ℕ) (number : ℕ) (ls : List (List ℕ)) (whole : Result (List (Event ℕ ℕ)) ℕ) → 2 ≤ number → with_front (done ++ e ∷ []) (events_from (number + 1) ls) ≡ whole → EventsMayWantMemory whole
+pub takes_memory : (done : List (Event ℕ ℕ ℕ)) (e : Event ℕ ℕ ℕ) (number : ℕ) (ls : List (List ℕ)) (whole : Result (List (Event ℕ ℕ ℕ)) ℕ) → 2 ≤ number → with_front (done ++ e ∷ []) (events_from (number + 1) ls) ≡ whole → EventsMayWantMemory whole
 takes_memory done e number ls whole two is = subst EventsMayWantMemory is (by (events_from (number + 1) ls) refl) where
-  by : (r : Result (List (Event ℕ ℕ)) ℕ) → events_from (number + 1) ls ≡ r → EventsMayWantMemory (with_front (done ++ e ∷ []) r)
+  by : (r : Result (List (Event ℕ ℕ ℕ)) ℕ) → events_from (number + 1) ls ≡ r → EventsMayWantMemory (with_front (done ++ e ∷ []) r)
   by (Ok events) f = grind (arith, length-append)
   by (Err bad) f = let less = bad_later (number + 1) ls bad f in omega (arith, two, less)
 
@@ -100,14 +100,14 @@ pub same_error : {X Y : Type 0} (e f : ScheduleError) (r : Result X ScheduleErro
 same_error e f r h m q g = let same : e ≡ f = cc in g ∙ ap Err same
 
 -- the whole takes memory where its events do
-pub whole_takes_memory : (cache : ℕ × Rules) (whole : Result (ℕ × Rules × List (Event ℕ ℕ)) ℕ) (events : Result (List (Event ℕ ℕ)) ℕ) → whole ≡ with_cache cache events → EventsMayWantMemory events → MayWantMemory whole
+pub whole_takes_memory : (cache : ℕ × Rules) (whole : Result (ℕ × Rules × List (Event ℕ ℕ ℕ)) ℕ) (events : Result (List (Event ℕ ℕ ℕ)) ℕ) → whole ≡ with_cache cache events → EventsMayWantMemory events → MayWantMemory whole
 whole_takes_memory cache whole events e h = subst MayWantMemory (sym e) (by events h) where
-  by : (r : Result (List (Event ℕ ℕ)) ℕ) → EventsMayWantMemory r → MayWantMemory (with_cache cache r)
+  by : (r : Result (List (Event ℕ ℕ ℕ)) ℕ) → EventsMayWantMemory r → MayWantMemory (with_cache cache r)
   by (Ok xs) g = g
   by (Err n) g = g
 
 -- no line is left
-pub read_end : (done : List (Event ℕ ℕ)) (number : ℕ) (rest : List ℕ) → length rest ≡ 0 → with_front done (events_from number (lines rest)) ≡ Ok done
+pub read_end : (done : List (Event ℕ ℕ ℕ)) (number : ℕ) (rest : List ℕ) → length rest ≡ 0 → with_front done (events_from number (lines rest)) ≡ Ok done
 read_end done number [] h = ap Ok (append-nil done)
 read_end done number (b ∷ bs) h = absurd (omega arith)
 
@@ -127,6 +127,6 @@ with_rest [] cache h = absurd (none-some cache (sym (h ∙ no_cache_of_nothing))
 with_rest (b ∷ bs) cache h = ap schedule_of (lines_cut (b ∷ bs) (omega arith)) ∙ ap (λ o. cache_then o (events_from 2 (lines (after_byte 10 (b ∷ bs))))) (sym h)
 
 -- an error of the events is one of the whole
-pub passed_on : (e : ScheduleError) (cache : ℕ × Rules) (whole : Result (ℕ × Rules × List (Event ℕ ℕ)) ℕ) (events : Result (List (Event ℕ ℕ)) ℕ) → whole ≡ with_cache cache events → Fails e events → Fails e whole
+pub passed_on : (e : ScheduleError) (cache : ℕ × Rules) (whole : Result (ℕ × Rules × List (Event ℕ ℕ ℕ)) ℕ) (events : Result (List (Event ℕ ℕ ℕ)) ℕ) → whole ≡ with_cache cache events → Fails e events → Fails e whole
 passed_on (errors.BadLine line) cache whole events e h = e ∙ ap (with_cache cache) h
 passed_on errors.Memory cache whole events e h = tt

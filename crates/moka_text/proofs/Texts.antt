@@ -24,20 +24,20 @@ head_of : {X : Type 0} {a b : X} {xs ys : List X} → a ∷ xs ≡ b ∷ ys → 
 head_of {X} {a} {b} {xs} {ys} e = cc
 
 -- the first line's event, and the others
-record Splits (o : Option (Event ℕ ℕ)) (r : Result (List (Event ℕ ℕ)) ℕ) (events : List (Event ℕ ℕ)) : Type 0 where
-  first : Event ℕ ℕ
-  rest : List (Event ℕ ℕ)
+record Splits (o : Option (Event ℕ ℕ ℕ)) (r : Result (List (Event ℕ ℕ ℕ)) ℕ) (events : List (Event ℕ ℕ ℕ)) : Type 0 where
+  first : Event ℕ ℕ ℕ
+  rest : List (Event ℕ ℕ ℕ)
   is : o ≡ Some first
   others : r ≡ Ok rest
   whole : first ∷ rest ≡ events
 
-splits : (number : ℕ) (o : Option (Event ℕ ℕ)) (r : Result (List (Event ℕ ℕ)) ℕ) (events : List (Event ℕ ℕ)) → event_then number o r ≡ Ok events → Splits o r events
+splits : (number : ℕ) (o : Option (Event ℕ ℕ ℕ)) (r : Result (List (Event ℕ ℕ ℕ)) ℕ) (events : List (Event ℕ ℕ ℕ)) → event_then number o r ≡ Ok events → Splits o r events
 splits number (Some e) (Ok rest) events h = record { first = e; rest = rest; is = refl; others = refl; whole = cc }
 splits number (Some e) (Err k) events h = absurd cc
 splits number None r events h = absurd cc
 
 -- what is read of lines are the events that they spell
-events_said : (number : ℕ) (ls : List (List ℕ)) (events : List (Event ℕ ℕ)) → events_from number ls ≡ Ok events → (ls ≡ map event_line events) × AllByRecursion EventFits events
+events_said : (number : ℕ) (ls : List (List ℕ)) (events : List (Event ℕ ℕ ℕ)) → events_from number ls ≡ Ok events → (ls ≡ map event_line events) × AllByRecursion EventFits events
 events_said number [] [] h = (refl, tt)
 events_said number [] (e ∷ events) h = absurd cc
 events_said number (l ∷ ls) events h =
@@ -48,14 +48,14 @@ events_said number (l ∷ ls) events h =
     subst (λ es. (l ∷ ls ≡ map event_line es) × AllByRecursion EventFits es) s.whole (both, (line.1, rest.1))
 
 -- lines that spell events are read as those
-events_read : (number : ℕ) (events : List (Event ℕ ℕ)) → AllByRecursion EventFits events → events_from number (map event_line events) ≡ Ok events
+events_read : (number : ℕ) (events : List (Event ℕ ℕ ℕ)) → AllByRecursion EventFits events → events_from number (map event_line events) ≡ Ok events
 events_read number [] fit = refl
 events_read number (e ∷ events) fit =
     ap (λ o. event_then number o (events_from (suc number) (map event_line events))) (event_read e fit.0) ∙ ap (with_front (e ∷ [])) (events_read (suc number) events fit.1)
 
 -- lines that spell events, and then one that spells none, whose number this is
 record Stops (number : ℕ) (ls : List (List ℕ)) (bad : ℕ) : Type 0 where
-  events : List (Event ℕ ℕ)
+  events : List (Event ℕ ℕ ℕ)
   line : List ℕ
   rest : List (List ℕ)
   split : ls ≡ map event_line events ++ line ∷ rest
@@ -63,12 +63,12 @@ record Stops (number : ℕ) (ls : List (List ℕ)) (bad : ℕ) : Type 0 where
   none : SpellsNone line
   place : bad ≡ length events + number
 
-stops : (number : ℕ) (o : Option (Event ℕ ℕ)) (r : Result (List (Event ℕ ℕ)) ℕ) (bad : ℕ) → event_then number o r ≡ Err bad → ((o ≡ None) × (bad ≡ number)) ⊎ ((e : Event ℕ ℕ) × (o ≡ Some e) × (r ≡ Err bad))
+stops : (number : ℕ) (o : Option (Event ℕ ℕ ℕ)) (r : Result (List (Event ℕ ℕ ℕ)) ℕ) (bad : ℕ) → event_then number o r ≡ Err bad → ((o ≡ None) × (bad ≡ number)) ⊎ ((e : Event ℕ ℕ ℕ) × (o ≡ Some e) × (r ≡ Err bad))
 stops number None r bad h = inl (refl, cc)
 stops number (Some e) (Ok rest) bad h = absurd cc
 stops number (Some e) (Err k) bad h = inr (e, refl, cc)
 
-bad_at : (number : ℕ) (l : List ℕ) (ls : List (List ℕ)) (bad : ℕ) → (events_from (suc number) ls ≡ Err bad → Stops (suc number) ls bad) → ((event_of l ≡ None) × (bad ≡ number)) ⊎ ((e : Event ℕ ℕ) × (event_of l ≡ Some e) × (events_from (suc number) ls ≡ Err bad)) → Stops number (l ∷ ls) bad
+bad_at : (number : ℕ) (l : List ℕ) (ls : List (List ℕ)) (bad : ℕ) → (events_from (suc number) ls ≡ Err bad → Stops (suc number) ls bad) → ((event_of l ≡ None) × (bad ≡ number)) ⊎ ((e : Event ℕ ℕ ℕ) × (event_of l ≡ Some e) × (events_from (suc number) ls ≡ Err bad)) → Stops number (l ∷ ls) bad
 bad_at number l ls bad later (inl h) =
     record { events = []; line = l; rest = ls; split = refl; fit = tt; none = event_none l h.0; place = omega (arith, h.1) }
 bad_at number l ls bad later (inr h) =
@@ -90,14 +90,14 @@ events_bad number [] bad h = absurd cc
 events_bad number (l ∷ ls) bad h = bad_at number l ls bad (events_bad (suc number) ls bad) (stops number (event_of l) (events_from (suc number) ls) bad h)
 
 -- the cache and the events of what is read
-cache_and_events : (o : Option (ℕ × Rules)) (r : Result (List (Event ℕ ℕ)) ℕ) (log : ℕ) (rules : Rules) (events : List (Event ℕ ℕ)) → cache_then o r ≡ Ok (log, rules, events) → (o ≡ Some (log, rules)) × (r ≡ Ok events)
+cache_and_events : (o : Option (ℕ × Rules)) (r : Result (List (Event ℕ ℕ ℕ)) ℕ) (log : ℕ) (rules : Rules) (events : List (Event ℕ ℕ ℕ)) → cache_then o r ≡ Ok (log, rules, events) → (o ≡ Some (log, rules)) × (r ≡ Ok events)
 cache_and_events None r log rules events h = absurd cc
 cache_and_events (Some c) (Err bad) log rules events h = absurd cc
 cache_and_events (Some c) (Ok es) log rules events h =
-    let p : ◌≡◌ {A = ℕ × Rules × List (Event ℕ ℕ)} (c.0, c.1, es) (log, rules, events) = cc in
+    let p : ◌≡◌ {A = ℕ × Rules × List (Event ℕ ℕ ℕ)} (c.0, c.1, es) (log, rules, events) = cc in
     (ap (λ q. Some (q.0, q.1)) p, ap (λ q. Ok q.2) p)
 
-said_of : (text : List ℕ) (ls : List (List ℕ)) (log : ℕ) (rules : Rules) (events : List (Event ℕ ℕ)) → lines text ≡ ls → schedule_of ls ≡ Ok (log, rules, events) → Says text log rules events
+said_of : (text : List ℕ) (ls : List (List ℕ)) (log : ℕ) (rules : Rules) (events : List (Event ℕ ℕ ℕ)) → lines text ≡ ls → schedule_of ls ≡ Ok (log, rules, events) → Says text log rules events
 said_of text [] log rules events split h = absurd cc
 said_of text (first ∷ rest) log rules events split h =
     let p = cache_and_events (cache_of first) (events_from 2 rest) log rules events h in
@@ -110,18 +110,18 @@ said_of text (first ∷ rest) log rules events split h =
     }
 
 -- what is read of a text is what it says
-pub schedule_said : (text : List ℕ) (log : ℕ) (rules : Rules) (events : List (Event ℕ ℕ)) → schedule text ≡ Ok (log, rules, events) → Says text log rules events
+pub schedule_said : (text : List ℕ) (log : ℕ) (rules : Rules) (events : List (Event ℕ ℕ ℕ)) → schedule text ≡ Ok (log, rules, events) → Says text log rules events
 unfolding schedule
 schedule_said text log rules events h = said_of text (lines text) log rules events refl h
 
 -- what a text says is read
-pub says_read : (text : List ℕ) (log : ℕ) (rules : Rules) (events : List (Event ℕ ℕ)) → Says text log rules events → schedule text ≡ Ok (log, rules, events)
+pub says_read : (text : List ℕ) (log : ℕ) (rules : Rules) (events : List (Event ℕ ℕ ℕ)) → Says text log rules events → schedule text ≡ Ok (log, rules, events)
 unfolding schedule
 says_read text log rules events s =
     ap schedule_of s.split
     ∙ ap (λ o. cache_then o (events_from 2 (map event_line events))) (cache_read s.first log rules s.cache) ∙ ap (with_cache (log, rules)) (events_read 2 events s.fit)
 
-first_or_later : (o : Option (ℕ × Rules)) (r : Result (List (Event ℕ ℕ)) ℕ) (bad : ℕ) → cache_then o r ≡ Err bad → ((o ≡ None) × (bad ≡ 1)) ⊎ ((c : ℕ × Rules) × (o ≡ Some c) × (r ≡ Err bad))
+first_or_later : (o : Option (ℕ × Rules)) (r : Result (List (Event ℕ ℕ ℕ)) ℕ) (bad : ℕ) → cache_then o r ≡ Err bad → ((o ≡ None) × (bad ≡ 1)) ⊎ ((c : ℕ × Rules) × (o ≡ Some c) × (r ≡ Err bad))
 first_or_later None r bad h = inl (refl, cc)
 first_or_later (Some c) (Ok events) bad h = absurd cc
 first_or_later (Some c) (Err k) bad h = inr (c, refl, cc)
@@ -176,7 +176,7 @@ no_value P (Some x) h none = absurd (none x h)
 no_value P None h none = refl
 
 -- events, and then a line that spells none
-read_stops : (number : ℕ) (events : List (Event ℕ ℕ)) (line : List ℕ) (rest : List (List ℕ)) → AllByRecursion EventFits events → SpellsNone line → events_from number (map event_line events ++ line ∷ rest) ≡ Err (length events + number)
+read_stops : (number : ℕ) (events : List (Event ℕ ℕ ℕ)) (line : List ℕ) (rest : List (List ℕ)) → AllByRecursion EventFits events → SpellsNone line → events_from number (map event_line events ++ line ∷ rest) ≡ Err (length events + number)
 read_stops number [] line rest fit none =
     ap (λ o. event_then number o (events_from (suc number) rest)) (no_value _ (event_of line) (event_is line) (λ e h. none e h.1 h.0)) ∙ ap Err (omega arith)
 read_stops number (e ∷ events) line rest fit none =

@@ -21,12 +21,14 @@ use Rattle.moka_text.specs.Words.{cause_word}
 abbrev pub ended : List ℕ → List ℕ
 ended words = words ++ 10 ∷ []
 
-abbrev pub answer_words : Answer ℕ → List ℕ
+abbrev pub answer_words : Answer ℕ ℕ → List ℕ
 answer_words answer.Done = codes "done"
 answer_words (answer.Found (Some value)) = codes "some " ++ decimal value
 answer_words (answer.Found None) = codes "none"
 answer_words (answer.Loaded value true) = codes "value " ++ decimal value ++ codes " fresh"
 answer_words (answer.Loaded value false) = codes "value " ++ decimal value
+answer_words answer.Nothing = codes "nothing"
+answer_words (answer.InitErr error) = codes "error " ++ decimal error
 answer_words answer.RetriesExhausted = codes "exhausted"
 answer_words answer.Evicted = codes "evicted"
 answer_words answer.Kept = codes "kept"
@@ -47,7 +49,7 @@ ask_words ask.Init = codes "init"
 ask_words (ask.Listener key value cause) = codes "listener " ++ left_words key value cause
 
 -- the words of a reply
-abbrev pub reply_words : Reply ℕ ℕ → List ℕ
+abbrev pub reply_words : Reply ℕ ℕ ℕ → List ℕ
 reply_words reply.At = codes "at"
 reply_words (reply.Call number) = codes "call " ++ decimal number
 reply_words reply.Going = codes "going"
@@ -59,7 +61,7 @@ reply_words reply.Dropped = codes "dropped"
 reply_words (reply.Refused why) = codes "refused " ++ refusal_words why
 
 -- the line of a reply
-abbrev pub reply_line : Reply ℕ ℕ → List ℕ
+abbrev pub reply_line : Reply ℕ ℕ ℕ → List ℕ
 reply_line r = ended (reply_words r)
 
 -- the line of a key and its record: the value, the stamp, and the moment of the write
@@ -93,7 +95,7 @@ notice_line n =
 
 -- the replies, then what is stored, then the committed writes, then the notices
 abbrev pub report_text :
-    List (Reply ℕ ℕ) → List (ℕ × Stored ℕ) → List (ℕ × Place) → List (Notice ℕ ℕ) → List ℕ
+    List (Reply ℕ ℕ ℕ) → List (ℕ × Stored ℕ) → List (ℕ × Place) → List (Notice ℕ ℕ) → List ℕ
 report_text replies entries places notices =
     flat_map reply_line replies ++ flat_map entry_line entries ++ flat_map write_line places
     ++ flat_map notice_line notices

@@ -50,13 +50,30 @@ evict_of bytes = do
   chosen ← chosen_of (after_byte 32 bytes)
   Some (key, chosen)
 
+-- the replace test of a load: none where no bytes are left
+unfoldable pub replace_of : List ℕ → Option (Option ℕ)
+replace_of [] = Some None
+replace_of (b ∷ bytes) = option_map Some (after (codes " if ") (b ∷ bytes) >>= call_in)
+
+-- a key, and after it the replace test, where there is one
+unfoldable pub load_of : List ℕ → Option (ℕ × Option ℕ)
+load_of bytes = do
+  key ← key_in (before_byte 32 bytes)
+  replace ← replace_of (from_byte 32 bytes)
+  Some (key, replace)
+
 -- what a call is started for, by a word and what stands after its space
 unfoldable pub start_by : List ℕ → List ℕ → Option (Start ℕ ℕ)
 start_by word rest =
     if bytes_eq word (codes "get") then option_map start.Get (key_in rest)
     else if bytes_eq word (codes "insert") then
     option_map (λ p. start.Insert p.0 p.1) (pair_of rest)
-    else if bytes_eq word (codes "get_with") then option_map start.GetWith (key_in rest)
+    else if bytes_eq word (codes "get_with") then
+    option_map (λ l. start.GetWith l.0 l.1) (load_of rest)
+    else if bytes_eq word (codes "optional") then option_map start.Optional (key_in rest)
+    else if bytes_eq word (codes "try") then option_map start.Try (key_in rest)
+    else if bytes_eq word (codes "or_insert") then
+    option_map (λ p. start.OrInsert p.0 p.1) (pair_of rest)
     else if bytes_eq word (codes "invalidate") then option_map start.Invalidate (key_in rest)
     else if bytes_eq word (codes "remove") then option_map start.Remove (key_in rest)
     else if bytes_eq word (codes "evict") then
@@ -66,21 +83,32 @@ start_by word rest =
 abbrev pub start_of : List ℕ → Option (Start ℕ ℕ)
 start_of bytes = start_by (before_byte 32 bytes) (after_byte 32 bytes)
 
-unfoldable pub told_of : List ℕ → Option (Told ℕ)
-told_of bytes =
-    if bytes_eq bytes (codes "done") then Some told.Done
+-- what an ask is told by a word alone
+unfoldable pub told_alone : List ℕ → Option (Told ℕ ℕ)
+told_alone bytes =
+    if bytes_eq bytes (codes "nothing") then Some told.Nothing
+    else if bytes_eq bytes (codes "done") then Some told.Done
     else if bytes_eq bytes (codes "off") then Some told.Off
-    else option_map told.Value (after (codes "value ") bytes >>= key_in)
+    else None
+
+-- what an ask is told, by the first word and what stands after its space
+unfoldable pub told_of : List ℕ → Option (Told ℕ ℕ)
+told_of bytes =
+    if bytes_eq (before_byte 32 bytes) (codes "value") then
+    option_map told.Value (key_in (after_byte 32 bytes))
+    else if bytes_eq (before_byte 32 bytes) (codes "error") then
+    option_map told.Err (key_in (after_byte 32 bytes))
+    else told_alone bytes
 
 -- a call, and after a space what it is told
-unfoldable pub tell_of : List ℕ → Option (ℕ × Told ℕ)
+unfoldable pub tell_of : List ℕ → Option (ℕ × Told ℕ ℕ)
 tell_of bytes = do
   call ← call_in (before_byte 32 bytes)
   answer ← told_of (after_byte 32 bytes)
   Some (call, answer)
 
 -- the event of a line, by its first word and what stands after its space
-unfoldable pub event_by : List ℕ → List ℕ → Option (Event ℕ ℕ)
+unfoldable pub event_by : List ℕ → List ℕ → Option (Event ℕ ℕ ℕ)
 event_by word rest =
     if bytes_eq word (codes "at") then option_map event.At (call_in rest)
     else if bytes_eq word (codes "start") then option_map event.Start (start_of rest)
@@ -92,7 +120,7 @@ event_by word rest =
     else None
 
 -- the event that a line spells
-abbrev pub event_of : List ℕ → Option (Event ℕ ℕ)
+abbrev pub event_of : List ℕ → Option (Event ℕ ℕ ℕ)
 event_of line = event_by (before_byte 32 line) (after_byte 32 line)
 
 -- what is said of an option that these bytes follow, up to a space, and what follows
@@ -151,38 +179,38 @@ abbrev pub cache_of : List ℕ → Option (ℕ × Rules)
 cache_of line = after (codes "cache") line >>= options_of
 
 -- what was read goes before what is read
-abbrev pub with_front : List (Event ℕ ℕ) → Result (List (Event ℕ ℕ)) ℕ → Result (List (Event ℕ ℕ)) ℕ
+abbrev pub with_front : List (Event ℕ ℕ ℕ) → Result (List (Event ℕ ℕ ℕ)) ℕ → Result (List (Event ℕ ℕ ℕ)) ℕ
 with_front front (Ok events) = Ok (front ++ events)
 with_front front (Err number) = Err number
 
 -- the event of the line of this number goes before the others
 abbrev pub event_then :
-    ℕ → Option (Event ℕ ℕ) → Result (List (Event ℕ ℕ)) ℕ → Result (List (Event ℕ ℕ)) ℕ
+    ℕ → Option (Event ℕ ℕ ℕ) → Result (List (Event ℕ ℕ ℕ)) ℕ → Result (List (Event ℕ ℕ ℕ)) ℕ
 event_then number None others = Err number
 event_then number (Some e) others = with_front (e ∷ []) others
 
 -- the events of lines that are numbered from here on, or the first bad line's number
-abbrev pub events_from : ℕ → List (List ℕ) → Result (List (Event ℕ ℕ)) ℕ
+abbrev pub events_from : ℕ → List (List ℕ) → Result (List (Event ℕ ℕ ℕ)) ℕ
 events_from number [] = Ok []
 events_from number (line ∷ rest) = event_then number (event_of line) (events_from (suc number) rest)
 
 -- the log's size and the rules beside the events
 abbrev pub with_cache :
-    ℕ × Rules → Result (List (Event ℕ ℕ)) ℕ → Result (ℕ × Rules × List (Event ℕ ℕ)) ℕ
+    ℕ × Rules → Result (List (Event ℕ ℕ ℕ)) ℕ → Result (ℕ × Rules × List (Event ℕ ℕ ℕ)) ℕ
 with_cache cache (Ok events) = Ok (cache.0, cache.1, events)
 with_cache cache (Err number) = Err number
 
 abbrev pub cache_then :
-    Option (ℕ × Rules) → Result (List (Event ℕ ℕ)) ℕ → Result (ℕ × Rules × List (Event ℕ ℕ)) ℕ
+    Option (ℕ × Rules) → Result (List (Event ℕ ℕ ℕ)) ℕ → Result (ℕ × Rules × List (Event ℕ ℕ ℕ)) ℕ
 cache_then None events = Err 1
 cache_then (Some cache) events = with_cache cache events
 
-abbrev pub schedule_of : List (List ℕ) → Result (ℕ × Rules × List (Event ℕ ℕ)) ℕ
+abbrev pub schedule_of : List (List ℕ) → Result (ℕ × Rules × List (Event ℕ ℕ ℕ)) ℕ
 schedule_of [] = Err 1
 schedule_of (first ∷ rest) = cache_then (cache_of first) (events_from 2 rest)
 
 -- the log's size, the rules and the events of a schedule, or the number of the first bad line
-unfoldable pub schedule : List ℕ → Result (ℕ × Rules × List (Event ℕ ℕ)) ℕ
+unfoldable pub schedule : List ℕ → Result (ℕ × Rules × List (Event ℕ ℕ ℕ)) ℕ
 schedule text = schedule_of (lines text)
 
 -- this error was returned for this bad line, or for want of memory, whatever is read
@@ -196,27 +224,27 @@ Gives view (Ok x) read = read ≡ Ok (view x)
 Gives view (Err e) read = Fails e read
 
 -- reading the events takes memory: there is one, or the bad line is past the second
-abbrev pub EventsMayWantMemory : Result (List (Event ℕ ℕ)) ℕ → Type 0
+abbrev pub EventsMayWantMemory : Result (List (Event ℕ ℕ ℕ)) ℕ → Type 0
 EventsMayWantMemory (Ok events) = 0 < length events
 EventsMayWantMemory (Err number) = 2 < number
 
 -- reading the schedule takes memory: it has an event, or its bad line is past the second
-abbrev pub MayWantMemory : Result (ℕ × Rules × List (Event ℕ ℕ)) ℕ → Type 0
+abbrev pub MayWantMemory : Result (ℕ × Rules × List (Event ℕ ℕ ℕ)) ℕ → Type 0
 MayWantMemory (Ok s) = 0 < length s.2
 MayWantMemory (Err number) = 2 < number
 
 -- a schedule without where it lies in memory
-abbrev pub parts : Schedule → ℕ × Rules × List (Event ℕ ℕ)
+abbrev pub parts : Schedule → ℕ × Rules × List (Event ℕ ℕ ℕ)
 parts s = (s.log, s.rules, s.events.items)
 
 -- each event's own line is read as that event
 abbrev pub LinesAreRead : Type 0
-LinesAreRead = (e : Event ℕ ℕ) → EventFits e → event_of (event_line e) ≡ Some e
+LinesAreRead = (e : Event ℕ ℕ ℕ) → EventFits e → event_of (event_line e) ≡ Some e
 
 -- each text that says a schedule is read as that schedule
 abbrev pub TextsAreRead : Type 0
 TextsAreRead =
-    (text : List ℕ) (log : ℕ) (rules : Rules) (events : List (Event ℕ ℕ)) →
+    (text : List ℕ) (log : ℕ) (rules : Rules) (events : List (Event ℕ ℕ ℕ)) →
     Says text log rules events → schedule text ≡ Ok (log, rules, events)
 
 -- each text with a bad line is read as the number of the first

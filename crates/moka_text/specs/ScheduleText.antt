@@ -16,24 +16,34 @@ use Rattle.moka_text.specs.Words.{cause_word}
 abbrev pub chosen_words : ℕ → Cause → List ℕ
 chosen_words stamp cause = decimal stamp ++ 32 ∷ cause_word cause
 
+-- the replace test of a load, where it has one
+abbrev pub replace_words : Option ℕ → List ℕ
+replace_words None = []
+replace_words (Some test) = codes " if " ++ decimal test
+
 -- what a call is started for
 abbrev pub start_words : Start ℕ ℕ → List ℕ
 start_words (start.Get key) = codes "get " ++ decimal key
 start_words (start.Insert key value) = codes "insert " ++ (decimal key ++ 32 ∷ decimal value)
-start_words (start.GetWith key) = codes "get_with " ++ decimal key
+start_words (start.GetWith key replace) = codes "get_with " ++ (decimal key ++ replace_words replace)
+start_words (start.Optional key) = codes "optional " ++ decimal key
+start_words (start.Try key) = codes "try " ++ decimal key
+start_words (start.OrInsert key value) = codes "or_insert " ++ (decimal key ++ 32 ∷ decimal value)
 start_words (start.Invalidate key) = codes "invalidate " ++ decimal key
 start_words (start.Remove key) = codes "remove " ++ decimal key
 start_words (start.Evict key stamp cause) =
     codes "evict " ++ (decimal key ++ 32 ∷ chosen_words stamp cause)
 
 -- what an ask is told
-abbrev pub told_words : Told ℕ → List ℕ
+abbrev pub told_words : Told ℕ ℕ → List ℕ
 told_words (told.Value value) = codes "value " ++ decimal value
+told_words told.Nothing = codes "nothing"
+told_words (told.Err error) = codes "error " ++ decimal error
 told_words told.Done = codes "done"
 told_words told.Off = codes "off"
 
 -- the one spelling of an event
-abbrev pub event_line : Event ℕ ℕ → List ℕ
+abbrev pub event_line : Event ℕ ℕ ℕ → List ℕ
 event_line (event.At moment) = codes "at " ++ decimal moment
 event_line (event.Start start) = codes "start " ++ start_words start
 event_line (event.Step call) = codes "step " ++ decimal call
@@ -41,22 +51,28 @@ event_line (event.Poll call) = codes "poll " ++ decimal call
 event_line (event.Tell call answer) = codes "tell " ++ (decimal call ++ 32 ∷ told_words answer)
 event_line (event.Drop call) = codes "drop " ++ decimal call
 
--- keys and values are of 32 bits, and stamps of 64
+-- keys and values are of 32 bits, and tests and stamps of 64
 abbrev pub StartFits : Start ℕ ℕ → Type 0
 StartFits (start.Get key) = key < 2 ^ 32
 StartFits (start.Insert key value) = (key < 2 ^ 32) × (value < 2 ^ 32)
-StartFits (start.GetWith key) = key < 2 ^ 32
+StartFits (start.GetWith key replace) = (key < 2 ^ 32) × IfSome replace (λ test. test < 2 ^ 64)
+StartFits (start.Optional key) = key < 2 ^ 32
+StartFits (start.Try key) = key < 2 ^ 32
+StartFits (start.OrInsert key value) = (key < 2 ^ 32) × (value < 2 ^ 32)
 StartFits (start.Invalidate key) = key < 2 ^ 32
 StartFits (start.Remove key) = key < 2 ^ 32
 StartFits (start.Evict key stamp cause) = (key < 2 ^ 32) × (stamp < 2 ^ 64)
 
-abbrev pub ToldFits : Told ℕ → Type 0
+-- errors are of 32 bits, as values are
+abbrev pub ToldFits : Told ℕ ℕ → Type 0
 ToldFits (told.Value value) = value < 2 ^ 32
+ToldFits told.Nothing = Unit {0}
+ToldFits (told.Err error) = error < 2 ^ 32
 ToldFits told.Done = Unit {0}
 ToldFits told.Off = Unit {0}
 
 -- the event's numbers are in their ranges: moments and numbers of calls are of 64 bits
-abbrev pub EventFits : Event ℕ ℕ → Type 0
+abbrev pub EventFits : Event ℕ ℕ ℕ → Type 0
 EventFits (event.At moment) = moment < 2 ^ 64
 EventFits (event.Start start) = StartFits start
 EventFits (event.Step call) = call < 2 ^ 64
@@ -109,7 +125,7 @@ lines [] = []
 lines (b ∷ bytes) = if b == 10 then [] ∷ lines bytes else onto_first b (lines bytes)
 
 -- the text is the first line and a line for each event
-pub record Says (text : List ℕ) (log : ℕ) (rules : Rules) (events : List (Event ℕ ℕ)) : Type 0 where
+pub record Says (text : List ℕ) (log : ℕ) (rules : Rules) (events : List (Event ℕ ℕ ℕ)) : Type 0 where
   pub first : List ℕ
   pub cache : IsCacheLine first log rules
   pub split : lines text ≡ first ∷ map event_line events
@@ -123,10 +139,10 @@ BeginsBadly text =
 
 -- the line spells no event
 abbrev pub SpellsNone : List ℕ → Type 0
-SpellsNone line = (e : Event ℕ ℕ) → EventFits e → line ≡ event_line e → ⊥
+SpellsNone line = (e : Event ℕ ℕ ℕ) → EventFits e → line ≡ event_line e → ⊥
 
 -- after the first line and these events stands a line that spells none
-pub record GoesBad (text : List ℕ) (events : List (Event ℕ ℕ)) : Type 0 where
+pub record GoesBad (text : List ℕ) (events : List (Event ℕ ℕ ℕ)) : Type 0 where
   pub first : List ℕ
   pub log : ℕ
   pub rules : Rules
@@ -141,4 +157,4 @@ pub record GoesBad (text : List ℕ) (events : List (Event ℕ ℕ)) : Type 0 wh
 abbrev pub IsFirstBad : List ℕ → ℕ → Type 0
 IsFirstBad text number =
     ((number ≡ 1) × BeginsBadly text)
-    ⊎ ((events : List (Event ℕ ℕ)) × GoesBad text events × (number ≡ length events + 2))
+    ⊎ ((events : List (Event ℕ ℕ ℕ)) × GoesBad text events × (number ≡ length events + 2))

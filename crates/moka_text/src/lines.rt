@@ -6,8 +6,11 @@ ghost use Rattle.moka_text.specs.ScheduleReading.{
   cause_of,
   chosen_of,
   evict_of,
+  replace_of,
+  load_of,
   start_by,
   start_of,
+  told_alone,
   told_of,
   tell_of,
   event_by,
@@ -64,6 +67,30 @@ fn evict_of(bytes: &[u8]) -> Option<(u32, (u64, Cause))>
     Some((key, chosen))
 }
 
+/// The replace test of a load: none where no bytes are left.
+#[tactic(auto, unfolding(crate::specs::ScheduleReading::replace_of))]
+fn replace_of(bytes: &[u8]) -> Option<Option<u64>>
+    ensures { result ≡ replace_of bytes.now }
+{
+    if bytes.is_empty() {
+        return Some(None);
+    }
+    let test = call_in(after(bytes, b" if ")?)?;
+    Some(Some(test))
+}
+
+/// A key, and after it the replace test, where there is one.
+#[tactic(auto, unfolding(crate::specs::ScheduleReading::load_of))]
+fn load_of(bytes: &[u8]) -> Option<(u32, Option<u64>)>
+    ensures { result ≡ load_of bytes.now }
+{
+    let (key, _) = cut(bytes, b' ');
+    let replace = &bytes[key.len()..];
+    let key = key_in(key)?;
+    let replace = replace_of(replace)?;
+    Some((key, replace))
+}
+
 /// What a call is started for, by a word and what stands after its space.
 #[tactic(auto, unfolding(crate::specs::ScheduleReading::start_by))]
 fn start_by(word: &[u8], rest: &[u8]) -> Option<Start<u32, u32>>
@@ -72,7 +99,10 @@ fn start_by(word: &[u8], rest: &[u8]) -> Option<Start<u32, u32>>
     match word {
         b"get" => key_in(rest).map(|key| Start::Get { key }),
         b"insert" => pair_of(rest).map(|(key, value)| Start::Insert { key, value }),
-        b"get_with" => key_in(rest).map(|key| Start::GetWith { key }),
+        b"get_with" => load_of(rest).map(|(key, replace)| Start::GetWith { key, replace }),
+        b"optional" => key_in(rest).map(|key| Start::Optional { key }),
+        b"try" => key_in(rest).map(|key| Start::Try { key }),
+        b"or_insert" => pair_of(rest).map(|(key, value)| Start::OrInsert { key, value }),
         b"invalidate" => key_in(rest).map(|key| Start::Invalidate { key }),
         b"remove" => key_in(rest).map(|key| Start::Remove { key }),
         b"evict" => evict_of(rest).map(|(key, (stamp, cause))| Start::Evict { key, stamp, cause }),
@@ -88,24 +118,35 @@ fn start_of(bytes: &[u8]) -> Option<Start<u32, u32>>
     start_by(word, rest)
 }
 
+/// What an ask is told by a word alone.
+#[tactic(auto, unfolding(crate::specs::ScheduleReading::told_alone))]
+fn told_alone(bytes: &[u8]) -> Option<Told<u32, u32>>
+    ensures { result ≡ told_alone bytes.now }
+{
+    match bytes {
+        b"nothing" => Some(Told::Nothing),
+        b"done" => Some(Told::Done),
+        b"off" => Some(Told::Off),
+        _ => None,
+    }
+}
+
 /// What an ask is told.
 #[tactic(auto, unfolding(crate::specs::ScheduleReading::told_of))]
-fn told_of(bytes: &[u8]) -> Option<Told<u32>>
+fn told_of(bytes: &[u8]) -> Option<Told<u32, u32>>
     ensures { result ≡ told_of bytes.now }
 {
-    if bytes == b"done".as_slice() {
-        return Some(Told::Done);
+    let (word, rest) = cut(bytes, b' ');
+    match word {
+        b"value" => key_in(rest).map(Told::Value),
+        b"error" => key_in(rest).map(Told::Err),
+        _ => told_alone(bytes),
     }
-    if bytes == b"off".as_slice() {
-        return Some(Told::Off);
-    }
-    let value = key_in(after(bytes, b"value ")?)?;
-    Some(Told::Value(value))
 }
 
 /// A call, and after a space what it is told.
 #[tactic(auto, unfolding(crate::specs::ScheduleReading::tell_of))]
-fn tell_of(bytes: &[u8]) -> Option<(u64, Told<u32>)>
+fn tell_of(bytes: &[u8]) -> Option<(u64, Told<u32, u32>)>
     ensures { result ≡ tell_of bytes.now }
 {
     let (call, answer) = cut(bytes, b' ');
@@ -116,7 +157,7 @@ fn tell_of(bytes: &[u8]) -> Option<(u64, Told<u32>)>
 
 /// The event of a line, by its first word and what stands after its space.
 #[tactic(auto, unfolding(crate::specs::ScheduleReading::event_by))]
-fn event_by(word: &[u8], rest: &[u8]) -> Option<Event<u32, u32>>
+fn event_by(word: &[u8], rest: &[u8]) -> Option<Event<u32, u32, u32>>
     ensures { result ≡ event_by word.now rest.now }
 {
     match word {
@@ -131,7 +172,7 @@ fn event_by(word: &[u8], rest: &[u8]) -> Option<Event<u32, u32>>
 }
 
 /// The event that a line spells, if it spells one.
-pub(crate) fn event_of(line: &[u8]) -> Option<Event<u32, u32>>
+pub(crate) fn event_of(line: &[u8]) -> Option<Event<u32, u32, u32>>
     ensures { result ≡ event_of line.now }
 {
     let (word, rest) = cut(line, b' ');

@@ -1,9 +1,11 @@
 //! Writing the text of a report.
 
-ghost use Rattle.std.specs.Prelude.{◌≡◌, ◌++◌, flat_map, IfOk, OnOk};
+ghost use Rattle.std.specs.Prelude.{◌≡◌, ◌∷◌, ◌++◌, decimal, flat_map, IfOk, OnOk};
 ghost use Rattle.std.specs.String.{string_bytes};
 ghost use Rattle.moka_text.specs.Words.{cause_word};
 ghost use Rattle.moka_text.specs.ReportText.{
+  ended,
+  left_words,
   reply_line,
   entry_line,
   write_line,
@@ -12,9 +14,27 @@ ghost use Rattle.moka_text.specs.ReportText.{
   report_text,
 };
 
+use itoa::Buffer;
 use moka_hist::{Answer, Ask, Cause, Notice, NoticeState, Place, Refusal, Reply, Stored};
 use std::alloc::{AllocError, Global};
-use std::fmt::Write;
+
+/// Appends a number in decimal. It takes fewer instructions than `write!`.
+fn push_number(text: &mut String, number: u64) -> Result<(), AllocError>
+    ensures { OnOk result (string_bytes text.new ≡ string_bytes text.old ++ decimal number) }
+{
+    let mut buffer = Buffer::new();
+    text.push_str(buffer.format(number))
+}
+
+/// Appends a line of these words and a number.
+fn push_line(text: &mut String, words: &str, number: u64) -> Result<(), AllocError>
+    ensures { OnOk result (string_bytes text.new
+        ≡ string_bytes text.old ++ ended (words.now ++ decimal number)) }
+{
+    text.push_str(words)?;
+    push_number(text, number)?;
+    text.push_str("\n")
+}
 
 /// Appends the line of a found value, or of none.
 fn push_found(text: &mut String, found: &Option<u32>) -> Result<(), AllocError>
@@ -22,7 +42,7 @@ fn push_found(text: &mut String, found: &Option<u32>) -> Result<(), AllocError>
         ≡ string_bytes text.old ++ reply_line (Reply.Answer (Answer.Found found.now))) }
 {
     match found {
-        Some(value) => write!(text, "answer some {value}\n"),
+        Some(value) => push_line(text, "answer some ", u64::from(*value)),
         None => text.push_str("answer none\n"),
     }
 }
@@ -33,14 +53,16 @@ fn push_loaded(text: &mut String, value: u32, fresh: bool) -> Result<(), AllocEr
         ≡ string_bytes text.old ++ reply_line (Reply.Answer (Answer.Loaded value fresh))) }
 {
     if fresh {
-        write!(text, "answer value {value} fresh\n")
+        text.push_str("answer value ")?;
+        push_number(text, u64::from(value))?;
+        text.push_str(" fresh\n")
     } else {
-        write!(text, "answer value {value}\n")
+        push_line(text, "answer value ", u64::from(value))
     }
 }
 
 /// Appends the line of an answer.
-fn push_answer(text: &mut String, answer: &Answer<u32>) -> Result<(), AllocError>
+fn push_answer(text: &mut String, answer: &Answer<u32, u32>) -> Result<(), AllocError>
     ensures { OnOk result (string_bytes text.new
         ≡ string_bytes text.old ++ reply_line (Reply.Answer answer.now)) }
 {
@@ -48,6 +70,8 @@ fn push_answer(text: &mut String, answer: &Answer<u32>) -> Result<(), AllocError
         Answer::Done => text.push_str("answer done\n"),
         Answer::Found(found) => push_found(text, found),
         Answer::Loaded { value, fresh } => push_loaded(text, *value, *fresh),
+        Answer::Nothing => text.push_str("answer nothing\n"),
+        Answer::InitErr(error) => push_line(text, "answer error ", u64::from(*error)),
         Answer::RetriesExhausted => text.push_str("answer exhausted\n"),
         Answer::Evicted => text.push_str("answer evicted\n"),
         Answer::Kept => text.push_str("answer kept\n"),
@@ -80,6 +104,26 @@ fn cause_word(cause: Cause) -> &'static str
     }
 }
 
+/// Appends a key and its value.
+fn push_pair(text: &mut String, key: u32, value: u32) -> Result<(), AllocError>
+    ensures { OnOk result (string_bytes text.new
+        ≡ string_bytes text.old ++ (decimal key ++ 32 ∷ decimal value)) }
+{
+    push_number(text, u64::from(key))?;
+    text.push_str(" ")?;
+    push_number(text, u64::from(value))
+}
+
+/// Appends a key, the value that stood under it, and why it left.
+fn push_left(text: &mut String, key: u32, value: u32, cause: Cause) -> Result<(), AllocError>
+    ensures { OnOk result (string_bytes text.new
+        ≡ string_bytes text.old ++ left_words key value cause) }
+{
+    push_pair(text, key, value)?;
+    text.push_str(" ")?;
+    text.push_str(cause_word(cause))
+}
+
 /// The word of how far a notice is.
 fn state_word(state: NoticeState) -> &'static str
     ensures { result.now ≡ state_word state }
@@ -100,19 +144,21 @@ fn push_ask(text: &mut String, ask: &Ask<u32, u32>) -> Result<(), AllocError>
     match ask {
         Ask::Init => text.push_str("ask init\n"),
         Ask::Listener { key, value, cause } => {
-            write!(text, "ask listener {key} {value} {}\n", cause_word(*cause))
+            text.push_str("ask listener ")?;
+            push_left(text, *key, *value, *cause)?;
+            text.push_str("\n")
         }
     }
 }
 
 /// Appends the line of a reply.
-fn push_reply(text: &mut String, reply: &Reply<u32, u32>) -> Result<(), AllocError>
+fn push_reply(text: &mut String, reply: &Reply<u32, u32, u32>) -> Result<(), AllocError>
     ensures { OnOk result (string_bytes text.new
         ≡ string_bytes text.old ++ reply_line reply.now) }
 {
     match reply {
         Reply::At => text.push_str("at\n"),
-        Reply::Call(number) => write!(text, "call {number}\n"),
+        Reply::Call(number) => push_line(text, "call ", *number),
         Reply::Going => text.push_str("going\n"),
         Reply::Wait => text.push_str("wait\n"),
         Reply::Ask(ask) => push_ask(text, ask),
@@ -128,11 +174,11 @@ fn push_entry(text: &mut String, entry: &(u32, Stored<u32>)) -> Result<(), Alloc
     ensures { OnOk result (string_bytes text.new
         ≡ string_bytes text.old ++ entry_line entry.now) }
 {
-    let key = entry.0;
-    let value = entry.1.value;
-    let stamp = entry.1.stamp;
-    let modified = entry.1.modified;
-    write!(text, "entry {key} {value} stamp {stamp} at {modified}\n")
+    text.push_str("entry ")?;
+    push_pair(text, entry.0, entry.1.value)?;
+    text.push_str(" stamp ")?;
+    push_number(text, entry.1.stamp)?;
+    push_line(text, " at ", entry.1.modified)
 }
 
 /// Appends the line of a committed write.
@@ -140,16 +186,18 @@ fn push_write(text: &mut String, number: u64, place: Place) -> Result<(), AllocE
     ensures { OnOk result (string_bytes text.new
         ≡ string_bytes text.old ++ write_line (number, place)) }
 {
+    text.push_str("write ")?;
+    push_number(text, number)?;
     match place {
-        Place::Held => write!(text, "write {number} held\n"),
-        Place::Owed => write!(text, "write {number} owed\n"),
-        Place::Logged => write!(text, "write {number} logged\n"),
-        Place::Applied => write!(text, "write {number} applied\n"),
+        Place::Held => text.push_str(" held\n"),
+        Place::Owed => text.push_str(" owed\n"),
+        Place::Logged => text.push_str(" logged\n"),
+        Place::Applied => text.push_str(" applied\n"),
     }
 }
 
 /// Appends the lines of the replies.
-fn push_replies(text: &mut String, replies: &[Reply<u32, u32>]) -> Result<(), AllocError>
+fn push_replies(text: &mut String, replies: &[Reply<u32, u32, u32>]) -> Result<(), AllocError>
     ensures { OnOk result (string_bytes text.new
         ≡ string_bytes text.old ++ flat_map reply_line replies.now) }
 {
@@ -186,16 +234,13 @@ fn push_notice(text: &mut String, notice: &Notice<u32, u32>) -> Result<(), Alloc
     ensures { OnOk result (string_bytes text.new
         ≡ string_bytes text.old ++ notice_line notice.now) }
 {
-    let Notice {
-        number,
-        key,
-        value,
-        cause,
-        state,
-    } = notice;
-    let cause = cause_word(*cause);
-    let state = state_word(*state);
-    write!(text, "notice {number} {key} {value} {cause} {state}\n")
+    text.push_str("notice ")?;
+    push_number(text, notice.number)?;
+    text.push_str(" ")?;
+    push_left(text, notice.key, notice.value, notice.cause)?;
+    text.push_str(" ")?;
+    text.push_str(state_word(notice.state))?;
+    text.push_str("\n")
 }
 
 /// Appends the lines of the notices.
@@ -214,7 +259,7 @@ fn push_notices(text: &mut String, notices: &[Notice<u32, u32>]) -> Result<(), A
 /// order.
 pub fn write_report(
     alloc: Global,
-    replies: &[Reply<u32, u32>],
+    replies: &[Reply<u32, u32, u32>],
     entries: &[(u32, Stored<u32>)],
     places: &[(u64, Place)],
     notices: &[Notice<u32, u32>],

@@ -27,7 +27,7 @@ use std::fmt;
 pub struct Schedule {
     pub log: usize,
     pub rules: Rules,
-    pub events: Vec<Event<u32, u32>>,
+    pub events: Vec<Event<u32, u32, u32>>,
 }
 
 /// Why a schedule could not be read.
@@ -69,7 +69,7 @@ impl<T: Drop> From<AllocFailed<T>> for ScheduleError {
 }
 
 /// Reads the lines after the first.
-fn read_events(alloc: Global, text: &[u8]) -> Result<Vec<Event<u32, u32>>, ScheduleError>
+fn read_events(alloc: Global, text: &[u8]) -> Result<Vec<Event<u32, u32, u32>>, ScheduleError>
     ensures exact { Gives (λ events. events.items) result (events_from 2 (lines text.now)) }
     ensures memory { IsErrOf result ScheduleError.Memory
         → EventsMayWantMemory (events_from 2 (lines text.now)) }

@@ -1,9 +1,30 @@
 //! The parts of a line: numbers, and the two sides of a mark.
 
-ghost use Rattle.std.specs.Prelude.{◌≡◌, ◌<◌, ◌≤◌, ◌^◌, length, IsSome, IfSome, IfNone};
+ghost use Rattle.std.specs.Prelude.{◌≡◌, ◌==◌, ◌<◌, ◌≤◌, ◌^◌, length, IsSome, IfSome, IfNone};
+ghost use Rattle.std.specs.List.{position_or_len};
 ghost use Rattle.std.specs.Str.Parse.{AllDigits, digits_value};
 ghost use Rattle.std.specs.Option.{option_copied};
 ghost use Rattle.moka_text.specs.Words.{call_in, key_in, after, before_byte, after_byte};
+
+/// How many digits a number of 64 bits has room for, whichever they are.
+const SHORT: usize = 19;
+
+/// The value of so few decimal digits: none where a byte is no digit.
+fn short_value(digits: &[u8]) -> Option<u64>
+    requires { length digits.now ≤ SHORT }
+    ensures digits { IsSome result → AllDigits 10 digits.now }
+    ensures value { IfSome result (λ n. n ≡ digits_value 10 digits.now) }
+    ensures none { IfNone result (¬ AllDigits 10 digits.now) }
+{
+    let mut number: u64 = 0;
+    for digit in digits {
+        if !digit.is_ascii_digit() {
+            return None;
+        }
+        number = number * 10 + u64::from(*digit - b'0');
+    }
+    Some(number)
+}
 
 /// The value of decimal digits: none where a byte is no digit, or where it needs more than 64 bits.
 fn value_of(digits: &[u8]) -> Option<u64>
@@ -11,6 +32,9 @@ fn value_of(digits: &[u8]) -> Option<u64>
     ensures value { IfSome result (λ n. n ≡ digits_value 10 digits.now) }
     ensures none { IfNone result (AllDigits 10 digits.now → 2 ^ 64 ≤ digits_value 10 digits.now) }
 {
+    if digits.len() <= SHORT {
+        return short_value(digits);
+    }
     let mut number: u64 = 0;
     for digit in digits {
         if !digit.is_ascii_digit() {
@@ -50,6 +74,36 @@ pub(crate) fn after<'a>(line: &'a [u8], front: &[u8]) -> Option<&'a [u8]>
     line.strip_prefix(front)
 }
 
+/// How many bytes stand before the first such byte: all where there is none.
+fn place_of(bytes: &[u8], mark: u8) -> usize
+    ensures { result ≡ position_or_len (λ b. b == mark) bytes.now }
+{
+    let mut first = 0;
+    // Four at a turn take about half the instructions that they take one by one.
+    while bytes.len() - first >= 4 {
+        if bytes[first] == mark {
+            return first;
+        }
+        let second = first + 1;
+        if bytes[second] == mark {
+            return second;
+        }
+        let third = second + 1;
+        if bytes[third] == mark {
+            return third;
+        }
+        let fourth = third + 1;
+        if bytes[fourth] == mark {
+            return fourth;
+        }
+        first = fourth + 1;
+    }
+    while first < bytes.len() && bytes[first] != mark {
+        first += 1;
+    }
+    first
+}
+
 /// What stands before the first such byte, and what stands after it. Where there is none, all
 /// stands before it.
 pub(crate) fn cut(bytes: &[u8], mark: u8) -> (&[u8], &[u8])
@@ -57,10 +111,10 @@ pub(crate) fn cut(bytes: &[u8], mark: u8) -> (&[u8], &[u8])
     ensures rest { result.1.now ≡ after_byte mark bytes.now }
     ensures shorter { 0 < length bytes.now → length result.1.now < length bytes.now }
 {
-    for (i, byte) in bytes.iter().enumerate() {
-        if *byte == mark {
-            return (&bytes[..i], &bytes[i + 1..]);
-        }
+    let place = place_of(bytes, mark);
+    if place < bytes.len() {
+        (&bytes[..place], &bytes[place + 1..])
+    } else {
+        (bytes, &[])
     }
-    (bytes, &[])
 }

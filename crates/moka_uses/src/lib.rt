@@ -10,6 +10,6 @@ mod tests;
 mod types;
 
 pub use callers::{read_back_shared, read_back_text};
-pub use reading::read_back;
+pub use reading::{NoTests, read_back};
 pub use shared::Shared;
 pub use types::{Page, Request, is_taken, taken_types};

@@ -6,9 +6,9 @@ ghost use Rattle.moka_hist.specs.Run.{IsReached};
 ghost use Rattle.moka_hist.specs.declared.replies.Reply.{Reply};
 ghost use Rattle.moka_run.specs.Machine.{MachineIs, IsValid};
 ghost use Rattle.moka_run.specs.Running.{Answers};
-ghost use Rattle.moka_uses.specs.ReadBack.{IsReadBack, found_in, looking, storing};
+ghost use Rattle.moka_uses.specs.ReadBack.{IsReadBack, found_in, looking, no_tests, storing};
 
-use moka_hist::{Answer, Event, Reply, Rules, Start};
+use moka_hist::{Answer, Event, Reply, Rules, Start, Tests};
 use moka_run::{Machine, Report, run};
 use std::alloc::{AllocError, Global};
 use std::hash::Hash;
@@ -25,19 +25,33 @@ const RULES: Rules = Rules {
 /// How many writes the cache's log has room for.
 const LOG: usize = 8;
 
+/// Tests of records, of which none holds.
+#[derive(Clone, Copy, PartialEq, Eq, Debug)]
+pub struct NoTests;
+
+impl<K, V> Tests<K, V> for NoTests {
+    ghost use Rattle.moka_uses.specs.ReadBack.{no_test};
+
+    ghost answers = { λ it. no_test };
+
+    fn holds(&self, _test: u64, _key: &K, _value: &V) -> bool {
+        false
+    }
+}
+
 /// Runs the events, and tells want of memory alone.
 fn run_all<K: Eq + Hash + Clone + Drop, V: Clone + Drop>(
     alloc: Global,
-    cache: &mut Machine<K, V>,
-    events: &[Event<K, V>],
-) -> Result<Report<K, V>, AllocError>
+    cache: &mut Machine<K, V, u16, NoTests>,
+    events: &[Event<K, V, u16>],
+) -> Result<Report<K, V, u16>, AllocError>
     requires keys { IsExact K.is_clone }
     requires values { IsExact V.is_clone }
-    requires valid { IsValid K.eq cache.old }
-    ensures run { IfOk result (λ report. (s : State K V) → MachineIs K.eq cache.old s
-        → IsReached K.eq s → Answers K.eq events.now report.replies cache.new s) }
+    requires valid { IsValid K.eq no_tests cache.old }
+    ensures run { IfOk result (λ report. (s : State K V ℕ) → MachineIs K.eq no_tests cache.old s
+        → IsReached K.eq s → Answers K.eq no_tests events.now report.replies cache.new s) }
     ensures answered { IfOk result (λ report. length report.replies ≡ length events.now) }
-    ensures valid { IsValid K.eq cache.new }
+    ensures valid { IsValid K.eq no_tests cache.new }
 {
     match run(alloc, cache, events) {
         Ok(report) => Ok(report),
@@ -46,10 +60,10 @@ fn run_all<K: Eq + Hash + Clone + Drop, V: Clone + Drop>(
 }
 
 /// A copy of the value that the last of two replies found.
-fn found<K, V: Clone>(replies: &[Reply<K, V>]) -> Result<Option<V>, AllocError>
+fn found<K, V: Clone>(replies: &[Reply<K, V, u16>]) -> Result<Option<V>, AllocError>
     requires exact { IsExact V.is_clone }
     requires two { length replies.now ≡ 2 }
-    ensures { IfOk result (λ found. (call : Reply K V) × (last : Reply K V)
+    ensures { IfOk result (λ found. (call : Reply K V ℕ) × (last : Reply K V ℕ)
         × (replies.now ≡ call ∷ last ∷ []) × (found ≡ found_in last)) }
 {
     match replies {
@@ -63,7 +77,7 @@ fn storing<K: Drop, V: Drop>(
     alloc: Global,
     key: K,
     value: V,
-) -> Result<Vec<Event<K, V>>, AllocError>
+) -> Result<Vec<Event<K, V, u16>>, AllocError>
     ensures { IfOk result (λ events. events.items ≡ storing key value) }
 {
     let start = Start::Insert { key, value };
@@ -74,7 +88,7 @@ fn storing<K: Drop, V: Drop>(
 }
 
 /// The events that look the key up, by call 2.
-fn looking<K: Drop, V: Drop>(alloc: Global, key: K) -> Result<Vec<Event<K, V>>, AllocError>
+fn looking<K: Drop, V: Drop>(alloc: Global, key: K) -> Result<Vec<Event<K, V, u16>>, AllocError>
     ensures { IfOk result (λ events. events.items ≡ looking key) }
 {
     let start = Start::Get { key };
@@ -84,8 +98,8 @@ fn looking<K: Drop, V: Drop>(alloc: Global, key: K) -> Result<Vec<Event<K, V>>, 
     Ok(events)
 }
 
-/// Builds a cache, stores the value under the key in one run, and in a second looks the key up.
-/// Answers what that found.
+/// Builds a cache that tests no record, and whose loads may fail with a status. Stores the value
+/// under the key in one run, and in a second looks the key up. Answers what that found.
 pub fn read_back<K: Eq + Hash + Clone + Drop, V: Clone + Drop>(
     alloc: Global,
     key: K,
@@ -95,10 +109,10 @@ pub fn read_back<K: Eq + Hash + Clone + Drop, V: Clone + Drop>(
     requires values { IsExact V.is_clone }
     ensures { IfOk result (λ found. IsReadBack K.eq key value found) }
 {
-    moka_laws::reached_by_lawful_run::<K, V>();
+    moka_laws::reached_by_lawful_run::<K, V, u16>();
     let looks = looking(alloc, key.clone()?)?;
     let stores = storing(alloc, key, value)?;
-    let mut cache = Machine::build(alloc, RULES, LOG)?;
+    let mut cache = Machine::build(alloc, RULES, LOG, NoTests)?;
     run_all(alloc, &mut cache, &stores)?;
     let report = run_all(alloc, &mut cache, &looks)?;
     found(report.replies.as_slice())

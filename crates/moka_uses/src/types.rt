@@ -19,18 +19,20 @@ pub enum Page {
     Gone,
 }
 
-/// What `run` asks of keys and of values: a clone equals its original, as contracts see the two.
+/// What `run` asks of keys, of values and of errors: a clone equals its original, as contracts see
+/// the two.
 pub fn is_taken<T: Clone>()
     requires { IsExact T.is_clone }
 {}
 
-/// Each of these can be a value, and each but the shared ones and `Page` a key, since they have
-/// equality and hash.
+/// Each of these can be a value or an error, and each but the shared ones and `Page` a key, since
+/// they have equality and hash.
 ///
 /// `String`, `Vec<u8>`, `Box<T>` and `Arc<T>` can't: a contract sees more of them than what they
 /// hold, as the room of a `String`, and a clone needn't have the same. `ByteStr`, `Bytes` and
 /// `Shared<T>` stand for them.
 pub fn taken_types() {
+    is_taken::<u16>();
     is_taken::<u32>();
     is_taken::<i64>();
     is_taken::<bool>();

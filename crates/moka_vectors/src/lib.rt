@@ -6,6 +6,8 @@ mod in_memory;
 #[cfg(test)]
 mod listener;
 #[cfg(test)]
+mod loads;
+#[cfg(test)]
 mod removals;
 #[cfg(test)]
 mod rows;

@@ -84,7 +84,7 @@ returns-in-Err-clause-live g c =
 
 pub returns-in-Err-clause-on : goal.returns-in-Err-clause-on
 returns-in-Err-clause-on g c =
-    subst (λ (a : Account g.row.K.Denot g.row.V.Denot). IsOn a c.step.new.flow)
+    subst (λ (a : Account g.row.K.Denot g.row.V.Denot g.row.E.Denot). IsOn a c.step.new.flow)
     (sym c.in-Err.ensures.err_account)
     (on_still (g.G.Ground.account c.loop-turn.ground) c.loop-turn.flow c.step.new.flow
     c.in-Err.ensures.err c.loop-turn.invariant.1.on)
@@ -103,7 +103,7 @@ returns-in-Err-clause-unfinished g c =
             m.0,
             rw still.call m.1,
             c.in-Err.ensures.err_stands m.0 m.2,
-            subst (λ (a : Access g.row.K.Denot g.row.V.Denot).
+            subst (λ (a : Access g.row.K.Denot g.row.V.Denot g.row.E.Denot).
                 TakesCopies a ⊎ g.G.Ground.needs m.0 a) (sym here)
                 (c.in-Err.ensures.err_needs m.0 m.2 may),
           )),

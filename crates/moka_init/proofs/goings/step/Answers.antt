@@ -1,7 +1,6 @@
 -- A step makes the flow's access, and goes on with what it gave.
 use Rattle.std.proofs.Common.{◌≡◌, Some, sym, subst, ◌∙◌}
-use Rattle.moka_hist.specs.Step.{Access, next_of}
-use Rattle.moka_init.specs.FlowPlan.{call_of, next_in}
+use Rattle.moka_hist.specs.Step.{Access}
 use Rattle.moka_init.specs.Forms.{HasForm}
 use Rattle.moka_init.specs.Grounds.{wanted, access_at}
 use Rattle.moka_init.proofs.Begun.{still_on}
@@ -20,7 +19,7 @@ pub take-requires-clause-form : goal.take-requires-clause-form
 take-requires-clause-form g c =
     let told = c.in_ok-given.ensures.tells (access_at c.args.flow.now)
     (rw c.in_ok-want.ensures.want c.requires.on.begun) in
-    subst (λ (a : Access g.row.K.Denot g.row.V.Denot). HasForm a c.in_ok-given.given)
+    subst (λ (a : Access g.row.K.Denot g.row.V.Denot g.row.E.Denot). HasForm a c.in_ok-given.given)
     (sym (access_still c.args.flow.now c.want.new.self c.in_ok-want.ensures.still)) told.form
 
 pub returns-clause-moves : goal.returns-clause-moves

@@ -31,7 +31,7 @@ returns-in-Ok g c =
     record {
       state = after;
       stands = c.after_step.ensures.stands s.calls m.0
-          (still_without eq c.args.machine c.step-stepped.new.ground.machine n c.args.flow c.step-stepped.new.flow s.calls s.world m.0 c.requires.out.on c.in-Ok.ensures.on c.in-Ok.ensures.number c.in-Ok.ensures.keeps m.2 h)
+          (still_without eq g.T.Tests c.args.machine c.step-stepped.new.ground.machine n c.args.flow c.step-stepped.new.flow s.calls s.world m.0 c.requires.out.on c.in-Ok.ensures.on c.in-Ok.ensures.number c.in-Ok.ensures.keeps m.2 h)
           c.in-Ok.ensures.on c.in-Ok.ensures.leaves;
       reached = c.reached_by_step.ensures.reached s after n c.in-Ok.turn k.2 (c.move_is_step.ensures.step s n (call_of c.args.flow) next m.0 k.1.live moved);
     }
@@ -45,14 +45,14 @@ returns-in-Err g c =
     let n = c.args.call in
     let still = c.in-Err.ensures.err in
     let new = c.step-stepped.new.ground.machine in
-    let out = still_out eq c.args.machine new c.args.flow c.step-stepped.new.flow still c.in-Err.ensures.err_account c.requires.out in
-    let back : MachineIs eq c.put_in.new.self (record { world = s.world; calls = put_at s.calls n (Some (call_of c.args.flow)) }) =
-    subst (λ (d : Call g.row.K.Denot g.row.V.Denot). MachineIs eq c.put_in.new.self (record { world = s.world; calls = put_at s.calls n (Some d) })) still.call
+    let out = still_out eq g.T.Tests c.args.machine new c.args.flow c.step-stepped.new.flow still c.in-Err.ensures.err_account c.requires.out in
+    let back : MachineIs eq g.T.Tests c.put_in.new.self (record { world = s.world; calls = put_at s.calls n (Some (call_of c.args.flow)) }) =
+    subst (λ (d : Call g.row.K.Denot g.row.V.Denot g.row.E.Denot). MachineIs eq g.T.Tests c.put_in.new.self (record { world = s.world; calls = put_at s.calls n (Some d) })) still.call
     (c.put_in.ensures s.calls s.world
-    (still_without eq c.args.machine new n c.args.flow c.step-stepped.new.flow s.calls s.world s.world c.requires.out.on out.on still.number c.in-Err.ensures.keeps (c.in-Err.ensures.err_stands s.world h.reaches) h) out) in
+    (still_without eq g.T.Tests c.args.machine new n c.args.flow c.step-stepped.new.flow s.calls s.world s.world c.requires.out.on out.on still.number c.in-Err.ensures.keeps (c.in-Err.ensures.err_stands s.world h.reaches) h) out) in
     record {
       state = s;
-      stands = subst (λ (u : State g.row.K.Denot g.row.V.Denot). MachineIs eq c.put_in.new.self u)
+      stands = subst (λ (u : State g.row.K.Denot g.row.V.Denot g.row.E.Denot). MachineIs eq g.T.Tests c.put_in.new.self u)
           (ap (λ f. record s { calls = f }) (put_same s.calls n (Some (call_of c.args.flow)) k.1.live)) back;
       reached = k.2;
     }

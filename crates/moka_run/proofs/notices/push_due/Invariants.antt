@@ -9,7 +9,7 @@ use Rattle.moka_run.proofs.notices.push_due.Given as goal
 
 abbrev pub invariant-loop-visit : goal.invariant-loop-visit
 invariant-loop-visit g l =
-    ((w : DeskPart g.row.K.Denot g.row.V.Denot) → desk.StandsFor g.K.PartialEq.eq l.desk w
+    ((w : DeskPart g.row.K.Denot g.row.V.Denot g.row.E.Denot) → desk.StandsFor g.K.PartialEq.eq l.desk w
     → l.notices.items ++ filter_map (waiting w) (into_iter_items l.visit-iterator)
     ≡ l.initial.notices.items ++ filter_map (waiting w) (into_iter_items l.initial.visit-iterator))
     × (into_iter_len l.visit-iterator ≡ length (into_iter_items l.visit-iterator))

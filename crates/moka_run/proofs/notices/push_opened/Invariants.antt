@@ -7,5 +7,5 @@ use Rattle.moka_run.proofs.notices.push_opened.Given as goal
 
 abbrev pub invariant-loop-number : goal.invariant-loop-number
 invariant-loop-number g l =
-    (w : DeskPart g.row.K.Denot g.row.V.Denot) → desk.StandsFor g.K.PartialEq.eq l.desk w
+    (w : DeskPart g.row.K.Denot g.row.V.Denot g.row.E.Denot) → desk.StandsFor g.K.PartialEq.eq l.desk w
     → l.notices.items ++ filter_map w.notices (drop l.number-index l.numbers) ≡ l.initial.notices.items ++ filter_map w.notices l.numbers

@@ -17,7 +17,7 @@ returns-in-Ok-clause-run g c = λ s h reached.
     let same : c.in_ok-replies.replies.items ≡ c.from_vec-replies.result = sym c.from_vec-replies.ensures in (
       record {
         final = a.final;
-        run = subst (λ (rs : List (Reply g.row.K.Denot g.row.V.Denot)). Run g.K.PartialEq.eq (IsLawful g.K.PartialEq.eq) s c.args.events.now rs a.final) same a.run;
+        run = subst (λ (rs : List (Reply g.row.K.Denot g.row.V.Denot g.row.E.Denot)). Run g.K.PartialEq.eq (IsLawful g.K.PartialEq.eq) s c.args.events.now rs a.final) same a.run;
         stands = a.stands;
       },
       c.in-Ok.ensures a.final a.stands,
@@ -28,9 +28,9 @@ returns-in-Err-clause-memory g c = λ s h reached.
     let a = c.in_ok-replies.ensures.run s h reached in
     let events = c.args.events.now in
     let same : c.in_ok-replies.replies.items ≡ c.from_vec-replies.result = sym c.from_vec-replies.ensures in
-    let stop : Memory g.row.K.Denot g.row.V.Denot = record { done = length events; steps = 0; replies = c.from_vec-replies.result } in
-    stops_between g.K.PartialEq.eq c.run_events.new.cache events stop (length events) c.from_vec-replies.result s a.final refl
-    (subst (λ (rs : List (Reply g.row.K.Denot g.row.V.Denot)). Run g.K.PartialEq.eq (IsLawful g.K.PartialEq.eq) s (take (length events) events) rs a.final) same
-    (subst (λ (es : List (Event g.row.K.Denot g.row.V.Denot)). Run g.K.PartialEq.eq (IsLawful g.K.PartialEq.eq) s es c.in_ok-replies.replies.items a.final) (sym (take-length events)) a.run))
+    let stop : Memory g.row.K.Denot g.row.V.Denot g.row.E.Denot = record { done = length events; steps = 0; replies = c.from_vec-replies.result } in
+    stops_between g.K.PartialEq.eq g.T.Tests c.run_events.new.cache events stop (length events) c.from_vec-replies.result s a.final refl
+    (subst (λ (rs : List (Reply g.row.K.Denot g.row.V.Denot g.row.E.Denot)). Run g.K.PartialEq.eq (IsLawful g.K.PartialEq.eq) s (take (length events) events) rs a.final) same
+    (subst (λ (es : List (Event g.row.K.Denot g.row.V.Denot g.row.E.Denot)). Run g.K.PartialEq.eq (IsLawful g.K.PartialEq.eq) s es c.in_ok-replies.replies.items a.final) (sym (take-length events)) a.run))
     a.stands
-    (inr (subst (λ (o : Option (Event g.row.K.Denot g.row.V.Denot)). IfSome o (MayStopIn a.final)) (sym (slice_get_past events (length events) (omega arith))) tt))
+    (inr (subst (λ (o : Option (Event g.row.K.Denot g.row.V.Denot g.row.E.Denot)). IfSome o (MayStopIn a.final)) (sym (slice_get_past events (length events) (omega arith))) tt))

@@ -13,9 +13,9 @@ use Rattle.moka_run.proofs.runs.run_events.Goals as goal
 
 pub returns-in-Err-clause-memory : goal.returns-in-Err-clause-memory
 returns-in-Err-clause-memory g c = λ s h reached.
-    let at_done : ℕ → Memory g.row.K.Denot g.row.V.Denot = λ n. record { done = n; steps = 0; replies = c.new.result.items } in
-    let with_replies : List (Reply g.row.K.Denot g.row.V.Denot) → Memory g.row.K.Denot g.row.V.Denot = λ rs. record { done = 0; steps = 0; replies = rs } in
-    stops_between g.K.PartialEq.eq c.args.cache.now c.args.events.now c.stopped.result 0 [] s s
+    let at_done : ℕ → Memory g.row.K.Denot g.row.V.Denot g.row.E.Denot = λ n. record { done = n; steps = 0; replies = c.new.result.items } in
+    let with_replies : List (Reply g.row.K.Denot g.row.V.Denot g.row.E.Denot) → Memory g.row.K.Denot g.row.V.Denot g.row.E.Denot = λ rs. record { done = 0; steps = 0; replies = rs } in
+    stops_between g.K.PartialEq.eq g.T.Tests c.args.cache.now c.args.events.now c.stopped.result 0 [] s s
     (c.stopped.ensures ∙ ap at_done c.new.ensures.len ∙ ap with_replies c.new.ensures.items) refl h (inl (refl, refl))
 
 pub loop-event-init : goal.loop-event-init
@@ -23,7 +23,7 @@ loop-event-init g c = record {
   told = c.in-Ok.ensures.len;
   room = omega (arith, c.in-Ok.ensures.capacity);
   valid = c.requires.valid;
-  ran = λ s h reached. (s, subst (λ (rs : List (Reply g.row.K.Denot g.row.V.Denot)). Run g.K.PartialEq.eq (IsLawful g.K.PartialEq.eq) s [] rs s) (sym c.in-Ok.ensures.items) refl, h, reached);
+  ran = λ s h reached. (s, subst (λ (rs : List (Reply g.row.K.Denot g.row.V.Denot g.row.E.Denot)). Run g.K.PartialEq.eq (IsLawful g.K.PartialEq.eq) s [] rs s) (sym c.in-Ok.ensures.items) refl, h, reached);
 }
 
 pub returns-in-Err-serve-clause-memory : goal.returns-in-Err-serve-clause-memory
@@ -31,10 +31,10 @@ returns-in-Err-serve-clause-memory g c = λ s h reached.
     let i = c.loop-event.event-index in
     let m = c.loop-event.invariant.ran s h reached in
     let k = c.in-Err-serve.ensures.stops m.0 m.2 m.3 in
-    let at_done : ℕ → Memory g.row.K.Denot g.row.V.Denot = λ n. record { done = n; steps = c.in-Err-serve.unfinished.steps; replies = c.loop-event.replies.items } in
+    let at_done : ℕ → Memory g.row.K.Denot g.row.V.Denot g.row.E.Denot = λ n. record { done = n; steps = c.in-Err-serve.unfinished.steps; replies = c.loop-event.replies.items } in
     let next : slice_get c.args.events.now i ≡ Some c.event-item.result =
     slice_get_read c.args.events.now (length c.args.events.now) i c.event-item.result refl c.loop-event-test.true c.event-item.is in
-    stops_in g.K.PartialEq.eq c.serve.new.self c.args.events.now c.stopped-in-Err-serve.result i c.in-Err-serve.unfinished.steps c.loop-event.replies.items s m.0 k.0 c.event-item.result
+    stops_in g.K.PartialEq.eq g.T.Tests c.serve.new.self c.args.events.now c.stopped-in-Err-serve.result i c.in-Err-serve.unfinished.steps c.loop-event.replies.items s m.0 k.0 c.event-item.result
     (c.stopped-in-Err-serve.ensures ∙ ap at_done c.loop-event.invariant.told) m.1 next (λ j n going. (c.steps_are_lawful.ensures.lawful j m.0 k.0 n m.3).0 going) k.1 k.2 (c.in-Err-serve.ensures.needs k.0 k.2)
 
 pub returns-in-Err-serve-clause-valid : goal.returns-in-Err-serve-clause-valid
@@ -68,8 +68,8 @@ loop-event-preserved g c =
           let events : take (i + 1) c.args.events.now ≡ take i c.args.events.now ++ e ∷ [] =
           take_more c.args.events.now i e c.loop-event-test.true ∙ ap (λ x. take i c.args.events.now ++ x ∷ []) (sym c.event-item.is) in (
             k.0,
-            subst (λ (rs : List (Reply g.row.K.Denot g.row.V.Denot)). Run g.K.PartialEq.eq (IsLawful g.K.PartialEq.eq) s (take (i + 1) c.args.events.now) rs k.0) (sym c.push_reserved.ensures.items)
-                (subst (λ (es : List (Event g.row.K.Denot g.row.V.Denot)). Run g.K.PartialEq.eq (IsLawful g.K.PartialEq.eq) s es (c.loop-event.replies.items ++ r ∷ []) k.0) (sym events) more),
+            subst (λ (rs : List (Reply g.row.K.Denot g.row.V.Denot g.row.E.Denot)). Run g.K.PartialEq.eq (IsLawful g.K.PartialEq.eq) s (take (i + 1) c.args.events.now) rs k.0) (sym c.push_reserved.ensures.items)
+                (subst (λ (es : List (Event g.row.K.Denot g.row.V.Denot g.row.E.Denot)). Run g.K.PartialEq.eq (IsLawful g.K.PartialEq.eq) s es (c.loop-event.replies.items ++ r ∷ []) k.0) (sym events) more),
             k.2,
             there,
           );
@@ -80,6 +80,6 @@ returns-clause-run g c = λ s h reached.
     let m = c.loop-event.invariant.ran s h reached in
     record {
       final = m.0;
-      run = subst (λ (es : List (Event g.row.K.Denot g.row.V.Denot)). Run g.K.PartialEq.eq (IsLawful g.K.PartialEq.eq) s es c.loop-event.replies.items m.0) (take_all c.loop-event.event-index c.args.events.now c.loop-event-test.false) m.1;
+      run = subst (λ (es : List (Event g.row.K.Denot g.row.V.Denot g.row.E.Denot)). Run g.K.PartialEq.eq (IsLawful g.K.PartialEq.eq) s es c.loop-event.replies.items m.0) (take_all c.loop-event.event-index c.args.events.now c.loop-event-test.false) m.1;
       stands = m.2;
     }

@@ -12,8 +12,8 @@ invariant-loop-event g l =
     record {
       told : vec_len l.replies ≡ l.event-index;
       room : length l.events ≤ vec_capacity l.replies;
-      valid : IsValid g.K.PartialEq.eq l.cache;
-      ran : (s : State _ _) → MachineIs g.K.PartialEq.eq l.fn.cache s → IsReached g.K.PartialEq.eq s
-          → (m : State _ _) × Run g.K.PartialEq.eq (IsLawful g.K.PartialEq.eq) s (take l.event-index l.events) l.replies.items m
-          × MachineIs g.K.PartialEq.eq l.cache m × IsReached g.K.PartialEq.eq m;
+      valid : IsValid g.K.PartialEq.eq g.T.Tests l.cache;
+      ran : (s : State _ _ _) → MachineIs g.K.PartialEq.eq g.T.Tests l.fn.cache s → IsReached g.K.PartialEq.eq s
+          → (m : State _ _ _) × Run g.K.PartialEq.eq (IsLawful g.K.PartialEq.eq) s (take l.event-index l.events) l.replies.items m
+          × MachineIs g.K.PartialEq.eq g.T.Tests l.cache m × IsReached g.K.PartialEq.eq m;
     }

@@ -27,3 +27,15 @@ unfolding start_by
 returns-in-remove c =
     let word : c.args.word.now ≡ codes "remove" = text_from_reads _ (codes "remove") (omega arith) (omega arith, (omega arith, (omega arith, (omega arith, (omega arith, (omega arith, tt)))))) in
     rw word (search rules)
+
+pub returns-in-optional : goal.returns-in-optional
+unfolding start_by
+returns-in-optional c =
+    let word : c.args.word.now ≡ codes "optional" = text_from_reads _ (codes "optional") (omega arith) (omega arith, (omega arith, (omega arith, (omega arith, (omega arith, (omega arith, (omega arith, (omega arith, tt)))))))) in
+    rw word (search rules)
+
+pub returns-in-111 : goal.returns-in-111
+unfolding start_by
+returns-in-111 c =
+    let word : c.args.word.now ≡ codes "or_insert" = text_from_reads _ (codes "or_insert") (omega arith) (omega arith, (omega arith, (omega arith, (omega arith, (omega arith, (omega arith, (omega arith, (omega arith, (omega arith, tt))))))))) in
+    rw word (search rules)

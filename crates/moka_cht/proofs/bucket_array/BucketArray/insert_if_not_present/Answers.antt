@@ -2,7 +2,7 @@ use Rattle.std.proofs.Common.{◌≡◌, ◌<◌, length, Some, Ok, arith, ap, r
 use Rattle.std.proofs.lemmas.List.{get_or_read}
 use Rattle.moka_cht.specs.declared.node.Node.TheVariants.{Unused}
 use Rattle.moka_cht.specs.declared.insertion.Insertion.TheVariants.{NoFree}
-use Rattle.moka_cht.specs.Calls.{Keeps, NeverPresent}
+use Rattle.moka_cht.specs.Calls.{KeepsPresent, NeverPresent}
 use Rattle.moka_cht.specs.Nodes.{node_at, pair_in}
 use Rattle.moka_cht.proofs.Inserting.{absent_ok, dead_ok, full_ok, keeps_ok, passes_full, place_seen}
 use Rattle.moka_cht.proofs.Points.{stored_choice, vacant_choice}
@@ -63,7 +63,7 @@ returns-in-None-clause-tombstone g c =
     dead_ok eq c.args.hash c.args.key c.args.value (NeverPresent {K = g.row.K.Denot}) c.args.self.now c.args.self.now (Ok (NoFree c.args.value)) (full.0, full.1, refl, refl)
 
 pub returns-in-None-present-clause-ok : goal.returns-in-None-present-clause-ok
-returns-in-None-present-clause-ok g c = absent_ok g.K.PartialEq.eq c.args.hash c.args.key c.args.value (Keeps g.V.Clone.is_clone c.args.self.now) c.args.self.now c.put.new.self c.put.result c.put.ensures.ok
+returns-in-None-present-clause-ok g c = absent_ok g.K.PartialEq.eq c.args.hash c.args.key c.args.value (KeepsPresent g.V.Clone.is_clone c.args.self.now) c.args.self.now c.put.new.self c.put.result c.put.ensures.ok
 
 pub returns-in-None-present-clause-full : goal.returns-in-None-present-clause-full
 returns-in-None-present-clause-full g c = full_ok g.K.PartialEq.eq c.args.hash c.args.key c.args.value (NeverPresent {K = g.row.K.Denot}) c.args.self.now c.put.new.self c.put.result c.put.ensures.ok
@@ -88,8 +88,8 @@ returns-in-Some-present-clause-ok g c =
 
 pub returns-in-Some-present-clause-full : goal.returns-in-Some-present-clause-full
 returns-in-Some-present-clause-full g c =
-    full_ok g.K.PartialEq.eq c.args.hash c.args.key c.args.value (Keeps g.V.Clone.is_clone c.args.self.now) c.args.self.now c.args.self.now c.already.result (returns-in-Some-present-clause-ok g c)
+    full_ok g.K.PartialEq.eq c.args.hash c.args.key c.args.value (KeepsPresent g.V.Clone.is_clone c.args.self.now) c.args.self.now c.args.self.now c.already.result (returns-in-Some-present-clause-ok g c)
 
 pub returns-in-Some-present-clause-tombstone : goal.returns-in-Some-present-clause-tombstone
 returns-in-Some-present-clause-tombstone g c =
-    dead_ok g.K.PartialEq.eq c.args.hash c.args.key c.args.value (Keeps g.V.Clone.is_clone c.args.self.now) c.args.self.now c.args.self.now c.already.result (returns-in-Some-present-clause-ok g c)
+    dead_ok g.K.PartialEq.eq c.args.hash c.args.key c.args.value (KeepsPresent g.V.Clone.is_clone c.args.self.now) c.args.self.now c.args.self.now c.already.result (returns-in-Some-present-clause-ok g c)

@@ -4,7 +4,7 @@ use Rattle.moka_desk.proofs.Misses.{answers_miss, nobody_listed, nothing_asked}
 use Rattle.moka_desk.proofs.state.Desk.starting_after.Goals as goal
 
 pub returns-clause-stands : goal.returns-clause-stands
-returns-clause-stands g c = record {
+returns-clause-stands g c = λ tests. record {
   rules = refl;
   clock = refl;
   accessed = λ n. rw c.new.ensures.empty refl;

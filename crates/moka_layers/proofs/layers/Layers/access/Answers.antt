@@ -11,7 +11,7 @@ pub returns-in-Begin-clause-serves : goal.returns-in-Begin-clause-serves
 returns-in-Begin-clause-serves g c =
     let t = g.T.Table in
     IfOk-weaker c.begin.result _ _ (λ given serves access is.
-    subst (λ (a : Access g.row.K.Denot g.row.V.Denot). Serves g.K.PartialEq.eq t c.args.self.now a given c.begin.new.self)
+    subst (λ (a : Access g.row.K.Denot g.row.V.Denot g.row.E.Denot). Serves g.K.PartialEq.eq t g.Q.Tests c.args.self.now a given c.begin.new.self)
     (wanted_begin (operation_in t c.args.self.now.begun) c.args.want access c.in-Begin.operation c.in-Begin.is is) serves)
     c.begin.ensures.serves
 
@@ -20,7 +20,7 @@ returns-in-Table-clause-serves g c =
     let t = g.T.Table in
     IfOk-weaker c.resume.result _ _ (λ given serves access is.
     let o = wanted_table (operation_in t c.args.self.now.begun) c.args.want access c.in-Table.is is in
-    subst (λ (a : Access g.row.K.Denot g.row.V.Denot). Serves g.K.PartialEq.eq t c.args.self.now a given c.resume.new.self) o.2 (serves o.0 o.1))
+    subst (λ (a : Access g.row.K.Denot g.row.V.Denot g.row.E.Denot). Serves g.K.PartialEq.eq t g.Q.Tests c.args.self.now a given c.resume.new.self) o.2 (serves o.0 o.1))
     c.resume.ensures.serves
 
 pub returns-in-Table-clause-tells : goal.returns-in-Table-clause-tells
@@ -28,14 +28,14 @@ returns-in-Table-clause-tells g c =
     let t = g.T.Table in
     IfOk-weaker c.resume.result _ _ (λ given tells access is.
     let o = wanted_table (operation_in t c.args.self.now.begun) c.args.want access c.in-Table.is is in
-    subst (λ (a : Access g.row.K.Denot g.row.V.Denot). Accesses (account_of t c.args.self.now) a given (account_of t c.resume.new.self)) o.2 (tells o.0 o.1))
+    subst (λ (a : Access g.row.K.Denot g.row.V.Denot g.row.E.Denot). Accesses (account_of t c.args.self.now) a given (account_of t c.resume.new.self)) o.2 (tells o.0 o.1))
     c.resume.ensures.tells
 
 pub returns-in-Desk-clause-serves : goal.returns-in-Desk-clause-serves
 returns-in-Desk-clause-serves g c =
     let t = g.T.Table in
     IfOk-weaker c.visit.result _ _ (λ given serves access is.
-    subst (λ (a : Access g.row.K.Denot g.row.V.Denot). Serves g.K.PartialEq.eq t c.args.self.now a given c.visit.new.self)
+    subst (λ (a : Access g.row.K.Denot g.row.V.Denot g.row.E.Denot). Serves g.K.PartialEq.eq t g.Q.Tests c.args.self.now a given c.visit.new.self)
     (wanted_visit (operation_in t c.args.self.now.begun) c.args.want access c.in-Desk.visit c.in-Desk.is is) serves)
     c.visit.ensures.serves
 
@@ -43,7 +43,7 @@ pub returns-in-Begin-clause-tells : goal.returns-in-Begin-clause-tells
 returns-in-Begin-clause-tells g c =
     let t = g.T.Table in
     IfOk-weaker c.begin.result _ _ (λ given tells access is.
-    subst (λ (a : Access g.row.K.Denot g.row.V.Denot). Accesses (account_of t c.args.self.now) a given (account_of t c.begin.new.self))
+    subst (λ (a : Access g.row.K.Denot g.row.V.Denot g.row.E.Denot). Accesses (account_of t c.args.self.now) a given (account_of t c.begin.new.self))
     (wanted_begin (operation_in t c.args.self.now.begun) c.args.want access c.in-Begin.operation c.in-Begin.is is) tells)
     c.begin.ensures.tells
 
@@ -51,7 +51,7 @@ pub returns-in-Desk-clause-tells : goal.returns-in-Desk-clause-tells
 returns-in-Desk-clause-tells g c =
     let t = g.T.Table in
     IfOk-weaker c.visit.result _ _ (λ given tells access is.
-    subst (λ (a : Access g.row.K.Denot g.row.V.Denot). Accesses (account_of t c.args.self.now) a given (account_of t c.visit.new.self))
+    subst (λ (a : Access g.row.K.Denot g.row.V.Denot g.row.E.Denot). Accesses (account_of t c.args.self.now) a given (account_of t c.visit.new.self))
     (wanted_visit (operation_in t c.args.self.now.begun) c.args.want access c.in-Desk.visit c.in-Desk.is is) tells)
     c.visit.ensures.tells
 
@@ -59,6 +59,6 @@ pub returns-in-Desk-clause-err_needs : goal.returns-in-Desk-clause-err_needs
 returns-in-Desk-clause-err_needs g c =
     let t = g.T.Table in
     on_err_weaker c.visit.result (λ needs access is w h may.
-    subst (λ (a : Access g.row.K.Denot g.row.V.Denot). NeedsMemory w a)
+    subst (λ (a : Access g.row.K.Denot g.row.V.Denot g.row.E.Denot). NeedsMemory w a)
     (wanted_visit (operation_in t c.args.self.now.begun) c.args.want access c.in-Desk.visit c.in-Desk.is is) (needs w h))
     c.visit.ensures.err_needs

@@ -1,5 +1,5 @@
 -- The table's step is the reference's, and the desk is as it was.
-use Rattle.std.proofs.Common.{◌≡◌, Some, subst}
+use Rattle.std.proofs.Common.{subst}
 use Rattle.moka_hist.specs.declared.tables.TableTurn.{TableTurn}
 use Rattle.moka_layers.proofs.TableSteps.{Stepped, going_serves, going_tells, decided_serves, decided_tells}
 use Rattle.moka_layers.proofs.layers.Layers.go_on.Goals as goal
@@ -11,7 +11,7 @@ returns-in-Ok-Going-clause-serves g c = λ o is_o.
     let e = c.in-Ok-Going.ensures in
     let s = subst (λ (u : TableTurn g.row.K.Denot g.row.V.Denot). Stepped t g.K.PartialEq.eq o old c.args.call u c.step.new.self c.step.new.call) c.in-Ok-Going.field-0-is
     (record { moves = e.moves o is_o; peak = e.peak; first = e.first; undecided = e.undecided; nears = e.nears; others = e.others; others_left = e.others_left; holds = g.met.T.Table.peak_holds old }) in
-    going_serves t g.K.PartialEq.eq o old c.step.new.self c.args.call c.step.new.call c.args.self.now.desk c.args.self.now.call s is_o
+    going_serves t g.Q.Tests g.K.PartialEq.eq o old c.step.new.self c.args.call c.step.new.call c.args.self.now.desk c.args.self.now.tests c.args.self.now.call s is_o
 
 pub returns-in-Ok-Going-clause-tells : goal.returns-in-Ok-Going-clause-tells
 returns-in-Ok-Going-clause-tells g c = λ o is_o.
@@ -20,7 +20,7 @@ returns-in-Ok-Going-clause-tells g c = λ o is_o.
     let e = c.in-Ok-Going.ensures in
     let s = subst (λ (u : TableTurn g.row.K.Denot g.row.V.Denot). Stepped t g.K.PartialEq.eq o old c.args.call u c.step.new.self c.step.new.call) c.in-Ok-Going.field-0-is
     (record { moves = e.moves o is_o; peak = e.peak; first = e.first; undecided = e.undecided; nears = e.nears; others = e.others; others_left = e.others_left; holds = g.met.T.Table.peak_holds old }) in
-    going_tells t g.K.PartialEq.eq o old c.step.new.self c.args.call c.step.new.call c.args.self.now.desk c.args.self.now.call s is_o c.requires.within
+    going_tells t g.Q.Tests g.K.PartialEq.eq o old c.step.new.self c.args.call c.step.new.call c.args.self.now.desk c.args.self.now.tests c.args.self.now.call s is_o c.requires.within
 
 pub returns-in-Ok-Decided-clause-serves : goal.returns-in-Ok-Decided-clause-serves
 returns-in-Ok-Decided-clause-serves g c = λ o is_o.
@@ -29,7 +29,7 @@ returns-in-Ok-Decided-clause-serves g c = λ o is_o.
     let e = c.in-Ok-Decided.ensures in
     let s = subst (λ (u : TableTurn g.row.K.Denot g.row.V.Denot). Stepped t g.K.PartialEq.eq o old c.args.call u c.step.new.self c.step.new.call) c.in-Ok-Decided.field-0-is
     (record { moves = e.moves o is_o; peak = e.peak; first = e.first; undecided = e.undecided; nears = e.nears; others = e.others; others_left = e.others_left; holds = g.met.T.Table.peak_holds old }) in
-    decided_serves t g.K.PartialEq.eq o old c.step.new.self c.args.call c.step.new.call c.args.self.now.desk c.args.self.now.call c.in-Ok-Decided.answer s
+    decided_serves t g.Q.Tests g.K.PartialEq.eq o old c.step.new.self c.args.call c.step.new.call c.args.self.now.desk c.args.self.now.tests c.args.self.now.call c.in-Ok-Decided.answer s
 
 pub returns-in-Ok-Decided-clause-tells : goal.returns-in-Ok-Decided-clause-tells
 returns-in-Ok-Decided-clause-tells g c = λ o is_o.
@@ -38,4 +38,4 @@ returns-in-Ok-Decided-clause-tells g c = λ o is_o.
     let e = c.in-Ok-Decided.ensures in
     let s = subst (λ (u : TableTurn g.row.K.Denot g.row.V.Denot). Stepped t g.K.PartialEq.eq o old c.args.call u c.step.new.self c.step.new.call) c.in-Ok-Decided.field-0-is
     (record { moves = e.moves o is_o; peak = e.peak; first = e.first; undecided = e.undecided; nears = e.nears; others = e.others; others_left = e.others_left; holds = g.met.T.Table.peak_holds old }) in
-    decided_tells t g.K.PartialEq.eq o old c.step.new.self c.args.call c.step.new.call c.args.self.now.desk c.args.self.now.call c.in-Ok-Decided.answer s
+    decided_tells t g.Q.Tests g.K.PartialEq.eq o old c.step.new.self c.args.call c.step.new.call c.args.self.now.desk c.args.self.now.tests c.args.self.now.call c.in-Ok-Decided.answer s

@@ -4,5 +4,5 @@ use Rattle.moka_layers.proofs.layers.Layers.visit.Goals as goal
 
 pub returns-clause-serves : goal.returns-clause-serves
 returns-clause-serves g c =
-    visit_serves g.T.Table g.K.PartialEq.eq c.args.self.now.table c.args.self.now.desk c.make_visit.new.desk c.args.self.now.call c.args.self.now.begun c.args.visit c.in_ok-found.found
+    visit_serves g.T.Table g.Q.Tests g.K.PartialEq.eq c.args.self.now.table c.args.self.now.tests c.args.self.now.desk c.make_visit.new.desk c.args.self.now.call c.args.self.now.begun c.args.visit c.in_ok-found.found
     c.requires.none c.in_ok-found.ensures.ok

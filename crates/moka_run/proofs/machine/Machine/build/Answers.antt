@@ -14,18 +14,19 @@ returns-clause-fresh g c =
     record {
       world = record {
         table = record { map = empty.map; keys = empty.count; peak = omega (arith, none); first = empty.first };
-        desk = c.in_ok-desk.ensures;
+        desk = c.in_ok-desk.ensures (g.T.Tests.answers c.args.tests);
+        tests = refl;
         stay = omega arith;
       };
       calls = λ n. ap (λ p. option_map call_in (runs_in p)) (c.new-3.ensures n);
       each = λ n r e. let f : None ≡ Some r = sym (ap runs_in (c.new-3.ensures n)) ∙ e in absurd (cc);
-      used = λ n. subst (λ (p : Option (Option (Running g.row.K.Denot g.row.V.Denot))). IsUsed p) (sym (c.new-3.ensures n)) (λ e. e);
+      used = λ n. subst (λ (p : Option (Option (Running g.row.K.Denot g.row.V.Denot g.row.E.Denot))). IsUsed p) (sym (c.new-3.ensures n)) (λ e. e);
     }
 
 pub returns-clause-valid : goal.returns-clause-valid
 returns-clause-valid g c =
     record {
-      state = fresh g.row.K.Denot g.row.V.Denot c.args.rules c.args.log;
+      state = fresh g.row.K.Denot g.row.V.Denot g.row.E.Denot c.args.rules c.args.log (g.T.Tests.answers c.args.tests);
       stands = returns-clause-fresh g c;
-      reached = record { rules = c.args.rules; size = c.args.log; has_log = c.requires.least; events = []; replies = []; run = refl };
+      reached = record { rules = c.args.rules; size = c.args.log; tests = g.T.Tests.answers c.args.tests; has_log = c.requires.least; events = []; replies = []; run = refl };
     }

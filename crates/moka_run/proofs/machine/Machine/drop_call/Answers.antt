@@ -1,6 +1,7 @@
 -- A drop of a live call.
+use Rattle.std.proofs.Common.{refl}
 use Rattle.moka_init.specs.FlowPlan.{call_of}
-use Rattle.moka_run.proofs.Happening.{happens_drop}
+use Rattle.moka_run.proofs.Happening.{happens_drop, match_none}
 use Rattle.moka_run.proofs.machine.Machine.drop_call.Goals as goal
 
 pub drop_out-requires-clause-is : goal.drop_out-requires-clause-is
@@ -18,3 +19,7 @@ returns-in-Some g c = λ s h reached.
     let t = c.in-Some.ensures.some s h in
     let d = c.drop_out.ensures s t.0 (c.calls_may_leave.ensures.leaves s reached) in
     (d.0, happens_drop g.K.PartialEq.eq s c.args.call (call_of c.in-Some.flow) c.drop_out.result d.0 t.0.live d.1, d.2)
+
+pub returns-in-None : goal.returns-in-None
+returns-in-None g c = λ s h reached.
+    (s, match_none (s.calls c.args.call) _ _ (c.in-None.ensures.none s h) (record { reply = refl; same = refl }), c.in-None.ensures.same s h)

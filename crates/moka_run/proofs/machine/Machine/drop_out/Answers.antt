@@ -16,7 +16,7 @@ returns-in-Mid g c = λ s t places.
     let d = call_of c.args.flow in (
       s,
       subst (λ (m : Mode). Drops s c.args.call d m (reply.Refused refusal.NotParked) s) c.in-Mid.ensures (record { reply = refl; same = refl }),
-      subst (λ (u : State g.row.K.Denot g.row.V.Denot). MachineIs g.K.PartialEq.eq c.put_in.new.self u)
+      subst (λ (u : State g.row.K.Denot g.row.V.Denot g.row.E.Denot). MachineIs g.K.PartialEq.eq g.T.Tests c.put_in.new.self u)
           (ap (λ f. record s { calls = f }) (put_same s.calls c.args.call (Some d) t.live)) (c.put_in.ensures s.calls s.world t.rest c.requires.is),
     )
 

@@ -27,6 +27,7 @@ returns-clause-leaves g c = λ s t all.
             table = layers.world.table;
             desk = subst (λ (o : Option Owed). desk.StandsFor g.K.PartialEq.eq c.leave.new.self (left s.world.desk c.args.call o))
                 (owed_here c.args.call c.args.flow.call d c.held-held.result number c.held-held.ensures) stands;
+            tests = layers.world.tests;
             stay = layers.world.stay;
           };
           begun = layers.begun;

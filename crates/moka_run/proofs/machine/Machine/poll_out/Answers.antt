@@ -18,7 +18,7 @@ returns-in-Ok-clause-polls g c = λ others w h safe.
       subst (λ (n : ℕ). Polled eq n (call_of c.args.flow) w next m.0) number m.1,
       c.after_step.ensures.reply,
       c.after_step.ensures.stands others m.0
-          (still_without eq c.args.self.now c.poll.new.ground c.args.call c.args.flow c.poll.new.flow others w m.0 c.requires.out.on c.in-Ok.ensures.on c.in-Ok.ensures.number c.in-Ok.ensures.keeps m.2 h)
+          (still_without eq g.T.Tests c.args.self.now c.poll.new.ground c.args.call c.args.flow c.poll.new.flow others w m.0 c.requires.out.on c.in-Ok.ensures.on c.in-Ok.ensures.number c.in-Ok.ensures.keeps m.2 h)
           c.in-Ok.ensures.on c.in-Ok.ensures.leaves,
     )
 
@@ -35,7 +35,7 @@ returns-in-Err-clause-unfinished g c =
             m.0,
             subst (λ (n : ℕ). MovesOn eq u.0 n (call_of c.args.flow) w (call_of c.poll.new.flow) m.0) number m.1,
             c.put_in.ensures others m.0
-                (still_without eq c.args.self.now c.poll.new.ground c.args.call c.args.flow c.poll.new.flow others w m.0 c.requires.out.on c.in-Err.ensures.on c.in-Err.ensures.number c.in-Err.ensures.keeps m.2 h)
+                (still_without eq g.T.Tests c.args.self.now c.poll.new.ground c.args.call c.args.flow c.poll.new.flow others w m.0 c.requires.out.on c.in-Err.ensures.on c.in-Err.ensures.number c.in-Err.ensures.keeps m.2 h)
                 (record { on = c.in-Err.ensures.on; live = c.in-Err.ensures.live }),
             subst (λ (n : ℕ). NeedsMemory m.0 (access_of n (call_of c.poll.new.flow))) (c.in-Err.ensures.number ∙ number) (either_needs m.0 c.poll.new.flow m.3),
           ),

@@ -1,5 +1,5 @@
 -- A step of a live call is the reference's, and without memory the call is back as it was.
-use Rattle.std.proofs.Common.{◌≡◌, ℕ, Some, sym, ap, subst, ◌∙◌}
+use Rattle.std.proofs.Common.{◌≡◌, ℕ, Some, refl, sym, ap, subst, ◌∙◌}
 use Rattle.std.proofs.lemmas.Result.{IfOk-weaker, on_err_weaker}
 use Rattle.moka_hist.specs.State.{State}
 use Rattle.moka_hist.specs.Step.{May, access_of, state_after}
@@ -8,7 +8,7 @@ use Rattle.moka_init.specs.Grounds.{access_at, NeedsMemory}
 use Rattle.moka_init.proofs.Going.{moves_none}
 use Rattle.moka_laws.proofs.Outcomes.{put_same}
 use Rattle.moka_run.specs.Machine.{MachineIs}
-use Rattle.moka_run.proofs.Happening.{happens_step, on_err_both}
+use Rattle.moka_run.proofs.Happening.{happens_step, match_none, on_err_both}
 use Rattle.moka_run.proofs.Needing.{call_needs}
 use Rattle.moka_run.proofs.machine.Machine.step.Goals as goal
 
@@ -44,7 +44,7 @@ returns-in-Some-clause-serves g c = IfOk-weaker c.step_out.result _ _ (λ r step
 pub returns-in-Some-clause-err : goal.returns-in-Some-clause-err
 returns-in-Some-clause-err g c = on_err_weaker c.step_out.result (λ keeps s stands.
     let t = c.in-Some.ensures.some s stands in
-    subst (λ (u : State g.row.K.Denot g.row.V.Denot). MachineIs g.K.PartialEq.eq c.step_out.new.self u)
+    subst (λ (u : State g.row.K.Denot g.row.V.Denot g.row.E.Denot). MachineIs g.K.PartialEq.eq g.T.Tests c.step_out.new.self u)
     (ap (λ f. record s { calls = f }) (put_same s.calls c.args.call (Some (call_of c.in-Some.flow)) t.0.live))
     (keeps s.calls s.world t.0.rest))
     c.step_out.ensures.err
@@ -60,6 +60,10 @@ returns-in-Some-clause-err_needs g c =
     let may : May v.state.world (access_at c.in-Some.flow) =
     subst (λ (m : ℕ). May v.state.world (access_of m d)) (sym number) (safe 0 d v.state.world (moves_none g.K.PartialEq.eq n d v.state.world)) in
     on_err_weaker c.step_out.result (λ both s stands.
-    call_needs g.K.PartialEq.eq c.step_out.new.self n d v.state.calls v.state.world s
+    call_needs g.K.PartialEq.eq g.T.Tests c.step_out.new.self n d v.state.calls v.state.world s
     (both.0 v.state.calls v.state.world t.0.rest) stands (subst (λ (m : ℕ). NeedsMemory v.state.world (access_of m d)) number (both.1 v.state.world t.0.rest.reaches may)))
     (on_err_both c.step_out.result _ _ c.step_out.ensures.err c.step_out.ensures.err_needs)
+
+pub returns-in-None-clause-serves : goal.returns-in-None-clause-serves
+returns-in-None-clause-serves g c = λ s h reached.
+    (s, match_none (s.calls c.args.call) _ _ (c.in-None.ensures.none s h) (record { reply = refl; same = refl }), c.in-None.ensures.same s h)

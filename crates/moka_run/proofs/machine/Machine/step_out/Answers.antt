@@ -20,7 +20,7 @@ returns-in-Ok-clause-steps g c = λ others w h may.
       subst (λ (n : ℕ). Moves eq n (call_of c.args.flow) w next m.0) number m.1,
       c.after_step.ensures.reply,
       c.after_step.ensures.stands others m.0
-          (still_without eq c.args.self.now c.step.new.ground c.args.call c.args.flow c.step.new.flow others w m.0 c.requires.out.on c.in-Ok.ensures.on c.in-Ok.ensures.number c.in-Ok.ensures.keeps m.2 h)
+          (still_without eq g.T.Tests c.args.self.now c.step.new.ground c.args.call c.args.flow c.step.new.flow others w m.0 c.requires.out.on c.in-Ok.ensures.on c.in-Ok.ensures.number c.in-Ok.ensures.keeps m.2 h)
           c.in-Ok.ensures.on c.in-Ok.ensures.leaves,
     )
 
@@ -28,10 +28,10 @@ pub returns-in-Err-clause-err : goal.returns-in-Err-clause-err
 returns-in-Err-clause-err g c = λ others w h.
     let eq = g.K.PartialEq.eq in
     let still = c.in-Err.ensures.err in
-    let out = still_out eq c.args.self.now c.step.new.ground c.args.flow c.step.new.flow still c.in-Err.ensures.err_account c.requires.out in
-    subst (λ (d : Call g.row.K.Denot g.row.V.Denot). MachineIs eq c.put_in.new.self (record { world = w; calls = put_at others c.args.call (Some d) })) still.call
+    let out = still_out eq g.T.Tests c.args.self.now c.step.new.ground c.args.flow c.step.new.flow still c.in-Err.ensures.err_account c.requires.out in
+    subst (λ (d : Call g.row.K.Denot g.row.V.Denot g.row.E.Denot). MachineIs eq g.T.Tests c.put_in.new.self (record { world = w; calls = put_at others c.args.call (Some d) })) still.call
     (c.put_in.ensures others w
-    (still_without eq c.args.self.now c.step.new.ground c.args.call c.args.flow c.step.new.flow others w w c.requires.out.on out.on still.number c.in-Err.ensures.keeps
+    (still_without eq g.T.Tests c.args.self.now c.step.new.ground c.args.call c.args.flow c.step.new.flow others w w c.requires.out.on out.on still.number c.in-Err.ensures.keeps
     (c.in-Err.ensures.err_stands w h.reaches) h) out)
 
 pub returns-in-Err-clause-err_needs : goal.returns-in-Err-clause-err_needs

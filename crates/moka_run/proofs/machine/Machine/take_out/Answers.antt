@@ -21,21 +21,21 @@ returns-in-Some-clause-some g c = λ s h.
     λ k. runs_at places (place_at c.take.new.self) n (emptied (places n)) c.take.ensures.rest k ∙ ap (λ o. put_at old n o k) (none_runs (places n)) in
     let there : old n ≡ Some r = sym c.in-Some.ensures.taken in
     let is = h.each n r there in
-    let m : Machine g.row.K.Denot g.row.V.Denot g.K.PartialEq g.K.Hash =
+    let m : Machine g.row.K.Denot g.row.V.Denot g.row.E.Denot g.row.T.Denot g.K.PartialEq g.K.Hash =
     record { layers = record c.args.self.now.layers { call = n; begun = r.begun }; calls = c.take.new.self } in
-    let out : TakenOut eq m n r.flow s × IsOut eq m r.flow = (
+    let out : TakenOut eq g.T.Tests m n r.flow s × IsOut eq m r.flow = (
       record {
         live = sym (h.calls n) ∙ ap (option_map call_in) there;
         rest = record {
           reaches = record {
             layers = record {
-              world = record { table = h.world.table; desk = h.world.desk; stay = h.world.stay };
+              world = record { table = h.world.table; desk = h.world.desk; tests = h.world.tests; stay = h.world.stay };
               begun = is.begun;
               given = is.given;
             };
             out = taken n ∙ set_at old n None;
             each = set_each (IsOf eq m.layers.table s.world.table s.world.stay s.world.desk.last) old (running_at c.take.new.self) n None (λ x e. absurd (cc)) taken h.each;
-            used = λ k ne. subst (λ (p : Option (Option (Running g.row.K.Denot g.row.V.Denot))). IsUsed p)
+            used = λ k ne. subst (λ (p : Option (Option (Running g.row.K.Denot g.row.V.Denot g.row.E.Denot))). IsUsed p)
                 (sym (c.take.ensures.rest k ∙ other_at places n (emptied (places n)) k ne)) (h.used k);
           };
           number = refl;
@@ -44,8 +44,8 @@ returns-in-Some-clause-some g c = λ s h.
       },
       record { on = record { call = sym is.number; begun = is.on }; live = is.live },
     ) in
-    subst (λ (v : Machine g.row.K.Denot g.row.V.Denot g.K.PartialEq g.K.Hash). TakenOut eq v n c.lend.result s × IsOut eq v c.lend.result) (sym c.lend.ensures.machine)
-    (subst (λ (f : Flow g.row.K.Denot g.row.V.Denot). TakenOut eq m n f s × IsOut eq m f) (sym c.lend.ensures.flow) out)
+    subst (λ (v : Machine g.row.K.Denot g.row.V.Denot g.row.E.Denot g.row.T.Denot g.K.PartialEq g.K.Hash). TakenOut eq g.T.Tests v n c.lend.result s × IsOut eq v c.lend.result) (sym c.lend.ensures.machine)
+    (subst (λ (f : Flow g.row.K.Denot g.row.V.Denot g.row.E.Denot). TakenOut eq g.T.Tests m n f s × IsOut eq m f) (sym c.lend.ensures.flow) out)
 
 pub returns-in-None-clause-same : goal.returns-in-None-clause-same
 returns-in-None-clause-same g c = λ s h.
@@ -54,5 +54,5 @@ returns-in-None-clause-same g c = λ s h.
       world = h.world;
       calls = λ k. ap (λ p. option_map call_in (runs_in p)) (same k) ∙ h.calls k;
       each = λ k x e. h.each k x (sym (ap runs_in (same k)) ∙ e);
-      used = λ k. subst (λ (p : Option (Option (Running g.row.K.Denot g.row.V.Denot))). IsUsed p) (sym (same k)) (h.used k);
+      used = λ k. subst (λ (p : Option (Option (Running g.row.K.Denot g.row.V.Denot g.row.E.Denot))). IsUsed p) (sym (same k)) (h.used k);
     }

@@ -18,14 +18,14 @@ returns-then-tell_desk-clause-serves g c = λ s h reached.
     let d = c.tell_desk.new.self.layers.desk in
     let same : c.in_ok-answer.answer ≡ c.args.answer.now = c.in_ok-answer.ensures.same in
     let e : is_asked w n c.args.answer.now ≡ true =
-    subst (λ (a : Told g.row.V.Denot). is_asked w n a ≡ true) same (sym (c.tell_desk.ensures.finds w h.world.desk) ∙ c.if-tell_desk.true) in
+    subst (λ (a : Told g.row.V.Denot g.row.E.Denot). is_asked w n a ≡ true) same (sym (c.tell_desk.ensures.finds w h.world.desk) ∙ c.if-tell_desk.true) in
     let made : desk.StandsFor eq d (told w n c.in_ok-answer.answer) =
     subst (λ (b : Bool). desk.StandsFor eq d (cond b (told w n c.in_ok-answer.answer) w)) c.if-tell_desk.true (c.tell_desk.ensures.makes w h.world.desk) in
-    let stands : desk.StandsFor eq d (told w n c.args.answer.now) = subst (λ (a : Told g.row.V.Denot). desk.StandsFor eq d (told w n a)) same made in (
+    let stands : desk.StandsFor eq d (told w n c.args.answer.now) = subst (λ (a : Told g.row.V.Denot g.row.E.Denot). desk.StandsFor eq d (told w n a)) same made in (
       with_desk s (told w n c.args.answer.now),
       match_true _ _ _ e (record { reply = refl; after = refl }),
-      subst (λ (m : Machine g.row.K.Denot g.row.V.Denot g.K.PartialEq g.K.Hash). MachineIs eq m (with_desk s (told w n c.args.answer.now))) (sym c.tell_desk.ensures.rest)
-          (told_stands eq c.args.self.now d s n c.args.answer.now h stands),
+      subst (λ (m : Machine g.row.K.Denot g.row.V.Denot g.row.E.Denot g.row.T.Denot g.K.PartialEq g.K.Hash). MachineIs eq g.T.Tests m (with_desk s (told w n c.args.answer.now))) (sym c.tell_desk.ensures.rest)
+          (told_stands eq g.T.Tests c.args.self.now d s n c.args.answer.now h stands),
     )
 
 pub returns-else-tell_desk-clause-serves : goal.returns-else-tell_desk-clause-serves
@@ -36,11 +36,11 @@ returns-else-tell_desk-clause-serves g c = λ s h reached.
     let d = c.tell_desk.new.self.layers.desk in
     let same : c.in_ok-answer.answer ≡ c.args.answer.now = c.in_ok-answer.ensures.same in
     let e : is_asked w n c.args.answer.now ≡ false =
-    subst (λ (a : Told g.row.V.Denot). is_asked w n a ≡ false) same (sym (c.tell_desk.ensures.finds w h.world.desk) ∙ c.if-tell_desk.false) in
+    subst (λ (a : Told g.row.V.Denot g.row.E.Denot). is_asked w n a ≡ false) same (sym (c.tell_desk.ensures.finds w h.world.desk) ∙ c.if-tell_desk.false) in
     let stands : desk.StandsFor eq d w =
     subst (λ (b : Bool). desk.StandsFor eq d (cond b (told w n c.in_ok-answer.answer) w)) c.if-tell_desk.false (c.tell_desk.ensures.makes w h.world.desk) in (
       s,
       match_false _ _ _ e (record { reply = refl; same = refl }),
-      subst (λ (m : Machine g.row.K.Denot g.row.V.Denot g.K.PartialEq g.K.Hash). MachineIs eq m s) (sym c.tell_desk.ensures.rest)
-          (still_stands eq c.args.self.now d s h stands),
+      subst (λ (m : Machine g.row.K.Denot g.row.V.Denot g.row.E.Denot g.row.T.Denot g.K.PartialEq g.K.Hash). MachineIs eq g.T.Tests m s) (sym c.tell_desk.ensures.rest)
+          (still_stands eq g.T.Tests c.args.self.now d s h stands),
     )

@@ -1,0 +1,478 @@
+-- A call answers as what it was started for may.
+use Rattle.std.proofs.Common.{◌≡◌, ℕ, ◌+◌, ◌≤◌, ◌==◌, Bool, true, false, List, [], ◌∷◌, Option, Some, None, refl, sym, ap, ◌∙◌, subst, arith}
+use Rattle.std.proofs.lemmas.Bool.{eqb-true, false≢true}
+use Rattle.moka_hist.specs.Conditions.{may_end}
+use Rattle.moka_hist.specs.State.{State, World, Call}
+use Rattle.moka_hist.specs.Plan.{Item, Aim, Change, Removal, end_load, is_disabled, get_plan, insert_plan, load_plan, or_insert_plan, seek, take_out, under_lock, plan_of}
+use Rattle.moka_hist.specs.Plan as plan
+use Rattle.moka_hist.specs.Next.{Next, goes, waits}
+use Rattle.moka_hist.specs.Looking.{hits, misses, keeps, finds_pair}
+use Rattle.moka_hist.specs.Loading.{after_read, after_abort, after_told, retries}
+use Rattle.moka_hist.specs.Step.{Step, takes_of}
+use Rattle.moka_hist.specs.Telling.{does_take}
+use Rattle.moka_hist.specs.Visits.{settlement_for}
+use Rattle.moka_hist.specs.Writing.{nothing_answer, removed_answer}
+use Rattle.moka_hist.specs.Run.{IsReached, fresh_call, started}
+use Rattle.moka_hist.specs.declared.accesses.Turn.{Turn}
+use Rattle.moka_hist.specs.declared.accesses.Turn.TheVariants as turn
+use Rattle.moka_hist.specs.declared.events.Event.TheVariants as event
+use Rattle.moka_hist.specs.declared.replies.Reply.TheVariants as reply
+use Rattle.moka_hist.specs.declared.events.Start.{Start}
+use Rattle.moka_hist.specs.declared.events.Start.TheVariants as start
+use Rattle.moka_hist.specs.declared.events.Told.{Told}
+use Rattle.moka_hist.specs.declared.events.Told.TheVariants as told
+use Rattle.moka_hist.specs.declared.loads.Kind.{Kind}
+use Rattle.moka_hist.specs.declared.loads.Kind.TheVariants as kind
+use Rattle.moka_hist.specs.declared.loads.Load.{Load}
+use Rattle.moka_hist.specs.declared.loads.Sought.{Sought}
+use Rattle.moka_hist.specs.declared.records.Stored.{Stored}
+use Rattle.moka_hist.specs.declared.replies.Answer.{Answer}
+use Rattle.moka_hist.specs.declared.replies.Answer.TheVariants as answer
+use Rattle.moka_hist.specs.declared.rules.Rules.{Rules}
+use Rattle.moka_hist.specs.declared.visits.Settled.{Settled}
+use Rattle.moka_hist.specs.declared.visits.Settled.TheVariants as settled
+use Rattle.moka_hist.specs.declared.visits.Found.TheVariants as found
+use Rattle.moka_laws.specs.Loads.{may_answer, AnswersFit}
+use Rattle.moka_laws.specs.Starting.{Leads}
+use Rattle.moka_laws.proofs.Counting.{none_some, some_same, put_here, put_there, put_cases, differ}
+use Rattle.moka_laws.proofs.Fitting.{AllFit, ToldFits}
+use Rattle.moka_laws.proofs.Following.{IsFollowed}
+use Rattle.moka_laws.proofs.KindsOfEnds.{settlements_fit}
+use Rattle.moka_laws.proofs.Owning.{plan_left}
+use Rattle.moka_laws.proofs.Reached.{event_reached, run_reached}
+use Rattle.moka_laws.proofs.Roles.{IsLast}
+use Rattle.moka_laws.proofs.Rules.{put_plans, loaded_plans, kept_next, chosen_next}
+use Rattle.moka_laws.proofs.Safe.{in_well}
+use Rattle.moka_laws.proofs.Starting.{begins_so, follow_start}
+use Rattle.moka_laws.proofs.Steady.{step_calls, step_last}
+use Rattle.moka_laws.proofs.StepCases.{OnStep, step_cases}
+use Rattle.moka_laws.proofs.Outcomes.{Outcomes, outcomes}
+
+same_answer : {K V E : Type 0} (a b : Answer V E) → ◌≡◌ {A = Turn K V E} (turn.Answer a) (turn.Answer b) →
+    a ≡ b
+same_answer a b e = cc
+
+-- the kind of load that a call was started for
+abbrev kind_of : {K V : Type 0} → Start K V → Option Kind
+kind_of (start.Get key) = None
+kind_of (start.Insert key value) = None
+kind_of (start.GetWith key replace) = Some kind.GetWith
+kind_of (start.Optional key) = Some kind.Optional
+kind_of (start.Try key) = Some kind.Try
+kind_of (start.OrInsert key value) = None
+kind_of (start.Invalidate key) = None
+kind_of (start.Remove key) = None
+kind_of (start.Evict key stamp cause) = None
+
+-- ---- what a load may answer
+
+module _ {K V : Type 0} (E : Type 0) where
+  loads_may : (begin : Start K V) (k : Kind) (value : V) (fresh : Bool) → kind_of begin ≡ Some k →
+      may_answer {E = E} begin (answer.Loaded value fresh) ≡ true
+  loads_may (start.GetWith key replace) k value fresh e = refl
+  loads_may (start.Optional key) k value fresh e = refl
+  loads_may (start.Try key) k value fresh e = refl
+  loads_may _ k value fresh e = absurd (none_some e)
+
+  gives_up_may : (begin : Start K V) (k : Kind) → kind_of begin ≡ Some k →
+      may_answer {E = E} begin answer.RetriesExhausted ≡ true
+  gives_up_may (start.GetWith key replace) k e = refl
+  gives_up_may (start.Optional key) k e = refl
+  gives_up_may (start.Try key) k e = refl
+  gives_up_may _ k e = absurd (none_some e)
+
+  nothing_may : (begin : Start K V) (k : Kind) → kind_of begin ≡ Some k →
+      may_end {V = V} {E = E} k settled.Nothing ≡ true → may_answer {E = E} begin answer.Nothing ≡ true
+  nothing_may (start.Optional key) k e may = refl
+  nothing_may (start.GetWith key replace) k e may =
+      absurd (false≢true (subst (λ v. may_end {V = V} {E = E} v settled.Nothing ≡ true) (sym (some_same e)) may))
+  nothing_may (start.Try key) k e may =
+      absurd (false≢true (subst (λ v. may_end {V = V} {E = E} v settled.Nothing ≡ true) (sym (some_same e)) may))
+  nothing_may _ k e may = absurd (none_some e)
+
+module _ {K V E : Type 0} where
+  error_may : (begin : Start K V) (k : Kind) (error : E) → kind_of begin ≡ Some k →
+      may_end {V = V} k (settled.Err error) ≡ true → may_answer begin (answer.InitErr error) ≡ true
+  error_may (start.Try key) k error e may = refl
+  error_may (start.GetWith key replace) k error e may =
+      absurd (false≢true (subst (λ v. may_end {V = V} v (settled.Err error) ≡ true) (sym (some_same e)) may))
+  error_may (start.Optional key) k error e may =
+      absurd (false≢true (subst (λ v. may_end {V = V} v (settled.Err error) ≡ true) (sym (some_same e)) may))
+  error_may _ k error e may = absurd (none_some e)
+
+-- what an ask takes its owner may end with
+told_nothing : (V E : Type 0) (k : Kind) → does_take {V = V} {E = E} (takes_of k) told.Nothing ≡ true →
+    may_end {V = V} {E = E} k settled.Nothing ≡ true
+told_nothing V E kind.GetWith e = absurd (false≢true e)
+told_nothing V E kind.Optional e = refl
+told_nothing V E kind.Try e = absurd (false≢true e)
+
+told_error : (V : Type 0) {E : Type 0} (k : Kind) (error : E) →
+    does_take {V = V} (takes_of k) (told.Err error) ≡ true →
+    may_end {V = V} k (settled.Err error) ≡ true
+told_error V kind.GetWith error e = absurd (false≢true e)
+told_error V kind.Optional error e = absurd (false≢true e)
+told_error V kind.Try error e = refl
+
+module _ {K V : Type 0} (E : Type 0) (begin : Start K V) where
+  -- what a removal for this answers
+  abbrev SuitsRemoval : Removal → Type 0
+  SuitsRemoval removal =
+      ((value : V) → may_answer {E = E} begin (removed_answer removal value) ≡ true) ×
+      (may_answer {E = E} begin (nothing_answer removal) ≡ true)
+
+  -- a look for this goes on as the start may
+  abbrev SuitsAim : Aim K V → Type 0
+  SuitsAim plan.To_answer = (value : Option V) → may_answer {E = E} begin (answer.Found value) ≡ true
+  SuitsAim (plan.To_load sought) = kind_of begin ≡ Some sought.load.kind
+  SuitsAim (plan.To_own sought) = kind_of begin ≡ Some sought.load.kind
+  SuitsAim (plan.To_insert key own) =
+      (value : V) (fresh : Bool) → may_answer {E = E} begin (answer.Loaded value fresh) ≡ true
+  SuitsAim (plan.To_evict key stamp cause) = SuitsRemoval (plan.To_evict_chosen stamp cause)
+
+module _ {K V E : Type 0} (begin : Start K V) where
+  -- the call may answer so
+  abbrev May : Answer V E → Type 0
+  May a = may_answer begin a ≡ true
+
+  -- the item answers as the start may
+  abbrev Suits : Item K V E → Type 0
+  Suits (plan.Get aim key) = SuitsAim E begin aim
+  Suits (plan.Judge aim key stored) = SuitsAim E begin aim
+  Suits (plan.Own sought) = kind_of begin ≡ Some sought.load.kind
+  Suits (plan.Read sought) = kind_of begin ≡ Some sought.load.kind
+  Suits (plan.Ask load) = kind_of begin ≡ Some load.kind
+  Suits (plan.Told load) = kind_of begin ≡ Some load.kind
+  Suits (plan.Holds key stamp cause there stored) = SuitsRemoval E begin (plan.To_evict_chosen stamp cause)
+  Suits (plan.Moment (plan.To_take_out removal key)) = SuitsRemoval E begin removal
+  Suits (plan.Out removal key) = SuitsRemoval E begin removal
+  Suits (plan.Reply a) = May a
+  Suits _ = Unit {0}
+
+  abbrev AllSuit : List (Item K V E) → Type 0
+  AllSuit [] = Unit {0}
+  AllSuit (item ∷ rest) = Suits item × AllSuit rest
+
+  -- what a step has to show
+  record Leaves (next : Next K V E) : Type 0 where
+    suits : AllSuit (plan_left next.left)
+    now : (a : Answer V E) → next.turn ≡ turn.Answer a → May a
+
+  answers_so : (a : Answer V E) (next : Next K V E) → next.left ≡ None → next.turn ≡ turn.Answer a → May a →
+      Leaves next
+  answers_so a next none is may = record {
+    suits = subst (λ v. AllSuit (plan_left v)) (sym none) tt;
+    now = λ b e. subst May (same_answer {K = K} a b (sym is ∙ e)) may;
+  }
+
+  on : (next : Next K V E) → ((a : Answer V E) → next.turn ≡ turn.Answer a → ⊥) →
+      AllSuit (plan_left next.left) → Leaves next
+  on next going q = record { suits = q; now = λ a e. absurd (going a e) }
+
+  module _ (c : Call K V E) where
+    goes_suits : (rest : List (Item K V E)) → AllSuit rest → Leaves (goes c rest)
+    goes_suits (plan.Reply a ∷ []) q = answers_so a _ refl refl q.0
+    goes_suits (plan.Reply a ∷ x ∷ rest) q = on _ (λ b e. cc) q
+    goes_suits [] q = on _ (λ b e. cc) q
+    goes_suits (item ∷ rest) q = on _ (λ b e. cc) q
+
+    keeps_suit : May answer.Kept → Leaves (keeps c)
+    keeps_suit may = kept_next Leaves c (λ off. answers_so answer.Kept _ refl refl may)
+        (λ is_on. on _ (λ b e. cc) (tt, (may, tt)))
+
+    misses_suit : (aim : Aim K V) → SuitsAim E begin aim → Leaves (misses c aim)
+    misses_suit plan.To_answer s = answers_so (answer.Found None) _ refl refl (s None)
+    misses_suit (plan.To_load sought) s = on _ (λ b e. cc) (s, tt)
+    misses_suit (plan.To_own sought) s = on _ (λ b e. cc) (s, tt)
+    misses_suit (plan.To_insert key value) s =
+        put_plans (λ p. Leaves (goes c p)) c.rules key value (plan.Reply (answer.Loaded value true) ∷ [])
+        (on _ (λ b e. cc) (tt, (tt, (s value true, tt))))
+        (on _ (λ b e. cc) (tt, (tt, (tt, (s value true, tt)))))
+    misses_suit (plan.To_evict key stamp cause) s = keeps_suit s.1
+
+    finds_suit : (aim : Aim K V) (there : K) (stored : Stored V) → SuitsAim E begin aim →
+        Leaves (finds_pair c aim there stored)
+    finds_suit plan.To_answer there stored s = on _ (λ b e. cc) (s, tt)
+    finds_suit (plan.To_load sought) there stored s = on _ (λ b e. cc) (s, tt)
+    finds_suit (plan.To_own sought) there stored s = on _ (λ b e. cc) (s, tt)
+    finds_suit (plan.To_insert key value) there stored s = on _ (λ b e. cc) (s, tt)
+    finds_suit (plan.To_evict key stamp cause) there stored s =
+        chosen_next Leaves c key stamp cause there stored
+        (λ off. answers_so answer.Kept _ refl refl s.1)
+        (λ is_on. on _ (λ b e. cc) (tt, (s.1, tt))) (on _ (λ b e. cc) (s, tt))
+
+    hits_suit : (aim : Aim K V) (value : V) → SuitsAim E begin aim → AllSuit c.plan → Leaves (hits c aim value)
+    hits_suit plan.To_answer value s p = answers_so (answer.Found (Some value)) _ refl refl (s (Some value))
+    hits_suit (plan.To_load sought) value s p =
+        answers_so (answer.Loaded value false) _ refl refl (loads_may E begin sought.load.kind value false s)
+    hits_suit (plan.To_own sought) value s p =
+        on _ (λ b e. cc) (tt, (loads_may E begin sought.load.kind value false s, tt))
+    hits_suit (plan.To_insert key own) value s p =
+        answers_so (answer.Loaded value false) _ refl refl (s value false)
+    hits_suit (plan.To_evict key stamp cause) value s p = on _ (λ b e. cc) p
+
+    read_suits : (sought : Sought K) (with : Settled V E) → kind_of begin ≡ Some sought.load.kind →
+        may_end sought.load.kind with ≡ true → AllSuit c.plan →
+        Leaves (after_read c sought (found.ReadSettled with))
+    read_suits sought (settled.Ready value) s may p =
+        answers_so (answer.Loaded value false) _ refl refl (loads_may E begin sought.load.kind value false s)
+    read_suits sought (settled.Err error) s may p =
+        answers_so (answer.InitErr error) _ refl refl (error_may begin sought.load.kind error s may)
+    read_suits sought settled.Nothing s may p =
+        answers_so answer.Nothing _ refl refl (nothing_may E begin sought.load.kind s may)
+    read_suits sought settled.NotYet s may p = on _ (λ b e. cc) p
+    read_suits sought settled.Aborted s may p = by (c.aborts + 1 == retries) refl
+      where
+        by : (b : Bool) → (c.aborts + 1 == retries) ≡ b → Leaves (after_abort c sought)
+        by true is = rw is (answers_so answer.RetriesExhausted _ refl refl
+            (gives_up_may E begin sought.load.kind s))
+        by false is = rw is (on _ (λ b e. cc) (s, tt))
+
+    told_suits : (load : Load K) (given : Told V E) → kind_of begin ≡ Some load.kind →
+        does_take (takes_of load.kind) given ≡ true →
+        Leaves (after_told c load (found.TakeTold (Some given)))
+    told_suits load (told.Value value) s takes =
+        let may : May (answer.Loaded value true) = loads_may E begin load.kind value true s in
+        loaded_plans (λ p. Leaves (goes c p)) c.rules load value
+        (on _ (λ b e. cc) (tt, (may, tt))) (on _ (λ b e. cc) (tt, (tt, (tt, (may, tt)))))
+        (on _ (λ b e. cc) (tt, (tt, (tt, (tt, (may, tt))))))
+    told_suits load told.Nothing s takes = on _ (λ b e. cc) (
+      tt,
+      (nothing_may E begin load.kind s (told_nothing V E load.kind takes), tt),
+    )
+    told_suits load (told.Err error) s takes = on _ (λ b e. cc) (
+      tt,
+      (error_may begin load.kind error s (told_error V load.kind error takes), tt),
+    )
+    told_suits load told.Done s takes = absurd (false≢true takes)
+    told_suits load told.Off s takes = absurd (false≢true takes)
+
+  module _ (eq : K → K → Bool) (w : World K V E) (n : ℕ) (c : Call K V E) (p : AllSuit c.plan)
+      (takes : (load : Load K) (given : Told V E) → c.plan ≡ plan.Told load ∷ [] →
+      w.desk.told n ≡ Some given → does_take (takes_of load.kind) given ≡ true)
+      (ends : (sought : Sought K) (with : Settled V E) → c.plan ≡ plan.Read sought ∷ [] →
+      settlement_for w.desk n ≡ Some with → may_end sought.load.kind with ≡ true) where
+    abbrev After : World K V E → Next K V E → Type 0
+    After new next = Leaves next
+
+    parks : Leaves (waits c)
+    parks = on _ (λ b e. cc) p
+
+    on_item : (item : Item K V E) (rest : List (Item K V E)) → c.plan ≡ item ∷ rest → IsLast (item ∷ rest) →
+        AllSuit (item ∷ rest) → Outcomes eq After w n c item rest
+    on_item plan.Drain rest e l q = (
+      λ f. goes_suits c rest q.1,
+      λ x xs f. on _ (λ b g. cc) (tt, q),
+      λ x number xs f. on _ (λ b g. cc) (tt, (tt, q)),
+    )
+    on_item (plan.Ended number) rest e l q = (λ f. goes_suits c rest q.1, λ f. parks)
+    on_item plan.Heard rest e l q = (λ f. goes_suits c rest q.1, λ f. parks)
+    on_item (plan.Lock key) rest e l q = (λ f. goes_suits c rest q.1, λ f. parks)
+    on_item (plan.Unlock wrote) rest e l q = goes_suits c rest q.1
+    on_item (plan.Notice key old cause upsert) rest e l q =
+        (λ f. goes_suits c rest q.1, λ f. on _ (λ b g. cc) (tt, q.1))
+    on_item (plan.Post write) rest e l q =
+        (λ f. goes_suits c rest q.1, λ f. on _ (λ b g. cc) (tt, (tt, (tt, q))))
+    on_item plan.Turn rest e l q = (λ f. goes_suits c rest q.1, λ f. parks)
+    on_item plan.Apply rest e l q = (λ f. goes_suits c rest q.1, λ x xs f. on _ (λ b g. cc) q)
+    on_item plan.End rest e l q = goes_suits c rest q.1
+    on_item (plan.Get aim key) rest e l q = (
+      (λ more. on _ (λ b g. cc) p),
+      (λ none. misses_suit c aim q.0),
+      λ k stored some. finds_suit c aim k stored q.0,
+    )
+    on_item (plan.Judge aim key stored) rest e l q =
+        ((λ seen. hits_suit c aim stored.value q.0 p), λ unseen. misses_suit c aim q.0)
+    on_item (plan.Own sought) rest e l q = (
+      λ able none. on _ (λ b g. cc) (q.0, tt),
+      λ disabled none. on _ (λ b g. cc) (q.0, tt),
+      λ owner some. on _ (λ b g. cc) (q.0, tt),
+    )
+    on_item (plan.Read sought) rest e l q = (
+      λ none. parks,
+      λ with some. read_suits c sought with q.0
+          (ends sought with (e ∙ ap (λ r. plan.Read sought ∷ r) l) some) p,
+    )
+    on_item (plan.Settle with) rest e l q = goes_suits c rest q.1
+    on_item (plan.Ask load) rest e l q = on _ (λ b g. cc) (q.0, tt)
+    on_item (plan.Told load) rest e l q = (
+      λ none. parks,
+      λ given some. told_suits c load given q.0
+          (takes load given (e ∙ ap (λ r. plan.Told load ∷ r) l) some),
+    )
+    on_item (plan.Holds key stamp cause there stored) rest e l q =
+        (λ leaves. on _ (λ b g. cc) (q.0, tt), λ stays. keeps_suit c q.0.1)
+    on_item (plan.Moment (plan.To_store key value)) rest e l q = on _ (λ b g. cc) (tt, q.1)
+    on_item (plan.Moment (plan.To_take_out removal key)) rest e l q = on _ (λ b g. cc) q
+    on_item (plan.Write key value moment) rest e l q = (
+      (λ more. on _ (λ b g. cc) p),
+      (λ off old. on _ (λ b g. cc) (tt, q.1)),
+      (λ is_on. on _ (λ b g. cc) (tt, (tt, q.1))),
+      λ k old is_on some. on _ (λ b g. cc) (tt, (tt, (tt, q.1))),
+    )
+    on_item (plan.Out removal key) rest e l q = (
+      (λ more. on _ (λ b g. cc) p),
+      (λ off none. on _ (λ b g. cc) (tt, (q.0.1, tt))),
+      (λ is_on none. on _ (λ b g. cc) (tt, (q.0.1, tt))),
+      (λ k old off some. on _ (λ b g. cc) (tt, (q.0.0 old.value, tt))),
+      λ k old is_on some. on _ (λ b g. cc) (tt, (tt, (tt, (q.0.0 old.value, tt)))),
+    )
+    on_item plan.Idle rest e l q = goes_suits c rest q.1
+    on_item (plan.Reply a) rest e l q = answers_so a _ refl refl q.0
+
+    on_plan : (q : List (Item K V E)) → c.plan ≡ q → IsLast q → AllSuit q → OnStep eq After w n c q
+    on_plan [] e l q = parks
+    on_plan (item ∷ rest) e l q = outcomes eq After w n c item rest (on_item item rest e l q)
+
+-- ---- as a call is started
+
+module _ {K V : Type 0} (E : Type 0) where
+  load_suits : (begin : Start K V) (b : Bool) (sought : Sought K) → kind_of begin ≡ Some sought.load.kind →
+      AllSuit {E = E} begin (load_plan b sought)
+  load_suits begin true sought s = (tt, (s, tt))
+  load_suits begin false sought s = (tt, (s, tt))
+
+  -- what a removal is started for it may answer
+  out_suits : (begin : Start K V) (rules : Rules) (removal : Removal) (key : K) →
+      SuitsRemoval E begin removal → AllSuit {E = E} begin (take_out rules removal key)
+  out_suits begin rules removal key s = by rules.listener
+    where
+      by : (b : Bool) → AllSuit {E = E} begin
+          (plan.Drain ∷ under_lock b key (plan.Moment (plan.To_take_out removal key) ∷ []))
+      by true = (tt, (tt, (s, tt)))
+      by false = (tt, (s, tt))
+
+  fresh_suits : (rules : Rules) (begin : Start K V) → AllSuit {E = E} begin (plan_of rules begin)
+  fresh_suits rules (start.Get key) = by (is_disabled rules)
+    where
+      by : (b : Bool) → AllSuit {V = V} {E = E} (start.Get key) (get_plan b key)
+      by true = (refl, tt)
+      by false = (tt, (λ value. refl, tt))
+  fresh_suits rules (start.Insert key value) = by (is_disabled rules)
+    where
+      by : (b : Bool) → AllSuit {E = E} (start.Insert key value) (insert_plan b rules key value)
+      by true = (refl, tt)
+      by false = put_plans (AllSuit {E = E} (start.Insert key value)) rules key value
+          (plan.Reply answer.Done ∷ []) (tt, (tt, (refl, tt))) (tt, (tt, (tt, (refl, tt))))
+  fresh_suits rules (start.GetWith key replace) =
+      load_suits (start.GetWith key replace) (is_disabled rules) (seek kind.GetWith key replace) refl
+  fresh_suits rules (start.Optional key) =
+      load_suits (start.Optional key) (is_disabled rules) (seek kind.Optional key None) refl
+  fresh_suits rules (start.Try key) =
+      load_suits (start.Try key) (is_disabled rules) (seek kind.Try key None) refl
+  fresh_suits rules (start.OrInsert key value) = by (is_disabled rules)
+    where
+      by : (b : Bool) → AllSuit {E = E} (start.OrInsert key value) (or_insert_plan b key value)
+      by true = (tt, (refl, tt))
+      by false = (tt, (λ v fresh. refl, tt))
+  fresh_suits rules (start.Invalidate key) =
+      out_suits (start.Invalidate key) rules plan.To_invalidate key (λ value. refl, refl)
+  fresh_suits rules (start.Remove key) =
+      out_suits (start.Remove key) rules plan.To_remove key (λ value. refl, refl)
+  fresh_suits rules (start.Evict key stamp cause) = by rules.listener
+    where
+      by : (b : Bool) → AllSuit {V = V} {E = E} (start.Evict key stamp cause)
+          (under_lock b key (plan.Get (plan.To_evict key stamp cause) key ∷ []))
+      by true = (tt, ((λ value. refl, refl), tt))
+      by false = ((λ value. refl, refl), tt)
+
+-- ---- of a state
+
+module _ {K V E : Type 0} (eq : K → K → Bool) (begin : Start K V) (n : ℕ) where
+  -- the call of this number goes on as what it was started for may
+  record IsSuiting (s : State K V E) : Type 0 where
+    reached : IsReached eq s
+    born : n ≤ s.world.desk.last
+    suits : (c : Call K V E) → s.calls n ≡ Some c → AllSuit begin c.plan
+
+  -- what its own step leaves, and answers
+  own_step : (s t : State K V E) (reply : Turn K V E) → IsSuiting s → Step eq s n reply t →
+      ((c : Call K V E) → t.calls n ≡ Some c → AllSuit begin c.plan) ×
+      ((a : Answer V E) → reply ≡ turn.Answer a → May {E = E} begin a)
+  own_step s t reply i step =
+      let c : Call K V E = step.call in
+      let well = in_well eq s i.reached in
+      let last : IsLast c.plan = subst (λ v. IsLast (plan_left v)) step.live (well.served.fits n).last in
+      step_cases eq (λ new next. Leaves begin next)
+      (λ v r. ((c : Call K V E) → v.calls n ≡ Some c → AllSuit begin c.plan) ×
+      ((a : Answer V E) → r ≡ turn.Answer a → May {E = E} begin a)) s t n reply step
+      (on_plan begin eq s.world n c (i.suits c step.live)
+      (λ load given e some.
+      let fits = (subst (AllFit _ _ _) e (well.fitting.fit n c step.live)).0 in
+      subst (ToldFits load.kind) some fits.2)
+      (λ sought with e some. settlements_fit eq s n c with i.reached step.live
+      (record { sought = sought; reading = e; ended = some }))
+      c.plan refl last (i.suits c step.live))
+      (λ w next l. (
+        λ d live. subst (λ v. AllSuit begin (plan_left v))
+            (sym (put_here s.calls n next.left) ∙ live) l.suits,
+        l.now,
+      ))
+
+  suiting_step : (s t : State K V E) (m : ℕ) (reply : Turn K V E) → Leads eq s t → IsSuiting s →
+      Step eq s m reply t → IsSuiting t
+  suiting_step s t m reply led i step = record {
+    reached = run_reached eq s t led.events led.replies i.reached led.run;
+    born = omega (arith, i.born, step_last eq s t m reply step);
+    suits = by (m == n) refl;
+  }
+    where
+      by : (b : Bool) → (m == n) ≡ b → (c : Call K V E) → t.calls n ≡ Some c → AllSuit begin c.plan
+      by true e = (own_step s t reply i (subst (λ v. Step eq s v reply t) (eqb-true m n e) step)).0
+      by false e = λ c live. i.suits c (sym (step_calls eq s t m n reply e step) ∙ live)
+
+  suiting_followed : IsFollowed eq IsSuiting
+  suiting_followed = record {
+    at = λ s moment led i. record {
+      reached = run_reached eq s _ led.events led.replies i.reached led.run;
+      born = i.born;
+      suits = i.suits;
+    };
+    start = λ s other fits led i. record {
+      reached = run_reached eq s _ led.events led.replies i.reached led.run;
+      born = omega (arith, i.born);
+      suits = λ c live. i.suits c
+          (sym (put_there s.calls (s.world.desk.last + 1) _ n
+          (differ (s.world.desk.last + 1) n (λ e. omega (arith, i.born, e)))) ∙ live);
+    };
+    step = suiting_step;
+    tell = λ s m given asked led i. record {
+      reached = run_reached eq s _ led.events led.replies i.reached led.run;
+      born = i.born;
+      suits = i.suits;
+    };
+    hear = λ s m off running led i. record {
+      reached = run_reached eq s _ led.events led.replies i.reached led.run;
+      born = i.born;
+      suits = i.suits;
+    };
+    drop = λ s m c live between led i. record {
+      reached = run_reached eq s _ led.events led.replies i.reached led.run;
+      born = i.born;
+      suits = λ d lives. put_cases s.calls m None n (Some d) (AllSuit begin d.plan) lives
+          (λ here is. absurd (none_some is)) (λ there is. i.suits d is);
+    };
+  }
+
+module _ {K V E : Type 0} (eq : K → K → Bool) where
+  pub answers_fit : AnswersFit K V E eq
+  answers_fit s t begin n a w step =
+      let so = begins_so eq begin n s w in
+      let i : IsSuiting eq begin n s = follow_start eq begin n s w (IsSuiting eq begin n)
+      (suiting_followed eq begin n) (first so.0) in
+      (own_step eq begin n s t (turn.Answer a) i step).1 a refl
+    where
+      rules : Rules
+      rules = w.before.world.desk.rules
+
+      first : n ≡ w.before.world.desk.last + 1 → IsSuiting eq begin n (started w.before begin)
+      first is = record {
+        reached = subst (IsReached eq) (begins_so eq begin n s w).1
+            (event_reached eq w.before w.begun (event.Start begin) (reply.Call n) w.reached w.begins);
+        born = omega (arith, is);
+        suits = λ c live.
+            let same : fresh_call rules begin ≡ c = some_same
+            (sym (put_here w.before.calls (w.before.world.desk.last + 1) _) ∙
+            ap (λ m. (started w.before begin).calls m) (sym is) ∙ live) in
+            subst (λ (d : Call K V E). AllSuit begin d.plan) same (fresh_suits E rules begin);
+      }

@@ -1,0 +1,246 @@
+-- Loads that fail, find nothing or load again: what an owner and those that wait for it answer.
+use Rattle.std.specs.Prelude.{◌≡◌, ◌≤◌, ◌↔◌, ◌⊎◌, ℕ, ◌+◌, Bool, true, false, cond, ◌&&◌, List, [], ◌∷◌, Option, Some, None, is_some}
+use Rattle.std.specs.Option.{option_map_or}
+use Rattle.moka_hist.specs.State.{Call, State}
+use Rattle.moka_hist.specs.Conditions.{may_end}
+use Rattle.moka_hist.specs.Loading.{retries}
+use Rattle.moka_hist.specs.Plan.{Item, end_load, look, is_disabled}
+use Rattle.moka_hist.specs.Plan as plan
+use Rattle.moka_hist.specs.Visits.{is_seen, settlement_for}
+use Rattle.moka_hist.specs.Step.{Step, replace_of}
+use Rattle.moka_hist.specs.Run.{Happens, Any, IsReached}
+use Rattle.moka_hist.specs.declared.accesses.Turn.{Turn}
+use Rattle.moka_hist.specs.declared.accesses.Turn.TheVariants as turn
+use Rattle.moka_hist.specs.declared.events.Event.TheVariants as event
+use Rattle.moka_hist.specs.declared.events.Start.{Start}
+use Rattle.moka_hist.specs.declared.events.Start.TheVariants as start
+use Rattle.moka_hist.specs.declared.events.Told.{Told}
+use Rattle.moka_hist.specs.declared.events.Told.TheVariants as told
+use Rattle.moka_hist.specs.declared.loads.Load.{Load}
+use Rattle.moka_hist.specs.declared.loads.Sought.{Sought}
+use Rattle.moka_hist.specs.declared.records.Stored.{Stored}
+use Rattle.moka_hist.specs.declared.replies.Ask.TheVariants as ask
+use Rattle.moka_hist.specs.declared.replies.Answer.{Answer}
+use Rattle.moka_hist.specs.declared.replies.Answer.TheVariants as answer
+use Rattle.moka_hist.specs.declared.replies.Reply.TheVariants as reply
+use Rattle.moka_hist.specs.declared.visits.Settled.{Settled}
+use Rattle.moka_hist.specs.declared.visits.Settled.TheVariants as settled
+use Rattle.moka_laws.specs.Starting.{Leads, Way, WasStarted}
+
+-- what is answered where an owner ended its load so: the value, the error, or that there is none;
+-- the value as `fresh` by the owner whose own initializer gave it
+abbrev pub said_of : {V E : Type 0} → Settled V E → Bool → Option (Answer V E)
+said_of settled.NotYet fresh = None
+said_of (settled.Ready value) fresh = Some (answer.Loaded value fresh)
+said_of (settled.Err error) fresh = Some (answer.InitErr error)
+said_of settled.Nothing fresh = Some answer.Nothing
+said_of settled.Aborted fresh = None
+
+-- the reply answers what a load came to that ended so
+pub record Says {K V E : Type 0} (with : Settled V E) (reply : Turn K V E) : Type 0 where
+  pub fresh : Bool
+  pub answer : Answer V E
+  pub said : said_of with fresh ≡ Some answer
+  pub answers : reply ≡ turn.Answer answer
+
+-- an owner answers what it settles, with the step by which it does: it ends its load with a value,
+-- with an error, or with nothing
+abbrev pub OwnersAnswerSettled : (K V E : Type 0) → (K → K → Bool) → Type 0
+OwnersAnswerSettled K V E eq =
+    (s t : State K V E) (n : ℕ) (c : Call K V E) (with : Settled V E) (rest : List (Item K V E))
+    (reply : Turn K V E) →
+    IsReached eq s → s.calls n ≡ Some c → c.plan ≡ plan.Settle with ∷ rest → Step eq s n reply t →
+    Says with reply
+
+-- ---- what an answer comes from
+
+module _ {K V E : Type 0} where
+  -- The live call waits for an owner that has ended so, which it reads with its next step.
+  pub record Reads (s : State K V E) (n : ℕ) (c : Call K V E) (with : Settled V E) : Type 0 where
+    pub sought : Sought K
+    pub reading : c.plan ≡ plan.Read sought ∷ []
+    pub ended : settlement_for s.world.desk n ≡ Some with
+
+  -- The live call takes this answer to its own ask with its next step.
+  pub record TakesTold (s : State K V E) (n : ℕ) (c : Call K V E) (given : Told V E) : Type 0 where
+    pub load : Load K
+    pub telling : c.plan ≡ plan.Told load ∷ []
+    pub told : s.world.desk.told n ≡ Some given
+
+-- what an initializer was told to have given, where a load ended so without a value
+abbrev pub told_as : {V E : Type 0} → Settled V E → Option (Told V E)
+told_as settled.NotYet = None
+told_as (settled.Ready value) = None
+told_as (settled.Err error) = Some (told.Err error)
+told_as settled.Nothing = Some told.Nothing
+told_as settled.Aborted = None
+
+-- a step answers nothing exactly where the call's owner has ended its load so, or the call ends its
+-- own so
+abbrev pub NothingByCause : (K V E : Type 0) → (K → K → Bool) → Type 0
+NothingByCause K V E eq =
+    (s t : State K V E) (n : ℕ) (c : Call K V E) (reply : Turn K V E) →
+    IsReached eq s → s.calls n ≡ Some c → Step eq s n reply t →
+    (reply ≡ turn.Answer answer.Nothing) ↔
+    (Reads s n c settled.Nothing ⊎ (c.plan ≡ end_load settled.Nothing answer.Nothing))
+
+-- and an error exactly where the owner has ended its load with that, or the call ends its own with
+-- it
+abbrev pub ErrorByCause : (K V E : Type 0) → (K → K → Bool) → Type 0
+ErrorByCause K V E eq =
+    (s t : State K V E) (n : ℕ) (c : Call K V E) (error : E) (reply : Turn K V E) →
+    IsReached eq s → s.calls n ≡ Some c → Step eq s n reply t →
+    (reply ≡ turn.Answer (answer.InitErr error)) ↔
+    (Reads s n c (settled.Err error) ⊎
+    (c.plan ≡ end_load (settled.Err error) (answer.InitErr error)))
+
+-- a step answers that the call gave up exactly where it reads that its owner was dropped, and has
+-- read that 199 times before
+abbrev pub ExhaustedAtLast : (K V E : Type 0) → (K → K → Bool) → Type 0
+ExhaustedAtLast K V E eq =
+    (s t : State K V E) (n : ℕ) (c : Call K V E) (reply : Turn K V E) →
+    IsReached eq s → s.calls n ≡ Some c → Step eq s n reply t →
+    (reply ≡ turn.Answer answer.RetriesExhausted) ↔
+    (Reads s n c settled.Aborted × (c.aborts + 1 ≡ retries))
+
+-- ---- where a call comes from
+
+-- The last step that made the call of this number what it is, on the way to this state, and why
+-- that step did.
+pub record CameBy {K V E : Type 0} (eq : K → K → Bool) (s : State K V E) (n : ℕ) (c : Call K V E)
+    (Cause : State K V E → Call K V E → Type 0) : Type 0 where
+  pub before : State K V E
+  pub reached : IsReached eq before
+  pub call : Call K V E
+  pub live : before.calls n ≡ Some call
+  pub cause : Cause before call
+  pub after : State K V E
+  pub turn : Turn K V E
+  pub step : Step eq before n turn after
+  pub left : after.calls n ≡ Some c
+  pub led : Leads eq after s
+
+-- in every reached state a call that is to end its own load with nothing or an error came to that
+-- by the step that took it as the answer to its own ask
+abbrev pub OwnEndsAreTold : (K V E : Type 0) → (K → K → Bool) → Type 0
+OwnEndsAreTold K V E eq =
+    (s : State K V E) (n : ℕ) (c : Call K V E) (with : Settled V E) (said : Answer V E)
+    (given : Told V E) →
+    IsReached eq s → s.calls n ≡ Some c → told_as with ≡ Some given → c.plan ≡ end_load with said →
+    CameBy eq s n c (λ u b. TakesTold u n b given)
+
+module _ {K V E : Type 0} where
+  -- the call looks up, as the owner of its load, and sees nothing: nothing is there, or its replace
+  -- test holds on what is
+  abbrev pub LooksInVain : State K V E → Call K V E → Sought K → Type 0
+  LooksInVain s c sought =
+      ((c.plan ≡ look (plan.To_own sought) sought.load.key) ×
+      (s.world.table.stored sought.load.key ≡ None)) ⊎
+      ((key : K) × (stored : Stored V) ×
+      (c.plan ≡ plan.Judge (plan.To_own sought) key stored ∷ []) ×
+      (is_seen s.world.desk sought.replace key stored ≡ false))
+
+  -- The call is to ask what the load gives once it has made this step: as its owner it has looked
+  -- again in vain, or the cache is disabled and it has become the owner.
+  pub record IsToAsk (s : State K V E) (c : Call K V E) (load : Load K) : Type 0 where
+    pub sought : Sought K
+    pub seeks : sought.load ≡ load
+    pub why : LooksInVain s c sought ⊎
+        ((is_disabled c.rules ≡ true) × (c.plan ≡ plan.Own sought ∷ []) ×
+        (s.world.desk.owners load ≡ None))
+
+-- The live call opens the initializer of a load as the owner of that, right after it has looked
+-- again in vain, unless the cache is disabled.
+pub record OpensAsOwner {K V E : Type 0} (eq : K → K → Bool) (s : State K V E) (n : ℕ)
+    (c : Call K V E) : Type 0 where
+  pub load : Load K
+  pub asking : c.plan ≡ plan.Ask load ∷ []
+  pub owner : s.world.desk.owners load ≡ Some n
+  pub came : CameBy eq s n c (λ u b. IsToAsk u b load)
+
+-- an initializer is opened by the owner of its load alone
+abbrev pub OpenedByOwners : (K V E : Type 0) → (K → K → Bool) → Type 0
+OpenedByOwners K V E eq =
+    (s t : State K V E) (n : ℕ) (c : Call K V E) →
+    IsReached eq s → s.calls n ≡ Some c → Step eq s n (turn.Ask ask.Init) t → OpensAsOwner eq s n c
+
+-- ---- how often
+
+-- how an owner ended that was dropped
+abbrev pub is_aborted : {V E : Type 0} → Settled V E → Bool
+is_aborted settled.NotYet = false
+is_aborted (settled.Ready value) = false
+is_aborted (settled.Err error) = false
+is_aborted settled.Nothing = false
+is_aborted settled.Aborted = true
+
+module _ {K V E : Type 0} where
+  -- the plan reads first how its owner ended
+  abbrev pub is_reading : List (Item K V E) → Bool
+  is_reading (plan.Read sought ∷ rest) = true
+  is_reading _ = false
+
+  -- 1 where the call of this number reads with its next step that its owner was dropped
+  abbrev pub reads_aborted : ℕ → State K V E → Call K V E → ℕ
+  reads_aborted n s c =
+      cond (is_reading c.plan && option_map_or is_aborted (settlement_for s.world.desk n) false) 1 0
+
+  -- 1 where the plan asks its replace test first: where it has one, and judges a record
+  abbrev pub test_asked : List (Item K V E) → ℕ
+  test_asked (plan.Judge aim key stored ∷ rest) = cond (is_some (replace_of aim)) 1 0
+  test_asked _ = 0
+
+  -- 1 where the call asks its replace test with its next step
+  abbrev pub asks_test : State K V E → Call K V E → ℕ
+  asks_test s c = test_asked c.plan
+
+-- a live call's `aborts` is how often it has read that its owner was dropped, since it was started
+abbrev pub AbortsAreCounted : (K V E : Type 0) → (K → K → Bool) → Type 0
+AbortsAreCounted K V E eq =
+    (s begun t : State K V E) (start : Start K V) (n k : ℕ) (c : Call K V E) →
+    IsReached eq s → Happens eq Any s (event.Start start) (reply.Call n) begun →
+    Way eq n (reads_aborted n) k begun t → t.calls n ≡ Some c → c.aborts ≡ k
+
+-- over all its steps a call asks its replace test at most twice
+abbrev pub TestsAreTwo : (K V E : Type 0) → (K → K → Bool) → Type 0
+TestsAreTwo K V E eq =
+    (s begun t : State K V E) (start : Start K V) (n k : ℕ) →
+    IsReached eq s → Happens eq Any s (event.Start start) (reply.Call n) begun →
+    Way eq n asks_test k begun t → k ≤ 2
+
+-- ---- what fits a kind
+
+-- how an owner ended that a call reads on a reached state is how an owner of the load's kind may
+-- end: of a `get_with` neither with nothing nor with an error, of an `optional` with no error, and
+-- of a `try` not with nothing
+abbrev pub SettlementsFit : (K V E : Type 0) → (K → K → Bool) → Type 0
+SettlementsFit K V E eq =
+    (s : State K V E) (n : ℕ) (c : Call K V E) (with : Settled V E) →
+    IsReached eq s → s.calls n ≡ Some c → (r : Reads s n c with) →
+    may_end r.sought.load.kind with ≡ true
+
+-- a call that was started for this may answer so
+abbrev pub may_answer : {K V E : Type 0} → Start K V → Answer V E → Bool
+may_answer (start.Get key) (answer.Found value) = true
+may_answer (start.Insert key value) answer.Done = true
+may_answer (start.GetWith key replace) (answer.Loaded value fresh) = true
+may_answer (start.GetWith key replace) answer.RetriesExhausted = true
+may_answer (start.Optional key) (answer.Loaded value fresh) = true
+may_answer (start.Optional key) answer.Nothing = true
+may_answer (start.Optional key) answer.RetriesExhausted = true
+may_answer (start.Try key) (answer.Loaded value fresh) = true
+may_answer (start.Try key) (answer.InitErr error) = true
+may_answer (start.Try key) answer.RetriesExhausted = true
+may_answer (start.OrInsert key own) (answer.Loaded value fresh) = true
+may_answer (start.Invalidate key) answer.Done = true
+may_answer (start.Remove key) (answer.Found value) = true
+may_answer (start.Evict key stamp cause) answer.Evicted = true
+may_answer (start.Evict key stamp cause) answer.Kept = true
+may_answer _ _ = false
+
+-- a call answers as what it was started for may: a `get_with` neither nothing nor an error, an
+-- `optional` no error, a `try` not nothing
+abbrev pub AnswersFit : (K V E : Type 0) → (K → K → Bool) → Type 0
+AnswersFit K V E eq =
+    (s t : State K V E) (start : Start K V) (n : ℕ) (a : Answer V E) → WasStarted eq start n s →
+    Step eq s n (turn.Answer a) t → may_answer start a ≡ true
