@@ -1,5 +1,5 @@
 -- How many keys a segment is said to have.
-use Rattle.std.specs.Prelude.{◌≡◌, ℕ, ◌+◌, ◌<◌, nat_eq, length, None, if◌then◌else◌}
+use Rattle.std.specs.Prelude.{◌≡◌, ℕ, ◌+◌, ◌-◌, ◌^◌, ◌<◌, min, nat_eq, length, None, if◌then◌else◌}
 use Rattle.std.specs.Option.{option_to_list}
 use Rattle.moka_words.specs.declared.words.Word.{Word}
 use Rattle.moka_words.specs.declared.words.Word.TheVariants.{Unset, Empty, Live, Tomb, SealedEmpty, SealedLive, SealedTomb}
@@ -11,15 +11,16 @@ use Rattle.moka_words.specs.Words.{stored_in}
 use Rattle.moka_words.specs.Effect.{Memory}
 use Rattle.moka_growth.specs.Maps.{present_nodes}
 
--- a tombstone that an exchange makes
-abbrev pub tombstones_in : Word → ℕ
-tombstones_in Unset = 0
-tombstones_in Empty = 0
-tombstones_in (Live n) = 0
-tombstones_in (Tomb n) = 1
-tombstones_in SealedEmpty = 0
-tombstones_in (SealedLive n) = 0
-tombstones_in (SealedTomb n) = 0
+-- the count of an array's tombstones once this word was put there: one more for a tombstone, and it
+-- stops at the greatest number of 64 bits
+abbrev pub tombstones_after : (count : ℕ) → Word → ℕ
+tombstones_after count Unset = count
+tombstones_after count Empty = count
+tombstones_after count (Live n) = count
+tombstones_after count (Tomb n) = min (count + 1) (2 ^ 64 - 1)
+tombstones_after count SealedEmpty = count
+tombstones_after count (SealedLive n) = count
+tombstones_after count (SealedTomb n) = count
 
 -- what an access makes of the counts: an exchange counts the key that it stores or removes, and the
 -- tombstone that it makes; nothing takes a tombstone away
@@ -28,7 +29,7 @@ Recounts (access.Exchange array index from to) (seen.Exchanged None) old new =
     (new.len + length (option_to_list (stored_in from)) ≡
     old.len + length (option_to_list (stored_in to)))
     × ((a : ℕ) → new.tombstones a ≡
-    old.tombstones a + (if nat_eq a array then tombstones_in to else 0))
+    (if nat_eq a array then tombstones_after (old.tombstones a) to else old.tombstones a))
 Recounts (access.Link array asked) (seen.Linked next size) old new =
     (new.len ≡ old.len) × ((a : ℕ) → a < old.fresh → new.tombstones a ≡ old.tombstones a)
     × (new.fresh ≡ old.fresh + 1 → new.tombstones old.fresh ≡ 0)

@@ -1,0 +1,288 @@
+//! Operations of all kinds that run at once, beside std's map.
+
+ghost use Rattle.std.specs.Prelude.{OnOk};
+
+use crate::hashers::BuildZero;
+use moka_buckets::BucketTable;
+use moka_hist::{Stored, TableAnswer, TableOp, TableTurn};
+use moka_table::Table;
+use std::alloc::AllocError;
+use std::collections::HashMap;
+use std::hash::{BuildHasherDefault, FoldHasher};
+use std::test::Fail;
+
+/// The value and the stamp of each key.
+type Map = HashMap<u64, (u64, u64)>;
+
+// An operation, and what it has answered.
+type Done = (TableOp<u64, u64>, TableAnswer<u64, u64>);
+
+// An operation under way, and the number that it was made from.
+#[derive(Drop)]
+struct Running<C> {
+    call: C,
+    seed: u64,
+}
+
+// Makes so many steps, of three operations in a random order; each that has decided is followed by
+// another one. Gives the first step after which answer or count isn't the map's.
+fn run_at_random<C: Drop, T: Table<u64, u64, Call = C> + Drop>(
+    table: &mut T,
+    map: &mut Map,
+    keys: u64,
+    turns: u32,
+) -> Result<Option<u32>, AllocError> {
+    let mut seed = 1;
+    let mut first = begin(table, 11, keys);
+    let mut second = begin(table, 12, keys);
+    let mut third = begin(table, 13, keys);
+    for turn in 0..turns {
+        seed = after(seed);
+        let which = (seed >> 40) % 3;
+        let done = go_three(
+            table,
+            &mut first,
+            &mut second,
+            &mut third,
+            which,
+            seed,
+            keys,
+        )?;
+        if !are_alike(map, done)? || table.len() != map.len() {
+            return Ok(Some(turn));
+        }
+    }
+    Ok(None)
+}
+
+// Makes twelve steps of two operations in the order of the bits and then some in turn, until four
+// operations have decided. Tells whether they have, with each answer and each count the map's.
+fn run_in_order<C: Drop, T: Table<u64, u64, Call = C> + Drop>(
+    table: &mut T,
+    map: &mut Map,
+    seeds: (u64, u64),
+    order: u32,
+) -> Result<bool, AllocError> {
+    let mut first = begin(table, seeds.0, 2);
+    let mut second = begin(table, seeds.1, 2);
+    let mut decided: u32 = 0;
+    for turn in 0..1_000u32 {
+        let bit = if turn < 12 {
+            (order >> turn) & 1
+        } else {
+            turn & 1
+        };
+        let next = if bit == 0 { seeds.1 } else { seeds.0 };
+        let done = go_two(table, &mut first, &mut second, bit == 0, next, 2)?;
+        decided = decided.wrapping_add(u32::from(done.is_some()));
+        if !are_alike(map, done)? || table.len() != map.len() {
+            return Ok(false);
+        }
+        if decided == 4 {
+            return Ok(true);
+        }
+    }
+    Ok(false)
+}
+
+fn begin<C: Drop, T: Table<u64, u64, Call = C> + Drop>(
+    table: &T,
+    seed: u64,
+    keys: u64,
+) -> Running<C>
+    ensures { T.fits table.now result.call }
+{
+    Running {
+        call: table.begin(operation(seed, keys)),
+        seed,
+    }
+}
+
+// Makes one step of the operation. Once it has decided another one takes its place.
+fn go<C: Drop, T: Table<u64, u64, Call = C> + Drop>(
+    table: &mut T,
+    one: &mut Running<C>,
+    next: u64,
+    keys: u64,
+) -> Result<Option<Done>, AllocError>
+    requires fits { T.fits table.old one.old.call }
+    ensures fits { OnOk result (T.fits table.new one.new.call) }
+    ensures others { (other : C) → T.fits table.old other → T.fits table.new other }
+{
+    match table.step(&mut one.call)? {
+        TableTurn::Going => Ok(None),
+        TableTurn::Decided(answer) => {
+            let seed = one.seed;
+            *one = begin(table, next, keys);
+            Ok(Some((operation(seed, keys), answer)))
+        }
+    }
+}
+
+// Makes one step of one of the two.
+fn go_two<C: Drop, T: Table<u64, u64, Call = C> + Drop>(
+    table: &mut T,
+    first: &mut Running<C>,
+    second: &mut Running<C>,
+    of_first: bool,
+    next: u64,
+    keys: u64,
+) -> Result<Option<Done>, AllocError>
+    requires first { T.fits table.old first.old.call }
+    requires second { T.fits table.old second.old.call }
+    ensures first { OnOk result (T.fits table.new first.new.call) }
+    ensures second { OnOk result (T.fits table.new second.new.call) }
+    ensures others { (other : C) → T.fits table.old other → T.fits table.new other }
+{
+    if of_first {
+        go(table, first, next, keys)
+    } else {
+        go(table, second, next, keys)
+    }
+}
+
+// Makes one step of one of the three.
+fn go_three<C: Drop, T: Table<u64, u64, Call = C> + Drop>(
+    table: &mut T,
+    first: &mut Running<C>,
+    second: &mut Running<C>,
+    third: &mut Running<C>,
+    which: u64,
+    next: u64,
+    keys: u64,
+) -> Result<Option<Done>, AllocError>
+    requires first { T.fits table.old first.old.call }
+    requires second { T.fits table.old second.old.call }
+    requires third { T.fits table.old third.old.call }
+    ensures first { OnOk result (T.fits table.new first.new.call) }
+    ensures second { OnOk result (T.fits table.new second.new.call) }
+    ensures third { OnOk result (T.fits table.new third.new.call) }
+{
+    if which == 0 {
+        go(table, first, next, keys)
+    } else {
+        go_two(table, second, third, which == 1, next, keys)
+    }
+}
+
+// Tells whether what is done, if anything is, was answered as by the map, which is changed with it.
+fn are_alike(map: &mut Map, done: Option<Done>) -> Result<bool, AllocError> {
+    match done {
+        None => Ok(true),
+        Some((operation, answer)) => answers(map, &operation, &answer),
+    }
+}
+
+// Makes the operation on the map. Tells whether the answer is the map's.
+fn answers(
+    map: &mut Map,
+    operation: &TableOp<u64, u64>,
+    answer: &TableAnswer<u64, u64>,
+) -> Result<bool, AllocError> {
+    match operation {
+        TableOp::Get { key } => Ok(is_pair(answer, *key, map.get(key).copied())),
+        TableOp::InsertOrModify { key, stored } => {
+            let right = is_pair(answer, *key, map.get(key).copied());
+            let _ = map.insert(*key, (stored.value, stored.stamp))?;
+            Ok(right)
+        }
+        TableOp::InsertIfAbsent { key, stored } => {
+            let there = map.get(key).copied();
+            if there.is_none() {
+                let _ = map.insert(*key, (stored.value, stored.stamp))?;
+            }
+            Ok(is_pair(answer, *key, there))
+        }
+        TableOp::RemoveIf { key, stamp } => {
+            let out = taken(map.get(key).copied(), *stamp);
+            if out.is_some() {
+                let _ = map.remove(key);
+            }
+            Ok(is_pair(answer, *key, out))
+        }
+    }
+}
+
+// The value and the stamp, where that is the one asked for.
+fn taken(there: Option<(u64, u64)>, stamp: Option<u64>) -> Option<(u64, u64)> {
+    match (there, stamp) {
+        (Some(pair), Some(stamp)) => { if pair.1 == stamp { Some(pair) } else { None } }
+        (there, _) => there,
+    }
+}
+
+fn is_pair(answer: &TableAnswer<u64, u64>, key: u64, pair: Option<(u64, u64)>) -> bool {
+    match answer {
+        TableAnswer::None => pair.is_none(),
+        TableAnswer::Some { key: of, stored } => {
+            *of == key && pair == Some((stored.value, stored.stamp))
+        }
+    }
+}
+
+// A pseudo-random number, by a linear congruence.
+fn after(seed: u64) -> u64 {
+    seed.wrapping_mul(6364136223846793005)
+        .wrapping_add(1442695040888963407)
+}
+
+// An operation of any kind, by the highest three bits, under one of so many keys; stamps are 0 to 2.
+fn operation(seed: u64, keys: u64) -> TableOp<u64, u64> {
+    let key = if keys == 0 { 0 } else { (seed >> 33) % keys };
+    let stored = Stored {
+        value: seed,
+        stamp: (seed >> 12) % 3,
+        modified: 2,
+    };
+    match (seed >> 61) % 8 {
+        0 => TableOp::Get { key },
+        1 => TableOp::InsertIfAbsent { key, stored },
+        2 => TableOp::RemoveIf { key, stamp: None },
+        3 => TableOp::RemoveIf {
+            key,
+            stamp: Some((seed >> 20) % 3),
+        },
+        _ => TableOp::InsertOrModify { key, stored },
+    }
+}
+
+#[test]
+fn operations_at_random_answer_as_the_map_of_std(rt: HostRuntime) -> Result<(), Fail> {
+    let cases = [(1u64, 1, 0), (3, 4, 2), (40, 1, 8), (40, 2, 8), (400, 3, 0)];
+    for (keys, segments, capacity) in cases {
+        let mut table: BucketTable<u64, u64, BuildHasherDefault<FoldHasher>> =
+            BucketTable::with_segments(rt.alloc(), segments, capacity, BuildHasherDefault::new())?;
+        let mut map = HashMap::new(rt.alloc());
+        assert_eq!(rt;
+            run_at_random(&mut table, &mut map, keys, 20_000)?,
+            None,
+            "{keys} keys, {segments} segments, a capacity of {capacity}"
+        );
+        assert_eq!(rt; table.pairs(rt.alloc())?.len(), map.len());
+    }
+    Ok(())
+}
+
+// No first array, and ones of two and of four words; keys of one hash.
+#[test]
+fn two_operations_in_each_order_answer_as_the_map_of_std(rt: HostRuntime) -> Result<(), Fail> {
+    for capacity in [0usize, 1, 2] {
+        for kinds in 0..25u64 {
+            let seeds = (((kinds % 5) << 61) | 7, ((kinds / 5) << 61) | (1 << 33) | 9);
+            for order in 0..16u32 {
+                let mut table: BucketTable<u64, u64, BuildZero> = BucketTable::with_segments(
+                    rt.alloc(),
+                    1,
+                    capacity,
+                    BuildZero {},
+                )?;
+                let mut map = HashMap::new(rt.alloc());
+                assert!(rt;
+                    run_in_order(&mut table, &mut map, seeds, order.wrapping_mul(0x111))?,
+                    "kinds {kinds} in the order {order}, a capacity of {capacity}"
+                );
+            }
+        }
+    }
+    Ok(())
+}

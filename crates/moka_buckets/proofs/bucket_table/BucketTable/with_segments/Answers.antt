@@ -1,0 +1,21 @@
+use Rattle.std.proofs.Common.{◌<◌, arith, max, refl}
+use Rattle.moka_buckets.specs.Hashing.{hash_in}
+use Rattle.moka_buckets.proofs.Fresh.{fresh_map, fresh_parts}
+use Rattle.moka_buckets.proofs.bucket_table.BucketTable.with_segments.Goals as goal
+
+pub invariant_of-result : goal.invariant_of-result
+invariant_of-result g c =
+    let lower = c.next_power_of_two-count.ensures.lower_bound in
+    let least = c.requires.some in
+    let some : 0 < c.next_power_of_two-count.result = omega (arith, lower, least) in
+    fresh_parts g.K.PartialEq.eq (hash_in g.S.BuildHasher g.S.Hasher.Hasher g.K.Hash.hash_input c.args.hasher) (max 128 c.in_ok-first.first) c.in_ok-first.first
+    (omega arith) (omega arith) c.next_power_of_two-count.result 0 c.in_ok-parts.parts.items some c.in_ok-parts.ensures
+
+pub returns-clause-empty : goal.returns-clause-empty
+returns-clause-empty g c = λ is. record {
+  map = λ q. fresh_map g.K.PartialEq.eq (hash_in g.S.BuildHasher g.S.Hasher.Hasher g.K.Hash.hash_input c.args.hasher) (max 128 c.in_ok-first.first) c.in_ok-first.first
+      (omega arith) (omega arith) c.next_power_of_two-count.result c.in_ok-parts.parts.items c.in_ok-parts.ensures q;
+  count = refl;
+  peak = refl;
+  first = is;
+}

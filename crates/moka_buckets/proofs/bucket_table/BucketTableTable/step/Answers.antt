@@ -1,0 +1,90 @@
+use Rattle.std.proofs.Common.{◌≤◌, ap, max, subst, sym, arith}
+use Rattle.std.specs.List.{fold}
+use Rattle.moka_table.specs.Map.{most_steps}
+use Rattle.moka_buckets.specs.declared.bucket_call.BucketCall.{BucketCall}
+use Rattle.moka_buckets.specs.Hashing.{hash_in}
+use Rattle.moka_buckets.specs.Parts.{AreParts, GoesOver}
+use Rattle.moka_buckets.specs.Views.{fits_in, left_of, first_of, peak_of}
+use Rattle.moka_buckets.proofs.Going.{Does, does}
+use Rattle.moka_buckets.proofs.Spread.{bounded}
+use Rattle.moka_buckets.proofs.bucket_table.BucketTableTable.step.Given as given
+use Rattle.moka_buckets.proofs.bucket_table.BucketTableTable.step.Goals as goal
+
+pub returns-then-self-clause-others_left : goal.returns-then-self-clause-others_left
+returns-then-self-clause-others_left g c = subst (λ o. (other : BucketCall g.row.K.Denot g.row.V.Denot) →
+    fits_in g.S.BuildHasher g.S.Hasher.Hasher g.K.PartialEq.eq g.K.Hash.hash_input o other → left_of o other ≤ most_steps (first_of o) (peak_of o)) c.self.view_is
+    (λ other f. bounded g.K.PartialEq.eq (hash_in g.S.BuildHasher g.S.Hasher.Hasher g.K.Hash.hash_input c.self.inside.hasher) (max 128 c.self.inside.first)
+    c.self.inside.parts.items (max c.self.inside.peak c.self.inside.len) c.self.inside.len c.self.invariant other f)
+
+pub step_parts-requires-clause-can : goal.step_parts-requires-clause-can
+step_parts-requires-clause-can g c = (
+  hash_in g.S.BuildHasher g.S.Hasher.Hasher g.K.Hash.hash_input c.self.inside.hasher,
+  max 128 c.self.inside.first,
+  max c.self.inside.peak c.self.inside.len,
+  record {
+    respects = λ x y e. ap (λ w. g.S.Hasher.Hasher.finish (fold g.S.Hasher.Hasher.write (g.S.BuildHasher.build_hasher c.self.inside.hasher) w)) (g.met.K.Hash.respects_eq x y e);
+    well = c.self.invariant;
+    fits = subst (λ o. fits_in g.S.BuildHasher g.S.Hasher.Hasher g.K.PartialEq.eq g.K.Hash.hash_input o c.args.call.now) (sym c.self.view_is) c.requires.fits;
+  },
+)
+
+-- the step of the segments
+over : (g : given.Over) (c : goal.After-step_parts g) → GoesOver g.K.PartialEq.eq (hash_in g.S.BuildHasher g.S.Hasher.Hasher g.K.Hash.hash_input c.self.inside.hasher)
+    (max 128 c.self.inside.first) c.self.inside.parts.items (max c.self.inside.peak c.self.inside.len) c.self.inside.len c.args.call.now c.step_parts.result
+    c.step_parts.new.parts.items c.step_parts.new.len c.step_parts.new.call
+over g c = c.step_parts.ensures (hash_in g.S.BuildHasher g.S.Hasher.Hasher g.K.Hash.hash_input c.self.inside.hasher) (max 128 c.self.inside.first)
+    (max c.self.inside.peak c.self.inside.len) (record {
+      respects = λ x y e. ap (λ w. g.S.Hasher.Hasher.finish (fold g.S.Hasher.Hasher.write (g.S.BuildHasher.build_hasher c.self.inside.hasher) w)) (g.met.K.Hash.respects_eq x y e);
+      well = c.self.invariant;
+      fits = subst (λ o. fits_in g.S.BuildHasher g.S.Hasher.Hasher g.K.PartialEq.eq g.K.Hash.hash_input o c.args.call.now) (sym c.self.view_is) c.requires.fits;
+    })
+
+-- of the table that it was
+whole : (g : given.Over) (c : goal.After-step_parts g) → Does g.K.PartialEq.eq (hash_in g.S.BuildHasher g.S.Hasher.Hasher g.K.Hash.hash_input c.args.self.now.hasher)
+    (first_of c.args.self.now) c.args.self.now.parts c.args.self.now.len c.args.call.now c.step_parts.result
+    (hash_in g.S.BuildHasher g.S.Hasher.Hasher g.K.Hash.hash_input c.self.inside.hasher) (max 128 c.self.inside.first) c.step_parts.new.parts.items
+    (max c.max-self-inside.result c.step_parts.new.len) c.step_parts.new.len c.step_parts.new.call
+whole g c = subst (λ o. Does g.K.PartialEq.eq (hash_in g.S.BuildHasher g.S.Hasher.Hasher g.K.Hash.hash_input o.hasher) (first_of o) o.parts o.len c.args.call.now c.step_parts.result
+    (hash_in g.S.BuildHasher g.S.Hasher.Hasher g.K.Hash.hash_input c.self.inside.hasher) (max 128 c.self.inside.first) c.step_parts.new.parts.items
+    (max c.max-self-inside.result c.step_parts.new.len) c.step_parts.new.len c.step_parts.new.call) c.self.view_is
+    (subst (λ m. Does g.K.PartialEq.eq (hash_in g.S.BuildHasher g.S.Hasher.Hasher g.K.Hash.hash_input c.self.inside.hasher) (max 128 c.self.inside.first)
+    c.self.inside.parts.items c.self.inside.len c.args.call.now c.step_parts.result
+    (hash_in g.S.BuildHasher g.S.Hasher.Hasher g.K.Hash.hash_input c.self.inside.hasher) (max 128 c.self.inside.first) c.step_parts.new.parts.items
+    (max m c.step_parts.new.len) c.step_parts.new.len c.step_parts.new.call) (sym c.max-self-inside.ensures)
+    (does g.K.PartialEq.eq (hash_in g.S.BuildHasher g.S.Hasher.Hasher g.K.Hash.hash_input c.self.inside.hasher) (max 128 c.self.inside.first)
+    (max c.self.inside.peak c.self.inside.len) c.self.inside.len c.self.inside.parts.items c.step_parts.new.parts.items c.args.call.now c.step_parts.new.call
+    c.step_parts.result c.step_parts.new.len (over g c)))
+
+pub invariant_of-self : goal.invariant_of-self
+invariant_of-self g c = subst (λ m. AreParts g.K.PartialEq.eq (hash_in g.S.BuildHasher g.S.Hasher.Hasher g.K.Hash.hash_input c.self.inside.hasher) c.step_parts.new.parts.items
+    (max 128 c.self.inside.first) (max m c.step_parts.new.len) c.step_parts.new.len) (sym c.max-self-inside.ensures) (over g c).well
+
+pub returns-clause-moves : goal.returns-clause-moves
+returns-clause-moves g c = (whole g c).moves
+
+pub returns-clause-undecided : goal.returns-clause-undecided
+returns-clause-undecided g c = (whole g c).undecided
+
+pub returns-clause-nears : goal.returns-clause-nears
+returns-clause-nears g c = (whole g c).nears
+
+pub returns-clause-others : goal.returns-clause-others
+returns-clause-others g c = (whole g c).others
+
+pub returns-clause-others_left : goal.returns-clause-others_left
+returns-clause-others_left g c = (whole g c).others_left
+
+pub returns-clause-elsewhere : goal.returns-clause-elsewhere
+returns-clause-elsewhere g c = (whole g c).elsewhere
+
+pub returns-clause-err_map : goal.returns-clause-err_map
+returns-clause-err_map g c = (whole g c).err_map
+
+pub returns-clause-err_count : goal.returns-clause-err_count
+returns-clause-err_count g c = (whole g c).err_count
+
+pub returns-clause-err_call : goal.returns-clause-err_call
+returns-clause-err_call g c = (whole g c).err_call
+
+pub returns-clause-err_others : goal.returns-clause-err_others
+returns-clause-err_others g c = (whole g c).err_others

@@ -1,0 +1,9 @@
+-- The segments so far have no keys.
+use Rattle.std.proofs.Common.{◌≡◌, ℕ, length, Some}
+use Rattle.std.specs.List.{slice_get}
+use Rattle.moka_buckets.specs.declared.part.Part.{Part}
+use Rattle.moka_buckets.specs.Building.{AreFresh}
+use Rattle.moka_buckets.proofs.building.new_parts.Given as goal
+
+abbrev pub invariant-loop : goal.invariant-loop
+invariant-loop g l = AreFresh l.counter l.size l.parts.items

@@ -1,0 +1,53 @@
+use Rattle.std.proofs.Common.{◌≡◌, ℕ, length, Some, ap, refl, ◌∙◌, arith}
+use Rattle.std.specs.List.{slice_get}
+use Rattle.moka_buckets.specs.Parts.{keys_at, segment_of}
+use Rattle.moka_buckets.proofs.Going.{goes_over, had_few, has_few}
+use Rattle.moka_buckets.proofs.Spread.{keys_within}
+use Rattle.moka_buckets.proofs.part.step_parts.Goals as goal
+
+pub step_at-turn-requires-clause-can : goal.step_at-turn-requires-clause-can
+step_at-turn-requires-clause-can g c =
+    let (hash, first, most, can) = c.requires.can in
+    let at = c.segment_of-index.ensures.is ∙ ap (λ n. segment_of n c.args.call.now.hash) (c.len.ensures ∙ c.args.parts.now.ok.0) in
+    let there = ap (slice_get c.args.parts.now.items) at ∙ can.fits.there in
+    let well = can.well.each c.segment_of-index.result can.fits.part there in (
+      hash,
+      first,
+      can.fits.part,
+      there,
+      well.placed,
+      record { respects = can.respects; well = well.well; fits = can.fits.fits },
+    )
+
+pub overflow_sub-len : goal.overflow_sub-len
+overflow_sub-len g c =
+    let (hash, first, most, can) = c.requires.can in
+    let at = c.segment_of-index.ensures.is ∙ ap (λ n. segment_of n c.args.call.now.hash) (c.len.ensures ∙ c.args.parts.now.ok.0) in
+    let there = ap (slice_get c.args.parts.now.items) at ∙ can.fits.there in
+    let had = c.keys_at-before.ensures can.fits.part (ap (λ xs. slice_get xs c.segment_of-index.result) c.deref.ensures.value ∙ there) in
+    let few = keys_within c.args.parts.now.items c.segment_of-index.result can.fits.part there in
+    let counted = can.well.counted in
+    omega (arith, had, few, counted)
+
+pub overflow_add-len : goal.overflow_add-len
+overflow_add-len g c =
+    let (hash, first, most, can) = c.requires.can in
+    let at = c.segment_of-index.ensures.is ∙ ap (λ n. segment_of n c.args.call.now.hash) (c.len.ensures ∙ c.args.parts.now.ok.0) in
+    let few = had_few g.K.PartialEq.eq hash first most c.args.len.now c.args.parts.now.items c.step_at-turn.new.parts.items c.args.call.now c.step_at-turn.new.call can
+    c.segment_of-index.result at c.step_at-turn.result (c.step_at-turn.ensures.goes hash first) c.keys_at-before.result c.keys_at.result
+    (λ p e. c.keys_at-before.ensures p (ap (λ xs. slice_get xs c.segment_of-index.result) c.deref.ensures.value ∙ e))
+    (λ p e. c.keys_at.ensures p (ap (λ xs. slice_get xs c.segment_of-index.result) c.deref-2.ensures.value ∙ e)) in
+    let more = has_few g.K.PartialEq.eq hash first most c.args.len.now c.args.parts.now.items c.step_at-turn.new.parts.items c.args.call.now c.step_at-turn.new.call can
+    c.segment_of-index.result at c.step_at-turn.result (c.step_at-turn.ensures.goes hash first) c.keys_at-before.result c.keys_at.result
+    (λ p e. c.keys_at-before.ensures p (ap (λ xs. slice_get xs c.segment_of-index.result) c.deref.ensures.value ∙ e))
+    (λ p e. c.keys_at.ensures p (ap (λ xs. slice_get xs c.segment_of-index.result) c.deref-2.ensures.value ∙ e)) in
+    let room = c.requires.few in
+    omega (arith, few, more, room)
+
+pub returns : goal.returns
+returns g c = λ hash first most can.
+    let at = c.segment_of-index.ensures.is ∙ ap (λ n. segment_of n c.args.call.now.hash) (c.len.ensures ∙ c.args.parts.now.ok.0) in
+    goes_over g.K.PartialEq.eq hash first most c.args.len.now c.args.parts.now.items c.step_at-turn.new.parts.items c.args.call.now c.step_at-turn.new.call can
+    c.segment_of-index.result at c.step_at-turn.result (c.step_at-turn.ensures.goes hash first) c.keys_at-before.result c.keys_at.result
+    (λ p e. c.keys_at-before.ensures p (ap (λ xs. slice_get xs c.segment_of-index.result) c.deref.ensures.value ∙ e))
+    (λ p e. c.keys_at.ensures p (ap (λ xs. slice_get xs c.segment_of-index.result) c.deref-2.ensures.value ∙ e)) _ refl

@@ -1,0 +1,10 @@
+pub mod Nodes
+pub mod Arrays
+pub mod Making
+pub mod Tables
+pub mod Steps
+pub mod Hashing
+pub mod Building
+pub mod Parts
+pub mod Views
+pub mod Listed

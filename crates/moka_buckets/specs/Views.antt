@@ -1,0 +1,75 @@
+-- What contracts see of a table.
+use Rattle.std.specs.Prelude.{◌≡◌, ℕ, ◌*◌, ◌/◌, ◌-◌, ◌^◌, ◌<◌, max, min, Bool, List, length, Option, Some}
+use Rattle.std.specs.Int.{IsNextPowerOfTwo}
+use Rattle.std.specs.Hash.{HashWrites}
+use Rattle.std.specs.List.{sum_by}
+use Rattle.std.specs.declared.hash.Hasher as hasher
+use Rattle.std.specs.declared.hash.BuildHasher as builder
+use Rattle.moka_hist.specs.declared.tables.TableOp.{TableOp}
+use Rattle.moka_words.specs.Effect.{root, words_of}
+use Rattle.moka_table.specs.Map.{Pairs}
+use Rattle.moka_table.specs.declared.table.Table as Table
+use Rattle.moka_buckets.specs.declared.part.Part.{Part}
+use Rattle.moka_buckets.specs.declared.bucket_call.BucketCall.{BucketCall}
+use Rattle.moka_buckets.specs.Hashing.{hash_in}
+use Rattle.moka_buckets.specs.Parts.{memory_at, map_over, segment_of, FitsParts, left_over}
+
+-- segments, the hasher, how long the first arrays were, the most keys before the last step, and how many there are
+pub record Buckets (K V S : Type 0) : Type 0 where
+  pub parts : List (Part K V)
+  pub hasher : S
+  pub first : ℕ
+  pub peak : ℕ
+  pub len : ℕ
+
+-- what the call was begun for
+abbrev pub operation_of : {K V : Type 0} → BucketCall K V → Option (TableOp K V)
+operation_of c = Some c.operation
+
+-- How long the first array of each of so many segments is at this capacity: none without one.
+pub record IsFirst (capacity count size : ℕ) : Type 0 where
+  pub none : capacity ≡ 0 → size ≡ 0
+  pub some : 0 < capacity → IsNextPowerOfTwo (min (capacity * 2) (2 ^ 64 - 1) / count) size
+
+module _ {K V S : Type 0} where
+  abbrev pub first_of : Buckets K V S → ℕ
+  first_of t = max 128 t.first
+
+  -- the most keys that there ever were
+  abbrev pub peak_of : Buckets K V S → ℕ
+  peak_of t = max t.peak t.len
+
+  abbrev pub count_of : Buckets K V S → ℕ
+  count_of t = t.len
+
+  abbrev pub left_of : Buckets K V S → BucketCall K V → ℕ
+  left_of t c = left_over (first_of t) t.parts c
+
+  -- the segment that the call is to
+  abbrev pub segment_in : Buckets K V S → BucketCall K V → ℕ
+  segment_in t c = segment_of (length t.parts) c.hash
+
+  -- how many words the roots have together
+  abbrev pub words_in : Buckets K V S → ℕ
+  words_in t = sum_by (λ p. length (words_of (memory_at p) (root (memory_at p)))) t.parts
+
+  module _ {H : Type 0} (b : builder.Ghosts S H) (h : hasher.Ghosts H) (eq : K → K → Bool) (input : K → HashWrites) where
+    abbrev pub map_in : Buckets K V S → Pairs K V
+    map_in t = map_over eq (hash_in b h input t.hasher) t.parts
+
+    -- the call was begun on this table, and has not decided
+    abbrev pub fits_in : Buckets K V S → BucketCall K V → Type 0
+    fits_in t c = FitsParts eq (hash_in b h input t.hasher) t.parts c
+
+    -- what contracts see of a table of buckets
+    abbrev pub bucket_table : Table.Ghosts (Buckets K V S) K V (BucketCall K V)
+    bucket_table =
+        record {
+          map = map_in;
+          count = count_of;
+          peak = peak_of;
+          first = first_of;
+          operation_of = operation_of;
+          fits = fits_in;
+          left = left_of;
+        }

@@ -1,0 +1,216 @@
+//! The table of buckets.
+
+ghost use Rattle.std.specs.Prelude.{◌≡◌, ◌≢◌, ℕ, ◌+◌, ◌*◌, ◌-◌, ◌^◌, ◌<◌, ◌≤◌, max, min, length, OnErr, IfOk, Some, None};
+ghost use Rattle.std.proofs.Common.{arith};
+ghost use Rattle.moka_hist.specs.Finite.{IsExact};
+ghost use Rattle.moka_hist.specs.declared.tables.TableOp.{TableOp};
+ghost use Rattle.moka_hist.specs.declared.tables.TableTurn.{TableTurn};
+ghost use Rattle.moka_table.specs.Map.{SameMap, Moves, ListsPairs, most_steps};
+
+use crate::bucket_call::BucketCall;
+use crate::building::{first_length, new_parts};
+use crate::calling::{key_of, kind_of};
+use crate::listing::list_parts;
+use crate::part::{Part, step_parts};
+use moka_calls::TableCall;
+use moka_hist::{TableOp, TableTurn};
+use moka_table::{EntryList, Table};
+use std::alloc::{AllocError, Global};
+use std::hash::{BuildHasher, Hash};
+use std::marker::Model;
+
+/// A table whose keys are spread over segments by their hashes, and whose arrays grow word by word
+/// while its operations run.
+#[derive(Drop)]
+pub struct BucketTable<K: Eq + Hash, V, S: BuildHasher> {
+    alloc: Global,
+    parts: Vec<Part<K, V>>,
+    hasher: S,
+    first: usize,
+    // The most keys that there were before the last step.
+    peak: u64,
+    len: u64,
+}
+
+impl<K: Eq + Hash, V, S: BuildHasher> Model for BucketTable<K, V, S> {
+    ghost use Rattle.moka_buckets.specs.Hashing.{hash_in};
+    ghost use Rattle.moka_buckets.specs.Parts.{AreParts};
+    ghost use Rattle.moka_buckets.specs.Views.{Buckets};
+    ghost use Rattle.std.specs.Prelude.{max};
+
+    ghost Value = { Buckets K V S };
+
+    ghost view = { λ t. record {
+      parts = t.parts.items;
+      hasher = t.hasher;
+      first = t.first;
+      peak = t.peak;
+      len = t.len;
+    } };
+
+    ghost invariant = { λ t. AreParts K.eq
+        (hash_in S.BuildHasher S.Hasher.Hasher K.hash_input t.hasher) t.parts.items
+        (max 128 t.first) (max t.peak t.len) t.len };
+}
+
+impl<K: Eq + Hash + Drop, V: Drop, S: BuildHasher + Drop> BucketTable<K, V, S> {
+    ghost use Rattle.std.specs.Int.{IsNextPowerOfTwo};
+    ghost use Rattle.moka_table.specs.Empty.{IsEmptyTable};
+    ghost use Rattle.moka_buckets.specs.Views.{IsFirst, bucket_table, first_of, words_in};
+
+    /// A table without keys, of so many segments, rounded up to a power of two. For a capacity each
+    /// of them has an array; without one none has. Keys are hashed by this.
+    pub fn with_segments(
+        alloc: Global,
+        segments: usize,
+        capacity: usize,
+        hasher: S,
+    ) -> Result<Self, AllocError>
+        requires some { 0 < segments }
+        requires few { segments ≤ 65536 }
+        ensures segments { IfOk result (λ t. IsNextPowerOfTwo segments (length t.parts)) }
+        ensures first { IfOk result (λ t. IsFirst capacity (length t.parts) t.first) }
+        ensures empty { IfOk result (λ t. first_of t ≡ 128 → IsEmptyTable
+            (bucket_table S.BuildHasher S.Hasher.Hasher K.eq K.hash_input) t) }
+    {
+        let count = segments.next_power_of_two();
+        let first = first_length(capacity, count)?;
+        let parts = new_parts(alloc, count, first)?;
+        Ok(BucketTable {
+            alloc,
+            parts,
+            hasher,
+            first,
+            peak: 0,
+            len: 0,
+        })
+    }
+
+    /// How many words the roots have together; it stops at the greatest number.
+    pub fn words(&self) -> usize
+        ensures { result ≡ min (words_in self.now) (2 ^ 64 - 1) }
+    {
+        let mut words: usize = 0;
+        for part in self.parts.iter() {
+            words = words.saturating_add(part.arrays.size(part.arrays.root()));
+        }
+        words
+    }
+}
+
+impl<K: Eq + Hash + Clone + Drop, V: Clone + Drop, S: BuildHasher + Drop> Table<K, V>
+    for BucketTable<K, V, S> {
+    type Call = BucketCall<K, V>;
+
+    ghost use Rattle.moka_buckets.specs.Views.{count_of, first_of, fits_in, left_of, map_in, operation_of, peak_of, segment_in};
+    ghost use Rattle.moka_buckets.specs.declared.bucket_call.BucketCall.{BucketCall};
+
+    ghost map = { λ t. map_in S.BuildHasher S.Hasher.Hasher K.eq K.hash_input t };
+
+    ghost count = { λ t. count_of t };
+
+    ghost peak = { λ t. peak_of t };
+
+    ghost first = { λ t. first_of t };
+
+    ghost operation_of = { λ c. operation_of c };
+
+    ghost fits = { λ t c. fits_in S.BuildHasher S.Hasher.Hasher K.eq K.hash_input t c };
+
+    ghost left = { λ t c. left_of t c };
+
+    ghost peak_holds = { λ t. Prim.omega arith };
+
+    ghost first_holds = { λ t. Prim.omega arith };
+
+    fn segments(&self) -> usize
+        ensures some { 0 < result }
+        ensures is { result ≡ length self.now.parts }
+    {
+        self.parts.len()
+    }
+
+    fn begin(&self, operation: TableOp<K, V>) -> BucketCall<K, V>
+        ensures operation { operation_of result ≡ Some operation }
+        ensures fits { fits_in S.BuildHasher S.Hasher.Hasher K.eq K.hash_input
+            self.now result }
+        ensures left { left_of self.now result
+            ≤ most_steps (first_of self.now) (peak_of self.now) }
+    {
+        let hash = self.hasher.hash_one(key_of(&operation));
+        BucketCall {
+            hash,
+            table: TableCall::new(self.alloc, kind_of(&operation), hash),
+            node: None,
+            operation,
+        }
+    }
+
+    fn step(&mut self, call: &mut BucketCall<K, V>) -> Result<TableTurn<K, V>, AllocError>
+        requires keys { IsExact K.is_clone }
+        requires values { IsExact V.is_clone }
+        requires fits { fits_in S.BuildHasher S.Hasher.Hasher K.eq K.hash_input
+            self.old call.old }
+        // What it gives, and what the table is after it.
+        ensures moves { IfOk result (λ turn. (o : TableOp K V) → operation_of call.old ≡ Some o
+            → Moves K.eq o
+            (map_in S.BuildHasher S.Hasher.Hasher K.eq K.hash_input self.old)
+            (count_of self.old) turn
+            (map_in S.BuildHasher S.Hasher.Hasher K.eq K.hash_input self.new)
+            (count_of self.new)) }
+        ensures peak { peak_of self.new ≡ max (peak_of self.old) (count_of self.new) }
+        ensures first { first_of self.new ≡ first_of self.old }
+        // An undecided call is still begun, and nearer to its end.
+        ensures undecided { IfOk result (λ turn. turn ≡ TableTurn.Going
+            → (operation_of call.new ≡ operation_of call.old)
+            × fits_in S.BuildHasher S.Hasher.Hasher K.eq K.hash_input
+            self.new call.new) }
+        ensures nears { IfOk result (λ turn. turn ≡ TableTurn.Going
+            → left_of self.new call.new < left_of self.old call.old) }
+        // The other calls: they still fit, and are as far from their end as at their beginning.
+        ensures others { (other : BucketCall K V)
+            → fits_in S.BuildHasher S.Hasher.Hasher K.eq K.hash_input self.old other
+            → fits_in S.BuildHasher S.Hasher.Hasher K.eq K.hash_input self.new other }
+        ensures others_left { (other : BucketCall K V)
+            → fits_in S.BuildHasher S.Hasher.Hasher K.eq K.hash_input self.old other
+            → left_of self.new other ≤ most_steps (first_of self.new) (peak_of self.new) }
+        // Calls to other segments have as many steps left as before.
+        ensures elsewhere { (other : BucketCall K V)
+            → segment_in self.old other ≢ segment_in self.old call.old
+            → left_of self.new other ≡ left_of self.old other }
+        // Without memory nothing has changed, for this call and for the others.
+        ensures err_map { OnErr result (SameMap
+            (map_in S.BuildHasher S.Hasher.Hasher K.eq K.hash_input self.old)
+            (map_in S.BuildHasher S.Hasher.Hasher K.eq K.hash_input self.new)) }
+        ensures err_count { OnErr result (count_of self.new ≡ count_of self.old) }
+        ensures err_call { OnErr result ((operation_of call.new ≡ operation_of call.old)
+            × fits_in S.BuildHasher S.Hasher.Hasher K.eq K.hash_input self.new call.new
+            × (left_of self.new call.new ≡ left_of self.old call.old)) }
+        ensures err_others { OnErr result ((other : BucketCall K V)
+            → fits_in S.BuildHasher S.Hasher.Hasher K.eq K.hash_input self.old other
+            → left_of self.new other ≤ left_of self.old other) }
+    {
+        // One key more could not be counted.
+        if self.len == u64::MAX {
+            return Err(AllocError);
+        }
+        self.peak = self.peak.max(self.len);
+        step_parts(&mut self.parts, &mut self.len, call)
+    }
+
+    fn pairs(&self, alloc: Global) -> Result<EntryList<K, V>, AllocError>
+        requires keys { IsExact K.is_clone }
+        requires values { IsExact V.is_clone }
+        ensures { IfOk result (λ pairs. ListsPairs K.eq pairs
+            (map_in S.BuildHasher S.Hasher.Hasher K.eq K.hash_input self.now)) }
+    {
+        let pairs = list_parts(&self.parts, alloc)?;
+        Ok(EntryList::from_vec(pairs))
+    }
+
+    fn len(&self) -> usize
+        ensures { result ≡ count_of self.now }
+    {
+        self.len as usize
+    }
+}

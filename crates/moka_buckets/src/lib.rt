@@ -1,0 +1,27 @@
+//! The table of buckets: a `Table` over segments of arrays that grow word by word.
+//!
+//! Each step of an operation makes one access to the words, the one that its `TableCall` wants.
+//! Contracts see the memory of `moka_words`, the nodes by their numbers, and the map that they stand
+//! for.
+#![tactic(auto)]
+
+mod array;
+mod arrays;
+mod bucket_call;
+mod bucket_table;
+mod building;
+mod calling;
+mod choosing;
+mod finding;
+mod linking;
+mod listing;
+mod loading;
+mod making;
+mod node;
+mod nodes;
+mod part;
+mod stepping;
+mod words;
+
+pub use bucket_call::BucketCall;
+pub use bucket_table::BucketTable;

@@ -1,0 +1,103 @@
+//! The segments of a table.
+
+ghost use Rattle.std.specs.Prelude.{◌≡◌, ℕ, ◌-◌, ◌<◌, ◌^◌, Some, length, slice_set};
+ghost use Rattle.std.specs.List.{slice_get};
+ghost use Rattle.moka_hist.specs.Finite.{IsExact};
+ghost use Rattle.moka_buckets.specs.Arrays.{ArePlaced};
+ghost use Rattle.moka_buckets.specs.Steps.{CanBegin};
+ghost use Rattle.moka_buckets.specs.Parts.{CanGo, Goes, GoesOver, keys_at, memory_at, peak_at, segment_of};
+ghost use Rattle.moka_buckets.specs.declared.part.Part.{Part};
+
+use crate::array::Arrays;
+use crate::bucket_call::BucketCall;
+use crate::node::Node;
+use crate::stepping::step;
+use moka_hist::TableTurn;
+use std::alloc::AllocError;
+
+/// A segment with all that is its own: arrays, nodes, and the most keys that it had before the last
+/// step of one of its operations. Numbers of arrays and nodes are its own too.
+#[derive(Drop)]
+pub struct Part<K, V> {
+    pub arrays: Arrays,
+    pub nodes: Vec<Node<K, V>>,
+    pub peak: u64,
+}
+
+impl<K: Eq + Clone + Drop, V: Clone + Drop> Part<K, V> {
+    /// Makes one step of an operation on one of its keys.
+    pub fn step(&mut self, call: &mut BucketCall<K, V>) -> Result<TableTurn<K, V>, AllocError>
+        requires keys { IsExact K.is_clone }
+        requires values { IsExact V.is_clone }
+        requires placed { ArePlaced self.old.arrays }
+        requires can { (hash : K → ℕ) × (first : ℕ) × CanBegin K.eq hash
+            (memory_at self.old) self.old.nodes.items first (peak_at self.old) call.old }
+        ensures { (hash : K → ℕ) (first : ℕ) → CanBegin K.eq hash
+            (memory_at self.old) self.old.nodes.items first (peak_at self.old) call.old
+            → Goes K.eq hash first self.old call.old result self.new call.new }
+    {
+        self.peak = self.peak.max(self.arrays.segment.len);
+        step(&mut self.arrays, &mut self.nodes, call)
+    }
+}
+
+/// The segment of a hash, of so many segments.
+fn segment_of(count: usize, hash: u64) -> usize
+    requires some { 0 < count }
+    ensures is { result ≡ segment_of count hash }
+    ensures within { result < count }
+{
+    ((hash as u128 * count as u128) >> 64) as usize
+}
+
+/// How many keys the segment has.
+fn keys_at<K, V>(parts: &[Part<K, V>], index: usize) -> u64
+    requires { index < length parts.now }
+    ensures { (p : Part K V) → slice_get parts.now index ≡ Some p → result ≡ keys_at p }
+{
+    parts[index].arrays.segment.len
+}
+
+/// Makes one step of an operation on a key of this segment.
+fn step_at<K: Eq + Clone + Drop, V: Clone + Drop>(
+    parts: &mut Vec<Part<K, V>>,
+    index: usize,
+    call: &mut BucketCall<K, V>,
+) -> Result<TableTurn<K, V>, AllocError>
+    requires keys { IsExact K.is_clone }
+    requires values { IsExact V.is_clone }
+    requires can { (hash : K → ℕ) × (first : ℕ) × (p : Part K V)
+        × (slice_get parts.old.items index ≡ Some p) × ArePlaced p.arrays × CanBegin K.eq hash
+        (memory_at p) p.nodes.items first (peak_at p) call.old }
+    ensures long { length parts.new.items ≡ length parts.old.items }
+    ensures goes { (hash : K → ℕ) (first : ℕ) (p : Part K V)
+        → slice_get parts.old.items index ≡ Some p
+        → CanBegin K.eq hash (memory_at p) p.nodes.items first (peak_at p) call.old
+        → (new : Part K V) × (parts.new.items ≡ slice_set parts.old.items index new)
+        × Goes K.eq hash first p call.old result new call.new }
+{
+    parts[index].step(call)
+}
+
+/// Makes one step of an operation in the segment of its key; `len` counts the keys of all segments.
+pub fn step_parts<K: Eq + Clone + Drop, V: Clone + Drop>(
+    parts: &mut Vec<Part<K, V>>,
+    len: &mut u64,
+    call: &mut BucketCall<K, V>,
+) -> Result<TableTurn<K, V>, AllocError>
+    requires keys { IsExact K.is_clone }
+    requires values { IsExact V.is_clone }
+    requires few { len.old < 2 ^ 64 - 1 }
+    requires can { (hash : K → ℕ) × (first : ℕ) × (most : ℕ)
+        × CanGo K.eq hash parts.old.items first most len.old call.old }
+    ensures { (hash : K → ℕ) (first most : ℕ)
+        → CanGo K.eq hash parts.old.items first most len.old call.old
+        → GoesOver K.eq hash first parts.old.items most len.old call.old result
+        parts.new.items len.new call.new }
+{
+    let index = segment_of(parts.len(), call.hash);
+    let before = keys_at(parts, index);
+    let turn = step_at(parts, index, call);
+    *len = *len - before + keys_at(parts, index);
+    turn
+}
