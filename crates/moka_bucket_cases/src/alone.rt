@@ -157,3 +157,30 @@ fn first_arrays_are_as_long_as_the_capacity_asks(rt: HostRuntime) -> Result<(), 
     assert!(rt; most.is_err());
     Ok(())
 }
+
+#[test]
+fn compacting_leaves_as_few_words_as_the_keys_allow(rt: HostRuntime) -> Result<(), Fail> {
+    let mut table: BucketTable<u64, u64, BuildZero> = BucketTable::with_segments(
+        rt.alloc(),
+        1,
+        0,
+        BuildZero {},
+    )?;
+    for key in 0..90u64 {
+        let _ = run(&mut table, insert(key, key))?;
+    }
+    assert_eq!(rt; table.words(), 128);
+    table.compact()?;
+    assert_eq!(rt; table.words(), 256);
+    assert_eq!(rt; run(&mut table, TableOp::Get { key: 89 })?.1, Some(89));
+    let _ = run(&mut table, remove(0))?;
+    table.compact()?;
+    assert_eq!(rt; table.words(), 128);
+    assert_eq!(rt; table.len(), 89);
+    for key in 1..90u64 {
+        assert_eq!(rt; run(&mut table, remove(key))?.1, Some(key), "key {key}");
+    }
+    table.compact()?;
+    assert_eq!(rt; table.words(), 0);
+    Ok(())
+}

@@ -1,9 +1,16 @@
-//! Worked cases of `BucketTable`: what no clause of it says.
+//! Worked cases of `BucketTable` and `PlainTable`: what no clause of them says.
 #![tactic(auto)]
 
 #[cfg(test)]
 mod alone;
 #[cfg(test)]
 mod hashers;
+#[cfg(test)]
+mod keys;
+#[cfg(test)]
+mod orders;
+#[cfg(test)]
+mod plain;
+mod slow;
 #[cfg(test)]
 mod together;

@@ -1,18 +1,19 @@
 //! Operations of all kinds that run at once, beside std's map.
 
-ghost use Rattle.std.specs.Prelude.{OnOk};
+ghost use Rattle.std.specs.Prelude.{◌≡◌, ◌<◌, IfOk, OnOk, length};
+ghost use Rattle.std.specs.List.{All};
 
 use crate::hashers::BuildZero;
 use moka_buckets::BucketTable;
 use moka_hist::{Stored, TableAnswer, TableOp, TableTurn};
 use moka_table::Table;
-use std::alloc::AllocError;
+use std::alloc::{AllocError, Global};
 use std::collections::HashMap;
 use std::hash::{BuildHasherDefault, FoldHasher};
 use std::test::Fail;
 
 /// The value and the stamp of each key.
-type Map = HashMap<u64, (u64, u64)>;
+pub(crate) type Map = HashMap<u64, (u64, u64)>;
 
 // An operation, and what it has answered.
 type Done = (TableOp<u64, u64>, TableAnswer<u64, u64>);
@@ -24,30 +25,25 @@ struct Running<C> {
     seed: u64,
 }
 
-// Makes so many steps, of three operations in a random order; each that has decided is followed by
+// Makes so many steps, of as many operations in a random order; each that has decided is followed by
 // another one. Gives the first step after which answer or count isn't the map's.
 fn run_at_random<C: Drop, T: Table<u64, u64, Call = C> + Drop>(
     table: &mut T,
+    calls: &mut Vec<Running<C>>,
     map: &mut Map,
     keys: u64,
     turns: u32,
-) -> Result<Option<u32>, AllocError> {
+) -> Result<Option<u32>, AllocError>
+    requires { All (λ one. T.fits table.old one.call) calls.old.items }
+{
     let mut seed = 1;
-    let mut first = begin(table, 11, keys);
-    let mut second = begin(table, 12, keys);
-    let mut third = begin(table, 13, keys);
     for turn in 0..turns {
+        if calls.is_empty() {
+            return Ok(None);
+        }
         seed = after(seed);
-        let which = (seed >> 40) % 3;
-        let done = go_three(
-            table,
-            &mut first,
-            &mut second,
-            &mut third,
-            which,
-            seed,
-            keys,
-        )?;
+        let place = (seed >> 40) as usize % calls.len();
+        let done = go_at(table, calls, place, seed, keys)?;
         if !are_alike(map, done)? || table.len() != map.len() {
             return Ok(Some(turn));
         }
@@ -55,7 +51,38 @@ fn run_at_random<C: Drop, T: Table<u64, u64, Call = C> + Drop>(
     Ok(None)
 }
 
-// Makes twelve steps of two operations in the order of the bits and then some in turn, until four
+// So many operations, of which none has made a step.
+fn begin_all<C: Drop, T: Table<u64, u64, Call = C> + Drop>(
+    alloc: Global,
+    table: &T,
+    count: u64,
+    keys: u64,
+) -> Result<Vec<Running<C>>, AllocError>
+    ensures { IfOk result (λ calls. All (λ one. T.fits table.now one.call) calls.items) }
+{
+    let mut calls = Vec::new(alloc);
+    for seed in 0..count {
+        calls.push(begin(table, after(seed), keys))?;
+    }
+    Ok(calls)
+}
+
+// Makes one step of the operation in this place.
+fn go_at<C: Drop, T: Table<u64, u64, Call = C> + Drop>(
+    table: &mut T,
+    calls: &mut Vec<Running<C>>,
+    place: usize,
+    next: u64,
+    keys: u64,
+) -> Result<Option<Done>, AllocError>
+    requires within { place < length calls.old.items }
+    requires fit { All (λ one. T.fits table.old one.call) calls.old.items }
+    ensures fit { OnOk result (All (λ one. T.fits table.new one.call) calls.new.items) }
+{
+    go(table, &mut calls[place], next, keys)
+}
+
+// Makes ten steps of two operations in the order of the bits and then some in turn, until four
 // operations have decided. Tells whether they have, with each answer and each count the map's.
 fn run_in_order<C: Drop, T: Table<u64, u64, Call = C> + Drop>(
     table: &mut T,
@@ -67,7 +94,7 @@ fn run_in_order<C: Drop, T: Table<u64, u64, Call = C> + Drop>(
     let mut second = begin(table, seeds.1, 2);
     let mut decided: u32 = 0;
     for turn in 0..1_000u32 {
-        let bit = if turn < 12 {
+        let bit = if turn < 10 {
             (order >> turn) & 1
         } else {
             turn & 1
@@ -98,7 +125,8 @@ fn begin<C: Drop, T: Table<u64, u64, Call = C> + Drop>(
     }
 }
 
-// Makes one step of the operation. Once it has decided another one takes its place.
+// Makes one step of the operation, or none without memory: that one is made again in its turn. Once
+// the operation has decided another one takes its place.
 fn go<C: Drop, T: Table<u64, u64, Call = C> + Drop>(
     table: &mut T,
     one: &mut Running<C>,
@@ -109,7 +137,10 @@ fn go<C: Drop, T: Table<u64, u64, Call = C> + Drop>(
     ensures fits { OnOk result (T.fits table.new one.new.call) }
     ensures others { (other : C) → T.fits table.old other → T.fits table.new other }
 {
-    match table.step(&mut one.call)? {
+    let Ok(turn) = table.step(&mut one.call) else {
+        return Ok(None);
+    };
+    match turn {
         TableTurn::Going => Ok(None),
         TableTurn::Decided(answer) => {
             let seed = one.seed;
@@ -141,30 +172,6 @@ fn go_two<C: Drop, T: Table<u64, u64, Call = C> + Drop>(
     }
 }
 
-// Makes one step of one of the three.
-fn go_three<C: Drop, T: Table<u64, u64, Call = C> + Drop>(
-    table: &mut T,
-    first: &mut Running<C>,
-    second: &mut Running<C>,
-    third: &mut Running<C>,
-    which: u64,
-    next: u64,
-    keys: u64,
-) -> Result<Option<Done>, AllocError>
-    requires first { T.fits table.old first.old.call }
-    requires second { T.fits table.old second.old.call }
-    requires third { T.fits table.old third.old.call }
-    ensures first { OnOk result (T.fits table.new first.new.call) }
-    ensures second { OnOk result (T.fits table.new second.new.call) }
-    ensures third { OnOk result (T.fits table.new third.new.call) }
-{
-    if which == 0 {
-        go(table, first, next, keys)
-    } else {
-        go_two(table, second, third, which == 1, next, keys)
-    }
-}
-
 // Tells whether what is done, if anything is, was answered as by the map, which is changed with it.
 fn are_alike(map: &mut Map, done: Option<Done>) -> Result<bool, AllocError> {
     match done {
@@ -174,7 +181,7 @@ fn are_alike(map: &mut Map, done: Option<Done>) -> Result<bool, AllocError> {
 }
 
 // Makes the operation on the map. Tells whether the answer is the map's.
-fn answers(
+pub(crate) fn answers(
     map: &mut Map,
     operation: &TableOp<u64, u64>,
     answer: &TableAnswer<u64, u64>,
@@ -252,9 +259,10 @@ fn operations_at_random_answer_as_the_map_of_std(rt: HostRuntime) -> Result<(), 
     for (keys, segments, capacity) in cases {
         let mut table: BucketTable<u64, u64, BuildHasherDefault<FoldHasher>> =
             BucketTable::with_segments(rt.alloc(), segments, capacity, BuildHasherDefault::new())?;
+        let mut calls = begin_all(rt.alloc(), &table, 3, keys)?;
         let mut map = HashMap::new(rt.alloc());
         assert_eq!(rt;
-            run_at_random(&mut table, &mut map, keys, 20_000)?,
+            run_at_random(&mut table, &mut calls, &mut map, keys, 20_000)?,
             None,
             "{keys} keys, {segments} segments, a capacity of {capacity}"
         );
@@ -263,13 +271,37 @@ fn operations_at_random_answer_as_the_map_of_std(rt: HostRuntime) -> Result<(), 
     Ok(())
 }
 
-// No first array, and ones of two and of four words; keys of one hash.
+// Keys of one hash, all in the first segment, whose first array has 1 word to 16.
+#[test]
+fn ten_operations_on_colliding_keys_answer_as_the_map_of_std(rt: HostRuntime) -> Result<(), Fail> {
+    for (segments, capacity) in [(4usize, 1usize), (1, 1), (1, 2), (1, 4), (1, 8)] {
+        for keys in [1u64, 3, 40] {
+            let mut table: BucketTable<u64, u64, BuildZero> = BucketTable::with_segments(
+                rt.alloc(),
+                segments,
+                capacity,
+                BuildZero {},
+            )?;
+            let mut calls = begin_all(rt.alloc(), &table, 10, keys)?;
+            let mut map = HashMap::new(rt.alloc());
+            assert_eq!(rt;
+                run_at_random(&mut table, &mut calls, &mut map, keys, 4_000)?,
+                None,
+                "{keys} keys, {segments} segments, a capacity of {capacity}"
+            );
+        }
+    }
+    Ok(())
+}
+
+// No first array, which is 128 words long once there is one, and first arrays of two and of four
+// words; keys of one hash.
 #[test]
 fn two_operations_in_each_order_answer_as_the_map_of_std(rt: HostRuntime) -> Result<(), Fail> {
-    for capacity in [0usize, 1, 2] {
+    for (capacity, orders) in [(0usize, 16u32), (1, 1024), (2, 64)] {
         for kinds in 0..25u64 {
             let seeds = (((kinds % 5) << 61) | 7, ((kinds / 5) << 61) | (1 << 33) | 9);
-            for order in 0..16u32 {
+            for order in 0..orders {
                 let mut table: BucketTable<u64, u64, BuildZero> = BucketTable::with_segments(
                     rt.alloc(),
                     1,
@@ -278,7 +310,7 @@ fn two_operations_in_each_order_answer_as_the_map_of_std(rt: HostRuntime) -> Res
                 )?;
                 let mut map = HashMap::new(rt.alloc());
                 assert!(rt;
-                    run_in_order(&mut table, &mut map, seeds, order.wrapping_mul(0x111))?,
+                    run_in_order(&mut table, &mut map, seeds, order)?,
                     "kinds {kinds} in the order {order}, a capacity of {capacity}"
                 );
             }

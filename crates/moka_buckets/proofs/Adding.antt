@@ -1,5 +1,5 @@
 -- Nodes that a step adds have the operation's hash.
-use Rattle.std.proofs.Common.{◌≡◌, ◌⊎◌, ℕ, List, [], ◌∷◌, ◌++◌, length, Option, Some, None, inl, inr, refl, sym, ap, ◌∙◌}
+use Rattle.std.proofs.Common.{◌≡◌, ◌⊎◌, ℕ, List, [], ◌∷◌, ◌++◌, length, Some, None, inl, inr, sym, ap, ◌∙◌}
 use Rattle.std.specs.List.{slice_get}
 use Rattle.moka_hist.specs.declared.records.Stored.{Stored}
 use Rattle.moka_buckets.specs.declared.node.Node.{Node}

@@ -7,7 +7,7 @@ use Rattle.moka_hist.specs.declared.tables.TableAnswer.{TableAnswer}
 use Rattle.moka_words.specs.declared.accesses.Access.{Access}
 use Rattle.moka_words.specs.declared.accesses.Seen.{Seen}
 use Rattle.moka_words.specs.Effect.{Effect}
-use Rattle.moka_growth.specs.Calls.{Call, Step, Going, Decided, access_of}
+use Rattle.moka_growth.specs.Calls.{Step, Going, Decided, access_of}
 use Rattle.moka_growth.specs.Counts.{Recounts}
 use Rattle.moka_calls.specs.Standing.{Awaits, Wants, after}
 use Rattle.moka_calls.proofs.Lengths.{seen_is_taken}
@@ -28,7 +28,7 @@ module _ {K V : Type 0} (eq : K → K → Bool) (laws : IsEquivalence eq) (hash 
   pub can_access : (step : Step) (a : Access) → RunsOn eq hash (memory_of s) nodes o stored step → Wants step a → CanMake (memory_of s) nodes a
   can_access (Decided e) a runs wants = absurd runs
   can_access (Going c) a runs wants = subst (λ x. CanMake (memory_of s) nodes x) (sym wants)
-      (can_make eq hash nodes o s (well.sound (key_in nodes) (agrees_now nodes)) well.counted (own_by eq (key_in nodes) (key_of o)) c.hash stored c.point
+      (can_make eq hash nodes s (well.sound (key_in nodes) (agrees_now nodes)) well.counted o (own_by eq (key_in nodes) (key_of o)) c.hash stored c.point
       runs.rests runs.puts (runs.fits (key_in nodes) (agrees_now nodes)))
 
   module _ (t : Arrays) (saw : Seen) where

@@ -6,7 +6,6 @@ use Rattle.moka_hist.specs.Tables.{key_of, stored_with, taken_by}
 use Rattle.moka_hist.specs.declared.records.Stored.{Stored}
 use Rattle.moka_hist.specs.declared.tables.TableOp.{TableOp}
 use Rattle.moka_hist.specs.declared.tables.TableOp.TheVariants as op
-use Rattle.moka_words.specs.declared.accesses.Choice.{Choice}
 use Rattle.moka_words.specs.declared.accesses.Choice.TheVariants as choice
 use Rattle.moka_growth.specs.Calls.{Ending}
 use Rattle.moka_growth.specs.Calls as call

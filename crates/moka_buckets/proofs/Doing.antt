@@ -2,6 +2,7 @@
 use Rattle.std.proofs.Common.{◌≡◌, ◌⊎◌, ℕ, ◌+◌, ◌-◌, ◌<◌, Bool, true, false, cond, is_some, List, [], ◌∷◌, ◌++◌, length, Option, Some, None, IsSome, Result, Ok, Err, IfOk, OnErr, IsErr, inl, inr, refl, sym, ap, subst, ◌∙◌}
 use Rattle.std.proofs.lemmas.Bool.{false≢true}
 use Rattle.std.specs.Cmp.{IsEquivalence}
+use Rattle.std.specs.List.{slice_get}
 use Rattle.std.specs.declared.alloc.AllocError.{AllocError}
 use Rattle.moka_hist.specs.Finite.{put_key}
 use Rattle.moka_hist.specs.Tables.{key_of, answer_of, taken_by}
@@ -10,13 +11,16 @@ use Rattle.moka_hist.specs.declared.tables.TableOp.{TableOp}
 use Rattle.moka_hist.specs.declared.tables.TableOp.TheVariants as op
 use Rattle.moka_hist.specs.declared.tables.TableTurn.{TableTurn}
 use Rattle.moka_hist.specs.declared.tables.TableTurn.TheVariants as turn
-use Rattle.moka_words.specs.Effect.{Memory}
+use Rattle.moka_words.specs.Effect.{Memory, LaterMemory}
 use Rattle.moka_growth.proofs.Shortness.{short_grows}
 use Rattle.moka_table.specs.Map.{Pairs, Moves, SameMap}
 use Rattle.moka_buckets.specs.declared.node.Node.{Node}
 use Rattle.moka_buckets.specs.declared.bucket_call.BucketCall.{BucketCall}
+use Rattle.moka_buckets.specs.Nodes.{same_by}
 use Rattle.moka_buckets.specs.Tables.{map_of, left_in, stored_by, IsWell, RunsOn}
 use Rattle.moka_buckets.specs.Steps.{Names, FitsCall, Turned, CanStep, CanBegin, Done}
+use Rattle.moka_buckets.proofs.Led.{later_same}
+use Rattle.moka_buckets.proofs.Placed.{get-front}
 use Rattle.moka_buckets.proofs.Growing.{well_more, runs_more, map_more, runs_named, stored_key}
 
 stays : {K V : Type 0} {a b c d : Pairs K V} (test : Bool) (q : K) → ((r : K) → a r ≡ c r) → ((r : K) → b r ≡ d r) → cond test a b q ≡ cond test c d q
@@ -55,6 +59,7 @@ module _ {K V : Type 0} (eq : K → K → Bool) (laws : IsEquivalence eq) (hash 
     fits : FitsCall eq hash old more mid
     others : (other : BucketCall K V) → FitsCall eq hash old nodes other → FitsCall eq hash old more other
     map : SameMap (map_of eq old nodes) (map_of eq old more)
+    grows : (n : ℕ) (node : Node K V) → slice_get nodes n ≡ Some node → slice_get more n ≡ Some node
 
   moved : (o : TableOp K V) (n : Option ℕ) (xs : List (Node K V)) → o ≡ before.operation → RunsOn eq hash old xs before.operation n before.table →
       mid.node ≡ n → more ≡ xs → FitsCall eq hash old more mid
@@ -77,6 +82,7 @@ module _ {K V : Type 0} (eq : K → K → Bool) (laws : IsEquivalence eq) (hash 
         fits = moved before.operation before.node nodes refl can.fits.runs e.1 e.0;
         others = λ other f. subst (λ xs. FitsCall eq hash old xs other) (sym e.0) f;
         map = λ q. ap (λ xs. map_of eq old xs q) e.0;
+        grows = λ n node at. ap (λ xs. slice_get xs n) e.0 ∙ at;
       }
       by (inr (key, stored, is, none, grown, named)) = record {
         well = subst (λ xs. IsWell eq hash old xs first peak) (sym grown) (well_more eq laws hash can.respects nodes x old first peak hashed can.well);
@@ -87,6 +93,7 @@ module _ {K V : Type 0} (eq : K → K → Bool) (laws : IsEquivalence eq) (hash 
           runs = runs_more eq laws hash can.respects nodes x old other.operation other.node other.table f.runs;
         });
         map = λ q. ap (λ xs. map_of eq old xs q) grown ∙ map_more eq laws hash can.respects nodes x old first peak hashed can.well q;
+        grows = λ n node at. ap (λ xs. slice_get xs n) grown ∙ get-front nodes (x ∷ []) n node at;
       }
         where
           x : Node K V
@@ -128,6 +135,8 @@ module _ {K V : Type 0} (eq : K → K → Bool) (laws : IsEquivalence eq) (hash 
       hashed = g.hashed;
       runs = turned.others other.operation other.node other.table g.runs;
     };
+    later = turned.later;
+    grows = kept.grows;
     err = tt;
   }
   done new after (Err e) same_operation same_hash same_node turned (same, call_same) = record {
@@ -141,6 +150,8 @@ module _ {K V : Type 0} (eq : K → K → Bool) (laws : IsEquivalence eq) (hash 
     moves = tt;
     going = tt;
     others = λ other f. subst (λ m. FitsCall eq hash m more other) (sym same) (kept.others other f);
+    later = λ keys agrees. subst (λ m. LaterMemory (same_by eq keys) old m) (sym same) (later_same eq laws hash can.respects nodes old keys);
+    grows = kept.grows;
     err = (
       same,
       subst (λ m. SameMap (map_of eq old nodes) (map_of eq m more)) (sym same) kept.map,
@@ -150,11 +161,11 @@ module _ {K V : Type 0} (eq : K → K → Bool) (laws : IsEquivalence eq) (hash 
   }
 
 -- without a node nothing has changed
-pub undone : {K V : Type 0} (eq : K → K → Bool) (hash : K → ℕ) (first peak : ℕ) (old : Memory) (nodes more : List (Node K V))
+pub undone : {K V : Type 0} (eq : K → K → Bool) (laws : IsEquivalence eq) (hash : K → ℕ) (first peak : ℕ) (old : Memory) (nodes more : List (Node K V))
     (before after : BucketCall K V) (gives : Result (TableTurn K V) AllocError) → IsErr gives → CanBegin eq hash old nodes first peak before →
     more ≡ nodes → after ≡ before → Done eq hash first peak old nodes before gives old more after
-undone eq hash first peak old nodes more before after (Ok t) is can same call_same = absurd (false≢true is)
-undone eq hash first peak old nodes more before after (Err e) is can same call_same = record {
+undone eq laws hash first peak old nodes more before after (Ok t) is can same call_same = absurd (false≢true is)
+undone eq laws hash first peak old nodes more before after (Err e) is can same call_same = record {
   well = λ most longer few. subst (λ xs. IsWell eq hash old xs first most) (sym same) (record {
     sound = can.well.sound;
     hashed = can.well.hashed;
@@ -165,6 +176,8 @@ undone eq hash first peak old nodes more before after (Err e) is can same call_s
   moves = tt;
   going = tt;
   others = λ other f. subst (λ xs. FitsCall eq hash old xs other) (sym same) f;
+  later = λ keys agrees. later_same eq laws hash can.respects nodes old keys;
+  grows = λ n node at. ap (λ xs. slice_get xs n) same ∙ at;
   err = (
     refl,
     λ q. ap (λ xs. map_of eq old xs q) same,

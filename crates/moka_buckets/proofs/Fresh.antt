@@ -18,7 +18,7 @@ use Rattle.moka_buckets.specs.Nodes.{hash_by, same_by, mine_by, own_by, key_in, 
 use Rattle.moka_buckets.specs.Arrays.{memory_of, words_in, ArePlaced}
 use Rattle.moka_buckets.proofs.Placed.{get-back}
 use Rattle.moka_buckets.specs.Building.{HasNone, HasRoot, IsFresh, AreFresh}
-use Rattle.moka_buckets.specs.Parts.{keys_of, map_over, map_at, segment_of, memory_at, peak_at, IsPart, AreParts}
+use Rattle.moka_buckets.specs.Parts.{keys_of, map_over, map_at, segment_of, memory_at, IsPart, AreParts}
 
 no_item : {A : Type 0} {x : A} → None ≡ Some x → ⊥
 no_item e = cc

@@ -1,5 +1,5 @@
 -- What a step of a table leaves, as the contract of tables asks for it.
-use Rattle.std.proofs.Common.{◌≡◌, ◌≢◌, ℕ, ◌+◌, ◌-◌, ◌<◌, ◌≤◌, max, Bool, true, false, cond, is_some, List, length, Option, Some, Result, Ok, Err, IfOk, OnErr, sym, ap, subst, ◌∙◌, arith, set, refl}
+use Rattle.std.proofs.Common.{◌≡◌, ◌≢◌, ℕ, ◌+◌, ◌-◌, ◌<◌, ◌≤◌, max, Bool, true, false, cond, is_some, List, length, Some, Result, Ok, Err, IfOk, OnErr, sym, ap, subst, ◌∙◌, arith, set}
 use Rattle.std.proofs.lemmas.Option.{slice_get_within}
 use Rattle.std.specs.List.{slice_get}
 use Rattle.std.specs.declared.alloc.AllocError.{AllocError}

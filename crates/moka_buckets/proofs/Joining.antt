@@ -1,14 +1,11 @@
 -- The pairs that all segments list are those of the table's map.
-use Rattle.std.proofs.Common.{◌≡◌, ◌≢◌, ℕ, ◌+◌, ◌-◌, ◌<◌, ◌≤◌, Bool, true, false, cond, List, [], ◌∷◌, ◌++◌, map, length, Option, Some, None, zero, suc, inl, inr, refl, sym, ap, subst, ◌∙◌, arith}
-use Rattle.std.proofs.lemmas.Bool.{cases_eq, cases_lt}
-use Rattle.std.specs.Option.{option_map, option_map_or}
+use Rattle.std.proofs.Common.{◌≡◌, ◌≢◌, ℕ, ◌+◌, ◌≤◌, Bool, true, false, cond, List, [], ◌∷◌, ◌++◌, length, Some, None, zero, suc, refl, sym, ap, subst, ◌∙◌, arith}
+use Rattle.std.specs.Option.{option_map_or}
 use Rattle.std.specs.List.{slice_get, IsDistinct, AllByRecursion}
 use Rattle.std.specs.Map.{lookup, keys_of}
 use Rattle.moka_hist.specs.declared.records.Stored.{Stored}
-use Rattle.moka_words.specs.Words.{stored_in, word_at}
 use Rattle.moka_words.specs.Effect.{root, words_of}
 use Rattle.moka_table.specs.Map.{ListsPairs}
-use Rattle.moka_buckets.specs.declared.node.Node.{Node}
 use Rattle.moka_buckets.specs.declared.part.Part.{Part}
 use Rattle.moka_buckets.specs.Parts.{map_at, map_over, listed_part, listed_over, memory_at, segment_of, IsPart, AreParts}
 use Rattle.moka_buckets.proofs.Listings.{entries, values_entries, lookup_listed, all_listed, listed_distinct}

@@ -18,3 +18,12 @@ pub mod Joining
 pub mod Adding
 pub mod Going
 pub mod Fresh
+pub mod Numbered
+pub mod Ranged
+pub mod Renewing
+pub mod Renewed
+pub mod Led
+pub mod Walks
+pub mod Across
+pub mod Keyed
+pub mod Kept

@@ -10,10 +10,9 @@ use Rattle.moka_words.specs.Layout.{stored_nodes}
 use Rattle.moka_words.specs.Effect.{Memory, root, words_of}
 use Rattle.moka_words.proofs.Laying.{stored_is_key}
 use Rattle.moka_growth.proofs.Copying.{root_is_array}
-use Rattle.moka_table.specs.Map.{ListsPairs}
 use Rattle.moka_buckets.specs.declared.node.Node.{Node}
 use Rattle.moka_buckets.specs.Nodes.{is_one_key, own_by, same_by, key_in, pair_at}
-use Rattle.moka_buckets.specs.Tables.{map_of, IsWell}
+use Rattle.moka_buckets.specs.Tables.{IsWell}
 use Rattle.moka_buckets.specs.Listed.{listed_in}
 use Rattle.moka_buckets.proofs.Turning.{agrees_now}
 

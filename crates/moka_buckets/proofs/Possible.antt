@@ -33,6 +33,7 @@ use Rattle.moka_buckets.specs.Nodes.{hash_by, same_by, mine_by, key_in, IsNamed}
 use Rattle.moka_buckets.specs.Arrays.{words_in, memory_of}
 use Rattle.moka_buckets.specs.Making.{CanMake, is_tomb}
 use Rattle.moka_buckets.specs.Tables.{Puts, choose, put_by}
+use Rattle.moka_buckets.specs.Walks.{IsNoSeek}
 
 pub short_words : (all : List Array) (a : ℕ) → length (words_in all a) ≤ 2 ^ 60
 short_words all a = by (slice_get all a)
@@ -101,7 +102,7 @@ stored_counts m sound counted a i rooted bare has =
         by None f count = absurd (false≢true f)
         by (Some n) f count = omega (arith, count)
 
-module _ {K V : Type 0} (eq : K → K → Bool) (hash : K → ℕ) (nodes : List (Node K V)) (o : TableOp K V) (s : Arrays)
+module _ {K V : Type 0} (eq : K → K → Bool) (hash : K → ℕ) (nodes : List (Node K V)) (s : Arrays)
     (sound : IsSound (hash_by hash (key_in nodes)) (same_by eq (key_in nodes)) (mine_by (key_in nodes)) (memory_of s)) (counted : IsCounted (memory_of s)) where
   has_node : (n : ℕ) → is_some (key_in nodes n) ≡ true → n < length nodes
   has_node n e = by (slice_get nodes n) refl e
@@ -113,12 +114,33 @@ module _ {K V : Type 0} (eq : K → K → Bool) (hash : K → ℕ) (nodes : List
   named : (a i : ℕ) → HasBeenRoot (memory_of s) a → IsNamed nodes (word_at (words_in s.all.items a) i)
   named a i r n e = has_node n ((sound.roots r.place a r.before r.there).keys i n e)
 
-  pub can_make : (own : ℕ → Bool) (h : ℕ) (stored : Option ℕ) (p : Point) → Rests p → Puts nodes o stored p → FitsAt (hash_by hash (key_in nodes)) own h (memory_of s) p →
-      CanMake (memory_of s) nodes (wanted h p)
-  can_make own h stored (call.Root met) rests puts fits = tt
-  can_make own h stored (call.Probe a l v) rests puts fits = named a (bucket_at l h v) fits.rooted
-  can_make own h stored (call.Choose a l v w) rests puts fits = absurd rests
-  can_make own h stored (call.Change a l v from to) rests puts fits =
+  -- a call that seeks no key can make its access
+  pub can_rest : (own : ℕ → Bool) (h : ℕ) (p : Point) → IsNoSeek p → FitsAt (hash_by hash (key_in nodes)) own h (memory_of s) p → CanMake (memory_of s) nodes (wanted h p)
+  can_rest own h (call.Root met) nay fits = tt
+  can_rest own h (call.Probe a l v) nay fits = absurd nay
+  can_rest own h (call.Choose a l v w) nay fits = absurd nay
+  can_rest own h (call.Change a l v from to) nay fits = absurd nay
+  can_rest own h (call.Walk a l i ns) nay fits = named a i fits.0
+  can_rest own h (call.Seal a l i kept) nay fits = named a i fits.rooted
+  can_rest own h (call.Close a l i w x kept) nay fits = (
+    λ is has. stored_counts (memory_of s) sound counted a i fits.0.rooted (subst (λ y. is_sealed y ≡ false) (sym is) fits.1)
+        (subst (λ y. IsSome (stored_in y)) (sym is) has),
+    seal_buries w,
+    few_keys s counted,
+  )
+  can_rest own h (call.Next x l kept) nay fits = (fits.place, fits.left.stands)
+  can_rest own h (call.Link x l kept) nay fits = (fits.place, fits.left.stands)
+  can_rest own h (call.Copy from a i laid) nay fits = tt
+  can_rest own h (call.Swing from a) nay fits = λ is.
+      let m = memory_of s in
+      let here = before_one m sound fits.place m.rooted from fits.left.stands (record { there = is; within = sound.linked }) in
+      subst (λ p. array_at m p ≡ Some a) here fits.there
+
+  pub can_make : (o : TableOp K V) (own : ℕ → Bool) (h : ℕ) (stored : Option ℕ) (p : Point) → Rests p → Puts nodes o stored p →
+      FitsAt (hash_by hash (key_in nodes)) own h (memory_of s) p → CanMake (memory_of s) nodes (wanted h p)
+  can_make o own h stored (call.Probe a l v) rests puts fits = named a (bucket_at l h v) fits.rooted
+  can_make o own h stored (call.Choose a l v w) rests puts fits = absurd rests
+  can_make o own h stored (call.Change a l v from to) rests puts fits =
       let bare = change_bare own from to fits.1 in
       let i = bucket_at l h v in (
         λ is has. stored_counts (memory_of s) sound counted a i fits.0.rooted (subst (λ w. is_sealed w ≡ false) (sym is) bare)
@@ -126,18 +148,11 @@ module _ {K V : Type 0} (eq : K → K → Bool) (hash : K → ℕ) (nodes : List
         put_buries (choose nodes o stored (stored_in from)) from to puts,
         few_keys s counted,
       )
-  can_make own h stored (call.Walk a l i ns) rests puts fits = named a i fits.0
-  can_make own h stored (call.Seal a l i kept) rests puts fits = named a i fits.rooted
-  can_make own h stored (call.Close a l i w x kept) rests puts fits = (
-    λ is has. stored_counts (memory_of s) sound counted a i fits.0.rooted (subst (λ y. is_sealed y ≡ false) (sym is) fits.1)
-        (subst (λ y. IsSome (stored_in y)) (sym is) has),
-    seal_buries w,
-    few_keys s counted,
-  )
-  can_make own h stored (call.Next x l kept) rests puts fits = (fits.place, fits.left.stands)
-  can_make own h stored (call.Link x l kept) rests puts fits = (fits.place, fits.left.stands)
-  can_make own h stored (call.Copy from a i laid) rests puts fits = tt
-  can_make own h stored (call.Swing from a) rests puts fits = λ is.
-      let m = memory_of s in
-      let here = before_one m sound fits.place m.rooted from fits.left.stands (record { there = is; within = sound.linked }) in
-      subst (λ p. array_at m p ≡ Some a) here fits.there
+  can_make o own h stored (call.Root met) rests puts fits = can_rest own h (call.Root met) tt fits
+  can_make o own h stored (call.Walk a l i ns) rests puts fits = can_rest own h (call.Walk a l i ns) tt fits
+  can_make o own h stored (call.Seal a l i kept) rests puts fits = can_rest own h (call.Seal a l i kept) tt fits
+  can_make o own h stored (call.Close a l i w x kept) rests puts fits = can_rest own h (call.Close a l i w x kept) tt fits
+  can_make o own h stored (call.Next x l kept) rests puts fits = can_rest own h (call.Next x l kept) tt fits
+  can_make o own h stored (call.Link x l kept) rests puts fits = can_rest own h (call.Link x l kept) tt fits
+  can_make o own h stored (call.Copy from a i laid) rests puts fits = can_rest own h (call.Copy from a i laid) tt fits
+  can_make o own h stored (call.Swing from a) rests puts fits = can_rest own h (call.Swing from a) tt fits

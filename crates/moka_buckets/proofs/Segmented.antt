@@ -1,6 +1,5 @@
 -- The segment of a hash is one of those there.
-use Rattle.std.proofs.Common.{◌≡◌, ℕ, ◌*◌, ◌/◌, ◌^◌, ◌<◌, arith, subst, mul_comm}
-use Rattle.std.proofs.lemmas.Nat.{mul-lt}
+use Rattle.std.proofs.Common.{ℕ, ◌*◌, ◌^◌, ◌<◌, arith, subst, mul_comm}
 use Rattle.std.proofs.Math.Nat.{mul-lt-mul_of_pos_right, div-lt_iff_lt-mul}
 use Rattle.moka_buckets.specs.Parts.{segment_of}
 

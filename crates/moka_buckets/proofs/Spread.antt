@@ -1,5 +1,5 @@
 -- What a step in one segment does to the whole table.
-use Rattle.std.proofs.Common.{◌≡◌, ◌≢◌, ◌⊎◌, ℕ, ◌+◌, ◌-◌, ◌<◌, ◌≤◌, max, Bool, true, false, cond, List, [], ◌∷◌, length, Option, Some, None, is_some, Result, Ok, Err, IfOk, OnErr, zero, suc, inl, inr, refl, sym, ap, subst, ◌∙◌, arith, set}
+use Rattle.std.proofs.Common.{◌≡◌, ◌≢◌, ℕ, ◌+◌, ◌-◌, ◌<◌, ◌≤◌, Bool, true, false, cond, List, [], ◌∷◌, length, Option, Some, None, is_some, Result, Ok, Err, IfOk, OnErr, zero, suc, inl, inr, refl, sym, ap, subst, ◌∙◌, arith, set}
 use Rattle.std.proofs.lemmas.Bool.{cases_eq, false≢true}
 use Rattle.std.proofs.lemmas.Option.{slice_get_within}
 use Rattle.std.proofs.Math.ListN.{length-set}
@@ -24,7 +24,7 @@ use Rattle.moka_buckets.specs.declared.part.Part.{Part}
 use Rattle.moka_buckets.specs.declared.bucket_call.BucketCall.{BucketCall}
 use Rattle.moka_buckets.specs.Nodes.{hash_by, own_by, key_in, pair_at}
 use Rattle.moka_buckets.specs.Tables.{left_in, RunsOn}
-use Rattle.moka_buckets.specs.Steps.{FitsCall, CanBegin}
+use Rattle.moka_buckets.specs.Steps.{FitsCall}
 use Rattle.moka_buckets.specs.Parts.{memory_at, keys_at, peak_at, map_at, map_over, keys_of, left_over, segment_of, IsPart, AreParts, FitsParts, Goes}
 use Rattle.moka_buckets.proofs.Placed.{get-set-same, get-set-other}
 use Rattle.moka_buckets.proofs.Turning.{agrees_now}

@@ -8,7 +8,6 @@ use Rattle.std.proofs.lemmas.List.Sorted.{IsPermutation-sym, length_permutation}
 use Rattle.moka_hist.specs.Tables.{answer_of, key_of}
 use Rattle.moka_hist.specs.declared.records.Stored.{Stored}
 use Rattle.moka_hist.specs.declared.tables.TableOp.{TableOp}
-use Rattle.moka_hist.specs.declared.tables.TableOp.TheVariants as op
 use Rattle.moka_hist.specs.declared.tables.TableAnswer.{TableAnswer}
 use Rattle.moka_hist.specs.declared.tables.TableTurn.TheVariants as turn
 use Rattle.moka_words.specs.declared.words.Word.{Word}
@@ -18,28 +17,27 @@ use Rattle.moka_words.specs.declared.accesses.Choice.TheVariants as choice
 use Rattle.moka_words.specs.declared.accesses.Seen.{Seen}
 use Rattle.moka_words.specs.declared.accesses.Seen.TheVariants as seen
 use Rattle.moka_words.specs.Words.{stored_in}
-use Rattle.moka_words.specs.Effect.{Memory, Effect}
+use Rattle.moka_words.specs.Effect.{Memory, Effect, LaterMemory}
 use Rattle.moka_growth.specs.declared.kinds.CallKind.{CallKind}
-use Rattle.moka_growth.specs.declared.kinds.CallKind.TheVariants as kind
 use Rattle.moka_growth.specs.Calls.{Point, Call, Ending, Step, Going, Decided, wanted, access_of, next_of, goes, chosen, removed}
 use Rattle.moka_growth.specs.Calls as call
 use Rattle.moka_growth.specs.Fits.{IsOpen, Rests}
-use Rattle.moka_growth.specs.Maps.{present_nodes, KeepsMap, ChangesMap, Finds, Ends, IsChoice, stores}
+use Rattle.moka_growth.specs.Maps.{present_nodes, KeepsMap, ChangesMap, Finds, Ends, IsChoice}
 use Rattle.moka_growth.specs.Counts.{Recounts, IsCounted}
 use Rattle.moka_growth.specs.Left.{left}
 use Rattle.moka_growth.specs.Turns.{Leads}
 use Rattle.moka_table.specs.Map.{Moves}
 use Rattle.moka_buckets.specs.declared.node.Node.{Node}
-use Rattle.moka_buckets.specs.Nodes.{hash_by, own_by, key_in, pair_at, Agrees}
+use Rattle.moka_buckets.specs.Nodes.{hash_by, same_by, own_by, key_in, pair_at, Agrees}
 use Rattle.moka_buckets.specs.Tables.{IsNoWalk, Puts, choose, found_before, found_by, found_loaded, is_look, put_by, map_of, kind_of, stored_by, IsWell, Runs, RunsOn}
 use Rattle.moka_buckets.specs.Steps.{answered, answered_at, turn_by, Turned}
 use Rattle.moka_buckets.proofs.Courses.{Comes, ComesTo, Ended, ByChange, ByLook, EndsBy, IsNoChange, answers_found, course}
 use Rattle.moka_buckets.proofs.Chosen.{left_by, look_of, out_by_choice, out_present, put_by_choice, put_named, stored_pair}
 use Rattle.moka_buckets.proofs.Found.{finds_kept}
-use Rattle.moka_buckets.proofs.Turning.{Sees, Sound, agrees_now, found_is, map_kept, sound_after, counted_after, short_after, fits_after, keeps_after, ends_after, falls_after, others_after, count_after, count_out, map_after, map_out, present_pair}
+use Rattle.moka_buckets.proofs.Turning.{Sees, Sound, agrees_now, found_is, map_kept, sound_after, counted_after, short_after, fits_after, keeps_after, ends_after, falls_after, later_after, others_after, count_after, count_out, map_after, map_out, present_pair}
 
 -- a call that rests is answered nothing
-no_choice : (hash : ℕ → ℕ) (own : ℕ → Bool) (h : ℕ) (old new : Memory) (p : Point) (s : Seen) → Rests p →
+pub no_choice : (hash : ℕ → ℕ) (own : ℕ → Bool) (h : ℕ) (old new : Memory) (p : Point) (s : Seen) → Rests p →
     Effect hash own (wanted h p) s old new → IsChoice own s
 no_choice hash own h old new (call.Choose a l v w) s rests e = absurd rests
 no_choice hash own h old new (call.Root met) (seen.Root a l t k) rests e = tt
@@ -146,6 +144,9 @@ module _ {K V : Type 0} (eq : K → K → Bool) (laws : IsEquivalence eq) (hash 
         (subst (λ n. n ≤ more) counted few);
   }
 
+  later : (keys : ℕ → Option K) → Agrees keys nodes → LaterMemory (same_by eq keys) old new
+  later = later_after eq laws hash respects nodes (key_of o) c saw old new well.sound sees_of
+
   others : (p : TableOp K V) (kept : Option ℕ) (other : Step) → RunsOn eq hash old nodes p kept other → RunsOn eq hash new nodes p kept other
   others p kept (Decided e) r = r
   others p kept (Going d) r = record {
@@ -195,11 +196,12 @@ module _ {K V : Type 0} (eq : K → K → Bool) (laws : IsEquivalence eq) (hash 
       (falls_after eq laws hash respects nodes (key_of o) c saw old new well.sound sees_of first peak d well.short is).0 runs.rests,
     );
     others = others;
+    later = later;
   }
 
   -- an operation that decides
   decides : (e : Ending) → Moves eq o (map_of eq old nodes) old.len (turn.Decided (answer_of (pair_at nodes answers))) (map_of eq new nodes) new.len → Result (Decided e)
-  decides e moves = record { well = well_new; moves = moves; going = λ e. absurd (is_going e); others = others }
+  decides e moves = record { well = well_new; moves = moves; going = λ e. absurd (is_going e); others = others; later = later }
 
   sound_new : Sound eq laws hash respects nodes new
   sound_new = sound_after eq laws hash respects nodes (key_of o) c saw old new well.sound sees_of
@@ -326,6 +328,7 @@ module _ {K V : Type 0} (eq : K → K → Bool) (laws : IsEquivalence eq) (hash 
           lower,
         );
         others = others;
+        later = later;
       }
         where
           e2 : Call

@@ -6,5 +6,8 @@ pub mod Steps
 pub mod Hashing
 pub mod Building
 pub mod Parts
+pub mod Compacting
 pub mod Views
 pub mod Listed
+pub mod Walks
+pub mod Keys

@@ -25,6 +25,10 @@ module _ {K : Type 0} where
   abbrev pub own_by : (K → K → Bool) → (keys : ℕ → Option K) → (key : K) → ℕ → Bool
   own_by eq keys key n = option_map_or (eq key) (keys n) false
 
+  -- the same of a call with this key, or with none
+  abbrev pub own_for : (K → K → Bool) → (keys : ℕ → Option K) → (key : Option K) → ℕ → Bool
+  own_for eq keys key n = option_map_or (λ k. own_by eq keys k n) key false
+
   abbrev pub mine_by : (keys : ℕ → Option K) → ℕ → Bool
   mine_by keys n = is_some (keys n)
 

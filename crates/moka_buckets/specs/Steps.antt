@@ -9,13 +9,14 @@ use Rattle.moka_hist.specs.declared.tables.TableTurn.{TableTurn}
 use Rattle.moka_hist.specs.declared.tables.TableTurn.TheVariants as turn
 use Rattle.moka_words.specs.declared.accesses.Choice.{Choice}
 use Rattle.moka_words.specs.Words.{stored_in}
-use Rattle.moka_words.specs.Effect.{Memory}
+use Rattle.moka_words.specs.Effect.{Memory, LaterMemory}
 use Rattle.moka_growth.specs.Calls.{Point, Call, Ending, Step, Going, Decided, chosen}
 use Rattle.moka_growth.specs.Calls as call
 use Rattle.std.specs.declared.alloc.AllocError.{AllocError}
 use Rattle.moka_table.specs.Map.{Moves, SameMap}
 use Rattle.moka_buckets.specs.declared.node.Node.{Node}
 use Rattle.moka_buckets.specs.declared.bucket_call.BucketCall.{BucketCall}
+use Rattle.moka_buckets.specs.Nodes.{same_by, Agrees}
 use Rattle.moka_buckets.specs.Tables.{map_of, left_in, stored_by, IsWell, RunsOn}
 
 -- The node that a call found under its key which asks what is to be done; None where it doesn't ask.
@@ -68,6 +69,7 @@ module _ {K V : Type 0} where
     pub moves : Moves eq o (map_of eq old nodes) old.len gives (map_of eq new nodes) new.len
     pub going : gives ≡ turn.Going → RunsOn eq hash new nodes o stored after × (left_in first peak new after < left_in first peak old before)
     pub others : (p : TableOp K V) (kept : Option ℕ) (other : Step) → RunsOn eq hash old nodes p kept other → RunsOn eq hash new nodes p kept other
+    pub later : (keys : ℕ → Option K) → Agrees keys nodes → LaterMemory (same_by eq keys) old new
 
   -- what a step of a call may rest on: hashes that equal keys share, a table that is well, and a node for the pair to be stored
   pub record CanStep (eq : K → K → Bool) (hash : K → ℕ) (m : Memory) (nodes : List (Node K V)) (first peak : ℕ) (c : BucketCall K V) : Type 0 where
@@ -92,5 +94,7 @@ module _ {K V : Type 0} where
     pub going : IfOk gives (λ t. t ≡ turn.Going
         → FitsCall eq hash new more_nodes after × (left_in first peak new after.table < left_in first peak old before.table))
     pub others : (other : BucketCall K V) → FitsCall eq hash old nodes other → FitsCall eq hash new more_nodes other
+    pub later : (keys : ℕ → Option K) → Agrees keys more_nodes → LaterMemory (same_by eq keys) old new
+    pub grows : (n : ℕ) (node : Node K V) → slice_get nodes n ≡ Some node → slice_get more_nodes n ≡ Some node
     pub err : OnErr gives ((new ≡ old) × SameMap (map_of eq old nodes) (map_of eq new more_nodes) × (after.table ≡ before.table)
         × FitsCall eq hash new more_nodes after)

@@ -12,6 +12,8 @@ use Rattle.moka_table.specs.declared.table.Table as Table
 use Rattle.moka_buckets.specs.declared.part.Part.{Part}
 use Rattle.moka_buckets.specs.declared.bucket_call.BucketCall.{BucketCall}
 use Rattle.moka_buckets.specs.Hashing.{hash_in}
+use Rattle.moka_buckets.specs.declared.keys_call.KeysCall.{KeysCall}
+use Rattle.moka_buckets.specs.Keys.{FitsKeys, ListsIt, CoversIt, left_keys}
 use Rattle.moka_buckets.specs.Parts.{memory_at, map_over, segment_of, FitsParts, left_over}
 
 -- segments, the hasher, how long the first arrays were, the most keys before the last step, and how many there are
@@ -49,6 +51,17 @@ module _ {K V S : Type 0} where
   abbrev pub segment_in : Buckets K V S → BucketCall K V → ℕ
   segment_in t c = segment_of (length t.parts) c.hash
 
+  -- a call that lists keys has listed this one
+  abbrev pub lists_in : Buckets K V S → KeysCall → K → Type 0
+  lists_in t c key = ListsIt t.parts c key
+
+  -- it lists this key, if the key stays
+  abbrev pub covers_in : (K → K → Bool) → Buckets K V S → KeysCall → K → Type 0
+  covers_in eq t c key = CoversIt eq t.parts c key
+
+  abbrev pub left_keys_of : Buckets K V S → KeysCall → ℕ
+  left_keys_of t c = left_keys (first_of t) t.parts c
+
   -- how many words the roots have together
   abbrev pub words_in : Buckets K V S → ℕ
   words_in t = sum_by (λ p. length (words_of (memory_at p) (root (memory_at p)))) t.parts
@@ -60,6 +73,14 @@ module _ {K V S : Type 0} where
     -- the call was begun on this table, and has not decided
     abbrev pub fits_in : Buckets K V S → BucketCall K V → Type 0
     fits_in t c = FitsParts eq (hash_in b h input t.hasher) t.parts c
+
+    -- the call was begun on this table; it goes on, or has ended
+    abbrev pub fits_keys_in : Buckets K V S → KeysCall → Type 0
+    fits_keys_in t c = FitsKeys eq (hash_in b h input t.hasher) t.parts c
+
+    -- the segment of a key
+    abbrev pub segment_for : Buckets K V S → K → ℕ
+    segment_for t key = segment_of (length t.parts) (hash_in b h input t.hasher key)
 
     -- what contracts see of a table of buckets
     abbrev pub bucket_table : Table.Ghosts (Buckets K V S) K V (BucketCall K V)

@@ -1,6 +1,6 @@
 //! The table of buckets.
 
-ghost use Rattle.std.specs.Prelude.{◌≡◌, ◌≢◌, ℕ, ◌+◌, ◌*◌, ◌-◌, ◌^◌, ◌<◌, ◌≤◌, max, min, length, OnErr, IfOk, Some, None};
+ghost use Rattle.std.specs.Prelude.{List, ◌≡◌, ◌≢◌, ◌⊎◌, ℕ, false, is_some, IsSome, ◌+◌, ◌*◌, ◌-◌, ◌^◌, ◌<◌, ◌≤◌, max, min, length, OnErr, IfOk, Some, None};
 ghost use Rattle.std.proofs.Common.{arith};
 ghost use Rattle.moka_hist.specs.Finite.{IsExact};
 ghost use Rattle.moka_hist.specs.declared.tables.TableOp.{TableOp};
@@ -10,9 +10,13 @@ ghost use Rattle.moka_table.specs.Map.{SameMap, Moves, ListsPairs, most_steps};
 use crate::bucket_call::BucketCall;
 use crate::building::{first_length, new_parts};
 use crate::calling::{key_of, kind_of};
+use crate::compacting::compact_parts;
+use crate::keys_call::KeysCall;
 use crate::listing::list_parts;
 use crate::part::{Part, step_parts};
+use crate::walking::{listed_keys, walk_parts};
 use moka_calls::TableCall;
+use moka_growth::CallKind;
 use moka_hist::{TableOp, TableTurn};
 use moka_table::{EntryList, Table};
 use std::alloc::{AllocError, Global};
@@ -98,11 +102,128 @@ impl<K: Eq + Hash + Drop, V: Drop, S: BuildHasher + Drop> BucketTable<K, V, S> {
     }
 }
 
+impl<K: Eq + Hash + Clone + Drop, V: Clone + Drop, S: BuildHasher + Drop> BucketTable<K, V, S> {
+    ghost use Rattle.moka_buckets.specs.Compacting.{AllCompact};
+    ghost use Rattle.std.specs.Option.{option_map};
+    ghost use Rattle.moka_calls.specs.Standing.{IsGoing};
+    ghost use Rattle.moka_buckets.specs.Keys.{IsListing};
+    ghost use Rattle.moka_buckets.specs.Views.{count_of, covers_in, first_of, fits_in, fits_keys_in, left_keys_of, left_of, lists_in, map_in, peak_of, segment_for};
+    ghost use Rattle.moka_buckets.specs.Walks.{is_ended};
+    ghost use Rattle.moka_buckets.specs.declared.bucket_call.BucketCall.{BucketCall};
+    ghost use Rattle.moka_buckets.specs.declared.keys_call.KeysCall.{KeysCall};
+
+    /// Puts the keys of each segment, half-grown or not, into one array that is as short as they
+    /// allow, and none where there are none; old arrays and nodes go. Operations that were begun
+    /// before need not fit any more. All memory is taken first.
+    pub fn compact(&mut self) -> Result<(), AllocError>
+        requires keys { IsExact K.is_clone }
+        requires values { IsExact V.is_clone }
+        ensures map { SameMap
+            (map_in S.BuildHasher S.Hasher.Hasher K.eq K.hash_input self.old)
+            (map_in S.BuildHasher S.Hasher.Hasher K.eq K.hash_input self.new) }
+        ensures count { count_of self.new ≡ count_of self.old }
+        ensures first { first_of self.new ≡ first_of self.old }
+        ensures peak { peak_of self.new ≡ peak_of self.old }
+        ensures segments { length self.new.parts ≡ length self.old.parts }
+        ensures compact { IfOk result (λ done. AllCompact self.old.parts self.new.parts) }
+        ensures err { OnErr result (self.new ≡ self.old) }
+    {
+        let parts = compact_parts(self.alloc, &self.parts)?;
+        self.parts = parts;
+        Ok(())
+    }
+
+    /// Begins a call that lists the keys of this segment. It takes no memory.
+    pub fn begin_keys(&self, segment: usize) -> KeysCall
+        requires { segment < length self.now.parts }
+        ensures segment { result.segment ≡ segment }
+        ensures fits { fits_keys_in S.BuildHasher S.Hasher.Hasher K.eq K.hash_input
+            self.now result }
+        ensures going { IsGoing result.table }
+        // It has listed no key, and has yet to come to each.
+        ensures none { (key : K) → lists_in self.now result key → ⊥ }
+        ensures covers { (key : K) → covers_in K.eq self.now result key }
+        ensures left { left_keys_of self.now result
+            ≤ most_steps (first_of self.now) (peak_of self.now) }
+    {
+        KeysCall {
+            segment,
+            table: TableCall::new(self.alloc, CallKind::Keys, 0),
+        }
+    }
+
+    /// Makes one step of a call that lists keys, and changes no pair; tells whether the call has
+    /// decided.
+    pub fn step_keys(&mut self, call: &mut KeysCall) -> Result<bool, AllocError>
+        requires fits { fits_keys_in S.BuildHasher S.Hasher.Hasher K.eq K.hash_input
+            self.old call.old }
+        requires going { IsGoing call.old.table }
+        ensures map { SameMap
+            (map_in S.BuildHasher S.Hasher.Hasher K.eq K.hash_input self.old)
+            (map_in S.BuildHasher S.Hasher.Hasher K.eq K.hash_input self.new) }
+        ensures count { count_of self.new ≡ count_of self.old }
+        ensures first { first_of self.new ≡ first_of self.old }
+        ensures peak { peak_of self.new ≡ peak_of self.old }
+        ensures segment { call.new.segment ≡ call.old.segment }
+        ensures fits { fits_keys_in S.BuildHasher S.Hasher.Hasher K.eq K.hash_input
+            self.new call.new }
+        ensures ended { IfOk result (λ done. done ≡ is_ended call.new.table) }
+        ensures nears { IfOk result (λ done. done ≡ false
+            → left_keys_of self.new call.new < left_keys_of self.old call.old) }
+        // What it lists anew was in the map; a key that was there it goes on to cover.
+        ensures lists { IfOk result (λ done. (key : K) → lists_in self.new call.new key
+            → lists_in self.old call.old key ⊎ IsSome
+            (map_in S.BuildHasher S.Hasher.Hasher K.eq K.hash_input self.old key)) }
+        ensures covers { IfOk result (λ done. (key : K)
+            → segment_for S.BuildHasher S.Hasher.Hasher K.eq K.hash_input self.old key
+            ≡ call.old.segment
+            → IsSome (map_in S.BuildHasher S.Hasher.Hasher K.eq K.hash_input self.old key)
+            → covers_in K.eq self.old call.old key → covers_in K.eq self.new call.new key) }
+        // Operations and other calls still fit.
+        ensures others { (other : BucketCall K V)
+            → fits_in S.BuildHasher S.Hasher.Hasher K.eq K.hash_input self.old other
+            → fits_in S.BuildHasher S.Hasher.Hasher K.eq K.hash_input self.new other }
+        ensures others_left { (other : BucketCall K V)
+            → fits_in S.BuildHasher S.Hasher.Hasher K.eq K.hash_input self.old other
+            → left_of self.new other ≤ most_steps (first_of self.new) (peak_of self.new) }
+        ensures keys { (other : KeysCall)
+            → fits_keys_in S.BuildHasher S.Hasher.Hasher K.eq K.hash_input self.old other
+            → fits_keys_in S.BuildHasher S.Hasher.Hasher K.eq K.hash_input self.new other }
+        ensures keys_left { (other : KeysCall)
+            → fits_keys_in S.BuildHasher S.Hasher.Hasher K.eq K.hash_input self.old other
+            → left_keys_of self.new other
+            ≤ most_steps (first_of self.new) (peak_of self.new) }
+        ensures keys_covers { (other : KeysCall) (key : K)
+            → fits_keys_in S.BuildHasher S.Hasher.Hasher K.eq K.hash_input self.old other
+            → segment_for S.BuildHasher S.Hasher.Hasher K.eq K.hash_input self.old key
+            ≡ other.segment
+            → IsSome (map_in S.BuildHasher S.Hasher.Hasher K.eq K.hash_input self.old key)
+            → covers_in K.eq self.old other key → covers_in K.eq self.new other key }
+        ensures err { OnErr result (call.new ≡ call.old) }
+    {
+        walk_parts(&mut self.parts, call)
+    }
+
+    /// The keys that the call has listed; None exactly where it hasn't decided.
+    pub fn keys(&self, call: &KeysCall) -> Result<Option<Vec<K>>, AllocError>
+        requires keys { IsExact K.is_clone }
+        requires fits { fits_keys_in S.BuildHasher S.Hasher.Hasher K.eq K.hash_input
+            self.now call.now }
+        ensures ended { IfOk result (λ keys. is_some keys ≡ is_ended call.now.table) }
+        ensures listing { IfOk result (λ keys. (list : List K)
+            → option_map (λ v. v.items) keys ≡ Some list
+            → IsListing K.eq self.now.parts call.now list) }
+    {
+        listed_keys(self.alloc, &self.parts, call)
+    }
+}
+
 impl<K: Eq + Hash + Clone + Drop, V: Clone + Drop, S: BuildHasher + Drop> Table<K, V>
     for BucketTable<K, V, S> {
     type Call = BucketCall<K, V>;
 
-    ghost use Rattle.moka_buckets.specs.Views.{count_of, first_of, fits_in, left_of, map_in, operation_of, peak_of, segment_in};
+    ghost use Rattle.moka_buckets.specs.Views.{count_of, covers_in, first_of, fits_in, fits_keys_in, left_keys_of, left_of, map_in, operation_of, peak_of, segment_for, segment_in};
+    ghost use Rattle.moka_buckets.specs.declared.keys_call.KeysCall.{KeysCall};
     ghost use Rattle.moka_buckets.specs.declared.bucket_call.BucketCall.{BucketCall};
 
     ghost map = { λ t. map_in S.BuildHasher S.Hasher.Hasher K.eq K.hash_input t };
@@ -178,6 +299,20 @@ impl<K: Eq + Hash + Clone + Drop, V: Clone + Drop, S: BuildHasher + Drop> Table<
         ensures elsewhere { (other : BucketCall K V)
             → segment_in self.old other ≢ segment_in self.old call.old
             → left_of self.new other ≡ left_of self.old other }
+        // Calls that list keys still fit, and cover what they covered of the keys that were there.
+        ensures keys { (other : KeysCall)
+            → fits_keys_in S.BuildHasher S.Hasher.Hasher K.eq K.hash_input self.old other
+            → fits_keys_in S.BuildHasher S.Hasher.Hasher K.eq K.hash_input self.new other }
+        ensures keys_left { (other : KeysCall)
+            → fits_keys_in S.BuildHasher S.Hasher.Hasher K.eq K.hash_input self.old other
+            → left_keys_of self.new other
+            ≤ most_steps (first_of self.new) (peak_of self.new) }
+        ensures keys_covers { (other : KeysCall) (key : K)
+            → fits_keys_in S.BuildHasher S.Hasher.Hasher K.eq K.hash_input self.old other
+            → segment_for S.BuildHasher S.Hasher.Hasher K.eq K.hash_input self.old key
+            ≡ other.segment
+            → IsSome (map_in S.BuildHasher S.Hasher.Hasher K.eq K.hash_input self.old key)
+            → covers_in K.eq self.old other key → covers_in K.eq self.new other key }
         // Without memory nothing has changed, for this call and for the others.
         ensures err_map { OnErr result (SameMap
             (map_in S.BuildHasher S.Hasher.Hasher K.eq K.hash_input self.old)

@@ -69,7 +69,8 @@ fn part_of<K: Drop, V: Drop>(arrays: Arrays) -> Part<K, V>
 }
 
 impl Arrays {
-    fn none(alloc: Global) -> Arrays
+    /// No arrays.
+    pub fn none(alloc: Global) -> Arrays
         ensures none { HasNone result }
         ensures len { result.segment.len ≡ 0 }
     {

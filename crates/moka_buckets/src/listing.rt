@@ -17,8 +17,8 @@ use moka_words::Word;
 use std::alloc::{AllocError, Global};
 
 impl Arrays {
-    // The words of the root; none without one.
-    fn root_words(&self) -> &[Word]
+    /// The words of the root; none without one.
+    pub fn root_words(&self) -> &[Word]
         ensures { result.now ≡ words_of (memory_of self.now) (root (memory_of self.now)) }
     {
         match self.root() {

@@ -1,11 +1,12 @@
 //! One access to the memory.
 
 ghost use Rattle.std.specs.Prelude.{◌≡◌, ℕ, Bool, IfOk, OnErr, Option};
+ghost use Rattle.std.specs.Option.{option_copied};
 ghost use Rattle.moka_words.specs.Effect.{Effect};
 ghost use Rattle.moka_growth.specs.Counts.{Recounts};
 ghost use Rattle.moka_calls.specs.Standing.{MayWant};
 ghost use Rattle.moka_buckets.specs.Arrays.{ArePlaced, memory_of};
-ghost use Rattle.moka_buckets.specs.Nodes.{Agrees, AreHashed, hash_by, own_by};
+ghost use Rattle.moka_buckets.specs.Nodes.{Agrees, AreHashed, hash_by, own_for};
 ghost use Rattle.moka_buckets.specs.Making.{CanMake};
 
 use crate::array::Arrays;
@@ -14,19 +15,20 @@ use crate::nodes::see_word;
 use moka_words::{Access, Seen};
 use std::alloc::AllocError;
 
-/// Makes the access, for a call with this key. Without memory, which only a link takes, nothing has
-/// changed.
+/// Makes the access, for a call with this key, or with none. Without memory, which only a link
+/// takes, nothing has changed.
 pub fn make<K: Eq, V>(
     arrays: &mut Arrays,
     nodes: &[Node<K, V>],
-    key: &K,
+    key: Option<&K>,
     access: Access,
 ) -> Result<Seen, AllocError>
     requires placed { ArePlaced arrays.old }
     requires can { CanMake (memory_of arrays.old) nodes.now access }
     ensures effect { (hash : K → ℕ) (keys : ℕ → Option K) →
         AreHashed hash nodes.now → Agrees keys nodes.now →
-        IfOk result (λ saw. Effect (hash_by hash keys) (own_by K.eq keys key.now) access saw
+        IfOk result (λ saw. Effect (hash_by hash keys)
+        (own_for K.eq keys (option_copied key.entry)) access saw
         (memory_of arrays.old) (memory_of arrays.new)) }
     ensures counts { IfOk result (λ saw. Recounts access saw
         (memory_of arrays.old) (memory_of arrays.new)) }

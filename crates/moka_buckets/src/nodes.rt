@@ -1,14 +1,14 @@
 //! What the nodes of a table say.
 
-ghost use Rattle.std.specs.Prelude.{◌≡◌, ℕ, ◌<◌, Bool, IfOk, OnErr, Option, Some, None, length};
-ghost use Rattle.std.specs.Option.{option_copied, option_map};
+ghost use Rattle.std.specs.Prelude.{◌≡◌, ℕ, ◌<◌, Bool, false, IfOk, OnErr, Option, Some, None, length};
+ghost use Rattle.std.specs.Option.{option_copied, option_map, option_map_or};
 ghost use Rattle.std.specs.List.{slice_get};
 ghost use Rattle.moka_hist.specs.Finite.{IsExact};
 ghost use Rattle.moka_hist.specs.Tables.{answer_of};
 ghost use Rattle.moka_words.specs.Words.{node_of, word_at};
 ghost use Rattle.moka_words.specs.Effect.{Effect, Memory};
 ghost use Rattle.moka_words.specs.declared.accesses.Access.TheVariants as access;
-ghost use Rattle.moka_buckets.specs.Nodes.{Agrees, AreHashed, IsNamed, hash_by, own_by, pair_at};
+ghost use Rattle.moka_buckets.specs.Nodes.{Agrees, AreHashed, IsNamed, hash_by, own_for, pair_at};
 ghost use Rattle.moka_buckets.specs.declared.node.Node.{Node};
 
 use crate::node::Node;
@@ -24,12 +24,13 @@ pub fn node_at<K, V>(nodes: &[Node<K, V>], number: u64) -> Option<&Node<K, V>>
     nodes.get(number as usize)
 }
 
-/// The hash and the key of the word's node, as a call with this key sees them.
-pub fn see_word<K: Eq, V>(nodes: &[Node<K, V>], key: &K, word: Word) -> Seen
+/// The hash and the key of the word's node, as a call with this key sees them, or with none.
+pub fn see_word<K: Eq, V>(nodes: &[Node<K, V>], key: Option<&K>, word: Word) -> Seen
     ensures { (hash : K → ℕ) (keys : ℕ → Option K) (m : Memory) (array index : ℕ) →
         AreHashed hash nodes.now → Agrees keys nodes.now → IsNamed nodes.now word →
         word ≡ word_at (m.words array) index →
-        Effect (hash_by hash keys) (own_by K.eq keys key.now) (access.LoadWord array index) result m m }
+        Effect (hash_by hash keys) (own_for K.eq keys (option_copied key.entry))
+        (access.LoadWord array index) result m m }
 {
     match node_of(word) {
         None => Seen::Word {
@@ -41,12 +42,13 @@ pub fn see_word<K: Eq, V>(nodes: &[Node<K, V>], key: &K, word: Word) -> Seen
     }
 }
 
-fn see_node<K: Eq, V>(nodes: &[Node<K, V>], key: &K, word: Word, number: u64) -> Seen
+fn see_node<K: Eq, V>(nodes: &[Node<K, V>], key: Option<&K>, word: Word, number: u64) -> Seen
     requires { node_of word ≡ Some number }
     ensures { (hash : K → ℕ) (keys : ℕ → Option K) (m : Memory) (array index : ℕ) →
         AreHashed hash nodes.now → Agrees keys nodes.now → IsNamed nodes.now word →
         word ≡ word_at (m.words array) index →
-        Effect (hash_by hash keys) (own_by K.eq keys key.now) (access.LoadWord array index) result m m }
+        Effect (hash_by hash keys) (own_for K.eq keys (option_copied key.entry))
+        (access.LoadWord array index) result m m }
 {
     match node_at(nodes, number) {
         None => Seen::Word {
@@ -57,8 +59,19 @@ fn see_node<K: Eq, V>(nodes: &[Node<K, V>], key: &K, word: Word, number: u64) ->
         Some(node) => Seen::Word {
             word,
             hash: node.hash,
-            same: *key == node.key,
+            same: is_key(key, node),
         },
+    }
+}
+
+// Whether the node has the key; none has no key.
+fn is_key<K: Eq, V>(key: Option<&K>, node: &Node<K, V>) -> bool
+    ensures { result ≡ option_map_or (λ key. K.eq key node.now.key)
+        (option_copied key.entry) false }
+{
+    match key {
+        None => false,
+        Some(key) => *key == node.key,
     }
 }
 

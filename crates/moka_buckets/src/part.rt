@@ -5,6 +5,7 @@ ghost use Rattle.std.specs.List.{slice_get};
 ghost use Rattle.moka_hist.specs.Finite.{IsExact};
 ghost use Rattle.moka_buckets.specs.Arrays.{ArePlaced};
 ghost use Rattle.moka_buckets.specs.Steps.{CanBegin};
+ghost use Rattle.moka_buckets.specs.Keys.{KeepsKeys};
 ghost use Rattle.moka_buckets.specs.Parts.{CanGo, Goes, GoesOver, keys_at, memory_at, peak_at, segment_of};
 ghost use Rattle.moka_buckets.specs.declared.part.Part.{Part};
 
@@ -90,10 +91,13 @@ pub fn step_parts<K: Eq + Clone + Drop, V: Clone + Drop>(
     requires few { len.old < 2 ^ 64 - 1 }
     requires can { (hash : K → ℕ) × (first : ℕ) × (most : ℕ)
         × CanGo K.eq hash parts.old.items first most len.old call.old }
-    ensures { (hash : K → ℕ) (first most : ℕ)
+    ensures over { (hash : K → ℕ) (first most : ℕ)
         → CanGo K.eq hash parts.old.items first most len.old call.old
         → GoesOver K.eq hash first parts.old.items most len.old call.old result
         parts.new.items len.new call.new }
+    ensures keys { (hash : K → ℕ) (first most : ℕ)
+        → CanGo K.eq hash parts.old.items first most len.old call.old
+        → KeepsKeys K.eq hash parts.old.items parts.new.items }
 {
     let index = segment_of(parts.len(), call.hash);
     let before = keys_at(parts, index);

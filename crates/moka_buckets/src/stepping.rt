@@ -43,7 +43,7 @@ pub fn advance<K: Eq + Clone + Drop, V: Clone + Drop>(
 {
     let access = call.table.want();
     let pair = clone_pair(nodes, found(arrays, nodes, &call.operation, access))?;
-    let saw = make(arrays, nodes, key_of(&call.operation), access)?;
+    let saw = make(arrays, nodes, Some(key_of(&call.operation)), access)?;
     call.table.take(saw)?;
     answer(nodes, call);
     Ok(turn_of(&call.table, pair))

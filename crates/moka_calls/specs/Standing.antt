@@ -34,8 +34,8 @@ point_of nodes kept laid (point.Link array size) = call.Link array size kept
 point_of nodes kept laid (point.Copy from array index) = call.Copy from array index laid
 point_of nodes kept laid (point.Swing from array) = call.Swing from array
 
-abbrev pub call_of : Course → Call
-call_of c =
+abbrev pub course_call : Course → Call
+course_call c =
     record {
       kind = c.kind;
       hash = c.hash;
@@ -54,7 +54,7 @@ standing None c = Going c
 standing (Some d) c = Decided (ending_of d)
 
 abbrev pub step_of : Course → Step
-step_of c = standing c.decision (call_of c)
+step_of c = standing c.decision (course_call c)
 
 abbrev pub ending_in : Step → Option Ending
 ending_in (Going c) = None

@@ -7,7 +7,7 @@ ghost use Rattle.moka_words.specs.declared.accesses.Seen.TheVariants as Seen;
 ghost use Rattle.moka_growth.specs.Calls.{copies, goes, next_at};
 ghost use Rattle.moka_growth.specs.Calls as call;
 ghost use Rattle.moka_growth.specs.Growing.{next_size};
-ghost use Rattle.moka_calls.specs.Standing.{IsOn, IsReady, IsSize, IsSizeOf, MaySee, MayWant, call_of, step_of};
+ghost use Rattle.moka_calls.specs.Standing.{IsOn, IsReady, IsSize, IsSizeOf, MaySee, MayWant, course_call, step_of};
 
 use crate::course::{Course, Point};
 use crate::layout::{lay_out, next_size};
@@ -27,7 +27,7 @@ impl Course {
         requires size { IsSizeOf array size }
         requires fits { MaySee (access.LoadNext array) seen }
         ensures ok { OnOk result (step_of self.new
-            ≡ next_at (call_of self.old) (call.Next array size self.old.kept.items) seen) }
+            ≡ next_at (course_call self.old) (call.Next array size self.old.kept.items) seen) }
         ensures on { IsOn self.new }
         ensures err { OnErr result (step_of self.new ≡ step_of self.old) }
     {
@@ -49,7 +49,7 @@ impl Course {
         requires point { self.old.point ≡ Point.Next array size }
         requires size { IsSizeOf array size }
         ensures ok { OnOk result (step_of self.new
-            ≡ goes (call_of self.old) (call.Link array size self.old.kept.items)) }
+            ≡ goes (course_call self.old) (call.Link array size self.old.kept.items)) }
         ensures on { IsOn self.new }
         ensures err { OnErr result (step_of self.new ≡ step_of self.old) }
     {
@@ -71,7 +71,7 @@ impl Course {
         requires ready { IsReady array size self.old.kept.items self.old.laid.items }
         requires fits { MaySee (access.Link array 0) seen }
         ensures ok { OnOk result (step_of self.new
-            ≡ next_at (call_of self.old) (call.Link array size self.old.kept.items) seen) }
+            ≡ next_at (course_call self.old) (call.Link array size self.old.kept.items) seen) }
         ensures on { IsOn self.new }
         ensures err { OnErr result ((step_of self.new ≡ step_of self.old)
             × MayWant (access.Link array (next_size array size (length self.old.kept.items)))
@@ -98,7 +98,7 @@ impl Course {
         requires ready { IsReady array size self.old.kept.items self.old.laid.items }
         requires long { IsSize length }
         ensures ok { OnOk result (step_of self.new
-            ≡ copies (call_of self.old) array next length self.old.kept.items) }
+            ≡ copies (course_call self.old) array next length self.old.kept.items) }
         ensures on { IsOn self.new }
         ensures err { OnErr result ((step_of self.new ≡ step_of self.old)
             × (length ≢ next_size array size (list_length self.old.kept.items))) }
@@ -120,7 +120,7 @@ impl Course {
         requires on { IsOn self.old }
         requires size { IsSize size }
         ensures ok { OnOk result (step_of self.new
-            ≡ copies (call_of self.old) from array size self.old.kept.items) }
+            ≡ copies (course_call self.old) from array size self.old.kept.items) }
         ensures on { IsOn self.new }
         ensures err { OnErr result (step_of self.new ≡ step_of self.old) }
     {
@@ -138,7 +138,7 @@ impl Course {
         requires undecided { self.old.decision ≡ None }
         requires within { index < length self.old.laid.items }
         ensures step { step_of self.new
-            ≡ next_at (call_of self.old) (call.Copy from array index self.old.laid.items)
+            ≡ next_at (course_call self.old) (call.Copy from array index self.old.laid.items)
             Seen.Copied }
         ensures on { IsOn self.new }
     {
@@ -153,7 +153,7 @@ impl Course {
     /// Goes on at the new root.
     pub fn take_swing(&mut self)
         requires undecided { self.old.decision ≡ None }
-        ensures step { step_of self.new ≡ goes (call_of self.old) (call.Root None) }
+        ensures step { step_of self.new ≡ goes (course_call self.old) (call.Root None) }
         ensures on { IsOn self.new }
     {
         self.go(Point::Root { met: None });

@@ -4,7 +4,7 @@ ghost use Rattle.std.specs.Prelude.{◌≡◌, ◌<◌, IfOk, OnOk, OnErr, [], S
 ghost use Rattle.moka_words.specs.declared.words.Word.{Word};
 ghost use Rattle.moka_growth.specs.Calls.{Going, Decided, access_of, next_of, goes};
 ghost use Rattle.moka_growth.specs.Calls as call;
-ghost use Rattle.moka_calls.specs.Standing.{IsIn, IsOn, IsSize, MaySee, MayWant, call_of, ending_of, step_of};
+ghost use Rattle.moka_calls.specs.Standing.{IsIn, IsOn, IsSize, MaySee, MayWant, course_call, ending_of, step_of};
 
 use crate::Decision;
 use crate::layout::{bucket_at, next_size};
@@ -102,7 +102,7 @@ impl Course {
     /// Its next access.
     pub fn access(&self) -> Access
         requires { IsOn self.now }
-        ensures { result ≡ access_of (call_of self.now) }
+        ensures { result ≡ access_of (course_call self.now) }
     {
         match self.point {
             Point::Root { .. } => Access::LoadRoot,
@@ -151,11 +151,11 @@ impl Course {
     pub fn take(&mut self, seen: Seen) -> Result<(), AllocError>
         requires undecided { self.old.decision ≡ None }
         requires on { IsOn self.old }
-        requires fits { MaySee (access_of (call_of self.old)) seen }
-        ensures ok { OnOk result (step_of self.new ≡ next_of (call_of self.old) seen) }
+        requires fits { MaySee (access_of (course_call self.old)) seen }
+        ensures ok { OnOk result (step_of self.new ≡ next_of (course_call self.old) seen) }
         ensures on { IsOn self.new }
         ensures err { OnErr result ((step_of self.new ≡ step_of self.old)
-            × MayWant (access_of (call_of self.old)) seen) }
+            × MayWant (access_of (course_call self.old)) seen) }
     {
         match self.point {
             Point::Root { met } => {
@@ -211,7 +211,7 @@ impl Course {
     pub fn seal_all(&mut self, array: u64, size: usize)
         requires undecided { self.old.decision ≡ None }
         requires size { IsSize size }
-        ensures step { step_of self.new ≡ goes (call_of self.old) (call.Seal array size 0 []) }
+        ensures step { step_of self.new ≡ goes (course_call self.old) (call.Seal array size 0 []) }
         ensures on { IsOn self.new }
     {
         self.kept.clear();

@@ -14,11 +14,10 @@ mod rooting;
 mod sealing;
 mod seeing;
 mod table_call;
-#[cfg(test)]
-mod tests;
 mod walking;
 mod words;
 
 pub use decision::{Decision, NodeList};
+pub use layout::lay_out;
 pub use seeing::{seen_is_taken, taken_is_maps};
 pub use table_call::TableCall;

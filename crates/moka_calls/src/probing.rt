@@ -5,7 +5,7 @@ ghost use Rattle.moka_words.specs.declared.accesses.Access.TheVariants as access
 ghost use Rattle.moka_words.specs.declared.words.Word.{Word};
 ghost use Rattle.moka_growth.specs.Calls.{absent, chosen, missed, next_at, past, past_all, present, probed, removed};
 ghost use Rattle.moka_growth.specs.Calls as call;
-ghost use Rattle.moka_calls.specs.Standing.{IsIn, IsOn, MaySee, call_of, step_of};
+ghost use Rattle.moka_calls.specs.Standing.{IsIn, IsOn, MaySee, course_call, step_of};
 
 use crate::Decision;
 use crate::course::{Course, Point, Spot};
@@ -21,7 +21,7 @@ impl Course {
         requires on { IsOn self.old }
         requires fits { MaySee (access.LoadWord 0 0) seen }
         ensures step { step_of self.new
-            ≡ next_at (call_of self.old) (call.Probe spot.array spot.size spot.passed) seen }
+            ≡ next_at (course_call self.old) (call.Probe spot.array spot.size spot.passed) seen }
         ensures on { IsOn self.new }
     {
         match seen {
@@ -35,7 +35,7 @@ impl Course {
         requires inside { IsIn spot }
         requires on { IsOn self.old }
         ensures step { step_of self.new
-            ≡ probed (call_of self.old) spot.array spot.size spot.passed word same }
+            ≡ probed (course_call self.old) spot.array spot.size spot.passed word same }
         ensures on { IsOn self.new }
     {
         match word {
@@ -55,7 +55,7 @@ impl Course {
         requires inside { IsIn spot }
         requires on { IsOn self.old }
         ensures step { step_of self.new
-            ≡ past (call_of self.old) spot.array spot.size spot.passed }
+            ≡ past (course_call self.old) spot.array spot.size spot.passed }
         ensures on { IsOn self.new }
     {
         let passed = spot.passed + 1;
@@ -74,7 +74,7 @@ impl Course {
         requires inside { IsIn spot }
         requires on { IsOn self.old }
         ensures step { step_of self.new
-            ≡ past_all self.old.kind (call_of self.old) spot.array spot.size }
+            ≡ past_all self.old.kind (course_call self.old) spot.array spot.size }
         ensures on { IsOn self.new }
     {
         match self.kind {
@@ -89,7 +89,7 @@ impl Course {
         requires inside { IsIn spot }
         requires on { IsOn self.old }
         ensures step { step_of self.new
-            ≡ absent self.old.kind (call_of self.old) spot.array spot.size spot.passed found }
+            ≡ absent self.old.kind (course_call self.old) spot.array spot.size spot.passed found }
         ensures on { IsOn self.new }
     {
         match self.kind {
@@ -104,7 +104,7 @@ impl Course {
         requires inside { IsIn spot }
         requires on { IsOn self.old }
         ensures step { step_of self.new
-            ≡ present self.old.kind (call_of self.old) spot.array spot.size spot.passed node }
+            ≡ present self.old.kind (course_call self.old) spot.array spot.size spot.passed node }
         ensures on { IsOn self.new }
     {
         match self.kind {
@@ -125,7 +125,7 @@ impl Course {
         requires on { IsOn self.old }
         requires fits { MaySee (access.Choose None) seen }
         ensures step { step_of self.new
-            ≡ next_at (call_of self.old) (call.Choose spot.array spot.size spot.passed found) seen }
+            ≡ next_at (course_call self.old) (call.Choose spot.array spot.size spot.passed found) seen }
         ensures on { IsOn self.new }
     {
         match seen {
@@ -139,7 +139,7 @@ impl Course {
         requires inside { IsIn spot }
         requires on { IsOn self.old }
         ensures step { step_of self.new
-            ≡ chosen (call_of self.old) spot.array spot.size spot.passed found choice }
+            ≡ chosen (course_call self.old) spot.array spot.size spot.passed found choice }
         ensures on { IsOn self.new }
     {
         match choice {
@@ -161,7 +161,7 @@ impl Course {
         requires inside { IsIn spot }
         requires on { IsOn self.old }
         ensures step { step_of self.new
-            ≡ removed (call_of self.old) spot.array spot.size spot.passed found }
+            ≡ removed (course_call self.old) spot.array spot.size spot.passed found }
         ensures on { IsOn self.new }
     {
         match found {
@@ -181,7 +181,7 @@ impl Course {
         requires on { IsOn self.old }
         requires fits { MaySee (access.Exchange 0 0 from from) seen }
         ensures step { (to : Word) → step_of self.new
-            ≡ next_at (call_of self.old) (call.Change spot.array spot.size spot.passed from to)
+            ≡ next_at (course_call self.old) (call.Change spot.array spot.size spot.passed from to)
             seen }
         ensures on { IsOn self.new }
     {
@@ -201,7 +201,7 @@ impl Course {
         requires inside { IsIn spot }
         requires on { IsOn self.old }
         ensures step { step_of self.new
-            ≡ missed (call_of self.old) spot.array spot.size spot.passed met }
+            ≡ missed (course_call self.old) spot.array spot.size spot.passed met }
         ensures on { IsOn self.new }
     {
         if is_sealed(met) {

@@ -5,7 +5,7 @@ ghost use Rattle.moka_calls.specs.declared.course.Point.TheVariants as point;
 ghost use Rattle.moka_words.specs.Rehash.{rehash_op};
 ghost use Rattle.moka_growth.specs.Calls.{counted, goes, in_root, is_due, next_at, start_of, without_root};
 ghost use Rattle.moka_growth.specs.Calls as call;
-ghost use Rattle.moka_calls.specs.Standing.{IsOn, IsSize, MaySee, call_of, step_of};
+ghost use Rattle.moka_calls.specs.Standing.{IsOn, IsSize, MaySee, course_call, step_of};
 ghost use Rattle.moka_words.specs.declared.accesses.Access.TheVariants as access;
 
 use crate::course::{Course, Point, Spot};
@@ -21,7 +21,7 @@ impl Course {
     pub fn take_root(&mut self, met: Option<u64>, seen: Seen)
         requires undecided { self.old.decision ≡ None }
         requires fits { MaySee access.LoadRoot seen }
-        ensures step { step_of self.new ≡ next_at (call_of self.old) (call.Root met) seen }
+        ensures step { step_of self.new ≡ next_at (course_call self.old) (call.Root met) seen }
         ensures on { IsOn self.new }
     {
         match seen {
@@ -41,7 +41,7 @@ impl Course {
     // An insert links the first array, the others find nothing.
     fn without_root(&mut self)
         requires undecided { self.old.decision ≡ None }
-        ensures step { step_of self.new ≡ without_root self.old.kind (call_of self.old) }
+        ensures step { step_of self.new ≡ without_root self.old.kind (course_call self.old) }
         ensures on { IsOn self.new }
     {
         self.kept.clear();
@@ -73,7 +73,7 @@ impl Course {
         requires undecided { self.old.decision ≡ None }
         requires size { IsSize size }
         ensures step { step_of self.new
-            ≡ in_root (call_of self.old) met array size tombstones len }
+            ≡ in_root (course_call self.old) met array size tombstones len }
         ensures on { IsOn self.new }
     {
         if met == Some(array) {
@@ -103,7 +103,7 @@ impl Course {
         requires undecided { self.old.decision ≡ None }
         requires size { IsSize size }
         ensures step { step_of self.new
-            ≡ goes (call_of self.old) (start_of self.old.kind array size) }
+            ≡ goes (course_call self.old) (start_of self.old.kind array size) }
         ensures on { IsOn self.new }
     {
         let spot = Spot {

@@ -9,7 +9,7 @@ ghost use Rattle.moka_words.specs.Words.{stored_in};
 ghost use Rattle.moka_growth.specs.Calls.{next_at, sealed};
 ghost use Rattle.moka_growth.specs.Calls as call;
 ghost use Rattle.moka_growth.specs.Growing.{seal_of};
-ghost use Rattle.moka_calls.specs.Standing.{IsIn, IsOn, MaySee, call_of, step_of};
+ghost use Rattle.moka_calls.specs.Standing.{IsIn, IsOn, MaySee, course_call, step_of};
 
 use crate::course::{Course, Point, Spot};
 use crate::words::{is_sealed, seal_of, stored_in};
@@ -25,7 +25,7 @@ impl Course {
         requires on { IsOn self.old }
         requires fits { MaySee (access.LoadWord 0 0) seen }
         ensures ok { OnOk result (step_of self.new
-            ≡ next_at (call_of self.old)
+            ≡ next_at (course_call self.old)
             (call.Seal spot.array spot.size spot.passed self.old.kept.items) seen) }
         ensures on { IsOn self.new }
         ensures err { OnErr result (step_of self.new ≡ step_of self.old) }
@@ -45,7 +45,7 @@ impl Course {
         requires inside { IsIn spot }
         requires room { vec_len self.old.kept < vec_capacity self.old.kept }
         ensures step { step_of self.new
-            ≡ next_at (call_of self.old)
+            ≡ next_at (course_call self.old)
             (call.Seal spot.array spot.size spot.passed self.old.kept.items)
             (Seen.Word word hash false) }
         ensures on { IsOn self.new }
@@ -64,7 +64,7 @@ impl Course {
         requires room { vec_len self.old.kept < vec_capacity self.old.kept }
         requires fits { MaySee (access.Exchange 0 0 word word) seen }
         ensures step { step_of self.new
-            ≡ next_at (call_of self.old)
+            ≡ next_at (course_call self.old)
             (call.Close spot.array spot.size spot.passed word hash self.old.kept.items) seen }
         ensures on { IsOn self.new }
     {
@@ -83,7 +83,7 @@ impl Course {
         requires inside { IsIn spot }
         requires room { vec_len self.old.kept < vec_capacity self.old.kept }
         ensures step { step_of self.new
-            ≡ sealed (call_of self.old) spot.array spot.size spot.passed word hash
+            ≡ sealed (course_call self.old) spot.array spot.size spot.passed word hash
             self.old.kept.items }
         ensures on { IsOn self.new }
     {

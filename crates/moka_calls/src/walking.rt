@@ -7,7 +7,7 @@ ghost use Rattle.moka_words.specs.declared.accesses.Seen.TheVariants as Seen;
 ghost use Rattle.moka_words.specs.Words.{stored_in};
 ghost use Rattle.moka_growth.specs.Calls.{next_at, walked};
 ghost use Rattle.moka_growth.specs.Calls as call;
-ghost use Rattle.moka_calls.specs.Standing.{IsIn, IsOn, MaySee, call_of, step_of};
+ghost use Rattle.moka_calls.specs.Standing.{IsIn, IsOn, MaySee, course_call, step_of};
 
 use crate::course::{Course, Point, Spot};
 use crate::words::{is_sealed, stored_in};
@@ -24,7 +24,7 @@ impl Course {
         requires on { IsOn self.old }
         requires fits { MaySee (access.LoadWord 0 0) seen }
         ensures ok { OnOk result (step_of self.new
-            ≡ next_at (call_of self.old)
+            ≡ next_at (course_call self.old)
             (call.Walk spot.array spot.size spot.passed self.old.nodes.items) seen) }
         ensures on { IsOn self.new }
         ensures err { OnErr result (step_of self.new ≡ step_of self.old) }
@@ -40,7 +40,7 @@ impl Course {
         requires inside { IsIn spot }
         requires on { IsOn self.old }
         ensures ok { OnOk result (step_of self.new
-            ≡ next_at (call_of self.old)
+            ≡ next_at (course_call self.old)
             (call.Walk spot.array spot.size spot.passed self.old.nodes.items)
             (Seen.Word word 0 false)) }
         ensures on { IsOn self.new }
@@ -63,7 +63,7 @@ impl Course {
         requires inside { IsIn spot }
         requires on { IsOn self.old }
         ensures step { step_of self.new
-            ≡ walked (call_of self.old) spot.array spot.size spot.passed self.old.nodes.items }
+            ≡ walked (course_call self.old) spot.array spot.size spot.passed self.old.nodes.items }
         ensures on { IsOn self.new }
     {
         let passed = spot.passed + 1;

@@ -12,7 +12,7 @@ use Rattle.moka_growth.specs.Maps.{present_nodes, KeepsMap, Ends}
 use Rattle.moka_growth.specs.Counts.{Recounts, IsCounted}
 use Rattle.moka_growth.specs.Laws.{Makes}
 use Rattle.moka_growth.proofs.Exchanging.{seal_stored}
-use Rattle.moka_growth.proofs.Mapped.{Keeps, point_keeps_map}
+use Rattle.moka_growth.proofs.Mapped.{KeepsUnlessExchanged, point_keeps_map}
 use Rattle.moka_growth.specs.Turns.{Leads}
 use Rattle.moka_growth.proofs.Stepping.{step_leads}
 
@@ -20,7 +20,7 @@ kept_counted : (old new : Memory) → KeepsMap old new → new.len ≡ old.len �
 kept_counted old new keeps same counted =
     let count = length_permutation (present_nodes old) (present_nodes new) keeps in same ∙ (counted ∙ sym count)
 
-count_stays_at : (own : ℕ → Bool) (h : ℕ) (hash : ℕ → ℕ) (c : Call) (old new : Memory) (p : Point) (s : Seen) → Keeps old new p s →
+count_stays_at : (own : ℕ → Bool) (h : ℕ) (hash : ℕ → ℕ) (c : Call) (old new : Memory) (p : Point) (s : Seen) → KeepsUnlessExchanged old new p s →
     Effect hash own (wanted h p) s old new → Recounts (wanted h p) s old new →
     Leads (next_at c p s) (λ d. Fits hash own new d) (λ e. Ends own p e old new) → IsCounted old → IsCounted new
 count_stays_at own h hash c old new (call.Root met) (seen.Root a l t k) keeps e r leads counted = kept_counted old new keeps r.0 counted

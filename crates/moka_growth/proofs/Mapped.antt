@@ -88,13 +88,13 @@ module _ {hash : ℕ → ℕ} {same : ℕ → ℕ → Bool} {mine : ℕ → Bool
       words_are = ap (words_of new) root_is ∙ (swings.words a ∙ set_is_laid (root old) (words_of old (root old)) (old.words a) next set_)
 
 -- what an access leaves of the map; of an exchange that changes a key it is said elsewhere
-abbrev pub Keeps : (old new : Memory) → Point → Seen → Type 0
-Keeps old new (call.Change a l v from to) (seen.Exchanged None) = Unit {0}
-Keeps old new p s = KeepsMap old new
+abbrev pub KeepsUnlessExchanged : (old new : Memory) → Point → Seen → Type 0
+KeepsUnlessExchanged old new (call.Change a l v from to) (seen.Exchanged None) = Unit {0}
+KeepsUnlessExchanged old new p s = KeepsMap old new
 
 pub point_keeps_map : {hash : ℕ → ℕ} {same : ℕ → ℕ → Bool} {mine : ℕ → Bool} (own : ℕ → Bool) (h : ℕ) (old new : Memory) →
     IsSound hash same mine old → (p : Point) (s : Seen) → FitsAt hash own h old p → Effect hash own (wanted h p) s old new →
-    Keeps old new p s
+    KeepsUnlessExchanged old new p s
 point_keeps_map own h old new sound (call.Root met) (seen.Root a l t k) fits e = unchanged_map old new e.4
 point_keeps_map own h old new sound (call.Probe a l v) (seen.Word w x same_) fits e = unchanged_map old new e.3
 point_keeps_map own h old new sound (call.Choose a l v w) (seen.Chosen choice) fits e = unchanged_map old new e

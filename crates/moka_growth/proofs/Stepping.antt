@@ -9,7 +9,7 @@ use Rattle.moka_growth.specs.Fits.{Fits}
 use Rattle.moka_growth.specs.Maps.{KeepsMap, Ends}
 use Rattle.moka_growth.specs.Laws.{Makes}
 use Rattle.moka_growth.proofs.Accessing.{access_is_later}
-use Rattle.moka_growth.proofs.Mapped.{Keeps, point_keeps_map}
+use Rattle.moka_growth.proofs.Mapped.{KeepsUnlessExchanged, point_keeps_map}
 use Rattle.moka_growth.specs.Turns.{Leads}
 use Rattle.moka_growth.proofs.Leading.{point_leads}
 
@@ -17,7 +17,7 @@ never : {e : Ending} {d : Call} → Decided e ≡ Going d → ⊥
 never e = cc
 
 -- a step after which the call goes on isn't an exchange that changes a key
-going_keeps : (old new : Memory) (c d : Call) (p : Point) (s : Seen) → Keeps old new p s → next_at c p s ≡ Going d → KeepsMap old new
+going_keeps : (old new : Memory) (c d : Call) (p : Point) (s : Seen) → KeepsUnlessExchanged old new p s → next_at c p s ≡ Going d → KeepsMap old new
 going_keeps old new c d (call.Change a l v from to) (seen.Exchanged None) keeps e = absurd (never e)
 going_keeps old new c d p s keeps e = keeps
 

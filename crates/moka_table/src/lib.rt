@@ -5,10 +5,7 @@
 
 mod entries;
 mod plain;
-mod slow;
 mod table;
-#[cfg(test)]
-mod tests;
 
 pub use entries::EntryList;
 pub use moka_hist::{Stored, TableAnswer, TableOp, TableTurn};

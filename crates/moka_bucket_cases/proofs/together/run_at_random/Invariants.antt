@@ -1,8 +1,6 @@
--- The three operations fit the table.
+-- The operations fit the table.
+use Rattle.std.specs.List.{All}
 use Rattle.moka_bucket_cases.proofs.together.run_at_random.Given as goal
 
 abbrev pub invariant-loop-turn : goal.invariant-loop-turn
-invariant-loop-turn g l =
-    g.T.Table.fits l.table l.first.call
-    × g.T.Table.fits l.table l.second.call
-    × g.T.Table.fits l.table l.third.call
+invariant-loop-turn g l = All (λ one. g.T.Table.fits l.table one.call) l.calls.items

@@ -1,7 +1,4 @@
 -- The segments so far have no keys.
-use Rattle.std.proofs.Common.{◌≡◌, ℕ, length, Some}
-use Rattle.std.specs.List.{slice_get}
-use Rattle.moka_buckets.specs.declared.part.Part.{Part}
 use Rattle.moka_buckets.specs.Building.{AreFresh}
 use Rattle.moka_buckets.proofs.building.new_parts.Given as goal
 

@@ -1,6 +1,8 @@
-use Rattle.std.proofs.Common.{◌≡◌, ℕ, length, Some, ap, refl, ◌∙◌, arith}
+use Rattle.std.proofs.Common.{ap, refl, subst, sym, ◌∙◌, arith}
 use Rattle.std.specs.List.{slice_get}
-use Rattle.moka_buckets.specs.Parts.{keys_at, segment_of}
+use Rattle.moka_buckets.specs.Parts.{segment_of}
+use Rattle.moka_buckets.specs.Keys.{KeepsKeys}
+use Rattle.moka_buckets.proofs.Kept.{keeps_keys}
 use Rattle.moka_buckets.proofs.Going.{goes_over, had_few, has_few}
 use Rattle.moka_buckets.proofs.Spread.{keys_within}
 use Rattle.moka_buckets.proofs.part.step_parts.Goals as goal
@@ -44,10 +46,21 @@ overflow_add-len g c =
     let room = c.requires.few in
     omega (arith, few, more, room)
 
-pub returns : goal.returns
-returns g c = λ hash first most can.
+pub returns-clause-over : goal.returns-clause-over
+returns-clause-over g c = λ hash first most can.
     let at = c.segment_of-index.ensures.is ∙ ap (λ n. segment_of n c.args.call.now.hash) (c.len.ensures ∙ c.args.parts.now.ok.0) in
     goes_over g.K.PartialEq.eq hash first most c.args.len.now c.args.parts.now.items c.step_at-turn.new.parts.items c.args.call.now c.step_at-turn.new.call can
     c.segment_of-index.result at c.step_at-turn.result (c.step_at-turn.ensures.goes hash first) c.keys_at-before.result c.keys_at.result
     (λ p e. c.keys_at-before.ensures p (ap (λ xs. slice_get xs c.segment_of-index.result) c.deref.ensures.value ∙ e))
     (λ p e. c.keys_at.ensures p (ap (λ xs. slice_get xs c.segment_of-index.result) c.deref-2.ensures.value ∙ e)) _ refl
+
+pub returns-clause-keys : goal.returns-clause-keys
+returns-clause-keys g c = λ hash first most can.
+    let eq = g.K.PartialEq.eq in
+    let at = c.segment_of-index.ensures.is ∙ ap (λ n. segment_of n c.args.call.now.hash) (c.len.ensures ∙ c.args.parts.now.ok.0) in
+    let there = ap (slice_get c.args.parts.now.items) at ∙ can.fits.there in
+    let well = can.well.each c.segment_of-index.result can.fits.part there in
+    let goes = c.step_at-turn.ensures.goes hash first can.fits.part there (record { respects = can.respects; well = well.well; fits = can.fits.fits }) in
+    subst (λ ps. KeepsKeys eq hash c.args.parts.now.items ps) (sym goes.1)
+    (keeps_keys eq g.met.K.Eq.laws hash can.respects first most c.args.len.now c.args.parts.now.items can.well c.segment_of-index.result can.fits.part goes.0 there
+    c.args.call.now c.step_at-turn.new.call c.step_at-turn.result goes.2)

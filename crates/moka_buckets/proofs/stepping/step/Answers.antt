@@ -8,7 +8,7 @@ use Rattle.moka_buckets.proofs.stepping.step.Goals as goal
 pub returns-in_err-name_node-clause-done : goal.returns-in_err-name_node-clause-done
 returns-in_err-name_node-clause-done g c = λ hash first peak can.
     let err = c.in_err-name_node.ensures.err in
-    undone g.K.PartialEq.eq hash first peak (memory_of c.args.arrays.now) c.args.nodes.now.items c.name_node.new.nodes.items c.args.call.now
+    undone g.K.PartialEq.eq g.met.K.Eq.laws hash first peak (memory_of c.args.arrays.now) c.args.nodes.now.items c.name_node.new.nodes.items c.args.call.now
     c.name_node.new.call c.from_residual.result c.from_residual.ensures.0 can err.0 err.1
 
 pub advance-requires-clause-can : goal.advance-requires-clause-can

@@ -1,11 +1,14 @@
-use Rattle.std.proofs.Common.{◌≤◌, ap, max, subst, sym, arith}
+use Rattle.std.proofs.Common.{◌≡◌, ◌≤◌, IsSome, ap, max, subst, sym}
 use Rattle.std.specs.List.{fold}
 use Rattle.moka_table.specs.Map.{most_steps}
 use Rattle.moka_buckets.specs.declared.bucket_call.BucketCall.{BucketCall}
 use Rattle.moka_buckets.specs.Hashing.{hash_in}
 use Rattle.moka_buckets.specs.Parts.{AreParts, GoesOver}
-use Rattle.moka_buckets.specs.Views.{fits_in, left_of, first_of, peak_of}
+use Rattle.moka_buckets.specs.declared.keys_call.KeysCall.{KeysCall}
+use Rattle.moka_buckets.specs.Keys.{CoversIt, FitsKeys, KeepsKeys, left_keys}
+use Rattle.moka_buckets.specs.Views.{covers_in, fits_in, fits_keys_in, left_keys_of, left_of, first_of, map_in, peak_of, segment_for}
 use Rattle.moka_buckets.proofs.Going.{Does, does}
+use Rattle.moka_buckets.proofs.Keyed.{keys_bounded}
 use Rattle.moka_buckets.proofs.Spread.{bounded}
 use Rattle.moka_buckets.proofs.bucket_table.BucketTableTable.step.Given as given
 use Rattle.moka_buckets.proofs.bucket_table.BucketTableTable.step.Goals as goal
@@ -32,7 +35,7 @@ step_parts-requires-clause-can g c = (
 over : (g : given.Over) (c : goal.After-step_parts g) → GoesOver g.K.PartialEq.eq (hash_in g.S.BuildHasher g.S.Hasher.Hasher g.K.Hash.hash_input c.self.inside.hasher)
     (max 128 c.self.inside.first) c.self.inside.parts.items (max c.self.inside.peak c.self.inside.len) c.self.inside.len c.args.call.now c.step_parts.result
     c.step_parts.new.parts.items c.step_parts.new.len c.step_parts.new.call
-over g c = c.step_parts.ensures (hash_in g.S.BuildHasher g.S.Hasher.Hasher g.K.Hash.hash_input c.self.inside.hasher) (max 128 c.self.inside.first)
+over g c = c.step_parts.ensures.over (hash_in g.S.BuildHasher g.S.Hasher.Hasher g.K.Hash.hash_input c.self.inside.hasher) (max 128 c.self.inside.first)
     (max c.self.inside.peak c.self.inside.len) (record {
       respects = λ x y e. ap (λ w. g.S.Hasher.Hasher.finish (fold g.S.Hasher.Hasher.write (g.S.BuildHasher.build_hasher c.self.inside.hasher) w)) (g.met.K.Hash.respects_eq x y e);
       well = c.self.invariant;
@@ -88,3 +91,36 @@ returns-clause-err_call g c = (whole g c).err_call
 
 pub returns-clause-err_others : goal.returns-clause-err_others
 returns-clause-err_others g c = (whole g c).err_others
+
+-- what the step does to calls that list keys
+kept : (g : given.Over) (c : goal.After-step_parts g) → KeepsKeys g.K.PartialEq.eq (hash_in g.S.BuildHasher g.S.Hasher.Hasher g.K.Hash.hash_input c.self.inside.hasher)
+    c.self.inside.parts.items c.step_parts.new.parts.items
+kept g c = c.step_parts.ensures.keys (hash_in g.S.BuildHasher g.S.Hasher.Hasher g.K.Hash.hash_input c.self.inside.hasher) (max 128 c.self.inside.first)
+    (max c.self.inside.peak c.self.inside.len) (record {
+      respects = λ x y e. ap (λ w. g.S.Hasher.Hasher.finish (fold g.S.Hasher.Hasher.write (g.S.BuildHasher.build_hasher c.self.inside.hasher) w)) (g.met.K.Hash.respects_eq x y e);
+      well = c.self.invariant;
+      fits = subst (λ o. fits_in g.S.BuildHasher g.S.Hasher.Hasher g.K.PartialEq.eq g.K.Hash.hash_input o c.args.call.now) (sym c.self.view_is) c.requires.fits;
+    })
+
+pub returns-clause-keys : goal.returns-clause-keys
+returns-clause-keys g c = subst (λ o. (other : KeysCall) → fits_keys_in g.S.BuildHasher g.S.Hasher.Hasher g.K.PartialEq.eq g.K.Hash.hash_input o other →
+    FitsKeys g.K.PartialEq.eq (hash_in g.S.BuildHasher g.S.Hasher.Hasher g.K.Hash.hash_input c.self.inside.hasher) c.step_parts.new.parts.items other) c.self.view_is (kept g c).fits
+
+pub returns-clause-keys_covers : goal.returns-clause-keys_covers
+returns-clause-keys_covers g c = subst (λ o. (other : KeysCall) (key : g.row.K.Denot) →
+    fits_keys_in g.S.BuildHasher g.S.Hasher.Hasher g.K.PartialEq.eq g.K.Hash.hash_input o other →
+    segment_for g.S.BuildHasher g.S.Hasher.Hasher g.K.PartialEq.eq g.K.Hash.hash_input o key ≡ other.segment →
+    IsSome (map_in g.S.BuildHasher g.S.Hasher.Hasher g.K.PartialEq.eq g.K.Hash.hash_input o key) → covers_in g.K.PartialEq.eq o other key →
+    CoversIt g.K.PartialEq.eq c.step_parts.new.parts.items other key) c.self.view_is (kept g c).covers
+
+pub returns-clause-keys_left : goal.returns-clause-keys_left
+returns-clause-keys_left g c = subst (λ m. (other : KeysCall) → fits_keys_in g.S.BuildHasher g.S.Hasher.Hasher g.K.PartialEq.eq g.K.Hash.hash_input c.args.self.now other →
+    left_keys (max 128 c.self.inside.first) c.step_parts.new.parts.items other ≤ most_steps (max 128 c.self.inside.first) (max m c.step_parts.new.len)) (sym c.max-self-inside.ensures)
+    (λ other f. keys_bounded g.K.PartialEq.eq (hash_in g.S.BuildHasher g.S.Hasher.Hasher g.K.Hash.hash_input c.self.inside.hasher) (max 128 c.self.inside.first)
+    c.step_parts.new.parts.items (max (max c.self.inside.peak c.self.inside.len) c.step_parts.new.len) c.step_parts.new.len (over g c).well other (returns-clause-keys g c other f))
+
+pub returns-then-self-clause-keys_left : goal.returns-then-self-clause-keys_left
+returns-then-self-clause-keys_left g c = subst (λ o. (other : KeysCall) →
+    fits_keys_in g.S.BuildHasher g.S.Hasher.Hasher g.K.PartialEq.eq g.K.Hash.hash_input o other → left_keys_of o other ≤ most_steps (first_of o) (peak_of o)) c.self.view_is
+    (λ other f. keys_bounded g.K.PartialEq.eq (hash_in g.S.BuildHasher g.S.Hasher.Hasher g.K.Hash.hash_input c.self.inside.hasher) (max 128 c.self.inside.first)
+    c.self.inside.parts.items (max c.self.inside.peak c.self.inside.len) c.self.inside.len c.self.invariant other f)

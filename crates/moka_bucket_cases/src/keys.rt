@@ -1,0 +1,133 @@
+//! Calls that list the keys of a segment, alone and while operations run.
+
+ghost use Rattle.std.specs.Prelude.{◌≡◌, IfOk, None};
+ghost use Rattle.moka_hist.specs.Finite.{IsExact};
+ghost use Rattle.moka_calls.specs.Standing.{IsGoing};
+ghost use Rattle.moka_buckets.specs.Views.{fits_keys_in};
+
+use crate::hashers::BuildZero;
+use moka_buckets::{BucketTable, KeysCall};
+use moka_hist::{Stored, TableOp, TableTurn};
+use moka_table::Table;
+use std::alloc::AllocError;
+use std::hash::{BuildHasher, Hash};
+use std::test::Fail;
+
+type Zero = BucketTable<u64, u64, BuildZero>;
+
+// Runs the operation to its end, beside the call.
+fn run<K: Eq + Hash + Clone + Drop, V: Clone + Drop, S: BuildHasher + Drop>(
+    table: &mut BucketTable<K, V, S>,
+    call: &KeysCall,
+    operation: TableOp<K, V>,
+) -> Result<(), AllocError>
+    requires keys { IsExact K.is_clone }
+    requires values { IsExact V.is_clone }
+    requires fits { fits_keys_in S.BuildHasher S.Hasher.Hasher K.eq K.hash_input
+        table.old call.now }
+    ensures fits { fits_keys_in S.BuildHasher S.Hasher.Hasher K.eq K.hash_input
+        table.new call.now }
+{
+    let mut other = table.begin(operation);
+    for _ in 0..10_000u32 {
+        match table.step(&mut other)? {
+            TableTurn::Going => {}
+            TableTurn::Decided(_) => return Ok(()),
+        }
+    }
+    Err(AllocError)
+}
+
+fn insert(key: u64) -> TableOp<u64, u64> {
+    TableOp::InsertOrModify {
+        key,
+        stored: Stored {
+            value: key,
+            stamp: 1,
+            modified: 2,
+        },
+    }
+}
+
+// Makes at most so many steps of the call; tells by how many it decided.
+fn list<K: Eq + Hash + Clone + Drop, V: Clone + Drop, S: BuildHasher + Drop>(
+    table: &mut BucketTable<K, V, S>,
+    call: &mut KeysCall,
+    most: u32,
+) -> Result<Option<u32>, AllocError>
+    requires fits { fits_keys_in S.BuildHasher S.Hasher.Hasher K.eq K.hash_input
+        table.old call.old }
+    requires going { IsGoing call.old.table }
+    ensures fits { fits_keys_in S.BuildHasher S.Hasher.Hasher K.eq K.hash_input
+        table.new call.new }
+    ensures going { IfOk result (λ steps. steps ≡ None → IsGoing call.new.table) }
+{
+    for steps in 0..most {
+        if table.step_keys(call)? {
+            return Ok(Some(steps.wrapping_add(1)));
+        }
+    }
+    Ok(None)
+}
+
+// Makes steps of the call where it has not decided yet.
+fn list_on<K: Eq + Hash + Clone + Drop, V: Clone + Drop, S: BuildHasher + Drop>(
+    table: &mut BucketTable<K, V, S>,
+    call: &mut KeysCall,
+    early: Option<u32>,
+) -> Result<Option<u32>, AllocError>
+    requires fits { fits_keys_in S.BuildHasher S.Hasher.Hasher K.eq K.hash_input
+        table.old call.old }
+    requires going { early ≡ None → IsGoing call.old.table }
+    ensures { fits_keys_in S.BuildHasher S.Hasher.Hasher K.eq K.hash_input table.new call.new }
+{
+    match early {
+        Some(steps) => Ok(Some(steps)),
+        None => list(table, call, 1_000),
+    }
+}
+
+#[test]
+fn keys_are_listed_in_129_steps(rt: HostRuntime) -> Result<(), Fail> {
+    let mut table: Zero = BucketTable::with_segments(rt.alloc(), 1, 0, BuildZero {})?;
+    if table.segments() == 0 {
+        return Ok(());
+    }
+    let mut none = table.begin_keys(0);
+    assert!(rt; table.keys(&none)?.is_none());
+    assert_eq!(rt; list(&mut table, &mut none, 1_000)?, Some(1));
+    assert_eq!(rt; table.keys(&none)?.map(|keys| keys.len()), Some(0));
+    let mut one = table.begin_keys(0);
+    run(&mut table, &one, insert(7))?;
+    assert_eq!(rt; list(&mut table, &mut one, 1_000)?, Some(129));
+    assert_eq!(rt;
+        table.keys(&one)?.map(|keys| keys.as_slice().contains(&7)),
+        Some(true)
+    );
+    Ok(())
+}
+
+// An array of two words grows while its keys are listed: the list begins again in the new one.
+#[test]
+fn keys_that_stay_are_listed_while_the_array_grows(rt: HostRuntime) -> Result<(), Fail> {
+    for steps in 0..8u32 {
+        let mut table: Zero = BucketTable::with_segments(rt.alloc(), 1, 1, BuildZero {})?;
+        if table.segments() == 0 {
+            return Ok(());
+        }
+        let mut call = table.begin_keys(0);
+        run(&mut table, &call, insert(1))?;
+        let early = list(&mut table, &mut call, steps)?;
+        run(&mut table, &call, insert(2))?;
+        run(&mut table, &call, insert(3))?;
+        run(&mut table, &call, insert(4))?;
+        run(&mut table, &call, insert(5))?;
+        assert!(rt; list_on(&mut table, &mut call, early)?.is_some());
+        let Some(keys) = table.keys(&call)? else {
+            return Err(Fail::from(AllocError));
+        };
+        let ones = keys.iter().filter(|key| **key == 1).count();
+        assert_eq!(rt; ones, 1, "after {steps} steps");
+    }
+    Ok(())
+}

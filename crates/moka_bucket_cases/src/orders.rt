@@ -1,0 +1,171 @@
+//! Two operations in each order of all their steps, beside std's map.
+
+use crate::hashers::BuildZero;
+use crate::together::{Map, answers};
+use moka_buckets::BucketTable;
+use moka_hist::{Stored, TableOp, TableTurn};
+use moka_table::Table;
+use std::alloc::{AllocError, Global};
+use std::collections::HashMap;
+use std::test::Fail;
+
+// How the table begins: with a first array of one word or of two, and so many keys.
+#[derive(Clone, Copy)]
+struct Beginning {
+    one_word: bool,
+    present: u64,
+}
+
+// An operation of each kind under each of three keys.
+fn operation(number: u64) -> TableOp<u64, u64> {
+    let key = number % 3;
+    let stored = Stored {
+        value: number.wrapping_add(10),
+        stamp: number,
+        modified: 2,
+    };
+    match number / 3 {
+        0 => TableOp::Get { key },
+        1 => TableOp::InsertIfAbsent { key, stored },
+        2 => TableOp::RemoveIf { key, stamp: None },
+        _ => TableOp::InsertOrModify { key, stored },
+    }
+}
+
+// The steps of the two operations in this order: its bits, from the highest, tell whose each step
+// is. Once one has decided the other goes on alone. Gives the last bit that was read; None where an
+// answer or a count isn't the map's, or where 64 bits were too few.
+fn play<C: Drop, T: Table<u64, u64, Call = C> + Drop>(
+    table: &mut T,
+    map: &mut Map,
+    numbers: (u64, u64),
+    order: u64,
+) -> Result<Option<u64>, AllocError> {
+    let mut first = table.begin(operation(numbers.0));
+    let mut second = table.begin(operation(numbers.1));
+    for turn in 0..64u32 {
+        let bit = (1u64 << 63) >> turn;
+        if order & bit == 0 {
+            if let TableTurn::Decided(answer) = table.step(&mut first)? {
+                let right = answers(map, &operation(numbers.0), &answer)?
+                    && table.len() == map.len()
+                    && finish(table, map, &mut second, operation(numbers.1))?;
+                return Ok(if right { Some(bit) } else { None });
+            }
+        } else {
+            if let TableTurn::Decided(answer) = table.step(&mut second)? {
+                let right = answers(map, &operation(numbers.1), &answer)?
+                    && table.len() == map.len()
+                    && finish(table, map, &mut first, operation(numbers.0))?;
+                return Ok(if right { Some(bit) } else { None });
+            }
+        }
+    }
+    Ok(None)
+}
+
+// Makes the steps that are left. Tells whether answer and count are the map's.
+fn finish<C: Drop, T: Table<u64, u64, Call = C> + Drop>(
+    table: &mut T,
+    map: &mut Map,
+    call: &mut C,
+    operation: TableOp<u64, u64>,
+) -> Result<bool, AllocError>
+    requires { T.fits table.old call.old }
+{
+    for _ in 0..1_000u32 {
+        if let TableTurn::Decided(answer) = table.step(call)? {
+            return Ok(answers(map, &operation, &answer)? && table.len() == map.len());
+        }
+    }
+    Ok(false)
+}
+
+// Tells whether each of the keys is answered as by the map, and the pairs are as many.
+fn ends_alike<T: Table<u64, u64> + Drop>(
+    alloc: Global,
+    table: &mut T,
+    map: &mut Map,
+) -> Result<bool, AllocError>
+where
+    T::Call: Drop,
+{
+    for key in 0..4u64 {
+        let mut call = table.begin(TableOp::Get { key });
+        if !finish(table, map, &mut call, TableOp::Get { key })? {
+            return Ok(false);
+        }
+    }
+    Ok(table.pairs(alloc)?.len() == map.len())
+}
+
+// Plays the order on a new table. Gives what `play` gives, or None where the pairs at the end
+// aren't the map's.
+fn play_new(
+    alloc: Global,
+    beginning: Beginning,
+    numbers: (u64, u64),
+    order: u64,
+) -> Result<Option<u64>, AllocError> {
+    // A capacity of one makes half a word for each of four segments, which is one, or else two.
+    let segments = if beginning.one_word { 4 } else { 1 };
+    let mut table: BucketTable<u64, u64, BuildZero> = BucketTable::with_segments(
+        alloc,
+        segments,
+        1,
+        BuildZero {},
+    )?;
+    let mut map = HashMap::new(alloc);
+    for key in 0..beginning.present {
+        let mut call = table.begin(operation(9 + key % 3));
+        if !finish(&mut table, &mut map, &mut call, operation(9 + key % 3))? {
+            return Ok(None);
+        }
+    }
+    let last = play(&mut table, &mut map, numbers, order)?;
+    let alike = ends_alike(alloc, &mut table, &mut map)?;
+    Ok(if alike { last } else { None })
+}
+
+// Plays the two operations in each order. Gives how many orders there are; None where one isn't
+// right, or where there are `most` or more.
+fn orders(
+    alloc: Global,
+    beginning: Beginning,
+    numbers: (u64, u64),
+    most: u32,
+) -> Result<Option<u32>, AllocError> {
+    let mut order = 0u64;
+    for count in 1..most {
+        let Some(last) = play_new(alloc, beginning, numbers, order)? else {
+            return Ok(None);
+        };
+        // The next order: the last bit read that is zero is one, and those after it are zero.
+        match order.checked_add(last) {
+            None => return Ok(Some(count)),
+            Some(next) => order = next,
+        }
+    }
+    Ok(None)
+}
+
+// No array grows here. Where one does a pair has 130,760 orders and more.
+#[test]
+fn two_operations_in_each_order_to_their_ends(rt: HostRuntime) -> Result<(), Fail> {
+    for (one_word, present, all) in [(true, 0u64, 906u32), (false, 0, 906), (false, 1, 2_218)] {
+        let beginning = Beginning { one_word, present };
+        let mut total: u32 = 0;
+        for first in 0..12u64 {
+            for second in first..12u64 {
+                let count = orders(rt.alloc(), beginning, (first, second), 1_000)?;
+                assert!(rt;
+                    count.is_some(),
+                    "operations {first} and {second}, {present} keys, one word: {one_word}"
+                );
+                total = total.wrapping_add(count.unwrap_or(0));
+            }
+        }
+        assert_eq!(rt; total, all, "{present} keys, one word: {one_word}");
+    }
+    Ok(())
+}

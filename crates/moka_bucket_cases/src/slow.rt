@@ -1,0 +1,150 @@
+//! A table whose operations stay undecided for a while: what the contract of `Table` asks of one
+//! that others change meanwhile.
+ghost use Rattle.std.specs.Prelude.{◌≡◌, ◌≢◌, ◌<◌, ◌≤◌, ◌+◌, max, OnErr, IfOk, Some, None};
+ghost use Rattle.std.specs.HashMap.{hash_map_len};
+ghost use Rattle.std.proofs.Common.{arith};
+ghost use Rattle.moka_hist.specs.Finite.{IsExact};
+ghost use Rattle.moka_hist.specs.declared.tables.TableOp.{TableOp};
+ghost use Rattle.moka_table.specs.Map.{SameMap, Moves, ListsPairs, most_steps};
+ghost use Rattle.moka_table.specs.Plain.{map_of, peak_of, plain_first};
+
+#[cfg(test)]
+use moka_hist::Stored;
+use moka_hist::{TableOp, TableTurn};
+use moka_table::{EntryList, PlainCall, PlainTable, Table};
+use std::alloc::{AllocError, Global};
+use std::hash::Hash;
+#[cfg(test)]
+use std::test::Fail;
+
+// A plain table with work to be done before the next operation decides. Each step does one piece.
+#[derive(Drop)]
+struct Slow<K: Eq + Hash, V> {
+    plain: PlainTable<K, V>,
+    pieces: u64,
+    ghost few: { pieces < most_steps plain_first 0 },
+}
+
+impl<K: Eq + Hash + Clone + Drop, V: Clone + Drop> Table<K, V> for Slow<K, V> {
+    type Call = PlainCall<K, V>;
+
+    ghost map = { λ t. map_of K.eq t.plain };
+
+    ghost count = { λ t. hash_map_len t.plain.pairs };
+
+    ghost peak = { λ t. peak_of t.plain };
+
+    ghost first = { λ t. plain_first };
+
+    ghost operation_of = { λ c. c.operation };
+
+    ghost fits = { λ t c. c.operation ≢ None };
+
+    ghost left = { λ t c. t.pieces + 1 };
+
+    ghost peak_holds = { λ t. Prim.omega arith };
+
+    ghost first_holds = { λ t. Prim.omega arith };
+
+    fn segments(&self) -> usize
+        ensures { 0 < result }
+    {
+        self.plain.segments()
+    }
+
+    fn begin(&self, operation: TableOp<K, V>) -> PlainCall<K, V>
+        ensures operation { result.operation ≡ Some operation }
+        ensures fits { result.operation ≢ None }
+        ensures left { self.now.pieces + 1 ≤ most_steps plain_first (peak_of self.now.plain) }
+    {
+        self.plain.begin(operation)
+    }
+
+    fn step(&mut self, call: &mut PlainCall<K, V>) -> Result<TableTurn<K, V>, AllocError>
+        requires keys { IsExact K.is_clone }
+        requires values { IsExact V.is_clone }
+        requires fits { call.old.operation ≢ None }
+        ensures moves { IfOk result (λ turn. (o : TableOp K V) → call.old.operation ≡ Some o
+            → Moves K.eq o (map_of K.eq self.old.plain) (hash_map_len self.old.plain.pairs) turn
+            (map_of K.eq self.new.plain) (hash_map_len self.new.plain.pairs)) }
+        ensures peak { peak_of self.new.plain
+            ≡ max (peak_of self.old.plain) (hash_map_len self.new.plain.pairs) }
+        ensures first { plain_first ≡ plain_first }
+        ensures undecided { IfOk result (λ turn. turn ≡ TableTurn.Going
+            → (call.new.operation ≡ call.old.operation) × (call.new.operation ≢ None)) }
+        ensures nears { IfOk result (λ turn. turn ≡ TableTurn.Going
+            → self.new.pieces + 1 < self.old.pieces + 1) }
+        ensures others { (other : PlainCall K V) → other.operation ≢ None
+            → other.operation ≢ None }
+        ensures others_left { (other : PlainCall K V) → other.operation ≢ None
+            → self.new.pieces + 1 ≤ most_steps plain_first (peak_of self.new.plain) }
+        ensures err_map { OnErr result
+            (SameMap (map_of K.eq self.old.plain) (map_of K.eq self.new.plain)) }
+        ensures err_count { OnErr result
+            (hash_map_len self.new.plain.pairs ≡ hash_map_len self.old.plain.pairs) }
+        ensures err_call { OnErr result ((call.new.operation ≡ call.old.operation)
+            × (call.new.operation ≢ None)
+            × (self.new.pieces + 1 ≡ self.old.pieces + 1)) }
+        ensures err_others { OnErr result ((other : PlainCall K V) → other.operation ≢ None
+            → self.new.pieces + 1 ≤ self.old.pieces + 1) }
+    {
+        if self.pieces > 0 {
+            self.pieces -= 1;
+            return Ok(TableTurn::Going);
+        }
+        self.plain.step(call)
+    }
+
+    fn pairs(&self, alloc: Global) -> Result<EntryList<K, V>, AllocError>
+        requires keys { IsExact K.is_clone }
+        requires values { IsExact V.is_clone }
+        ensures { IfOk result (λ pairs. ListsPairs K.eq pairs (map_of K.eq self.now.plain)) }
+    {
+        self.plain.pairs(alloc)
+    }
+
+    fn len(&self) -> usize
+        ensures { result ≡ hash_map_len self.now.plain.pairs }
+    {
+        self.plain.len()
+    }
+}
+
+#[test]
+fn an_operation_decides_once_the_pieces_are_done(rt: HostRuntime) -> Result<(), Fail> {
+    let mut table: Slow<u32, u32> = Slow {
+        plain: PlainTable::new(rt.alloc()),
+        pieces: 2,
+    };
+    let mut first = table.begin(TableOp::Get { key: 3 });
+    let mut second = table.begin(TableOp::Get { key: 4 });
+    assert!(rt; table.step(&mut first)?.is_going());
+    assert!(rt; table.step(&mut second)?.is_going());
+    assert!(rt; !table.step(&mut first)?.is_going());
+    assert!(rt; !table.step(&mut second)?.is_going());
+    Ok(())
+}
+
+#[test]
+fn a_removal_finds_what_is_there_when_it_decides(rt: HostRuntime) -> Result<(), Fail> {
+    let mut table: Slow<u32, u32> = Slow {
+        plain: PlainTable::new(rt.alloc()),
+        pieces: 1,
+    };
+    let mut removal = table.begin(TableOp::RemoveIf {
+        key: 3,
+        stamp: Some(1),
+    });
+    assert!(rt; table.step(&mut removal)?.is_going());
+    let stored = Stored {
+        value: 7,
+        stamp: 1,
+        modified: 0,
+    };
+    let mut insert = table.begin(TableOp::InsertIfAbsent { key: 3, stored });
+    assert!(rt; !table.step(&mut insert)?.is_going());
+    assert_eq!(rt; table.len(), 1);
+    assert!(rt; !table.step(&mut removal)?.is_going());
+    assert_eq!(rt; table.len(), 0);
+    Ok(())
+}

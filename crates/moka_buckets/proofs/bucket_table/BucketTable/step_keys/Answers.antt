@@ -1,0 +1,100 @@
+use Rattle.std.proofs.Common.{◌≡◌, ◌⊎◌, ℕ, ◌<◌, false, IsSome, IfOk, ap, max, subst, sym}
+use Rattle.std.specs.List.{fold}
+use Rattle.moka_buckets.specs.declared.bucket_call.BucketCall.{BucketCall}
+use Rattle.moka_buckets.specs.declared.keys_call.KeysCall.{KeysCall}
+use Rattle.moka_buckets.specs.Hashing.{hash_in}
+use Rattle.moka_buckets.specs.Keys.{CoversIt, FitsKeys, ListsIt, WalksOver, left_keys}
+use Rattle.moka_buckets.specs.Parts.{FitsParts, map_over}
+use Rattle.moka_buckets.specs.Views.{covers_in, fits_in, fits_keys_in, left_keys_of, lists_in, map_in, segment_for}
+use Rattle.moka_buckets.proofs.Keyed.{keys_bounded}
+use Rattle.moka_buckets.proofs.Spread.{bounded}
+use Rattle.moka_buckets.proofs.bucket_table.BucketTable.step_keys.Given as given
+use Rattle.moka_buckets.proofs.bucket_table.BucketTable.step_keys.Goals as goal
+
+-- hashes by the table's hasher
+abbrev H : (g : given.Over) (c : goal.After-walk_parts g) → g.row.K.Denot → ℕ
+H g c = hash_in g.S.BuildHasher g.S.Hasher.Hasher g.K.Hash.hash_input c.self.inside.hasher
+
+-- the step of the segments
+over : (g : given.Over) (c : goal.After-walk_parts g) → WalksOver g.K.PartialEq.eq (H g c) (max 128 c.self.inside.first) c.self.inside.parts.items
+    (max c.self.inside.peak c.self.inside.len) c.self.inside.len c.args.call.now c.walk_parts.result c.walk_parts.new.parts.items c.walk_parts.new.call
+over g c = c.walk_parts.ensures (H g c) (max 128 c.self.inside.first) (max c.self.inside.peak c.self.inside.len) c.self.inside.len (record {
+  respects = λ x y e. ap (λ w. g.S.Hasher.Hasher.finish (fold g.S.Hasher.Hasher.write (g.S.BuildHasher.build_hasher c.self.inside.hasher) w)) (g.met.K.Hash.respects_eq x y e);
+  well = c.self.invariant;
+  fits = subst (λ o. fits_keys_in g.S.BuildHasher g.S.Hasher.Hasher g.K.PartialEq.eq g.K.Hash.hash_input o c.args.call.now) (sym c.self.view_is) c.requires.fits;
+  going = c.requires.going;
+})
+
+pub walk_parts-requires : goal.walk_parts-requires
+walk_parts-requires g c = record {
+  can = (
+    hash_in g.S.BuildHasher g.S.Hasher.Hasher g.K.Hash.hash_input c.self.inside.hasher,
+    max 128 c.self.inside.first,
+    max c.self.inside.peak c.self.inside.len,
+    c.self.inside.len,
+    record {
+      respects = λ x y e. ap (λ w. g.S.Hasher.Hasher.finish (fold g.S.Hasher.Hasher.write (g.S.BuildHasher.build_hasher c.self.inside.hasher) w)) (g.met.K.Hash.respects_eq x y e);
+      well = c.self.invariant;
+      fits = subst (λ o. fits_keys_in g.S.BuildHasher g.S.Hasher.Hasher g.K.PartialEq.eq g.K.Hash.hash_input o c.args.call.now) (sym c.self.view_is) c.requires.fits;
+      going = c.requires.going;
+    },
+  );
+}
+
+pub invariant_of-self : goal.invariant_of-self
+invariant_of-self g c = (over g c).well
+
+pub returns-clause-map : goal.returns-clause-map
+returns-clause-map g c = λ q. subst (λ o. map_over g.K.PartialEq.eq (H g c) c.walk_parts.new.parts.items q
+    ≡ map_in g.S.BuildHasher g.S.Hasher.Hasher g.K.PartialEq.eq g.K.Hash.hash_input o q) c.self.view_is ((over g c).map q)
+
+pub returns-clause-segment : goal.returns-clause-segment
+returns-clause-segment g c = (over g c).segment
+
+pub returns-clause-fits : goal.returns-clause-fits
+returns-clause-fits g c = (over g c).fits
+
+pub returns-clause-ended : goal.returns-clause-ended
+returns-clause-ended g c = (over g c).ended
+
+pub returns-clause-nears : goal.returns-clause-nears
+returns-clause-nears g c = subst (λ o. IfOk c.walk_parts.result (λ done. done ≡ false → left_keys (max 128 c.self.inside.first) c.walk_parts.new.parts.items c.walk_parts.new.call
+    < left_keys_of o c.args.call.now)) c.self.view_is (over g c).nears
+
+pub returns-clause-lists : goal.returns-clause-lists
+returns-clause-lists g c = subst (λ o. IfOk c.walk_parts.result (λ done. (key : g.row.K.Denot) → ListsIt c.walk_parts.new.parts.items c.walk_parts.new.call key →
+    lists_in o c.args.call.now key ⊎ IsSome (map_in g.S.BuildHasher g.S.Hasher.Hasher g.K.PartialEq.eq g.K.Hash.hash_input o key))) c.self.view_is (over g c).lists
+
+pub returns-clause-covers : goal.returns-clause-covers
+returns-clause-covers g c = subst (λ o. IfOk c.walk_parts.result (λ done. (key : g.row.K.Denot) →
+    segment_for g.S.BuildHasher g.S.Hasher.Hasher g.K.PartialEq.eq g.K.Hash.hash_input o key ≡ c.args.call.now.segment →
+    IsSome (map_in g.S.BuildHasher g.S.Hasher.Hasher g.K.PartialEq.eq g.K.Hash.hash_input o key) → covers_in g.K.PartialEq.eq o c.args.call.now key →
+    CoversIt g.K.PartialEq.eq c.walk_parts.new.parts.items c.walk_parts.new.call key)) c.self.view_is (over g c).covers
+
+pub returns-clause-others : goal.returns-clause-others
+returns-clause-others g c = subst (λ o. (other : BucketCall g.row.K.Denot g.row.V.Denot) →
+    fits_in g.S.BuildHasher g.S.Hasher.Hasher g.K.PartialEq.eq g.K.Hash.hash_input o other →
+    FitsParts g.K.PartialEq.eq (H g c) c.walk_parts.new.parts.items other) c.self.view_is (over g c).others
+
+pub returns-clause-others_left : goal.returns-clause-others_left
+returns-clause-others_left g c = λ other f. bounded g.K.PartialEq.eq (H g c) (max 128 c.self.inside.first) c.walk_parts.new.parts.items
+    (max c.self.inside.peak c.self.inside.len) c.self.inside.len (over g c).well other (returns-clause-others g c other f)
+
+pub returns-clause-keys : goal.returns-clause-keys
+returns-clause-keys g c = subst (λ o. (other : KeysCall) →
+    fits_keys_in g.S.BuildHasher g.S.Hasher.Hasher g.K.PartialEq.eq g.K.Hash.hash_input o other →
+    FitsKeys g.K.PartialEq.eq (H g c) c.walk_parts.new.parts.items other) c.self.view_is (over g c).keys.fits
+
+pub returns-clause-keys_left : goal.returns-clause-keys_left
+returns-clause-keys_left g c = λ other f. keys_bounded g.K.PartialEq.eq (H g c) (max 128 c.self.inside.first) c.walk_parts.new.parts.items
+    (max c.self.inside.peak c.self.inside.len) c.self.inside.len (over g c).well other (returns-clause-keys g c other f)
+
+pub returns-clause-keys_covers : goal.returns-clause-keys_covers
+returns-clause-keys_covers g c = subst (λ o. (other : KeysCall) (key : g.row.K.Denot) →
+    fits_keys_in g.S.BuildHasher g.S.Hasher.Hasher g.K.PartialEq.eq g.K.Hash.hash_input o other →
+    segment_for g.S.BuildHasher g.S.Hasher.Hasher g.K.PartialEq.eq g.K.Hash.hash_input o key ≡ other.segment →
+    IsSome (map_in g.S.BuildHasher g.S.Hasher.Hasher g.K.PartialEq.eq g.K.Hash.hash_input o key) → covers_in g.K.PartialEq.eq o other key →
+    CoversIt g.K.PartialEq.eq c.walk_parts.new.parts.items other key) c.self.view_is (over g c).keys.covers
+
+pub returns-clause-err : goal.returns-clause-err
+returns-clause-err g c = (over g c).err

@@ -1,0 +1,98 @@
+-- What a call knows that lists the keys of a segment, and what it has listed.
+use Rattle.std.specs.Prelude.{◌≡◌, ◌⊎◌, ℕ, ◌<◌, Bool, true, false, List, [], Option, Some, IsSome}
+use Rattle.std.specs.List.{slice_get}
+use Rattle.moka_words.specs.Effect.{Memory, LaterMemory}
+use Rattle.moka_growth.specs.declared.kinds.CallKind.TheVariants as kind
+use Rattle.moka_growth.specs.Calls.{Point, Call, Ending, Step, Going, Decided}
+use Rattle.moka_growth.specs.Calls as call
+use Rattle.moka_growth.specs.Fits.{Fits}
+use Rattle.moka_growth.specs.Left.{left}
+use Rattle.moka_growth.specs.Listing.{listed, Differ, Lists, HasListed, ListsKey}
+use Rattle.moka_calls.specs.Standing.{IsGoing}
+use Rattle.moka_buckets.specs.declared.node.Node.{Node}
+use Rattle.moka_buckets.specs.Nodes.{hash_by, same_by, own_by, key_in, Agrees}
+use Rattle.moka_buckets.specs.Tables.{map_of, left_in, IsWell}
+
+-- the call seeks no key
+abbrev pub IsNoSeek : Point → Type 0
+IsNoSeek (call.Probe array size passed) = ⊥
+IsNoSeek (call.Choose array size passed found) = ⊥
+IsNoSeek (call.Change array size passed from to) = ⊥
+IsNoSeek p = Unit {0}
+
+-- no node has a key of its own
+abbrev pub owns_none : ℕ → Bool
+owns_none n = false
+
+-- the nodes that a call ended with
+abbrev pub listed_in : Ending → List ℕ
+listed_in (call.Kept found) = []
+listed_in (call.Changed found) = []
+listed_in (call.Nodes nodes) = nodes
+
+-- those that it has listed so far, or in all
+abbrev pub listed_by : Step → List ℕ
+listed_by (Going c) = listed c.point
+listed_by (Decided e) = listed_in e
+
+abbrev pub is_ended : Step → Bool
+is_ended (Going c) = false
+is_ended (Decided e) = true
+
+-- it is nearer to its end, if it goes on
+abbrev pub Falls : (first peak : ℕ) → (old : Memory) → Step → (new : Memory) → Step → Type 0
+Falls first peak old before new (Going d) = left first peak new d < left_in first peak old before
+Falls first peak old before new (Decided e) = Unit {0}
+
+module _ {K V : Type 0} where
+  -- each of them is a node
+  abbrev pub AreNodes : List (Node K V) → List ℕ → Type 0
+  AreNodes nodes ns = (x n : ℕ) → slice_get ns x ≡ Some n → IsSome (key_in nodes n)
+
+  -- A call that goes on, whatever keys are still to come: it has listed no key twice, and none but those of buckets that it passed.
+  pub record Walks (eq : K → K → Bool) (hash : K → ℕ) (m : Memory) (nodes : List (Node K V)) (c : Call) : Type 0 where
+    pub kind : c.kind ≡ kind.Keys
+    pub seeks : IsNoSeek c.point
+    pub fits : (keys : ℕ → Option K) → Agrees keys nodes → Fits (hash_by hash keys) owns_none m c
+    pub lists : (keys : ℕ → Option K) → Agrees keys nodes → Lists (same_by eq keys) m c.point
+    pub named : AreNodes nodes (listed c.point)
+
+  -- one that has ended has listed no key twice
+  pub record Walked (eq : K → K → Bool) (nodes : List (Node K V)) (e : Ending) : Type 0 where
+    pub differ : Differ (same_by eq (key_in nodes)) (listed_in e)
+    pub named : AreNodes nodes (listed_in e)
+
+  abbrev pub WalksOn : (K → K → Bool) → (K → ℕ) → Memory → List (Node K V) → Step → Type 0
+  WalksOn eq hash m nodes (Going c) = Walks eq hash m nodes c
+  WalksOn eq hash m nodes (Decided e) = Walked eq nodes e
+
+  -- the call lists this key, if the key stays: it has listed it, or has yet to come to its bucket
+  abbrev pub Covers : (K → K → Bool) → Memory → List (Node K V) → (key : K) → Step → Type 0
+  Covers eq m nodes key (Going c) = (keys : ℕ → Option K) → Agrees keys nodes → ListsKey (own_by eq keys key) m c.point
+  Covers eq m nodes key (Decided e) = HasListed (own_by eq (key_in nodes) key) (listed_in e)
+
+  -- each of these nodes was listed before, or its key is one of the map's
+  abbrev pub AreOfMap : (K → K → Bool) → Memory → List (Node K V) → (before after : List ℕ) → Type 0
+  AreOfMap eq m nodes before after =
+      (x n : ℕ) → slice_get after x ≡ Some n →
+      ((y : ℕ) × (slice_get before y ≡ Some n)) ⊎ ((key : K) → key_in nodes n ≡ Some key → IsSome (map_of eq m nodes key))
+
+  -- What one step of the call does: the map stays, and so does the count of keys; it is nearer to its end, or has ended. What it lists anew was in the
+  -- map, and a key that was there it goes on to cover. Operations on the segment still fit.
+  pub record Lead (eq : K → K → Bool) (hash : K → ℕ) (nodes : List (Node K V)) (first peak : ℕ) (old : Memory) (before : Step)
+      (new : Memory) (after : Step) : Type 0 where
+    pub well : IsWell eq hash new nodes first peak
+    pub map : (key : K) → map_of eq new nodes key ≡ map_of eq old nodes key
+    pub count : new.len ≡ old.len
+    pub walks : WalksOn eq hash new nodes after
+    pub falls : Falls first peak old before new after
+    pub lists : AreOfMap eq old nodes (listed_by before) (listed_by after)
+    pub covers : (key : K) → IsSome (map_of eq old nodes key) → Covers eq old nodes key before → Covers eq new nodes key after
+    pub later : (keys : ℕ → Option K) → Agrees keys nodes → LaterMemory (same_by eq keys) old new
+
+  -- what a step of the call may rest on
+  pub record CanWalk (eq : K → K → Bool) (hash : K → ℕ) (m : Memory) (nodes : List (Node K V)) (first peak : ℕ) (c : Step) : Type 0 where
+    pub respects : (x y : K) → eq x y ≡ true → hash x ≡ hash y
+    pub well : IsWell eq hash m nodes first peak
+    pub going : IsGoing c
+    pub walks : WalksOn eq hash m nodes c
