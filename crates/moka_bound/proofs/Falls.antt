@@ -1,18 +1,22 @@
 -- Each step that leaves a call going lowers how many it may still make.
 use Rattle.std.proofs.Common.{◌≡◌, ◌≢◌, ℕ, suc, ◌+◌, ◌<◌, ◌≤◌, ◌==◌, nat_lt, not, Bool, true, false, cond, List, [], ◌∷◌, ◌++◌, length, drop, Option, Some, None, is_some, unwrap_or, refl, sym, ap, ◌∙◌, subst, arith}
 use Rattle.std.proofs.lemmas.List.{length-append}
+use Rattle.std.proofs.lemmas.Bool.{eq-eqb}
 use Rattle.std.proofs.lemmas.Bool.Decides.{nat_tests}
 use Rattle.moka_hist.specs.State.{Call, DeskPart, World}
-use Rattle.moka_hist.specs.Plan.{Item, Aim, Change, Removal, look, loaded, load_rest, end_load, put, under_lock, is_disabled}
+use Rattle.moka_hist.specs.Plan.{Item, Aim, Change, Removal, look, loaded, load_rest, end_load, put, take_out, under_lock, is_disabled}
 use Rattle.moka_hist.specs.Plan as plan
 use Rattle.moka_hist.specs.Next.{Next, goes, stays, waits, asks, answers}
-use Rattle.moka_hist.specs.Visits.{claimed, unlocked, is_running, is_unlocked_for, locked_by, settlement_for, is_free_for, finds, claim_of, has_room, is_seen}
+use Rattle.moka_hist.specs.Visits.{claimed, claimed_alone, unlocked, is_running, is_unlocked_for, locked_by, settlement_for, is_free_for, finds, claim_of, has_room, is_seen}
 use Rattle.moka_hist.specs.Posting.{once_ended, after_drain, after_post, after_turn, after_apply}
 use Rattle.moka_hist.specs.Looking.{hits, misses, keeps, kept_rest, chosen_or_not, finds_pair, after_get, after_judge, after_holds}
 use Rattle.moka_hist.specs.Loading.{retries, owner_rest, after_own, after_read, after_told}
-use Rattle.moka_hist.specs.Writing.{old_stamp, once_told, changes, nothing_rest, removed_rest, after_out}
+use Rattle.moka_hist.specs.Writing.{old_stamp, once_told, changes, nothing_answer, nothing_rest, removed_answer, removed_rest, said, after_out}
+use Rattle.moka_hist.specs.Entries.{unchanged}
+use Rattle.moka_hist.specs.Conditions.{HasUnsettled}
+use Rattle.moka_hist.specs.Computing.{compute_rest, report_rest, end_compute, put_told, after_own_key, after_own_alone, after_read_key, after_told_op}
 use Rattle.moka_hist.specs.Listening.{after_lock, after_hearing, after_notice}
-use Rattle.moka_hist.specs.Step.{Gets, access_of, access_for, replace_of, next_of, after_table, after_visit, going_as}
+use Rattle.moka_hist.specs.Step.{Gets, May, access_of, access_for, replace_of, next_of, after_table, after_visit, going_as}
 use Rattle.moka_hist.specs.declared.records.Mode.{Mode}
 use Rattle.moka_hist.specs.declared.records.Stored.{Stored}
 use Rattle.moka_hist.specs.declared.rules.Cause.{Cause}
@@ -21,6 +25,11 @@ use Rattle.moka_hist.specs.declared.writes.Owed.{Owed}
 use Rattle.moka_hist.specs.declared.records.Mode.TheVariants as mode
 use Rattle.moka_hist.specs.declared.loads.Load.{Load}
 use Rattle.moka_hist.specs.declared.loads.Sought.{Sought}
+use Rattle.moka_hist.specs.declared.loads.Compute.{Compute}
+use Rattle.moka_hist.specs.declared.loads.Kind.TheVariants as kind
+use Rattle.moka_hist.specs.declared.visits.Takes.TheVariants as takes
+use Rattle.moka_hist.specs.declared.events.Op.TheVariants as op
+use Rattle.moka_hist.specs.declared.replies.Answer.{Answer}
 use Rattle.moka_hist.specs.declared.events.Told.{Told}
 use Rattle.moka_hist.specs.declared.events.Told.TheVariants as told
 use Rattle.moka_hist.specs.declared.writes.Write.{Write}
@@ -39,9 +48,9 @@ use Rattle.moka_hist.specs.declared.tables.TableTurn.TheVariants as table
 use Rattle.moka_hist.specs.declared.accesses.Got.{Got}
 use Rattle.moka_hist.specs.declared.accesses.Got.TheVariants as got
 use Rattle.moka_hist.specs.declared.accesses.Turn.TheVariants as turn
-use Rattle.moka_bound.specs.Ahead.{Work, growth, post_steps, judge_steps, steps_of, holds_steps, ahead}
+use Rattle.moka_bound.specs.Ahead.{Work, growth, post_steps, judge_steps, own_key_steps, steps_of, holds_steps, ahead}
 use Rattle.moka_bound.specs.Falling.{Counts, Shortens, GoingFalls}
-use Rattle.moka_bound.proofs.More.{more, judge_more, post_worst}
+use Rattle.moka_bound.proofs.More.{more, judge_more, ended_worst, post_worst}
 
 -- whether the log has room for a write
 abbrev room_in : Work → Bool
@@ -80,7 +89,7 @@ module _ {K V E : Type 0} where
   falls_on new bound c h e = (c, refl, h)
 
   falls_goes : (new : Work) (bound : ℕ) (c : Call K V E) (rest : List (Item K V E)) →
-      new.logged + steps_of new.owed new.most c.aborts (room_in new) new.left rest < bound → Falls new bound (goes c rest)
+      new.logged + steps_of new.owed new.most c.aborts (room_in new) new.left new.ended rest < bound → Falls new bound (goes c rest)
   falls_goes new bound c [] h = falls_on new bound (record c { mode = mode.Mid; plan = [] }) h
   falls_goes new bound c (plan.Reply a ∷ []) h = never new bound (answers a) (λ e. cc)
   falls_goes new bound c (plan.Reply a ∷ x ∷ rest) h = falls_on new bound (record c { mode = mode.Mid; plan = plan.Reply a ∷ x ∷ rest }) h
@@ -88,12 +97,12 @@ module _ {K V E : Type 0} where
 
   -- the plan takes no more steps than before, with this room in the log
   eased : (old new : Work) (aborts : ℕ) (room : Bool) (p : List (Item K V E)) → Eases old new → post_steps (room_in new) ≤ post_steps room →
-      steps_of new.owed new.most aborts (room_in new) new.left p ≤ steps_of old.owed old.most aborts room old.most p
-  eased old new aborts room p e r = more p new.owed old.owed new.most old.most aborts new.left old.most (room_in new) room e.owed e.most (omega (arith, e.most, e.within)) r
+      steps_of new.owed new.most aborts (room_in new) new.left new.ended p ≤ steps_of old.owed old.most aborts room old.most true p
+  eased old new aborts room p e r = more p new.owed old.owed new.most old.most aborts new.left old.most (room_in new) room new.ended true e.owed e.most (omega (arith, e.most, e.within)) r (ended_worst new.ended)
 
   -- where nothing has changed, the call goes on with a plan that takes fewer steps
   same_falls : (old new : Work) (bound : ℕ) (c : Call K V E) (rest : List (Item K V E)) → Same old new →
-      old.logged + steps_of old.owed old.most c.aborts (room_in old) old.most rest < bound → Falls new bound (goes c rest)
+      old.logged + steps_of old.owed old.most c.aborts (room_in old) old.most true rest < bound → Falls new bound (goes c rest)
   same_falls old new bound c rest s h =
       let e = eased old new c.aborts (room_in old) rest s.eases (same_rooms old new s) in
       falls_goes new bound c rest (omega (arith, e, h, s.logged))
@@ -103,7 +112,7 @@ module _ {K V E : Type 0} where
   module _ (old new : Work) (c : Call K V E) (young : c.aborts < retries) where
     -- what a plan takes, where the call stands at its first item
     abbrev bound_of : List (Item K V E) → ℕ
-    bound_of p = old.logged + steps_of old.owed old.most c.aborts (room_in old) old.left p
+    bound_of p = old.logged + steps_of old.owed old.most c.aborts (room_in old) old.left old.ended p
 
     drains : (rest : List (Item K V E)) → Same old new → Falls new (bound_of (plan.Drain ∷ rest)) (goes c rest)
     drains rest s =
@@ -113,10 +122,10 @@ module _ {K V E : Type 0} where
     takes_up : (x : Owed) (rest : List (Item K V E)) → Eases old new → new.logged ≡ old.logged → new.owed + 1 ≡ old.owed →
         Falls new (bound_of (plan.Drain ∷ rest)) (goes c (once_ended x.notice (plan.Post x.write ∷ plan.Drain ∷ rest)))
     takes_up x rest e l o =
-        let h = more rest new.owed old.owed new.most old.most c.aborts new.most old.most false false e.owed e.most e.most (post_worst false) in
+        let h = more rest new.owed old.owed new.most old.most c.aborts new.most old.most false false true true e.owed e.most e.most (post_worst false) (ended_worst true) in
         by x.notice h (post_worst (room_in new))
       where
-        by : (notice : Option ℕ) → steps_of new.owed new.most c.aborts false new.most rest ≤ steps_of old.owed old.most c.aborts false old.most rest →
+        by : (notice : Option ℕ) → steps_of new.owed new.most c.aborts false new.most true rest ≤ steps_of old.owed old.most c.aborts false old.most true rest →
             post_steps (room_in new) ≤ post_steps false →
             Falls new (bound_of (plan.Drain ∷ rest)) (goes c (once_ended notice (plan.Post x.write ∷ plan.Drain ∷ rest)))
         by None h r = falls_goes new _ c (plan.Post x.write ∷ plan.Drain ∷ rest) (omega (arith, h, r, l, o))
@@ -140,7 +149,7 @@ module _ {K V E : Type 0} where
 
     applies_one : (rest : List (Item K V E)) → Eases old new → new.logged + 1 ≡ old.logged → Falls new (bound_of (plan.Apply ∷ rest)) (goes c (plan.Apply ∷ rest))
     applies_one rest e l =
-        let h = more rest new.owed old.owed new.most old.most c.aborts new.most old.most true true e.owed e.most e.most (omega arith) in
+        let h = more rest new.owed old.owed new.most old.most c.aborts new.most old.most true true true true e.owed e.most e.most (omega arith) (ended_worst true) in
         falls_goes new _ c (plan.Apply ∷ rest) (omega (arith, h, l))
 
     turns : (rest : List (Item K V E)) → Same old new → Falls new (bound_of (plan.Turn ∷ rest)) (goes c rest)
@@ -151,7 +160,7 @@ module _ {K V E : Type 0} where
 
     -- a step of its own, after which the rest follows
     passes : (rest : List (Item K V E)) → Same old new →
-        Falls new (old.logged + (1 + steps_of old.owed old.most c.aborts false old.most rest)) (goes c rest)
+        Falls new (old.logged + (1 + steps_of old.owed old.most c.aborts false old.most true rest)) (goes c rest)
     passes rest s =
         let e = eased old new c.aborts false rest s.eases (post_worst (room_in new)) in
         falls_goes new _ c rest (omega (arith, e, s.logged))
@@ -161,13 +170,13 @@ module _ {K V E : Type 0} where
     locks key rest false s = never new _ (waits c) (λ e. cc)
 
     hears : (rest : List (Item K V E)) (b : Bool) → Same old new →
-        Falls new (old.logged + (1 + steps_of old.owed old.most c.aborts false old.most rest)) (after_hearing c rest (found.NoticeEnded b))
+        Falls new (old.logged + (1 + steps_of old.owed old.most c.aborts false old.most true rest)) (after_hearing c rest (found.NoticeEnded b))
     hears rest true s = passes rest s
     hears rest false s = never new _ (waits c) (λ e. cc)
 
     -- the listener is asked, or it is off
     tells : (key : K) (stored : Stored V) (rest : List (Item K V E)) (cause : Cause) (off : Bool) → Same old new →
-        Falls new (old.logged + (1 + steps_of old.owed old.most c.aborts false old.most rest))
+        Falls new (old.logged + (1 + steps_of old.owed old.most c.aborts false old.most true rest))
         (after_notice c key stored rest (found.OpenNotice (cond off None (Some cause))))
     tells key stored rest cause true s = passes rest s
     tells key stored rest cause false s = never new _ (asks c (ask.Listener key stored.value cause) (plan.Heard ∷ rest)) (λ e. cc)
@@ -193,46 +202,64 @@ module _ {K V E : Type 0} where
         (plan.Moment (plan.To_take_out (plan.To_evict_chosen stamp cause) key) ∷ []) s (omega arith)
     holds_falls key stamp cause false s = kept_falls _ s (omega arith)
 
-    -- nothing was found: the lock is freed, or the clock is read
-    nothing_falls : (bound : ℕ) (removal : Removal) (listener : Bool) → Same old new → old.logged + 2 < bound →
-        Falls new bound (goes c (nothing_rest listener removal))
-    nothing_falls bound removal true s h = same_falls old new bound c (nothing_rest true removal) s (omega (arith, h))
-    nothing_falls bound removal false s h = same_falls old new bound c (nothing_rest false removal) s (omega (arith, h))
+    -- what is left of a removal takes a step or two
+    said_few : (removal : Removal K) (a : Answer K V E) → steps_of old.owed old.most c.aborts false old.most true (said removal a) ≤ 2
+    said_few plan.To_invalidate a = omega arith
+    said_few plan.To_remove a = omega arith
+    said_few (plan.To_evict_chosen stamp cause) a = omega arith
+    said_few (plan.To_remove_as_told key) a = omega arith
 
-    removed_falls : (n bound : ℕ) (removal : Removal) (key : K) (stored : Stored V) (listener : Bool) → Same old new →
-        old.logged + 9 < bound → Falls new bound (goes c (removed_rest listener n removal key stored))
+    -- nothing was found: the lock is freed, or the clock is read
+    nothing_falls : (bound : ℕ) (removal : Removal K) (listener : Bool) → Same old new → old.logged + 3 < bound →
+        Falls new bound (goes c (nothing_rest listener removal))
+    nothing_falls bound removal true s h =
+        let few = said_few removal (nothing_answer removal) in
+        same_falls old new bound c (nothing_rest true removal) s (omega (arith, h, few))
+    nothing_falls bound removal false s h =
+        let few = said_few removal (nothing_answer removal) in
+        same_falls old new bound c (nothing_rest false removal) s (omega (arith, h, few))
+
+    removed_falls : (n bound : ℕ) (removal : Removal K) (key : K) (stored : Stored V) (listener : Bool) → Same old new →
+        old.logged + 10 < bound → Falls new bound (goes c (removed_rest listener n removal key stored))
     removed_falls n bound removal key stored true s h =
-        same_falls old new bound c (removed_rest true n removal key stored) s (omega (arith, h))
+        let few = said_few removal (removed_answer removal stored.value) in
+        same_falls old new bound c (removed_rest true n removal key stored) s (omega (arith, h, few))
     removed_falls n bound removal key stored false s h =
+        let few = said_few removal (removed_answer removal stored.value) in
         let r = post_worst (room_in old) in
-        same_falls old new bound c (removed_rest false n removal key stored) s (omega (arith, h, r))
+        same_falls old new bound c (removed_rest false n removal key stored) s (omega (arith, h, few, r))
 
     misses_falls : (bound : ℕ) (aim : Aim K V) → Same old new → old.logged + judge_steps old.owed old.most c.aborts aim ≤ bound → Falls new bound (misses c aim)
     misses_falls bound (plan.To_evict key stamp cause) s h = kept_falls bound s (omega (arith, h))
     misses_falls bound plan.To_answer s h = never new bound (misses c plan.To_answer) (λ e. cc)
     misses_falls bound (plan.To_load sought) s h = same_falls old new bound c (plan.Own sought ∷ []) s (omega (arith, h))
     misses_falls bound (plan.To_own sought) s h = same_falls old new bound c (plan.Ask sought.load ∷ []) s (omega (arith, h))
+    misses_falls bound (plan.To_compute compute) s h = same_falls old new bound c (plan.Ask_op compute None ∷ []) s (omega (arith, h))
+    misses_falls bound (plan.To_report key) s h = never new bound (misses c (plan.To_report key)) (λ e. cc)
     misses_falls bound (plan.To_insert key value) s h =
         same_falls old new bound c (put c.rules key value (plan.Reply (answer.Loaded value true) ∷ [])) s (by c.rules.listener)
       where
-        by : (listener : Bool) → old.logged + steps_of old.owed old.most c.aborts (room_in old) old.most
+        by : (listener : Bool) → old.logged + steps_of old.owed old.most c.aborts (room_in old) old.most true
             (put {E = E} (record c.rules { listener = listener }) key value (plan.Reply (answer.Loaded value true) ∷ [])) < bound
         by true = omega (arith, h)
         by false = omega (arith, h)
 
-    hits_falls : (bound : ℕ) (aim : Aim K V) (value : V) → Same old new → old.logged + judge_steps old.owed old.most c.aborts aim ≤ bound → Falls new bound (hits c aim value)
-    hits_falls bound (plan.To_evict key stamp cause) value s h = never new bound (waits c) (λ e. cc)
-    hits_falls bound plan.To_answer value s h = never new bound (hits c plan.To_answer value) (λ e. cc)
-    hits_falls bound (plan.To_load sought) value s h = never new bound (hits c (plan.To_load sought) value) (λ e. cc)
-    hits_falls bound (plan.To_insert key unused) value s h = never new bound (hits c (plan.To_insert key unused) value) (λ e. cc)
-    hits_falls bound (plan.To_own sought) value s h =
+    hits_falls : (bound : ℕ) (aim : Aim K V) (there : K) (value : V) → Same old new → old.logged + judge_steps old.owed old.most c.aborts aim ≤ bound → Falls new bound (hits c aim there value)
+    hits_falls bound (plan.To_evict key stamp cause) there value s h = never new bound (waits c) (λ e. cc)
+    hits_falls bound plan.To_answer there value s h = never new bound (hits c plan.To_answer there value) (λ e. cc)
+    hits_falls bound (plan.To_load sought) there value s h = never new bound (hits c (plan.To_load sought) there value) (λ e. cc)
+    hits_falls bound (plan.To_insert key unused) there value s h = never new bound (hits c (plan.To_insert key unused) there value) (λ e. cc)
+    hits_falls bound (plan.To_compute compute) there value s h =
+        same_falls old new bound c (plan.Ask_op compute (Some (there, value)) ∷ []) s (omega (arith, h))
+    hits_falls bound (plan.To_report key) there value s h = never new bound (hits c (plan.To_report key) there value) (λ e. cc)
+    hits_falls bound (plan.To_own sought) there value s h =
         same_falls old new bound c (plan.Settle (settled.Ready value) ∷ plan.Reply (answer.Loaded value false) ∷ []) s (omega (arith, h))
 
     -- the record that was found is seen, or not
-    judge_falls : (bound : ℕ) (aim : Aim K V) (stored : Stored V) (seen : Bool) → Same old new →
-        old.logged + judge_steps old.owed old.most c.aborts aim ≤ bound → Falls new bound (after_judge c aim stored (found.Judge seen))
-    judge_falls bound aim stored true s h = hits_falls bound aim stored.value s h
-    judge_falls bound aim stored false s h = misses_falls bound aim s h
+    judge_falls : (bound : ℕ) (aim : Aim K V) (there : K) (stored : Stored V) (seen : Bool) → Same old new →
+        old.logged + judge_steps old.owed old.most c.aborts aim ≤ bound → Falls new bound (after_judge c aim there stored (found.Judge seen))
+    judge_falls bound aim there stored true s h = hits_falls bound aim there stored.value s h
+    judge_falls bound aim there stored false s h = misses_falls bound aim s h
 
     owns : (sought : Sought K) (k : Claim) → Same old new → Falls new (bound_of (plan.Own sought ∷ [])) (after_own c sought (found.WaitOrOwn k))
     owns sought claim.Owner s = by (is_disabled c.rules)
@@ -258,6 +285,7 @@ module _ {K V E : Type 0} where
     is_told load None s = never new _ (waits c) (λ e. cc)
     is_told load (Some told.Done) s = never new _ (waits c) (λ e. cc)
     is_told load (Some told.Off) s = never new _ (waits c) (λ e. cc)
+    is_told load (Some (told.Op op)) s = never new _ (waits c) (λ e. cc)
     is_told load (Some told.Nothing) s =
         same_falls old new _ c (end_load settled.Nothing answer.Nothing) s (omega arith)
     is_told load (Some (told.Err error)) s =
@@ -266,13 +294,97 @@ module _ {K V E : Type 0} where
         same_falls old new _ c (loaded c.rules load value) s (by (is_disabled c.rules) c.rules.listener)
       where
         ahead_of : Bool → Bool → ℕ
-        ahead_of disabled listener = steps_of old.owed old.most c.aborts (room_in old) old.most
+        ahead_of disabled listener = steps_of old.owed old.most c.aborts (room_in old) old.most true
             (load_rest {E = E} disabled (record c.rules { listener = listener }) load.key value)
 
         by : (disabled listener : Bool) → old.logged + ahead_of disabled listener < bound_of (plan.Told load ∷ [])
         by true listener = omega arith
         by false true = omega arith
         by false false = omega arith
+
+    -- an owner of a key's computes looks what it has, and asks
+    owns_key : (compute : Compute K) → Same old new →
+        Falls new (old.logged + own_key_steps old.owed old.most) (goes c (compute_rest (is_disabled c.rules) compute))
+    owns_key compute s = by (is_disabled c.rules)
+      where
+        by : (disabled : Bool) → Falls new (old.logged + own_key_steps old.owed old.most) (goes c (compute_rest disabled compute))
+        by false = same_falls old new _ c (compute_rest false compute) s (omega arith)
+        by true = same_falls old new _ c (compute_rest true compute) s (omega arith)
+
+    reports : (key : K) → Same old new →
+        Falls new (old.logged + own_key_steps old.owed old.most) (goes c (report_rest (is_disabled c.rules) key))
+    reports key s = by (is_disabled c.rules)
+      where
+        by : (disabled : Bool) → Falls new (old.logged + own_key_steps old.owed old.most) (goes c (report_rest disabled key))
+        by false = same_falls old new _ c (report_rest false key) s (omega arith)
+        by true = same_falls old new _ c (report_rest true key) s (omega arith)
+
+    own_alone : (key : K) (owned : Bool) → Same old new →
+        Falls new (old.logged + own_key_steps old.owed old.most) (after_own_alone c key (found.OwnAlone owned))
+    own_alone key true s = reports key s
+    own_alone key false s = owns_key (record { key = key; takes = takes.TryOp }) s
+
+    -- one that waits for an owner that has not ended waits with its next step
+    own_key : (compute : Compute K) (k : Claim) → Same old new → ((owner : ℕ) → k ≡ claim.Waits owner → new.ended ≡ false) →
+        Falls new (old.logged + own_key_steps old.owed old.most) (after_own_key c compute (found.WaitOrOwn k))
+    own_key compute claim.Owner s unended = owns_key compute s
+    own_key compute (claim.Waits owner) s unended =
+        let e : new.ended ≡ false = unended owner refl in
+        falls_goes new _ c (plan.Read_key compute ∷ []) (rw e (omega (arith, s.logged, s.eases.owed, s.eases.most)))
+
+    -- once it has ended the call begins anew
+    begins_anew : (compute : Compute K) → Same old new → old.ended ≡ true →
+        Falls new (bound_of (plan.Read_key compute ∷ [])) (goes c (plan.Own_key compute ∷ []))
+    begins_anew compute s e = same_falls old new _ c (plan.Own_key compute ∷ []) s (rw e (omega arith))
+
+    reads_key : (compute : Compute K) (with : Option (Settled V E)) → Same old new → old.ended ≡ is_some with →
+        Falls new (bound_of (plan.Read_key compute ∷ [])) (after_read_key c compute (found.ReadSettled (unwrap_or with settled.NotYet)))
+    reads_key compute None s e = never new _ (waits c) (λ d. cc)
+    reads_key compute (Some settled.NotYet) s e = never new _ (waits c) (λ d. cc)
+    reads_key compute (Some (settled.Ready value)) s e = begins_anew compute s e
+    reads_key compute (Some (settled.Err error)) s e = begins_anew compute s e
+    reads_key compute (Some settled.Nothing) s e = begins_anew compute s e
+    reads_key compute (Some settled.Aborted) s e = begins_anew compute s e
+
+    -- a told value is stored
+    puts_told : (compute : Compute K) (pair : Option (K × V)) (value : V) → Same old new →
+        Falls new (bound_of (plan.Told_op compute pair ∷ [])) (goes c (put_told (is_disabled c.rules) c compute.key pair value))
+    puts_told compute pair value s =
+        same_falls old new _ c (put_told (is_disabled c.rules) c compute.key pair value) s (by (is_disabled c.rules) c.rules.listener)
+      where
+        ahead_of : Bool → Bool → ℕ
+        ahead_of disabled listener = steps_of {E = E} old.owed old.most c.aborts (room_in old) old.most true
+            (put_told disabled (record c { rules = record c.rules { listener = listener } }) compute.key pair value)
+
+        by : (disabled listener : Bool) → old.logged + ahead_of disabled listener < bound_of (plan.Told_op compute pair ∷ [])
+        by true listener = omega arith
+        by false true = omega arith
+        by false false = omega arith
+
+    -- what stands there is taken out
+    takes_told : (compute : Compute K) (pair : Option (K × V)) → Same old new →
+        Falls new (bound_of (plan.Told_op compute pair ∷ [])) (goes c (take_out c.rules (plan.To_remove_as_told compute.key) compute.key))
+    takes_told compute pair s =
+        same_falls old new _ c (take_out c.rules (plan.To_remove_as_told compute.key) compute.key) s (by c.rules.listener)
+      where
+        by : (listener : Bool) → old.logged + steps_of {V = V} {E = E} old.owed old.most c.aborts (room_in old) old.most true
+            (take_out (record c.rules { listener = listener }) (plan.To_remove_as_told compute.key) compute.key) < bound_of (plan.Told_op compute pair ∷ [])
+        by true = omega arith
+        by false = omega arith
+
+    does_told : (compute : Compute K) (pair : Option (K × V)) (given : Option (Told V E)) → Same old new →
+        Falls new (bound_of (plan.Told_op compute pair ∷ [])) (after_told_op c compute pair (found.TakeTold given))
+    does_told compute pair None s = never new _ (waits c) (λ e. cc)
+    does_told compute pair (Some told.Nothing) s = never new _ (waits c) (λ e. cc)
+    does_told compute pair (Some told.Done) s = never new _ (waits c) (λ e. cc)
+    does_told compute pair (Some told.Off) s = never new _ (waits c) (λ e. cc)
+    does_told compute pair (Some (told.Op op.Nop)) s =
+        same_falls old new _ c (end_compute (unchanged compute.key pair)) s (omega arith)
+    does_told compute pair (Some (told.Op (op.Put value))) s = puts_told compute pair value s
+    does_told compute pair (Some (told.Value value)) s = puts_told compute pair value s
+    does_told compute pair (Some (told.Op op.Remove)) s = takes_told compute pair s
+    does_told compute pair (Some (told.Err error)) s =
+        same_falls old new _ c (end_compute (answer.ComputeErr error)) s (omega arith)
 
     -- an operation that stays undecided
     stays_on : Eases old new → new.logged ≡ old.logged → new.left < old.left → (aim : Aim K V) (key : K) (rest : List (Item K V E)) → c.plan ≡ plan.Get aim key ∷ rest → Falls new (bound_of (plan.Get aim key ∷ rest)) (stays c)
@@ -297,6 +409,17 @@ module _ {K V E : Type 0} where
   claimed_lists eq w n load None = record { owed = refl; log = refl; size = refl }
   claimed_lists eq w n load (Some owner) = record { owed = refl; log = refl; size = refl }
 
+  alone_lists : (eq : K → K → Bool) (w : DeskPart K V E) (n : ℕ) (load : Load K) (owner : Option ℕ) → Lists w (claimed_alone eq w n load owner)
+  alone_lists eq w n load None = record { owed = refl; log = refl; size = refl }
+  alone_lists eq w n load (Some owner) = record { owed = refl; log = refl; size = refl }
+
+  -- the owner that the call came to wait for has not ended
+  waits_unended : (eq : K → K → Bool) (w : DeskPart K V E) (n : ℕ) (load : Load K) → HasUnsettled w load → (o : Option ℕ) → w.owners load ≡ o →
+      (owner : ℕ) → claim_of o ≡ claim.Waits owner → is_some (settlement_for (claimed eq w n load o) n) ≡ false
+  waits_unended eq w n load h None is owner e = cc
+  waits_unended eq w n load h (Some other) is owner e =
+      rw (eq-eqb n n refl) (h other is)
+
   locked_lists : (eq : K → K → Bool) (w : DeskPart K V E) (n : ℕ) (key : K) (free : Bool) → Lists w (locked_by eq w n key free)
   locked_lists eq w n key true = record { owed = refl; log = refl; size = refl }
   locked_lists eq w n key false = record { owed = refl; log = refl; size = refl }
@@ -306,16 +429,16 @@ module _ {K V E : Type 0} where
   unlocked_lists w n false = record { owed = refl; log = refl; size = refl }
 
   -- the work is what it was, where the lists are and operations stay undecided for no longer
-  same_work : (w new : World K V E) (old young : Work) → Counts w old → Counts new young → Lists w.desk new.desk →
+  same_work : (n : ℕ) (w new : World K V E) (old young : Work) → Counts n w old → Counts n new young → Lists w.desk new.desk →
       young.left ≤ young.most → young.most ≤ old.most → Same old young
-  same_work w new old young c d l within most = record {
+  same_work n w new old young c d l within most = record {
     eases = record { owed = omega (arith, c.owed, d.owed, l.owed); most = most; within = within };
     logged = d.logged ∙ l.log ∙ sym c.logged;
     size = d.size ∙ l.size ∙ sym c.size;
   }
 
   module _ (eq : K → K → Bool) (n : ℕ) (c : Call K V E) (w next : World K V E) (old new : Work) (young : c.aborts < retries)
-      (has_log : 0 < old.size) (was : Counts w old) (is : Counts next new) where
+      (has_log : 0 < old.size) (was : Counts n w old) (is : Counts n next new) where
     -- how the call goes on after what its access gave
     abbrev after : Item K V E → List (Item K V E) → Got K V E → Next K V E
     after item rest (got.Table t) = after_table n c item rest t
@@ -323,7 +446,7 @@ module _ {K V E : Type 0} where
 
     -- after an access that leaves the lists
     leaves : (desk : DeskPart K V E) → next.desk ≡ desk → Lists w.desk desk → new.left ≤ new.most → new.most ≤ old.most + 0 → Same old new
-    leaves desk e l within most = same_work w next old new was is (subst (λ v. Lists w.desk v) (sym e) l) within (omega (arith, most))
+    leaves desk e l within most = same_work n w next old new was is (subst (λ v. Lists w.desk v) (sym e) l) within (omega (arith, most))
 
     drain_falls : (rest : List (Item K V E)) (owed : List Owed) → w.desk.owed ≡ owed → length next.desk.owed ≡ length (drop 1 owed) →
         next.desk.log ≡ w.desk.log → next.desk.size ≡ w.desk.size → new.left ≤ new.most → new.most ≤ old.most →
@@ -382,6 +505,8 @@ module _ {K V E : Type 0} where
         finds_falls (plan.To_load sought) = same_falls old new _ c (plan.Judge (plan.To_load sought) there stored ∷ []) s (omega arith)
         finds_falls (plan.To_own sought) = same_falls old new _ c (plan.Judge (plan.To_own sought) there stored ∷ []) s (omega arith)
         finds_falls (plan.To_insert k value) = same_falls old new _ c (plan.Judge (plan.To_insert k value) there stored ∷ []) s (omega arith)
+        finds_falls (plan.To_compute compute) = same_falls old new _ c (plan.Judge (plan.To_compute compute) there stored ∷ []) s (omega arith)
+        finds_falls (plan.To_report k) = same_falls old new _ c (plan.Judge (plan.To_report k) there stored ∷ []) s (omega arith)
         finds_falls (plan.To_evict k stamp cause) = chosen (stored.stamp == stamp) k stamp cause
 
     -- a look or a write that stays undecided
@@ -393,20 +518,20 @@ module _ {K V E : Type 0} where
     write_stays : (key : K) (value : V) (moment : ℕ) (rest : List (Item K V E)) → c.plan ≡ plan.Write key value moment ∷ rest → Same old new →
         new.left < old.left → Falls new (bound_of old new c young (plan.Write key value moment ∷ rest)) (stays c)
     write_stays key value moment rest e s less =
-        let h = more rest new.owed old.owed (new.most + growth) (old.most + growth) c.aborts (new.most + growth) (old.most + growth) false false
-        s.eases.owed (omega (arith, s.eases.most)) (omega (arith, s.eases.most)) (post_worst false) in
+        let h = more rest new.owed old.owed (new.most + growth) (old.most + growth) c.aborts (new.most + growth) (old.most + growth) false false true true
+        s.eases.owed (omega (arith, s.eases.most)) (omega (arith, s.eases.most)) (post_worst false) (ended_worst true) in
         falls_on new _ (record c { mode = mode.Mid }) (rw e (omega (arith, h, s.logged, less)))
 
     wrote : (key : K) (value : V) (moment : ℕ) (rest : List (Item K V E)) (x : Write) (answer : TableAnswer K V) → new.owed ≡ old.owed → new.logged ≡ old.logged →
         new.most ≤ old.most + growth →
         Falls new (bound_of old new c young (plan.Write key value moment ∷ rest)) (goes c (once_told c.rules.listener key answer (plan.Post x ∷ rest)))
     wrote key value moment rest x answer o l most =
-        let h = more rest new.owed old.owed new.most (old.most + growth) c.aborts new.most (old.most + growth) false false
-        (omega (arith, o)) most most (post_worst false) in
+        let h = more rest new.owed old.owed new.most (old.most + growth) c.aborts new.most (old.most + growth) false false true true
+        (omega (arith, o)) most most (post_worst false) (ended_worst true) in
         by c.rules.listener answer h (post_worst (room_in new))
       where
         by : (listener : Bool) (answer : TableAnswer K V) →
-            steps_of new.owed new.most c.aborts false new.most rest ≤ steps_of old.owed (old.most + growth) c.aborts false (old.most + growth) rest →
+            steps_of new.owed new.most c.aborts false new.most true rest ≤ steps_of old.owed (old.most + growth) c.aborts false (old.most + growth) true rest →
             post_steps (room_in new) ≤ post_steps false →
             Falls new (bound_of old new c young (plan.Write key value moment ∷ rest)) (goes c (once_told listener key answer (plan.Post x ∷ rest)))
         by false answer h r = falls_goes new _ c (plan.Post x ∷ rest) (omega (arith, h, l, r))
@@ -414,11 +539,11 @@ module _ {K V E : Type 0} where
         by true (table_answer.Some there stored) h r =
             falls_goes new _ c (plan.Notice key stored None true ∷ plan.Unlock true ∷ plan.Post x ∷ rest) (omega (arith, h, l, r))
 
-    out_stays : (removal : Removal) (key : K) (rest : List (Item K V E)) → c.plan ≡ plan.Out removal key ∷ rest → Same old new →
+    out_stays : (removal : Removal K) (key : K) (rest : List (Item K V E)) → c.plan ≡ plan.Out removal key ∷ rest → Same old new →
         new.left < old.left → Falls new (bound_of old new c young (plan.Out removal key ∷ rest)) (stays c)
     out_stays removal key rest e s less = falls_on new _ (record c { mode = mode.Mid }) (rw e (omega (arith, s.logged, less)))
 
-    out_falls : (removal : Removal) (key : K) (rest : List (Item K V E)) (answer : TableAnswer K V) → Same old new →
+    out_falls : (removal : Removal K) (key : K) (rest : List (Item K V E)) (answer : TableAnswer K V) → Same old new →
         Falls new (bound_of old new c young (plan.Out removal key ∷ rest)) (after_out n c removal key (table.Decided answer))
     out_falls removal key rest table_answer.None s = nothing_falls old new c young _ removal c.rules.listener s (omega arith)
     out_falls removal key rest (table_answer.Some there stored) s =
@@ -427,78 +552,93 @@ module _ {K V E : Type 0} where
     waits_falls : (bound : ℕ) → Falls new bound (waits c)
     waits_falls bound = never new bound (waits c) (λ e. cc)
 
-    on_item : (item : Item K V E) (rest : List (Item K V E)) (given : Got K V E) → c.plan ≡ item ∷ rest → Gets eq n w (access_for n item) given next →
+    on_item : (item : Item K V E) (rest : List (Item K V E)) (given : Got K V E) → c.plan ≡ item ∷ rest → May w (access_for n item) → Gets eq n w (access_for n item) given next →
         Shortens old new (access_for n item) given → Falls new (bound_of old new c young (item ∷ rest)) (after item rest given)
-    on_item plan.Drain rest (got.Desk f) e g h = rw g.0
+    on_item plan.Drain rest (got.Desk f) e m g h = rw g.0
         (drain_falls rest w.desk.owed refl (ap (λ v. length v.desk.owed) g.1) (ap (λ v. v.desk.log) g.1) (ap (λ v. v.desk.size) g.1) h.within (omega (arith, h.raises)))
-    on_item (plan.Post x) rest (got.Desk f) e g h = rw g.0
+    on_item (plan.Post x) rest (got.Desk f) e m g h = rw g.0
         (post_falls x rest (has_room w.desk) refl (ap (λ v. length v.desk.log) g.1) (ap (λ v. length v.desk.owed) g.1) (ap (λ v. v.desk.size) g.1) h.within (omega (arith, h.raises)))
-    on_item plan.Apply rest (got.Desk f) e g h = rw g.0
+    on_item plan.Apply rest (got.Desk f) e m g h = rw g.0
         (apply_falls rest w.desk.log refl (ap (λ v. length v.desk.log) g.1) (ap (λ v. length v.desk.owed) g.1) (ap (λ v. v.desk.size) g.1) h.within (omega (arith, h.raises)))
-    on_item plan.Turn rest (got.Desk f) e g h = rw g.0 (turn_falls (is_free_for w.desk n))
+    on_item plan.Turn rest (got.Desk f) e m g h = rw g.0 (turn_falls (is_free_for w.desk n))
       where
         turn_falls : (b : Bool) → Falls new (bound_of old new c young (plan.Turn ∷ rest)) (after_turn c rest (found.TakeTurn b))
         turn_falls true = turns old new c young rest (leaves _ (ap (λ v. v.desk) g.1) (record { owed = refl; log = refl; size = refl }) h.within h.raises)
         turn_falls false = waits_falls _
-    on_item plan.End rest (got.Desk f) e g h = rw g.0
+    on_item plan.End rest (got.Desk f) e m g h = rw g.0
         (ends old new c young rest (leaves _ (ap (λ v. v.desk) g.1) (record { owed = refl; log = refl; size = refl }) h.within h.raises))
-    on_item (plan.Judge aim key stored) rest (got.Desk f) e g h = rw g.0
-        (judge_falls old new c young _ aim stored (is_seen w.desk (replace_of aim) key stored)
+    on_item (plan.Judge aim key stored) rest (got.Desk f) e m g h = rw g.0
+        (judge_falls old new c young _ aim key stored (is_seen w.desk (replace_of aim) key stored)
         (leaves _ (ap (λ v. v.desk) g.1) (record { owed = refl; log = refl; size = refl }) h.within h.raises) (omega arith))
-    on_item (plan.Own sought) rest (got.Desk f) e g h = rw g.0
+    on_item (plan.Own sought) rest (got.Desk f) e m g h = rw g.0
         (owns old new c young sought (claim_of (w.desk.owners sought.load))
         (leaves _ (ap (λ v. v.desk) g.1) (claimed_lists eq w.desk n sought.load (w.desk.owners sought.load)) h.within h.raises))
-    on_item (plan.Read sought) rest (got.Desk f) e g h = rw g.0
+    on_item (plan.Read sought) rest (got.Desk f) e m g h = rw g.0
         (reads old new c young sought (unwrap_or (settlement_for w.desk n) settled.NotYet)
         (leaves _ (ap (λ v. v.desk) g.1) (either_lists (is_some (settlement_for w.desk n)) w.desk _ w.desk (record { owed = refl; log = refl; size = refl }) (same_lists w.desk)) h.within h.raises))
-    on_item (plan.Settle with) rest (got.Desk f) e g h = rw g.0
+    on_item (plan.Own_key compute) rest (got.Desk f) e m g h =
+        let load : Load K = record { key = compute.key; kind = kind.Compute } in
+        rw g.0 (own_key old new c young compute (claim_of (w.desk.owners load))
+        (leaves _ (ap (λ v. v.desk) g.1) (claimed_lists eq w.desk n load (w.desk.owners load)) h.within h.raises)
+        (λ owner waits. is.ended ∙ ap (λ v. is_some (settlement_for v.desk n)) g.1 ∙ waits_unended eq w.desk n load m.2 (w.desk.owners load) refl owner waits))
+    on_item (plan.Own_alone key) rest (got.Desk f) e m g h =
+        let load : Load K = record { key = key; kind = kind.Compute } in
+        rw g.0 (own_alone old new c young key (is_some (w.desk.owners load))
+        (leaves _ (ap (λ v. v.desk) g.1) (alone_lists eq w.desk n load (w.desk.owners load)) h.within h.raises))
+    on_item (plan.Read_key compute) rest (got.Desk f) e m g h = rw g.0
+        (reads_key old new c young compute (settlement_for w.desk n)
+        (leaves _ (ap (λ v. v.desk) g.1) (either_lists (is_some (settlement_for w.desk n)) w.desk _ w.desk (record { owed = refl; log = refl; size = refl }) (same_lists w.desk)) h.within h.raises) was.ended)
+    on_item (plan.Ask_op compute pair) rest (got.Desk f) e m g h = rw g.0 (never new _ (asks c (ask.Compute pair) (plan.Told_op compute pair ∷ [])) (λ d. cc))
+    on_item (plan.Told_op compute pair) rest (got.Desk f) e m g h = rw g.0
+        (does_told old new c young compute pair (w.desk.told n) (leaves _ (ap (λ v. v.desk) g.1) (record { owed = refl; log = refl; size = refl }) h.within h.raises))
+    on_item (plan.Settle with) rest (got.Desk f) e m g h = rw g.0
         (passes old new c young rest (leaves _ (ap (λ v. v.desk) g.1) (record { owed = refl; log = refl; size = refl }) h.within h.raises))
-    on_item (plan.Ask load) rest (got.Desk f) e g h = rw g.0 (never new _ (asks c ask.Init (plan.Told load ∷ [])) (λ d. cc))
-    on_item (plan.Told load) rest (got.Desk f) e g h = rw g.0
+    on_item (plan.Ask load) rest (got.Desk f) e m g h = rw g.0 (never new _ (asks c ask.Init (plan.Told load ∷ [])) (λ d. cc))
+    on_item (plan.Told load) rest (got.Desk f) e m g h = rw g.0
         (is_told old new c young load (w.desk.told n) (leaves _ (ap (λ v. v.desk) g.1) (record { owed = refl; log = refl; size = refl }) h.within h.raises))
-    on_item (plan.Ended number) rest (got.Desk f) e g h = rw g.0
+    on_item (plan.Ended number) rest (got.Desk f) e m g h = rw g.0
         (hears old new c young rest (not (is_running w.desk number)) (leaves _ (ap (λ v. v.desk) g.1) (record { owed = refl; log = refl; size = refl }) h.within h.raises))
-    on_item plan.Heard rest (got.Desk f) e g h = rw g.0
+    on_item plan.Heard rest (got.Desk f) e m g h = rw g.0
         (hears old new c young rest (not (is_running w.desk n)) (leaves _ (ap (λ v. v.desk) g.1) (record { owed = refl; log = refl; size = refl }) h.within h.raises))
-    on_item (plan.Lock key) rest (got.Desk f) e g h = rw g.0
+    on_item (plan.Lock key) rest (got.Desk f) e m g h = rw g.0
         (locks old new c young key rest (is_unlocked_for w.desk n key)
         (leaves _ (ap (λ v. v.desk) g.1) (locked_lists eq w.desk n key (is_unlocked_for w.desk n key)) h.within h.raises))
-    on_item (plan.Unlock b) rest (got.Desk f) e g h = rw g.0
+    on_item (plan.Unlock b) rest (got.Desk f) e m g h = rw g.0
         (passes old new c young rest (leaves _ (ap (λ v. v.desk) g.1) (unlocked_lists w.desk n b) h.within h.raises))
-    on_item plan.Idle rest (got.Desk f) e g h = rw g.0
+    on_item plan.Idle rest (got.Desk f) e m g h = rw g.0
         (passes old new c young rest (leaves _ (ap (λ v. v.desk) g.1) (record { owed = refl; log = refl; size = refl }) h.within h.raises))
-    on_item (plan.Holds key stamp cause there stored) rest (got.Desk f) e g h = rw g.0
+    on_item (plan.Holds key stamp cause there stored) rest (got.Desk f) e m g h = rw g.0
         (holds_falls old new c young key stamp cause _ (leaves w.desk (ap (λ v. v.desk) g.1) (same_lists w.desk) h.within h.raises))
-    on_item (plan.Notice key stored cause upsert) rest (got.Desk f) e g h = rw g.0
+    on_item (plan.Notice key stored cause upsert) rest (got.Desk f) e m g h = rw g.0
         (tells old new c young key stored rest _ w.desk.off (leaves _ (ap (λ v. v.desk) g.1) (record { owed = refl; log = refl; size = refl }) h.within h.raises))
-    on_item (plan.Moment change) rest (got.Desk f) e g h = rw g.0
+    on_item (plan.Moment change) rest (got.Desk f) e m g h = rw g.0
         (stamps old new c young change w.desk.clock rest (leaves _ (ap (λ v. v.desk) g.1) (record { owed = refl; log = refl; size = refl }) h.within h.raises))
-    on_item (plan.Reply a) rest (got.Desk f) e g h = never new _ (answers a) (λ d. cc)
-    on_item (plan.Get aim key) rest (got.Table table.Going) e g h = get_stays aim key rest e (leaves w.desk (ap (λ v. v.desk) g.1) (same_lists w.desk) h.within h.raises) (h.going refl)
-    on_item (plan.Get aim key) rest (got.Table (table.Decided answer)) e g h =
+    on_item (plan.Reply a) rest (got.Desk f) e m g h = never new _ (answers a) (λ d. cc)
+    on_item (plan.Get aim key) rest (got.Table table.Going) e m g h = get_stays aim key rest e (leaves w.desk (ap (λ v. v.desk) g.1) (same_lists w.desk) h.within h.raises) (h.going refl)
+    on_item (plan.Get aim key) rest (got.Table (table.Decided answer)) e m g h =
         get_falls aim rest answer key (leaves w.desk (ap (λ v. v.desk) g.2) (same_lists w.desk) h.within h.raises)
-    on_item (plan.Write key value moment) rest (got.Table table.Going) e g h = write_stays key value moment rest e (leaves w.desk (ap (λ v. v.desk) g.1) (same_lists w.desk) h.within h.raises) (h.going refl)
-    on_item (plan.Write key value moment) rest (got.Table (table.Decided answer)) e g h =
+    on_item (plan.Write key value moment) rest (got.Table table.Going) e m g h = write_stays key value moment rest e (leaves w.desk (ap (λ v. v.desk) g.1) (same_lists w.desk) h.within h.raises) (h.going refl)
+    on_item (plan.Write key value moment) rest (got.Table (table.Decided answer)) e m g h =
         let d : next.desk ≡ w.desk = ap (λ v. v.desk) g.2 in
         wrote key value moment rest (Upsert n (old_stamp answer)) answer (is.owed ∙ ap (λ v. length v.owed) d ∙ sym was.owed)
         (is.logged ∙ ap (λ v. length v.log) d ∙ sym was.logged) h.raises
-    on_item (plan.Out removal key) rest (got.Table table.Going) e g h =
+    on_item (plan.Out removal key) rest (got.Table table.Going) e m g h =
         out_stays removal key rest e (leaves w.desk (ap (λ v. v.desk) g.1) (same_lists w.desk) h.within h.raises) (h.going refl)
-    on_item (plan.Out removal key) rest (got.Table (table.Decided answer)) e g h =
+    on_item (plan.Out removal key) rest (got.Table (table.Decided answer)) e m g h =
         out_falls removal key rest answer (leaves w.desk (ap (λ v. v.desk) g.2) (same_lists w.desk) h.within h.raises)
     -- no other answer is one of the item's access
-    on_item _ rest _ e g h = absurd g
+    on_item _ rest _ e m g h = absurd g
 
   by_plan : (eq : K → K → Bool) (n : ℕ) (rules : Rules) (how : Mode) (p : List (Item K V E)) (aborts : ℕ) (w next : World K V E) (given : Got K V E) (old new : Work) →
       let c : Call K V E = record { rules = rules; mode = how; plan = p; aborts = aborts } in
-      aborts < retries → 0 < old.size → Gets eq n w (access_of n c) given next → Counts w old → Counts next new →
+      aborts < retries → 0 < old.size → May w (access_of n c) → Gets eq n w (access_of n c) given next → Counts n w old → Counts n next new →
       Shortens old new (access_of n c) given → Falls new (ahead old c) (next_of n c given)
-  by_plan eq n rules how [] aborts w next given old new young has_log g was is h = waits_falls eq n (record { rules = rules; mode = how; plan = []; aborts = aborts }) w next old new young has_log was is _
-  by_plan eq n rules how (item ∷ rest) aborts w next (got.Table t) old new young has_log g was is h =
-      on_item eq n (record { rules = rules; mode = how; plan = item ∷ rest; aborts = aborts }) w next old new young has_log was is item rest (got.Table t) refl g h
-  by_plan eq n rules how (item ∷ rest) aborts w next (got.Desk f) old new young has_log g was is h =
-      on_item eq n (record { rules = rules; mode = how; plan = item ∷ rest; aborts = aborts }) w next old new young has_log was is item rest (got.Desk f) refl g h
+  by_plan eq n rules how [] aborts w next given old new young has_log m g was is h = waits_falls eq n (record { rules = rules; mode = how; plan = []; aborts = aborts }) w next old new young has_log was is _
+  by_plan eq n rules how (item ∷ rest) aborts w next (got.Table t) old new young has_log m g was is h =
+      on_item eq n (record { rules = rules; mode = how; plan = item ∷ rest; aborts = aborts }) w next old new young has_log was is item rest (got.Table t) refl m g h
+  by_plan eq n rules how (item ∷ rest) aborts w next (got.Desk f) old new young has_log m g was is h =
+      on_item eq n (record { rules = rules; mode = how; plan = item ∷ rest; aborts = aborts }) w next old new young has_log was is item rest (got.Desk f) refl m g h
 
   pub going_falls : (eq : K → K → Bool) → GoingFalls K V E eq
-  going_falls eq n c w next given old new young has_log g was is h going =
-      by_plan eq n c.rules c.mode c.plan c.aborts w next given old new young has_log g was is h going
+  going_falls eq n c w next given old new young has_log m g was is h going =
+      by_plan eq n c.rules c.mode c.plan c.aborts w next given old new young has_log m g was is h going

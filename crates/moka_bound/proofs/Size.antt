@@ -4,10 +4,11 @@ use Rattle.moka_hist.specs.Finite.{put_at}
 use Rattle.moka_hist.specs.State.{World}
 use Rattle.moka_hist.specs.Step.{Access, Gets}
 use Rattle.moka_hist.specs.Step as step
-use Rattle.moka_hist.specs.Visits.{makes, claimed, is_unlocked_for, locked_by, settlement_for, readers_without, settled_without}
+use Rattle.moka_hist.specs.Visits.{makes, claimed, claimed_alone, is_unlocked_for, locked_by, settlement_for, readers_without, settled_without}
 use Rattle.moka_hist.specs.declared.accesses.Got.{Got}
 use Rattle.moka_hist.specs.declared.accesses.Got.TheVariants as got
 use Rattle.moka_hist.specs.declared.tables.TableTurn.TheVariants as table
+use Rattle.moka_hist.specs.declared.loads.Kind.TheVariants as kind
 use Rattle.moka_hist.specs.declared.visits.Visit.{Visit}
 use Rattle.moka_hist.specs.declared.visits.Visit.TheVariants as visit
 
@@ -18,6 +19,11 @@ module _ {K V E : Type 0} (eq : K → K → Bool) where
       claimed_same : (o : Option ℕ) → (claimed eq w.desk n (record { key = key; kind = kind }) o).size ≡ w.desk.size
       claimed_same None = refl
       claimed_same (Some owner) = refl
+  size_same w (visit.OwnAlone n key) = alone_same (w.desk.owners (record { key = key; kind = kind.Compute }))
+    where
+      alone_same : (o : Option ℕ) → (claimed_alone eq w.desk n (record { key = key; kind = kind.Compute }) o).size ≡ w.desk.size
+      alone_same None = refl
+      alone_same (Some owner) = refl
   size_same w (visit.ReadSettled n) = either (is_some (settlement_for w.desk n))
     where
       either : (b : Bool) → (cond b (record w.desk { joined = put_at w.desk.joined n None; readers = readers_without w.desk n; settled = settled_without w.desk n }) w.desk).size ≡ w.desk.size

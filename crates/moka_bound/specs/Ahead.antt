@@ -1,9 +1,10 @@
 -- How many steps a call may still make by itself before it waits, asks or answers.
-use Rattle.std.specs.Prelude.{ℕ, ◌+◌, ◌-◌, ◌*◌, nat_lt, Bool, true, false, cond, List, [], ◌∷◌, length}
+use Rattle.std.specs.Prelude.{ℕ, ◌+◌, ◌-◌, ◌*◌, nat_lt, Bool, true, false, cond, List, [], ◌∷◌, length, is_some}
 use Rattle.moka_hist.specs.State.{Call, World}
 use Rattle.moka_hist.specs.Bound.{most_undecided, times_of}
 use Rattle.moka_hist.specs.Loading.{retries}
 use Rattle.moka_hist.specs.Plan.{Item, Aim}
+use Rattle.moka_hist.specs.Visits.{settlement_for}
 use Rattle.moka_hist.specs.Plan as plan
 
 -- What it depends on, beside the call.
@@ -16,6 +17,8 @@ pub record Work : Type 0 where
   -- later one may
   pub left : ℕ
   pub most : ℕ
+  -- whether the owner has ended that the call waits for
+  pub ended : Bool
 
 -- by how much an operation that writes may raise what a later one may need: it may have added a key
 abbrev pub growth : ℕ
@@ -42,9 +45,9 @@ abbrev pub told_steps : ℕ → ℕ → ℕ
 told_steps owed most = 1 + drain_steps owed + (most + 11) + 2
 
 -- to take a record out by an operation that may stay undecided for so many steps, to tell the
--- listener of it, to free the key's lock, to post the removal and to answer
+-- listener of it, to free the key's lock, to post the removal, to settle and to answer
 abbrev pub out_steps : ℕ → ℕ
-out_steps left = left + 10
+out_steps left = left + 11
 
 -- to judge whether a chosen record has still to leave, and to take it out
 abbrev pub holds_steps : ℕ → ℕ
@@ -54,6 +57,14 @@ holds_steps most = 2 + out_steps most
 abbrev pub insert_steps : ℕ → ℕ → ℕ
 insert_steps owed most = drain_steps owed + (most + 11) + 1
 
+-- to own a key's computes, to look what it has and to ask with that
+abbrev pub own_key_steps : ℕ → ℕ → ℕ
+own_key_steps owed most = drain_steps owed + (most + 4)
+
+-- to wait for the owner of a key's computes, and once that has ended to begin anew
+abbrev pub read_key_steps : Bool → ℕ → ℕ → ℕ
+read_key_steps ended owed most = cond ended (own_key_steps owed most + 1) 1
+
 module _ {K V : Type 0} where
   -- to judge the record that was found, and to go on whether or not it is seen
   abbrev pub judge_steps : ℕ → ℕ → ℕ → Aim K V → ℕ
@@ -61,62 +72,72 @@ module _ {K V : Type 0} where
   judge_steps owed most aborts (plan.To_load sought) = 1 + own_steps most aborts
   judge_steps owed most aborts (plan.To_own sought) = 3
   judge_steps owed most aborts (plan.To_insert key value) = 1 + insert_steps owed most
+  judge_steps owed most aborts (plan.To_compute compute) = 2
+  judge_steps owed most aborts (plan.To_report key) = 2
   judge_steps owed most aborts (plan.To_evict key stamp cause) = holds_steps most
 
 module _ {K V E : Type 0} where
   -- At most so many steps the plan takes, where so many writes are owed, so many owners were
   -- dropped, a later operation may stay undecided for `most` steps and one that stands first for
-  -- `left`. Each logged write is counted apart.
-  abbrev pub steps_of : ℕ → ℕ → ℕ → Bool → ℕ → List (Item K V E) → ℕ
-  steps_of owed most aborts room left [] = 0
-  steps_of owed most aborts room left (plan.Drain ∷ rest) =
-      drain_steps owed + steps_of owed most aborts false most rest
-  steps_of owed most aborts room left (plan.Ended number ∷ rest) =
-      1 + steps_of owed most aborts false most rest
-  steps_of owed most aborts room left (plan.Post write ∷ rest) =
-      post_steps room + steps_of owed most aborts false most rest
-  steps_of owed most aborts room left (plan.Turn ∷ rest) =
-      1 + steps_of owed most aborts room most rest
-  steps_of owed most aborts room left (plan.Apply ∷ rest) =
-      1 + steps_of owed most aborts true most rest
-  steps_of owed most aborts room left (plan.End ∷ rest) =
-      1 + steps_of owed most aborts room most rest
-  steps_of owed most aborts room left (plan.Get aim key ∷ rest) =
+  -- `left`, and the owner that is waited for first has ended or not. Each logged write is counted
+  -- apart.
+  abbrev pub steps_of : ℕ → ℕ → ℕ → Bool → ℕ → Bool → List (Item K V E) → ℕ
+  steps_of owed most aborts room left ended [] = 0
+  steps_of owed most aborts room left ended (plan.Drain ∷ rest) =
+      drain_steps owed + steps_of owed most aborts false most true rest
+  steps_of owed most aborts room left ended (plan.Ended number ∷ rest) =
+      1 + steps_of owed most aborts false most true rest
+  steps_of owed most aborts room left ended (plan.Post write ∷ rest) =
+      post_steps room + steps_of owed most aborts false most true rest
+  steps_of owed most aborts room left ended (plan.Turn ∷ rest) =
+      1 + steps_of owed most aborts room most true rest
+  steps_of owed most aborts room left ended (plan.Apply ∷ rest) =
+      1 + steps_of owed most aborts true most true rest
+  steps_of owed most aborts room left ended (plan.End ∷ rest) =
+      1 + steps_of owed most aborts room most true rest
+  steps_of owed most aborts room left ended (plan.Get aim key ∷ rest) =
       left + 1 + judge_steps owed most aborts aim
-  steps_of owed most aborts room left (plan.Judge aim key stored ∷ rest) =
+  steps_of owed most aborts room left ended (plan.Judge aim key stored ∷ rest) =
       judge_steps owed most aborts aim
-  steps_of owed most aborts room left (plan.Own sought ∷ rest) = own_steps most aborts
-  steps_of owed most aborts room left (plan.Read sought ∷ rest) = read_steps most aborts
-  steps_of owed most aborts room left (plan.Settle with ∷ rest) =
-      1 + steps_of owed most aborts false most rest
-  steps_of owed most aborts room left (plan.Ask load ∷ rest) = 1
-  steps_of owed most aborts room left (plan.Told load ∷ rest) = told_steps owed most
-  steps_of owed most aborts room left (plan.Lock key ∷ rest) =
-      1 + steps_of owed most aborts false most rest
-  steps_of owed most aborts room left (plan.Unlock wrote ∷ rest) =
-      1 + steps_of owed most aborts false most rest
-  steps_of owed most aborts room left (plan.Notice key old cause upsert ∷ rest) =
-      1 + steps_of owed most aborts false most rest
-  steps_of owed most aborts room left (plan.Heard ∷ rest) =
-      1 + steps_of owed most aborts false most rest
-  steps_of owed most aborts room left (plan.Holds key stamp cause there found ∷ rest) =
+  steps_of owed most aborts room left ended (plan.Own sought ∷ rest) = own_steps most aborts
+  steps_of owed most aborts room left ended (plan.Read sought ∷ rest) = read_steps most aborts
+  steps_of owed most aborts room left ended (plan.Settle with ∷ rest) =
+      1 + steps_of owed most aborts false most true rest
+  steps_of owed most aborts room left ended (plan.Ask load ∷ rest) = 1
+  steps_of owed most aborts room left ended (plan.Told load ∷ rest) = told_steps owed most
+  steps_of owed most aborts room left ended (plan.Own_key compute ∷ rest) = own_key_steps owed most
+  steps_of owed most aborts room left ended (plan.Own_alone key ∷ rest) = own_key_steps owed most
+  steps_of owed most aborts room left ended (plan.Read_key compute ∷ rest) =
+      read_key_steps ended owed most
+  steps_of owed most aborts room left ended (plan.Ask_op compute found ∷ rest) = 1
+  steps_of owed most aborts room left ended (plan.Told_op compute found ∷ rest) =
+      told_steps owed most
+  steps_of owed most aborts room left ended (plan.Lock key ∷ rest) =
+      1 + steps_of owed most aborts false most true rest
+  steps_of owed most aborts room left ended (plan.Unlock wrote ∷ rest) =
+      1 + steps_of owed most aborts false most true rest
+  steps_of owed most aborts room left ended (plan.Notice key old cause upsert ∷ rest) =
+      1 + steps_of owed most aborts false most true rest
+  steps_of owed most aborts room left ended (plan.Heard ∷ rest) =
+      1 + steps_of owed most aborts false most true rest
+  steps_of owed most aborts room left ended (plan.Holds key stamp cause there found ∷ rest) =
       holds_steps most
-  steps_of owed most aborts room left (plan.Moment (plan.To_store key value) ∷ rest) =
-      most + 10 + steps_of owed (most + growth) aborts false (most + growth) rest
-  steps_of owed most aborts room left (plan.Moment (plan.To_take_out removal key) ∷ rest) =
+  steps_of owed most aborts room left ended (plan.Moment (plan.To_store key value) ∷ rest) =
+      most + 10 + steps_of owed (most + growth) aborts false (most + growth) true rest
+  steps_of owed most aborts room left ended (plan.Moment (plan.To_take_out removal key) ∷ rest) =
       1 + out_steps most
-  steps_of owed most aborts room left (plan.Write key value moment ∷ rest) =
-      left + 9 + steps_of owed (most + growth) aborts false (most + growth) rest
-  steps_of owed most aborts room left (plan.Out removal key ∷ rest) = out_steps left
-  steps_of owed most aborts room left (plan.Idle ∷ rest) =
-      1 + steps_of owed most aborts false most rest
-  steps_of owed most aborts room left (plan.Reply answer ∷ rest) = 1
+  steps_of owed most aborts room left ended (plan.Write key value moment ∷ rest) =
+      left + 9 + steps_of owed (most + growth) aborts false (most + growth) true rest
+  steps_of owed most aborts room left ended (plan.Out removal key ∷ rest) = out_steps left
+  steps_of owed most aborts room left ended (plan.Idle ∷ rest) =
+      1 + steps_of owed most aborts false most true rest
+  steps_of owed most aborts room left ended (plan.Reply answer ∷ rest) = 1
 
   -- at most so many steps the call makes by itself
   abbrev pub ahead : Work → Call K V E → ℕ
   ahead work c =
       work.logged + steps_of work.owed work.most c.aborts
-      (nat_lt work.logged work.size) work.left c.plan
+      (nat_lt work.logged work.size) work.left work.ended c.plan
 
   -- the work that is before the call of this number in the world
   abbrev pub work_in : ℕ → World K V E → Work
@@ -126,4 +147,5 @@ module _ {K V E : Type 0} where
     size = w.desk.size;
     left = most_undecided w.table - times_of w.stay n;
     most = most_undecided w.table;
+    ended = is_some (settlement_for w.desk n);
   }

@@ -1,8 +1,9 @@
 -- Each step that leaves a call going lowers how many it may still make.
-use Rattle.std.specs.Prelude.{◌≡◌, ℕ, ◌+◌, ◌<◌, ◌≤◌, Bool, length}
+use Rattle.std.specs.Prelude.{◌≡◌, ℕ, ◌+◌, ◌<◌, ◌≤◌, Bool, length, is_some}
 use Rattle.moka_hist.specs.State.{Call, World}
 use Rattle.moka_hist.specs.Loading.{retries}
-use Rattle.moka_hist.specs.Step.{Access, Gets, access_of, next_of, going_as}
+use Rattle.moka_hist.specs.Step.{Access, Gets, May, access_of, next_of, going_as}
+use Rattle.moka_hist.specs.Visits.{settlement_for}
 use Rattle.moka_hist.specs.Step as step
 use Rattle.moka_hist.specs.declared.tables.TableOp.TheVariants as op
 use Rattle.moka_hist.specs.declared.tables.TableTurn.TheVariants as table
@@ -12,11 +13,13 @@ use Rattle.moka_hist.specs.declared.accesses.Turn.TheVariants as turns
 use Rattle.moka_bound.specs.Ahead.{Work, ahead, growth}
 
 module _ {K V E : Type 0} where
-  -- the work counts the writes of the world that are owed and logged
-  pub record Counts (w : World K V E) (work : Work) : Type 0 where
+  -- the work counts the writes of the world that are owed and logged, and says whether the owner
+  -- has ended there that the call of this number waits for
+  pub record Counts (n : ℕ) (w : World K V E) (work : Work) : Type 0 where
     pub owed : work.owed ≡ length w.desk.owed
     pub logged : work.logged ≡ length w.desk.log
     pub size : work.size ≡ w.desk.size
+    pub ended : work.ended ≡ is_some (settlement_for w.desk n)
 
   -- by how much an access that gave this may raise what a later operation may need
   abbrev pub raised : Access K V E → Got K V E → ℕ
@@ -30,12 +33,12 @@ module _ {K V E : Type 0} where
     pub raises : new.most ≤ old.most + raised access given
     pub going : given ≡ got.Table table.Going → new.left < old.left
 
--- A step that leaves the call going leaves it live, and lowers how many steps it may still make,
--- where the log has room for a write at all.
+-- A step that leaves the call going, in a world that has what the step needs, leaves it live, and
+-- lowers how many steps it may still make, where the log has room for a write at all.
 abbrev pub GoingFalls : (K V E : Type 0) → (K → K → Bool) → Type 0
 GoingFalls K V E eq =
     (n : ℕ) (c : Call K V E) (w new : World K V E) (given : Got K V E) (before after : Work) →
-    c.aborts < retries → 0 < before.size → Gets eq n w (access_of n c) given new →
-    Counts w before → Counts new after → Shortens before after (access_of n c) given →
+    c.aborts < retries → 0 < before.size → May w (access_of n c) →
+    Gets eq n w (access_of n c) given new → Counts n w before → Counts n new after → Shortens before after (access_of n c) given →
     (next_of n c given).turn ≡ turns.Going →
     (d : Call K V E) × (next_of n c given ≡ going_as d) × (ahead after d < ahead before c)

@@ -1,8 +1,8 @@
 //! What no clause says: tables of texts and what they are read as, and printed lines.
 
 use moka_hist::{
-    Answer, Ask, Cause, Event, Notice, NoticeState, Place, Refusal, Reply, Rules, Start, Stored,
-    Told,
+    Answer, Ask, Cause, CompResult, Entry, Event, Notice, NoticeState, Op, Place, Refusal, Reply,
+    Rules, Start, Stored, Told,
 };
 use moka_text::{Schedule, ScheduleError, read_schedule, write_report};
 use std::alloc::Global;
@@ -134,6 +134,13 @@ fn a_load_or_what_it_is_told_of_another_form_is_bad(rt: HostRuntime) -> Result<(
         "start or_insert 1 2 3",
         "start or_insert 1 4294967296",
         "start or_insert 1 2 if 2",
+        "start compute",
+        "start upsert 1 5",
+        "start compute 1 if 2",
+        "start compute_alone 01",
+        "tell 1 put",
+        "tell 1 put 4294967296",
+        "tell 1 nop 5",
         "tell 1 nothing ",
         "tell 1 nothing 2",
         "tell 1 Nothing",
@@ -315,11 +322,37 @@ fn every_form_of_load_is_read(rt: HostRuntime) -> Result<(), Fail> {
 }
 
 #[test]
+fn every_form_of_compute_is_read(rt: HostRuntime) -> Result<(), Fail> {
+    let cases = [
+        ("start compute 0", Start::Compute { key: 0 }),
+        (
+            "start try_compute 4294967295",
+            Start::TryCompute { key: u32::MAX },
+        ),
+        ("start compute_alone 1", Start::ComputeAlone { key: 1 }),
+        ("start upsert 1", Start::Upsert { key: 1 }),
+    ];
+    for (line, start) in cases {
+        let text = format!(in rt.alloc(); "cache\n{line}")?;
+        let Schedule { events, .. } = read_schedule(rt.alloc(), text.as_bytes())?;
+        assert_eq!(rt;
+            events.as_slice(),
+            [Event::Start { start }].as_slice(),
+            "at {line}"
+        );
+    }
+    Ok(())
+}
+
+#[test]
 fn every_form_of_what_an_ask_is_told_is_read(rt: HostRuntime) -> Result<(), Fail> {
     let cases = [
         ("tell 1 value 0", Told::Value(0)),
         ("tell 1 value 4294967295", Told::Value(u32::MAX)),
         ("tell 1 nothing", Told::Nothing),
+        ("tell 1 nop", Told::Op(Op::Nop)),
+        ("tell 1 put 4294967295", Told::Op(Op::Put(u32::MAX))),
+        ("tell 1 remove", Told::Op(Op::Remove)),
         ("tell 1 error 0", Told::Err(0)),
         ("tell 1 error 4294967295", Told::Err(u32::MAX)),
         ("tell 1 done", Told::Done),
@@ -356,6 +389,16 @@ fn notice(number: u64, cause: Cause, state: NoticeState) -> Notice<u32, u32> {
     }
 }
 
+/// An entry of this value, whose key and past no line tells.
+fn entry(value: u32) -> Entry<u32, u32> {
+    Entry {
+        key: Some(3),
+        value,
+        fresh: true,
+        replaced: false,
+    }
+}
+
 #[test]
 fn every_form_of_line_is_written(rt: HostRuntime) -> Result<(), Fail> {
     let replies = [
@@ -364,6 +407,8 @@ fn every_form_of_line_is_written(rt: HostRuntime) -> Result<(), Fail> {
         Reply::Going,
         Reply::Wait,
         Reply::Ask(Ask::Init),
+        Reply::Ask(Ask::Compute(None)),
+        Reply::Ask(Ask::Compute(Some((u32::MAX, 0)))),
         Reply::Ask(Ask::Listener {
             key: 1,
             value: 2,
@@ -394,6 +439,12 @@ fn every_form_of_line_is_written(rt: HostRuntime) -> Result<(), Fail> {
         }),
         Reply::Answer(Answer::Nothing),
         Reply::Answer(Answer::InitErr(u32::MAX)),
+        Reply::Answer(Answer::Computed(CompResult::Inserted(entry(5)))),
+        Reply::Answer(Answer::Computed(CompResult::ReplacedWith(entry(6)))),
+        Reply::Answer(Answer::Computed(CompResult::Removed(entry(u32::MAX)))),
+        Reply::Answer(Answer::Computed(CompResult::Unchanged(entry(0)))),
+        Reply::Answer(Answer::Computed(CompResult::StillNone(1))),
+        Reply::Answer(Answer::ComputeErr(4)),
         Reply::Answer(Answer::RetriesExhausted),
         Reply::Answer(Answer::Evicted),
         Reply::Answer(Answer::Kept),
@@ -420,10 +471,13 @@ fn every_form_of_line_is_written(rt: HostRuntime) -> Result<(), Fail> {
     ];
     let text = write_report(rt.alloc(), &replies, &entries, &places, &notices)?;
     let want = "at\ncall 18446744073709551615\ngoing\nwait\nask init\n\
+        ask compute none\nask compute 4294967295 0\n\
         ask listener 1 2 Expired\nask listener 4294967295 0 Explicit\ntold\ndropped\n\
         refused UnknownCall\nrefused NotParked\nrefused NotAsked\nrefused ClockBack\n\
         refused CallsSpent\nanswer done\nanswer some 0\nanswer none\nanswer value 5 fresh\n\
-        answer value 6\nanswer nothing\nanswer error 4294967295\nanswer exhausted\n\
+        answer value 6\nanswer nothing\nanswer error 4294967295\n\
+        answer inserted 5\nanswer replaced 6\nanswer removed 4294967295\n\
+        answer unchanged 0\nanswer stillnone\nanswer error 4\nanswer exhausted\n\
         answer evicted\nanswer kept\n\
         entry 7 8 stamp 9 at 10\nwrite 1 held\nwrite 2 owed\nwrite 3 logged\n\
         write 4 applied\nnotice 5 3 9 Replaced waiting\nnotice 6 3 9 Size running\n\

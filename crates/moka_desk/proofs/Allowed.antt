@@ -4,7 +4,7 @@ use Rattle.std.specs.Option.{IsSomeAnd, option_map, option_map_or}
 use Rattle.std.proofs.lemmas.Bool.{eqb-true}
 use Rattle.std.proofs.lemmas.List.{map-append}
 use Rattle.moka_hist.specs.Finite.{times}
-use Rattle.moka_hist.specs.Conditions.{MayLeaveWith}
+use Rattle.moka_hist.specs.Conditions.{MayLeaveWith, held_number}
 use Rattle.moka_hist.specs.Telling.{MayEnd, was_asked}
 use Rattle.moka_hist.specs.Visits.{number_of, runs}
 use Rattle.moka_hist.specs.declared.notices.Notice.{Notice}
@@ -15,7 +15,7 @@ use Rattle.moka_hist.specs.declared.writes.Holding.TheVariants as holding
 use Rattle.moka_hist.specs.declared.writes.Owed.{Owed}
 use Rattle.moka_hist.specs.declared.writes.Write.{Write}
 use Rattle.moka_sync.proofs.Stands.{times-append}
-use Rattle.moka_desk.specs.Held.{HoldingsAre, is_holder, owed_numbers}
+use Rattle.moka_desk.specs.Held.{HoldingsAre, is_holder, owed_at, owed_numbers}
 use Rattle.moka_desk.specs.Notices.{if_running}
 use Rattle.moka_desk.specs.declared.held.HeldPlace.{HeldPlace}
 use Rattle.moka_desk.proofs.Holdings.{has_place}
@@ -43,6 +43,22 @@ front_has_none call xs ys none =
 -- a number of which nothing stands is not owed
 pub not_owed : (owed : List Owed) (log applied : List Write) (call : ℕ) → times call (map number_of (map (λ o. o.write) owed ++ log ++ applied)) ≡ 0 → times call (owed_numbers owed) ≡ 0
 not_owed owed log applied call none = front_has_none call (map (λ o. o.write) owed) log (front_has_none call (map (λ o. o.write) owed ++ log) applied none)
+
+-- a number that is neither owed nor held has no place
+pub has_no_place : (place_of : ℕ → Option HeldPlace) (holding : ℕ → Option Holding) → HoldingsAre place_of holding →
+    (owed : List Owed) → ((n : ℕ) → times n (owed_numbers owed) ≡ owed_at (place_of n)) → (call : ℕ) → times call (owed_numbers owed) ≡ 0 →
+    ((n : ℕ) (h : Holding) → holding n ≡ Some h → held_number n h ≢ call) → place_of call ≡ None
+has_no_place place_of holding are owed counted call none alone = by (place_of call) refl (sym (counted call) ∙ none) where
+  by : (o : Option HeldPlace) → place_of call ≡ o → owed_at o ≡ 0 → o ≡ None
+  by None e zero = refl
+  by (Some p) e zero = absurd (held p.holder p.pending e zero) where
+    held : (holder pending : Option ℕ) → place_of call ≡ Some (record { holder = holder; pending = pending }) →
+        owed_at (Some (record { holder = holder; pending = pending })) ≡ 0 → ⊥
+    held None pending e zero = omega arith
+    held (Some n) pending e zero = nobody (holding n) refl (are.known call n pending e) where
+      nobody : (o : Option Holding) → holding n ≡ o → IsSomeAnd o (λ h. held_number n h ≡ call) → ⊥
+      nobody None f is = is
+      nobody (Some h) f is = alone n h f is
 
 -- a lock that is held is another's, where the call holds none
 pub held_by_another : {K : Type 0} (eq : K → K → Bool) (locks : K → Option ℕ) (locked : ℕ → Option K) → Owns eq locks locked → (key : K) (call : ℕ) → IsNone (locked call) →

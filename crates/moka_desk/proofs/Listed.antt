@@ -1,5 +1,7 @@
 -- Who waits, as calls are listed and leave.
-use Rattle.std.proofs.Common.{◌≡◌, ℕ, ◌==◌, Bool, true, false, cond, ◌||◌, List, [], ◌∷◌, ◌++◌, Option, Some, None, refl, sym, ap, ◌∙◌}
+use Rattle.std.proofs.Common.{◌≡◌, ℕ, ◌==◌, Bool, true, false, cond, ◌||◌, List, [], ◌∷◌, ◌++◌, length, Option, Some, None, nat_eq, refl, sym, ap, ◌∙◌, arith}
+use Rattle.std.specs.HashMap.{HashMap, get, hash_map_len}
+use Rattle.std.specs.Map.{lookup}
 use Rattle.std.proofs.lemmas.Bool.{eqb-true, eqb-false}
 use Rattle.moka_sync.specs.Waiting.{waits, without}
 use Rattle.moka_desk.specs.Lines.{is_at, with_call}
@@ -104,3 +106,10 @@ module _ (line : ℕ → List ℕ) (place : ℕ → Option ℕ) (placed : (numbe
         cond b (mid n) (cond (is_at before n) (without call (mid n)) (mid n)) ≡ cond b (with_call call (line n)) (without call (line n))
     by true e is = is
     by false e is = rw (is, was) (off call n)
+
+-- nothing stands in a map of no entries
+pub nobody_placed : {A S : Type 0} (places : HashMap ℕ A S) → hash_map_len places ≡ 0 → (call : ℕ) → get nat_eq places call ≡ None
+nobody_placed {A} places none call = by places.entries none where
+  by : (entries : List (ℕ × A)) → length entries ≡ 0 → lookup (nat_eq call) entries ≡ None
+  by [] e = refl
+  by (x ∷ xs) e = absurd (omega arith)

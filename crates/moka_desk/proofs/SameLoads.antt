@@ -6,7 +6,7 @@ use denote.Enum.Bare.{sameb, same_true}
 use Rattle.moka_hist.specs.Finite.{kind_eq, load_eq}
 use Rattle.moka_hist.specs.contracts.loads.Kind.{the_type}
 use Rattle.moka_hist.specs.declared.loads.Kind.{Kind}
-use Rattle.moka_hist.specs.declared.loads.Kind.TheVariants.{GetWith, Optional, Try}
+use Rattle.moka_hist.specs.declared.loads.Kind.TheVariants.{GetWith, Optional, Try, Compute}
 use Rattle.moka_hist.specs.declared.loads.Load.{Load}
 
 -- the derived `==` of kinds tells them apart as the definition does
@@ -20,6 +20,13 @@ kind_same Optional Try = refl
 kind_same Try GetWith = refl
 kind_same Try Optional = refl
 kind_same Try Try = refl
+kind_same GetWith Compute = refl
+kind_same Optional Compute = refl
+kind_same Try Compute = refl
+kind_same Compute GetWith = refl
+kind_same Compute Optional = refl
+kind_same Compute Try = refl
+kind_same Compute Compute = refl
 
 -- what the derived `==` of loads answers
 abbrev pub derived : {K : Type 0} → (K → K → Bool) → Load K → Load K → Bool
@@ -33,6 +40,7 @@ kind_self : (a : Kind) → kind_eq a a ≡ true
 kind_self GetWith = refl
 kind_self Optional = refl
 kind_self Try = refl
+kind_self Compute = refl
 
 kind_one : (a b : Kind) → kind_eq a b ≡ true → a ≡ b
 kind_one a b same = same_true the_type tt a b (sym (kind_same a b) ∙ same)
@@ -47,6 +55,13 @@ kind_symm Optional Try = refl
 kind_symm Try GetWith = refl
 kind_symm Try Optional = refl
 kind_symm Try Try = refl
+kind_symm GetWith Compute = refl
+kind_symm Optional Compute = refl
+kind_symm Try Compute = refl
+kind_symm Compute GetWith = refl
+kind_symm Compute Optional = refl
+kind_symm Compute Try = refl
+kind_symm Compute Compute = refl
 
 -- both of two tests hold
 both_first : (a b : Bool) → (a && b) ≡ true → a ≡ true

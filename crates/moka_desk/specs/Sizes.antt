@@ -1,5 +1,7 @@
--- How much stands with a desk.
-use Rattle.std.specs.Prelude.{ℕ, length}
+-- How much stands with a desk, and whether an owner has ended.
+use Rattle.std.specs.Prelude.{ℕ, Bool, length, is_some, nat_eq}
+use Rattle.std.specs.HashMap.{get}
+use Rattle.std.specs.Option.{option_and_then}
 use Rattle.std.specs.declared.cmp.PartialEq as PartialEq
 use Rattle.std.specs.declared.hash.Hash as Hash
 use Rattle.moka_desk.specs.declared.state.Desk.{Desk}
@@ -14,3 +16,8 @@ module _ {K V E : Type 0} {same : PartialEq.Ghosts K} {hash : Hash.Ghosts K} whe
 
   abbrev pub room_in : Desk K V E same hash → ℕ
   room_in desk = desk.writes.size
+
+  -- the owner has ended that the call waits for
+  abbrev pub has_ended : Desk K V E same hash → ℕ → Bool
+  has_ended desk call =
+      is_some (option_and_then (get nat_eq desk.loads.settled) (get nat_eq desk.loads.joined call))

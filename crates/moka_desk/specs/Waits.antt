@@ -54,6 +54,7 @@ module _ {K V E : Type 0} {same : PartialEq.Ghosts K} {hash : Hash.Ghosts K} whe
   told_line desk number (answer.Value value) = answer_line desk number
   told_line desk number answer.Nothing = answer_line desk number
   told_line desk number (answer.Err error) = answer_line desk number
+  told_line desk number (answer.Op op) = answer_line desk number
   told_line desk number answer.Done = notice_line desk number
   told_line desk number answer.Off = notice_line desk number
 
@@ -97,5 +98,6 @@ module _ {K V E : Type 0} {same : PartialEq.Ghosts K} {hash : Hash.Ghosts K} whe
   ToldMove old number (answer.Value value) new = AnswersMove old (comes number) new
   ToldMove old number answer.Nothing new = AnswersMove old (comes number) new
   ToldMove old number (answer.Err error) new = AnswersMove old (comes number) new
+  ToldMove old number (answer.Op op) new = AnswersMove old (comes number) new
   ToldMove old number answer.Done new = NoticesMove old (comes number) new
   ToldMove old number answer.Off new = NoticesMove old (comes number) new

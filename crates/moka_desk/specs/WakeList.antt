@@ -95,5 +95,6 @@ module _ {K V E : Type 0} {same : PartialEq.Ghosts K} {hash : Hash.Ghosts K} whe
   ToldWake old (answer.Value value) calls new = AnswersWake old (and_calls calls) new
   ToldWake old answer.Nothing calls new = AnswersWake old (and_calls calls) new
   ToldWake old (answer.Err error) calls new = AnswersWake old (and_calls calls) new
+  ToldWake old (answer.Op op) calls new = AnswersWake old (and_calls calls) new
   ToldWake old answer.Done calls new = NoticesWake old (and_calls calls) new
   ToldWake old answer.Off calls new = NoticesWake old (and_calls calls) new

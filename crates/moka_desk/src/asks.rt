@@ -2,7 +2,7 @@
 
 ghost use Rattle.std.specs.Prelude.{◌≡◌, ℕ, ◌≤◌, ◌==◌, true, false, cond, [], ◌∷◌, Option, Some, None, is_some, IsSome, IfSome, MatchOption, nat_eq, OnOk, OnErr, if◌then◌else◌};
 ghost use Rattle.std.specs.Option.{option_map, option_map_or};
-ghost use Rattle.moka_hist.specs.Telling.{takes_nothing, takes_error, does_take as takes_answer};
+ghost use Rattle.moka_hist.specs.Telling.{takes_value, takes_nothing, takes_error, takes_op, does_take as takes_answer};
 ghost use Rattle.std.specs.HashMap.{get, spare, hash_map_len};
 
 use crate::maps::put;
@@ -164,11 +164,25 @@ fn does_take<V, E>(takes: Takes, answer: &Told<V, E>) -> bool
     ensures { result ≡ takes_answer takes answer.now }
 {
     match answer {
-        Told::Value(_) => true,
+        Told::Value(_) => does_take_value(takes),
         Told::Nothing => does_take_nothing(takes),
         Told::Err(_) => does_take_error(takes),
+        Told::Op(_) => does_take_op(takes),
         Told::Done => false,
         Told::Off => false,
+    }
+}
+
+// Whether an ask takes a value.
+fn does_take_value(takes: Takes) -> bool
+    ensures { result ≡ takes_value takes }
+{
+    match takes {
+        Takes::Value => true,
+        Takes::Optional => true,
+        Takes::Try => true,
+        Takes::Op => false,
+        Takes::TryOp => false,
     }
 }
 
@@ -180,6 +194,8 @@ fn does_take_nothing(takes: Takes) -> bool
         Takes::Value => false,
         Takes::Optional => true,
         Takes::Try => false,
+        Takes::Op => false,
+        Takes::TryOp => false,
     }
 }
 
@@ -191,5 +207,20 @@ fn does_take_error(takes: Takes) -> bool
         Takes::Value => false,
         Takes::Optional => false,
         Takes::Try => true,
+        Takes::Op => false,
+        Takes::TryOp => true,
+    }
+}
+
+// Whether an ask takes what is to be done.
+fn does_take_op(takes: Takes) -> bool
+    ensures { result ≡ takes_op takes }
+{
+    match takes {
+        Takes::Value => false,
+        Takes::Optional => false,
+        Takes::Try => false,
+        Takes::Op => true,
+        Takes::TryOp => true,
     }
 }

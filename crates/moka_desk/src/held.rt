@@ -50,7 +50,8 @@ impl Held {
         ensures holds { (n : ℕ) → get nat_eq self.new.places n ≡ cond (call == n)
             (Some (record { holder = Some call; pending = Some moment }))
             (get nat_eq self.old.places n) }
-        ensures count { hash_map_len self.new.places ≤ hash_map_len self.old.places + 1 }
+        ensures count { hash_map_len self.new.places ≡ hash_map_len self.old.places +
+            (if is_some (get nat_eq self.old.places call) then 0 else 1) }
     {
         let place = HeldPlace {
             holder: Some(call),
@@ -99,6 +100,9 @@ impl Held {
     pub(crate) fn is_held_by(&self, number: u64, call: u64) -> bool
         ensures { result ≡ is_holder (get nat_eq self.now.places number) call }
     {
+        if self.places.is_empty() {
+            return false;
+        }
         match self.places.get(&number) {
             Some(place) => place.holder == Some(call),
             None => false,

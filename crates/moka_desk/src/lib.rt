@@ -17,10 +17,3 @@ mod writes;
 mod writing;
 
 pub use state::Desk;
-
-#[cfg(test)]
-mod load_tests;
-#[cfg(test)]
-mod tests;
-#[cfg(test)]
-mod wake_tests;

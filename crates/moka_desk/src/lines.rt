@@ -62,6 +62,9 @@ impl Lines {
         ensures off { (n : ℕ) → line_at self.new.lists n ≡ without call (line_at self.old.lists n) }
         ensures back { (c : ℕ) → is_out self.new c ≡ all_but call (is_out self.old) c }
     {
+        if self.places.is_empty() {
+            return;
+        }
         if let Some(number) = self.places.get(&call).copied() {
             remove_from(&mut self.lists, number, call);
             let _ = self.places.remove(&call);
@@ -77,6 +80,9 @@ impl Lines {
         ensures woken { (c : ℕ) → is_out self.new c
             ≡ and_calls (line_at self.old.lists number) (is_out self.old) c }
     {
+        if self.lists.is_empty() {
+            return None;
+        }
         self.lists.remove(&number)
     }
 

@@ -4,7 +4,7 @@ ghost use Rattle.std.specs.Prelude.{◌≡◌, ℕ, Some, None, ◌++◌, is_som
 ghost use Rattle.moka_sync.specs.Waiting.{without};
 
 use crate::Desk;
-use moka_hist::{Claim, Load, Owed, Settled, Takes, Told};
+use moka_hist::{Claim, Kind, Load, Owed, Settled, Takes, Told};
 use moka_sync::CallList;
 use std::alloc::AllocError;
 use std::hash::Hash;
@@ -44,6 +44,25 @@ impl<K: Eq + Hash + Clone + Drop, V: Drop, E: Drop> Desk<K, V, E> {
         ensures misses_still { OnErr result (MissWith K.eq self.old (λ w. w) self.new) }
     {
         self.loads.claim(call, load)
+    }
+
+    /// Makes the call the owner of the key's computes, where there is none. Answers whether another
+    /// call is; nothing has changed then. It owns nothing and waits for nobody before. An owner gets
+    /// the place of its settlement.
+    pub fn owned(&mut self, call: u64, key: K) -> Result<bool, AllocError>
+        requires keys { IsExact K.is_clone }
+        requires free { Can K.eq self.old (visit.OwnAlone call key) }
+        ensures finds { IfOk result (λ owned. Finds K.eq self.old (visit.OwnAlone call key)
+            (found.OwnAlone owned)) }
+        ensures makes { OnOk result (Makes K.eq self.old (visit.OwnAlone call key) self.new) }
+        ensures err { OnErr result (Stays K.eq self.old self.new) }
+        ensures quiet { NobodyMoves self.old self.new }
+        ensures wakes { NobodyWakes self.old self.new }
+        ensures misses { OnOk result (MissAfter K.eq self.old (visit.OwnAlone call key) self.new) }
+        ensures misses_still { OnErr result (MissWith K.eq self.old (λ w. w) self.new) }
+    {
+        let kind = Kind::Compute;
+        self.loads.claim_alone(call, Load { key, kind })
     }
 
     /// Reads how the owner ended that the call waits for. Answers NotYet where it has not ended. A
@@ -106,9 +125,10 @@ impl<K: Eq + Hash + Clone + Drop, V: Drop, E: Drop> Desk<K, V, E> {
         self.asks.open(call, takes)
     }
 
-    /// Closes the ask of this number by an answer that it takes: what an initializer gives is kept
-    /// for the call, and a listener's answer ends the notice of that number. Hands out all that
-    /// wait for it. Answers None where no such ask is open; nothing has changed then.
+    /// Closes the ask of this number by an answer that it takes: what an initializer gives, or a
+    /// compute is told, is kept for the call, and a listener's answer ends the notice of that
+    /// number. Hands out all that wait for it. Answers None where no such ask is open; nothing has
+    /// changed then.
     pub fn tell(&mut self, number: u64, answer: Told<V, E>) -> Option<CallList>
         ensures finds { (w : DeskPart K V E) → StandsFor K.eq self.old w →
             is_some result ≡ is_asked w number answer }
@@ -126,6 +146,7 @@ impl<K: Eq + Hash + Clone + Drop, V: Drop, E: Drop> Desk<K, V, E> {
             Told::Value(value) => self.asks.tell(number, Told::Value(value)),
             Told::Nothing => self.asks.tell(number, Told::Nothing),
             Told::Err(error) => self.asks.tell(number, Told::Err(error)),
+            Told::Op(op) => self.asks.tell(number, Told::Op(op)),
             Told::Done => self.hear(number, false),
             Told::Off => self.hear(number, true),
         }

@@ -34,7 +34,7 @@ impl<K: Eq + Hash + Clone + Drop, V: Drop, E: Drop> Loads<K, V, E> {
     ghost use Rattle.moka_hist.specs.declared.loads.Load.{Load as load_of};
     ghost use Rattle.moka_hist.specs.declared.visits.Settled.TheVariants as settled;
     ghost use Rattle.moka_hist.specs.declared.writes.Owed.{Owed};
-    ghost use Rattle.moka_hist.specs.Visits.{claim_of, claimed, read, readers_without, settled_without, settled_as, owners_without, settlement_for};
+    ghost use Rattle.moka_hist.specs.Visits.{claim_of, claimed, claimed_alone, read, readers_without, settled_without, settled_as, owners_without, settlement_for};
     ghost use Rattle.moka_hist.specs.Dropping.{left};
     ghost use Rattle.moka_desk.specs.Loads.{load_part, unsettled, LoadsAre, LoadsBecome, LoadsStay, LoadsMake};
 
@@ -80,6 +80,26 @@ impl<K: Eq + Hash + Clone + Drop, V: Drop, E: Drop> Loads<K, V, E> {
                 Ok(Claim::Owner)
             }
         }
+    }
+
+    /// Makes the call, which owns nothing, the owner of a load that nobody owns. Answers whether
+    /// another call owns it; nothing has changed then.
+    #[cold]
+    #[inline(never)]
+    pub(crate) fn claim_alone(&mut self, call: u64, load: Load<K>) -> Result<bool, AllocError>
+        requires exact { IsExact K.is_clone }
+        requires idle { get nat_eq self.old.owning call ≡ None }
+        ensures finds { IfOk result (λ owned. (w : DeskPart K V E) →
+            LoadsAre K.eq self.old (load_part w) → owned ≡ is_some (w.owners load)) }
+        ensures ok { OnOk result (LoadsMake K.eq self.old
+            (λ w. load_part (claimed_alone K.eq w call load (w.owners load))) self.new) }
+        ensures err { OnErr result (LoadsStay K.eq self.old self.new) }
+    {
+        if self.owners.contains_key(&load) {
+            return Ok(true);
+        }
+        self.own(call, load)?;
+        Ok(false)
     }
 
     // Lets the call, which waits for nobody, wait for the owner.

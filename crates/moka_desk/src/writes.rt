@@ -5,7 +5,6 @@ ghost use Rattle.std.specs.HashMap.{get, hash_map_len};
 ghost use Rattle.std.specs.Option.{option_map};
 ghost use Rattle.std.specs.VecDeque.{deque_capacity};
 ghost use Rattle.moka_hist.specs.Finite.{times};
-ghost use Rattle.moka_hist.specs.Visits.{number_of as written_by};
 ghost use Rattle.moka_desk.specs.Held.{owed_at, owed_numbers};
 
 use crate::applied::Applied;
@@ -15,7 +14,8 @@ use std::alloc::{AllocError, Global};
 use std::collections::VecDeque;
 
 /// The writes that calls hold, those that dropped calls left, the log, and what was applied; the
-/// lists oldest first. Each write that isn't applied yet has its places in all that follow.
+/// lists oldest first. Each write that isn't applied yet has its places in all that follow, and no
+/// other places are kept.
 #[derive(Drop)]
 pub(crate) struct Writes {
     pub(crate) held: Held,
@@ -26,7 +26,7 @@ pub(crate) struct Writes {
     ghost log_is_short: { length log.items ≤ size },
     ghost log_has_room: { size ≤ deque_capacity log },
     ghost owed_has_room: { applied.room ≤ deque_capacity owed },
-    ghost all_have_places: { hash_map_len held.places + length log.items ≤ applied.room },
+    ghost all_have_places: { hash_map_len held.places + length log.items ≡ applied.room },
     ghost nobody_holds_owed: { (n : ℕ) → times n (owed_numbers owed.items) ≡ owed_at (get nat_eq held.places n) },
 }
 
@@ -54,9 +54,9 @@ impl Writes {
     }
 
     /// Gives the call the places of a write of its own, with the moment: held, owed, logged where
-    /// the log has room, and applied. Nothing of its number is owed.
+    /// the log has room, and applied. No write of its number has a place.
     pub(crate) fn stamp(&mut self, call: u64, moment: u64) -> Result<(), AllocError>
-        requires { times call (owed_numbers self.old.owed.items) ≡ 0 }
+        requires { get nat_eq self.old.held.places call ≡ None }
         ensures ok { OnOk result (WritesBecomeIf self.old
             (λ p. IsNone (p.holding call)
             × ((n : ℕ) (h : Holding) → p.holding n ≡ Some h → held_number n h ≢ call))
@@ -105,7 +105,7 @@ impl Writes {
         }) self.new }
     {
         let owed = self.owed.pop_front()?;
-        self.held.hand_over(number_of(&owed.write), Some(call));
+        self.held.hand_over(owed.write.number(), Some(call));
         Some(owed)
     }
 
@@ -126,7 +126,7 @@ impl Writes {
             self.held.decide(call);
             return false;
         }
-        self.held.clear(number_of(&write));
+        self.held.clear(write.number());
         self.log.push_back_reserved(write);
         true
     }
@@ -171,7 +171,7 @@ impl Writes {
               owed = p.owed ++ owed ∷ [];
             }) self.new }
     {
-        self.held.hand_over(number_of(&owed.write), None);
+        self.held.hand_over(owed.write.number(), None);
         self.owed.push_back_reserved(owed);
     }
 
@@ -184,15 +184,5 @@ impl Writes {
             self.held.clear(call);
             self.applied.give_up();
         }
-    }
-}
-
-// The number of the call that made the write.
-fn number_of(write: &Write) -> u64
-    ensures { result ≡ written_by write.now }
-{
-    match write {
-        Write::Upsert { number, old: _ } => *number,
-        Write::Remove { number, old: _ } => *number,
     }
 }

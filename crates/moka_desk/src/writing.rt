@@ -153,6 +153,7 @@ impl<K: Eq + Hash + Clone + Drop, V: Drop, E: Drop> Desk<K, V, E> {
     /// Applies the oldest write of the log, for the call that has the turn. Answers whether there
     /// was one.
     #[cold]
+    #[inline(never)]
     pub fn apply_one(&mut self, call: u64) -> bool
         requires { Can K.eq self.old (visit.ApplyOne call) }
         ensures finds { Finds K.eq self.old (visit.ApplyOne call) (found.ApplyOne result) }

@@ -85,6 +85,41 @@ fn dropped_owners(
     Ok((schedule, report))
 }
 
+/// A schedule in which so many owners of a key's computes are dropped, each before the compute that
+/// waits for it is polled, and its report. The last is the waiting one's.
+fn dropped_computes(alloc: Global, owners: u64) -> Result<(String, String), AllocError> {
+    let mut schedule = String::from_str(
+        alloc,
+        "cache log=8 / start compute 1 / poll 1 / start compute 1 / poll 2 / drop 1",
+    )?;
+    let mut report = String::from_str(
+        alloc,
+        "call 1 / ask compute none / call 2 / wait / dropped",
+    )?;
+    for owner in 3..owners.saturating_add(2) {
+        write!(
+            schedule,
+            " / start upsert 1 / poll {owner} / poll 2 / drop {owner}"
+        )?;
+        write!(
+            report,
+            " / call {owner} / ask compute none / wait / dropped"
+        )?;
+    }
+    schedule.push_str(" / poll 2 / tell 2 put 5 / poll 2")?;
+    report.push_str(" / ask compute none / told / answer inserted 5")?;
+    report.push_str(" / entry 1 5 stamp 2 at 0 / write 2 logged")?;
+    Ok((schedule, report))
+}
+
+#[test]
+fn a_compute_never_gives_up(rt: HostRuntime) -> Result<(), Fail> {
+    let (schedule, report) = dropped_computes(rt.alloc(), 300)?;
+    let rows = [(schedule.as_str(), report.as_str())];
+    assert_eq!(rt; first_misreported(rt.alloc(), &rows)?, None);
+    Ok(())
+}
+
 /// What the owners of a load are started for, and what the call is that waits for them.
 const LOADS: [(&str, &str); 4] = [
     ("get_with 1", "get_with 1"),

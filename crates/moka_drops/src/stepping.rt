@@ -77,6 +77,20 @@ const LOADS: [&str; 10] = [
     "cache cap=0 log=8 / start try 1 / start try 1 / poll 1 / poll 2 / drop 1 / poll 2 / tell 2 value 8 / poll 2",
 ];
 
+/// Schedules of computes.
+const COMPUTES: [&str; 10] = [
+    "cache log=8 / start compute 1 / poll 1 / start compute_alone 1 / poll 2 / tell 1 put 5 / poll 1 / start upsert 1 / poll 3 / tell 3 value 8 / poll 3 / start compute 1 / poll 4 / tell 4 nop / poll 4",
+    "cache log=8 / start try_compute 1 / start compute 1 / poll 1 / poll 2 / tell 1 error 4 / poll 1 / poll 2 / tell 2 put 5 / poll 2",
+    "cache log=8 / start insert 1 5 / poll 1 / start compute 1 / poll 2 / start insert 1 6 / poll 3 / tell 2 remove / poll 2",
+    "cache log=8 / start insert 1 5 / poll 1 / start compute 1 / poll 2 / start remove 1 / poll 3 / tell 2 remove / poll 2",
+    "cache log=1 / start upsert 1 / start upsert 1 / poll 1 / poll 2 / tell 1 value 5 / poll 1 / poll 2 / tell 2 value 6 / poll 2",
+    "cache log=8 / start compute 1 / start compute 1 / start compute 1 / poll 1 / poll 2 / poll 3 / drop 1 / poll 3 / poll 2 / tell 3 put 5 / poll 3 / poll 2 / tell 2 remove / poll 2",
+    "cache log=8 listener / start insert 1 5 / poll 1 / start compute 1 / poll 2 / tell 2 put 6 / poll 2 / start compute 1 / poll 3 / drop 2 / poll 3 / tell 2 done / poll 3",
+    "cache log=8 listener / start insert 1 5 / poll 1 / start compute 1 / poll 2 / tell 2 remove / poll 2 / start upsert 1 / poll 3 / tell 2 done / poll 2 / poll 3 / tell 3 value 6 / poll 3",
+    "cache log=8 listener / start compute 1 / poll 1 / tell 1 remove / poll 1 / start compute_alone 1 / poll 2 / tell 2 error 3 / poll 2",
+    "cache cap=0 log=8 / start compute 1 / start compute 1 / poll 1 / poll 2 / start compute_alone 1 / poll 3 / tell 1 put 5 / poll 1 / poll 2 / tell 2 remove / poll 2",
+];
+
 /// The reply to one event. None where memory is wanting.
 fn reply_to(
     alloc: Global,
@@ -189,6 +203,12 @@ fn single_steps_come_to_what_polls_do_under_a_listener(rt: HostRuntime) -> Resul
 #[test]
 fn single_steps_come_to_what_polls_do_in_loads_of_each_kind(rt: HostRuntime) -> Result<(), Fail> {
     assert_eq!(rt; first_other(rt.alloc(), &LOADS)?, None);
+    Ok(())
+}
+
+#[test]
+fn single_steps_come_to_what_polls_do_in_computes(rt: HostRuntime) -> Result<(), Fail> {
+    assert_eq!(rt; first_other(rt.alloc(), &COMPUTES)?, None);
     Ok(())
 }
 

@@ -146,7 +146,7 @@ fn text_of_report(
 }
 
 /// Schedules with their reports, and a name for each.
-const ROWS: [(&str, &str, &str); 20] = [
+const ROWS: [(&str, &str, &str); 24] = [
     (
         "a_get",
         "cache log=8 / start get 1 / poll 1",
@@ -246,6 +246,26 @@ const ROWS: [(&str, &str, &str); 20] = [
         "disabled_loads",
         "cache cap=0 log=8 / start or_insert 1 6 / poll 1 / start optional 1 / start optional 1 / poll 2 / poll 3 / tell 2 nothing / poll 2 / poll 3",
         "call 1 / answer value 6 fresh / call 2 / call 3 / ask init / wait / told / answer nothing / answer nothing",
+    ),
+    (
+        "a_compute_that_puts",
+        "cache log=8 / start compute 1 / start compute 1 / poll 1 / poll 2 / tell 1 put 5 / poll 1 / poll 2 / tell 2 nop / poll 2",
+        "call 1 / call 2 / ask compute none / wait / told / answer inserted 5 / ask compute 1 5 / told / answer unchanged 5 / entry 1 5 stamp 1 at 0 / write 1 logged",
+    ),
+    (
+        "a_compute_that_fails",
+        "cache log=8 / start try_compute 1 / start upsert 1 / poll 1 / poll 2 / tell 1 error 4 / poll 1 / poll 2 / drop 2 / start compute_alone 1 / poll 3 / tell 3 put 5 / poll 3",
+        "call 1 / call 2 / ask compute none / wait / told / answer error 4 / ask compute none / dropped / call 3 / ask compute none / told / answer inserted 5 / entry 1 5 stamp 3 at 0 / write 3 logged",
+    ),
+    (
+        "computes_under_a_listener",
+        "cache log=8 listener / start insert 1 5 / poll 1 / start upsert 1 / poll 2 / start compute_alone 1 / poll 3 / tell 2 value 6 / poll 2 / tell 2 done / poll 2 / start compute 1 / poll 4 / tell 4 remove / poll 4 / tell 4 done / poll 4",
+        "call 1 / answer done / call 2 / ask compute 1 5 / call 3 / answer unchanged 5 / told / ask listener 1 5 Replaced / told / answer replaced 6 / call 4 / ask compute 1 6 / told / ask listener 1 6 Explicit / told / answer removed 6 / write 1 logged / write 2 logged / write 4 logged / notice 2 1 5 Replaced ended / notice 4 1 6 Explicit ended",
+    ),
+    (
+        "a_disabled_compute",
+        "cache cap=0 log=8 / start compute 1 / poll 1 / start compute_alone 1 / poll 2 / tell 1 put 5 / poll 1 / start compute 1 / poll 3 / tell 3 remove / poll 3",
+        "call 1 / ask compute none / call 2 / answer stillnone / told / answer inserted 5 / call 3 / ask compute none / told / answer stillnone",
     ),
 ];
 

@@ -3,6 +3,7 @@ use Rattle.std.specs.Prelude.{◌≡◌, ◌≢◌, ℕ, Bool, true, false, ◌|
 use Rattle.moka_hist.specs.Finite.{times}
 use Rattle.moka_hist.specs.State.{DeskPart}
 use Rattle.moka_hist.specs.Visits.{number_of}
+use Rattle.moka_hist.specs.declared.loads.Load.{Load}
 use Rattle.moka_hist.specs.declared.loads.Kind.{Kind}
 use Rattle.moka_hist.specs.declared.loads.Kind.TheVariants as kind
 use Rattle.moka_hist.specs.declared.visits.Settled.{Settled}
@@ -35,13 +36,18 @@ MayLeaveWith (Some (holding.TookUp write)) call None = ⊥
 -- an owner of a load of this kind may end so
 abbrev pub may_end : {V E : Type 0} → Kind → Settled V E → Bool
 may_end kind settled.NotYet = false
-may_end kind (settled.Ready value) = true
+may_end kind.GetWith (settled.Ready value) = true
+may_end kind.Optional (settled.Ready value) = true
+may_end kind.Try (settled.Ready value) = true
+may_end kind.Compute (settled.Ready value) = false
 may_end kind.GetWith (settled.Err error) = false
 may_end kind.Optional (settled.Err error) = false
 may_end kind.Try (settled.Err error) = true
+may_end kind.Compute (settled.Err error) = false
 may_end kind.GetWith settled.Nothing = false
 may_end kind.Optional settled.Nothing = true
 may_end kind.Try settled.Nothing = false
+may_end kind.Compute settled.Nothing = true
 may_end kind settled.Aborted = true
 
 module _ {K V E : Type 0} where
@@ -62,6 +68,10 @@ module _ {K V E : Type 0} where
     pub stands : times number (numbers_of w) ≡ 0
     pub held : (n : ℕ) (h : Holding) → w.holding n ≡ Some h → held_number n h ≢ number
 
+  -- an owner of the load that stands has not settled
+  abbrev pub HasUnsettled : DeskPart K V E → Load K → Type 0
+  HasUnsettled w load = (owner : ℕ) → w.owners load ≡ Some owner → IsNone (w.settled owner)
+
   -- The desk allows the visit. A call holds one write at a time, and owns or awaits one load at a
   -- time; it settles what it owns, posts what it holds, frees the lock that it holds, opens one
   -- notice, and applies the log while it has the turn. Places that it gives back are those of no
@@ -77,7 +87,10 @@ module _ {K V E : Type 0} where
   MayVisit w (visit.StampMoment call) = IsNone (w.holding call) × IsUnused w call
   MayVisit w (visit.Judge replace key stored) = Unit {0}
   MayVisit w (visit.Holds key stored cause) = Unit {0}
-  MayVisit w (visit.WaitOrOwn call key kind) = IsNone (w.owning call) × IsNone (w.joined call)
+  MayVisit w (visit.WaitOrOwn call key kind) =
+      IsNone (w.owning call) × IsNone (w.joined call) ×
+      HasUnsettled w (record { key = key; kind = kind })
+  MayVisit w (visit.OwnAlone call key) = IsNone (w.owning call) × IsNone (w.joined call)
   MayVisit w (visit.ReadSettled call) = IsSome (w.joined call)
   MayVisit w (visit.Settle call with) =
       IsSomeAnd (w.owning call) (λ load. may_end load.kind with ≡ true)

@@ -4,7 +4,7 @@ use Rattle.std.specs.Map.{lookup, keys_of}
 use Rattle.std.specs.List.{IsDistinct}
 use Rattle.moka_hist.specs.declared.loads.Kind.{Kind}
 use Rattle.moka_hist.specs.declared.loads.Load.{Load}
-use Rattle.moka_hist.specs.declared.loads.Kind.TheVariants.{GetWith, Optional, Try}
+use Rattle.moka_hist.specs.declared.loads.Kind.TheVariants.{GetWith, Optional, Try, Compute}
 
 -- f, but w at the number n
 abbrev pub put_at : {A : Type 0} → (ℕ → A) → ℕ → A → ℕ → A
@@ -19,12 +19,19 @@ abbrev pub kind_eq : Kind → Kind → Bool
 kind_eq GetWith GetWith = true
 kind_eq GetWith Optional = false
 kind_eq GetWith Try = false
+kind_eq GetWith Compute = false
 kind_eq Optional GetWith = false
 kind_eq Optional Optional = true
 kind_eq Optional Try = false
+kind_eq Optional Compute = false
 kind_eq Try GetWith = false
 kind_eq Try Optional = false
 kind_eq Try Try = true
+kind_eq Try Compute = false
+kind_eq Compute GetWith = false
+kind_eq Compute Optional = false
+kind_eq Compute Try = false
+kind_eq Compute Compute = true
 
 -- two loads are one: of equal keys and one kind
 abbrev pub load_eq : {K : Type 0} → (K → K → Bool) → Load K → Load K → Bool

@@ -10,6 +10,8 @@ pub mod Next
 pub mod Posting
 pub mod Looking
 pub mod Loading
+pub mod Entries
+pub mod Computing
 pub mod Writing
 pub mod Listening
 pub mod Step

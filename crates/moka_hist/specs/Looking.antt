@@ -4,6 +4,7 @@ use Rattle.moka_hist.specs.State.{Call}
 use Rattle.moka_hist.specs.Plan.{Item, Aim, put, end_load}
 use Rattle.moka_hist.specs.Plan as plan
 use Rattle.moka_hist.specs.Next.{Next, goes, stays, waits}
+use Rattle.moka_hist.specs.Entries.{unchanged}
 use Rattle.moka_hist.specs.declared.records.Stored.{Stored}
 use Rattle.moka_hist.specs.declared.rules.Cause.{Cause}
 use Rattle.moka_hist.specs.declared.replies.Answer.TheVariants as answer
@@ -31,16 +32,23 @@ module _ {K V E : Type 0} where
   misses c (plan.To_own sought) = goes c (plan.Ask sought.load ∷ [])
   misses c (plan.To_insert key value) =
       goes c (put c.rules key value (plan.Reply (answer.Loaded value true) ∷ []))
+  misses c (plan.To_compute compute) = goes c (plan.Ask_op compute None ∷ [])
+  misses c (plan.To_report key) = goes c (plan.Reply (unchanged key None) ∷ [])
   misses c (plan.To_evict key stamp cause) = keeps c
 
   -- the value answers; an owner tells it first to those that wait
-  abbrev pub hits : Call K V E → Aim K V → V → Next K V E
-  hits c plan.To_answer value = goes c (plan.Reply (answer.Found (Some value)) ∷ [])
-  hits c (plan.To_load sought) value = goes c (plan.Reply (answer.Loaded value false) ∷ [])
-  hits c (plan.To_own sought) value =
+  abbrev pub hits : Call K V E → Aim K V → K → V → Next K V E
+  hits c plan.To_answer there value = goes c (plan.Reply (answer.Found (Some value)) ∷ [])
+  hits c (plan.To_load sought) there value = goes c (plan.Reply (answer.Loaded value false) ∷ [])
+  hits c (plan.To_own sought) there value =
       goes c (end_load (settled.Ready value) (answer.Loaded value false))
-  hits c (plan.To_insert key unused) value = goes c (plan.Reply (answer.Loaded value false) ∷ [])
-  hits c (plan.To_evict key stamp cause) value = waits c
+  hits c (plan.To_insert key unused) there value =
+      goes c (plan.Reply (answer.Loaded value false) ∷ [])
+  hits c (plan.To_compute compute) there value =
+      goes c (plan.Ask_op compute (Some (there, value)) ∷ [])
+  hits c (plan.To_report key) there value =
+      goes c (plan.Reply (unchanged key (Some (there, value))) ∷ [])
+  hits c (plan.To_evict key stamp cause) there value = waits c
 
   -- what is to be done with the pair that was found: it is judged whether it may be seen, or, where
   -- it was chosen to leave and is the record that was chosen, whether it has still to
@@ -57,6 +65,10 @@ module _ {K V E : Type 0} where
       goes c (plan.Judge (plan.To_own sought) there found ∷ [])
   finds_pair c (plan.To_insert key value) there found =
       goes c (plan.Judge (plan.To_insert key value) there found ∷ [])
+  finds_pair c (plan.To_compute compute) there found =
+      goes c (plan.Judge (plan.To_compute compute) there found ∷ [])
+  finds_pair c (plan.To_report key) there found =
+      goes c (plan.Judge (plan.To_report key) there found ∷ [])
   finds_pair c (plan.To_evict key stamp cause) there found =
       chosen_or_not c (found.stamp == stamp) key stamp cause there found
 
@@ -65,10 +77,10 @@ module _ {K V E : Type 0} where
   after_get c aim (turn.Decided table.None) = misses c aim
   after_get c aim (turn.Decided (table.Some there found)) = finds_pair c aim there found
 
-  abbrev pub after_judge : Call K V E → Aim K V → Stored V → Found V E → Next K V E
-  after_judge c aim stored (found.Judge true) = hits c aim stored.value
-  after_judge c aim stored (found.Judge false) = misses c aim
-  after_judge c aim stored _ = waits c
+  abbrev pub after_judge : Call K V E → Aim K V → K → Stored V → Found V E → Next K V E
+  after_judge c aim there stored (found.Judge true) = hits c aim there stored.value
+  after_judge c aim there stored (found.Judge false) = misses c aim
+  after_judge c aim there stored _ = waits c
 
   -- where the cause holds the record is taken out
   abbrev pub after_holds : Call K V E → K → ℕ → Cause → Found V E → Next K V E

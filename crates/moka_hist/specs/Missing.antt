@@ -16,4 +16,6 @@ module _ {K V E : Type 0} where
   IsMissing w n plan.Heard = is_running w n ≡ true
   IsMissing w n (plan.Ended number) = is_running w number ≡ true
   IsMissing w n (plan.Told load) = IsSome (w.asks n)
+  IsMissing w n (plan.Read_key compute) = IsNone (settlement_for w n)
+  IsMissing w n (plan.Told_op compute found) = IsSome (w.asks n)
   IsMissing w n _ = ⊥

@@ -15,7 +15,7 @@ pub record Next (K V E : Type 0) : Type 0 where
 
 module _ {K V E : Type 0} where
   -- the call answers, and is no longer live
-  abbrev pub answers : Answer V E → Next K V E
+  abbrev pub answers : Answer K V E → Next K V E
   answers answer = record { left = None; turn = turn.Answer answer }
 
   -- the call goes on with the rest of its plan; where that is an answer alone, it answers with this

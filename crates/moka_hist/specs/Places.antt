@@ -1,5 +1,5 @@
 -- What a user is promised of every state of a run.
-use Rattle.std.specs.Prelude.{◌≡◌, ℕ, ◌≤◌, ◌<◌, Bool, true, [], ◌∷◌, map, Some, IsSome, Contains}
+use Rattle.std.specs.Prelude.{◌≡◌, ℕ, ◌≤◌, ◌<◌, Bool, true, List, [], ◌∷◌, map, Some, IsSome, Contains}
 use Rattle.moka_hist.specs.Finite.{load_eq, times}
 use Rattle.moka_hist.specs.State.{Call, State}
 use Rattle.moka_hist.specs.Plan.{Item, held_by}
@@ -8,6 +8,7 @@ use Rattle.moka_hist.specs.Notices.{NoticesAreSettled}
 use Rattle.moka_hist.specs.Visits.{number_of}
 use Rattle.moka_hist.specs.Conditions.{HoldsWrite}
 use Rattle.moka_hist.specs.declared.loads.Load.{Load}
+use Rattle.moka_hist.specs.declared.loads.Kind.TheVariants as kind
 use Rattle.moka_hist.specs.declared.writes.Write.{Write}
 use Rattle.moka_hist.specs.declared.writes.Place.{Place}
 use Rattle.moka_hist.specs.declared.writes.Place.TheVariants as place
@@ -38,11 +39,18 @@ module _ {K V E : Type 0} where
     pub once_logged : times number (map number_of s.world.desk.log) ≤ 1
     pub once_applied : times number (map number_of s.world.desk.applied) ≤ 1
 
-  -- the live call has an open initializer of the load
+  -- the plan waits for the answer to an ask of the load
+  abbrev pub AsksFor : List (Item K V E) → Load K → Type 0
+  AsksFor (plan.Told asked ∷ []) load = load ≡ asked
+  AsksFor (plan.Told_op compute found ∷ []) load =
+      load ≡ record { key = compute.key; kind = kind.Compute }
+  AsksFor _ load = ⊥
+
+  -- the live call has an open initializer of the load, or is a compute whose ask is open
   pub record Initializes (s : State K V E) (n : ℕ) (load : Load K) : Type 0 where
     pub call : Call K V E
     pub live : s.calls n ≡ Some call
-    pub asked : call.plan ≡ plan.Told load ∷ []
+    pub asked : AsksFor call.plan load
     pub opened : IsSome (s.world.desk.asks n)
 
   -- the desk knows each write that a live call holds

@@ -4,6 +4,8 @@ use Rattle.std.specs.Option.{option_map_or}
 use Rattle.moka_hist.specs.declared.loads.Load.{Load}
 use Rattle.moka_hist.specs.declared.loads.Sought.{Sought}
 use Rattle.moka_hist.specs.declared.loads.Kind.{Kind}
+use Rattle.moka_hist.specs.declared.loads.Compute.{Compute}
+use Rattle.moka_hist.specs.declared.visits.Takes.TheVariants as takes
 use Rattle.moka_hist.specs.declared.loads.Kind.TheVariants as kind
 use Rattle.moka_hist.specs.declared.records.Stored.{Stored}
 use Rattle.moka_hist.specs.declared.events.Start as event
@@ -17,25 +19,30 @@ use Rattle.moka_hist.specs.declared.rules.Rules.{Rules}
 use Rattle.moka_hist.specs.declared.writes.Write as write
 
 -- what a look is for: to answer what was found, to load what wasn't, to own a load, to store a
--- value where nothing was found, or to evict
+-- value where nothing was found, to compute, or to evict
 pub data Aim (K V : Type 0) : Type 0 where
   To_answer : Aim K V
   To_load : (sought : Sought K) → Aim K V
   To_own : (sought : Sought K) → Aim K V
   To_insert : (key : K) → (value : V) → Aim K V
+  -- to ask what is to be done with what was found, or to answer it
+  To_compute : (compute : Compute K) → Aim K V
+  To_report : (key : K) → Aim K V
   -- to take out the record of this stamp, which was chosen for this cause
   To_evict : (key : K) → (stamp : ℕ) → (cause : Cause) → Aim K V
 
 -- what a removal is for
-pub data Removal : Type 0 where
-  To_invalidate : Removal
-  To_remove : Removal
-  To_evict_chosen : (stamp : ℕ) → (cause : Cause) → Removal
+pub data Removal (K : Type 0) : Type 0 where
+  To_invalidate : Removal K
+  To_remove : Removal K
+  To_evict_chosen : (stamp : ℕ) → (cause : Cause) → Removal K
+  -- as a compute of this key was told
+  To_remove_as_told : (key : K) → Removal K
 
 -- what a moment is taken for
 pub data Change (K V : Type 0) : Type 0 where
   To_store : (key : K) → (value : V) → Change K V
-  To_take_out : (removal : Removal) → (key : K) → Change K V
+  To_take_out : (removal : Removal K) → (key : K) → Change K V
 
 -- One thing to do, in one step.
 pub data Item (K V E : Type 0) : Type 0 where
@@ -58,6 +65,13 @@ pub data Item (K V E : Type 0) : Type 0 where
   -- ask what the load gives, and take the answer
   Ask : (load : Load K) → Item K V E
   Told : (load : Load K) → Item K V E
+  -- own the computes of a key or wait for their owner, and read that it has ended; ask what is to
+  -- be done with what was found, and take the answer
+  Own_key : (compute : Compute K) → Item K V E
+  Own_alone : (key : K) → Item K V E
+  Read_key : (compute : Compute K) → Item K V E
+  Ask_op : (compute : Compute K) → (found : Option (K × V)) → Item K V E
+  Told_op : (compute : Compute K) → (found : Option (K × V)) → Item K V E
   -- judge whether a chosen record has still to leave
   Holds : (key : K) → (stamp : ℕ) → (cause : Cause) → (there : K) → (found : Stored V) → Item K V E
   -- hold the key's lock around a write and its notice; `wrote` says whether something was written
@@ -71,11 +85,11 @@ pub data Item (K V E : Type 0) : Type 0 where
   -- take the moment of a change; write, or take out
   Moment : (change : Change K V) → Item K V E
   Write : (key : K) → (value : V) → (moment : ℕ) → Item K V E
-  Out : (removal : Removal) → (key : K) → Item K V E
+  Out : (removal : Removal K) → (key : K) → Item K V E
   -- read the clock, where a removal found nothing
   Idle : Item K V E
   -- answer, together with the step before
-  Reply : (answer : reply.Answer V E) → Item K V E
+  Reply : (answer : reply.Answer K V E) → Item K V E
 
 -- look a key up
 abbrev pub look : {K V E : Type 0} → Aim K V → K → List (Item K V E)
@@ -92,7 +106,7 @@ put rules key value rest =
     Drain ∷ under_lock rules.listener key (Moment (To_store key value) ∷ rest)
 
 -- take out what stands under the key, and answer
-abbrev pub take_out : {K V E : Type 0} → Rules → Removal → K → List (Item K V E)
+abbrev pub take_out : {K V E : Type 0} → Rules → Removal K → K → List (Item K V E)
 take_out rules removal key =
     Drain ∷ under_lock rules.listener key (Moment (To_take_out removal key) ∷ [])
 
@@ -101,7 +115,7 @@ abbrev pub is_disabled : Rules → Bool
 is_disabled rules = option_map_or (λ most. most == 0) rules.max_capacity false
 
 -- tell those that wait how the load ended, and answer
-abbrev pub end_load : {K V E : Type 0} → visit.Settled V E → reply.Answer V E → List (Item K V E)
+abbrev pub end_load : {K V E : Type 0} → visit.Settled V E → reply.Answer K V E → List (Item K V E)
 end_load with said = Settle with ∷ Reply said ∷ []
 
 -- tell those that wait the value that an initializer gave, and answer it
@@ -146,6 +160,10 @@ plan_of rules (start.GetWith key replace) =
 plan_of rules (start.Optional key) = load_plan (is_disabled rules) (seek kind.Optional key None)
 plan_of rules (start.Try key) = load_plan (is_disabled rules) (seek kind.Try key None)
 plan_of rules (start.OrInsert key value) = or_insert_plan (is_disabled rules) key value
+plan_of rules (start.Compute key) = Own_key (record { key = key; takes = takes.Op }) ∷ []
+plan_of rules (start.TryCompute key) = Own_key (record { key = key; takes = takes.TryOp }) ∷ []
+plan_of rules (start.Upsert key) = Own_key (record { key = key; takes = takes.Value }) ∷ []
+plan_of rules (start.ComputeAlone key) = Own_alone key ∷ []
 plan_of rules (start.Invalidate key) = take_out rules To_invalidate key
 plan_of rules (start.Remove key) = take_out rules To_remove key
 plan_of rules (start.Evict key stamp cause) =
@@ -167,6 +185,11 @@ held_by (Read sought ∷ rest) = held_by rest
 held_by (Settle with ∷ rest) = held_by rest
 held_by (Ask load ∷ rest) = held_by rest
 held_by (Told load ∷ rest) = held_by rest
+held_by (Own_key compute ∷ rest) = held_by rest
+held_by (Own_alone key ∷ rest) = held_by rest
+held_by (Read_key compute ∷ rest) = held_by rest
+held_by (Ask_op compute found ∷ rest) = held_by rest
+held_by (Told_op compute found ∷ rest) = held_by rest
 held_by (Lock key ∷ rest) = held_by rest
 held_by (Unlock wrote ∷ rest) = held_by rest
 held_by (Notice key old cause upsert ∷ rest) = held_by rest

@@ -12,6 +12,7 @@ use Rattle.moka_hist.specs.Next.{Next, goes, waits}
 use Rattle.moka_hist.specs.Posting.{after_drain, after_post, after_turn, after_apply, after_end}
 use Rattle.moka_hist.specs.Looking.{after_get, after_judge, after_holds}
 use Rattle.moka_hist.specs.Loading.{after_own, after_read, after_ask, after_told, after_settle}
+use Rattle.moka_hist.specs.Computing.{after_own_key, after_own_alone, after_read_key, after_ask_op, after_told_op}
 use Rattle.moka_hist.specs.Listening.{after_lock, after_unlock, after_notice, after_hearing}
 use Rattle.moka_hist.specs.Writing.{after_moment, after_write, after_out, after_idle, stamp_asked}
 use Rattle.moka_hist.specs.declared.loads.Kind.{Kind}
@@ -42,6 +43,7 @@ abbrev pub takes_of : Kind → Takes
 takes_of kind.GetWith = takes.Value
 takes_of kind.Optional = takes.Optional
 takes_of kind.Try = takes.Try
+takes_of kind.Compute = takes.Op
 
 -- the test by which a look's call passes over what it finds
 abbrev pub replace_of : {K V : Type 0} → Aim K V → Option ℕ
@@ -49,6 +51,8 @@ replace_of plan.To_answer = None
 replace_of (plan.To_load sought) = sought.replace
 replace_of (plan.To_own sought) = sought.replace
 replace_of (plan.To_insert key value) = None
+replace_of (plan.To_compute compute) = None
+replace_of (plan.To_report key) = None
 replace_of (plan.To_evict key stamp cause) = None
 
 module _ {K V E : Type 0} where
@@ -67,6 +71,12 @@ module _ {K V E : Type 0} where
   access_for n (plan.Settle with) = On_desk (visit.Settle n with)
   access_for n (plan.Ask load) = On_desk (visit.OpenAsk n (takes_of load.kind))
   access_for n (plan.Told load) = On_desk (visit.TakeTold n)
+  access_for n (plan.Own_key compute) =
+      On_desk (visit.WaitOrOwn n compute.key kind.Compute)
+  access_for n (plan.Own_alone key) = On_desk (visit.OwnAlone n key)
+  access_for n (plan.Read_key compute) = On_desk (visit.ReadSettled n)
+  access_for n (plan.Ask_op compute found) = On_desk (visit.OpenAsk n compute.takes)
+  access_for n (plan.Told_op compute found) = On_desk (visit.TakeTold n)
   access_for n (plan.Lock key) = On_desk (visit.LockKey n key)
   access_for n (plan.Unlock wrote) = On_desk (visit.UnlockKey n wrote)
   access_for n (plan.Notice key old cause upsert) =
@@ -111,12 +121,17 @@ module _ {K V E : Type 0} where
   after_visit c plan.Turn rest f = after_turn c rest f
   after_visit c plan.Apply rest f = after_apply c rest f
   after_visit c plan.End rest f = after_end c rest f
-  after_visit c (plan.Judge aim key stored) rest f = after_judge c aim stored f
+  after_visit c (plan.Judge aim key stored) rest f = after_judge c aim key stored f
   after_visit c (plan.Own sought) rest f = after_own c sought f
   after_visit c (plan.Read sought) rest f = after_read c sought f
   after_visit c (plan.Settle with) rest f = after_settle c rest f
   after_visit c (plan.Ask load) rest f = after_ask c load f
   after_visit c (plan.Told load) rest f = after_told c load f
+  after_visit c (plan.Own_key compute) rest f = after_own_key c compute f
+  after_visit c (plan.Own_alone key) rest f = after_own_alone c key f
+  after_visit c (plan.Read_key compute) rest f = after_read_key c compute f
+  after_visit c (plan.Ask_op compute found) rest f = after_ask_op c compute found f
+  after_visit c (plan.Told_op compute found) rest f = after_told_op c compute found f
   after_visit c (plan.Lock key) rest f = after_lock c rest f
   after_visit c (plan.Unlock wrote) rest f = after_unlock c rest f
   after_visit c (plan.Notice key old cause upsert) rest f = after_notice c key old rest f

@@ -12,24 +12,42 @@ use Rattle.moka_hist.specs.declared.events.Told.TheVariants as answer
 use Rattle.moka_hist.specs.declared.visits.Takes.{Takes}
 use Rattle.moka_hist.specs.declared.visits.Takes.TheVariants as takes
 
--- the ask takes that there is no value, or an error
+-- the ask takes a value, that there is none, an error, or what is to be done
+abbrev pub takes_value : Takes → Bool
+takes_value takes.Value = true
+takes_value takes.Optional = true
+takes_value takes.Try = true
+takes_value takes.Op = false
+takes_value takes.TryOp = false
+
 abbrev pub takes_nothing : Takes → Bool
 takes_nothing takes.Value = false
 takes_nothing takes.Optional = true
 takes_nothing takes.Try = false
+takes_nothing takes.Op = false
+takes_nothing takes.TryOp = false
 
 abbrev pub takes_error : Takes → Bool
 takes_error takes.Value = false
 takes_error takes.Optional = false
 takes_error takes.Try = true
+takes_error takes.Op = false
+takes_error takes.TryOp = true
+
+abbrev pub takes_op : Takes → Bool
+takes_op takes.Value = false
+takes_op takes.Optional = false
+takes_op takes.Try = false
+takes_op takes.Op = true
+takes_op takes.TryOp = true
 
 module _ {V E : Type 0} where
-  -- the ask takes answers of this shape: each ask of a call takes a value, and none what a listener
-  -- answers
+  -- the ask takes answers of this shape: no ask of a call takes what a listener answers
   abbrev pub does_take : Takes → Told V E → Bool
-  does_take asked (answer.Value value) = true
+  does_take asked (answer.Value value) = takes_value asked
   does_take asked answer.Nothing = takes_nothing asked
   does_take asked (answer.Err error) = takes_error asked
+  does_take asked (answer.Op op) = takes_op asked
   does_take asked answer.Done = false
   does_take asked answer.Off = false
 
@@ -60,6 +78,7 @@ module _ {K V E : Type 0} where
   is_asked w number (answer.Value value) = is_taken w number (answer.Value value)
   is_asked w number answer.Nothing = is_taken w number answer.Nothing
   is_asked w number (answer.Err error) = is_taken w number (answer.Err error)
+  is_asked w number (answer.Op op) = is_taken w number (answer.Op op)
   is_asked w number answer.Done = is_running w number
   is_asked w number answer.Off = is_running w number
 
@@ -87,5 +106,6 @@ module _ {K V E : Type 0} where
   told w number (answer.Value value) = told_call w number (answer.Value value)
   told w number answer.Nothing = told_call w number answer.Nothing
   told w number (answer.Err error) = told_call w number (answer.Err error)
+  told w number (answer.Op op) = told_call w number (answer.Op op)
   told w number answer.Done = heard w number false
   told w number answer.Off = heard w number true

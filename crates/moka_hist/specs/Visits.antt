@@ -6,6 +6,7 @@ use Rattle.moka_hist.specs.Finite.{put_at, put_key, load_eq}
 use Rattle.moka_hist.specs.State.{DeskPart}
 use Rattle.moka_hist.specs.Causes.{upsert_cause, remove_cause, chosen_holds}
 use Rattle.moka_hist.specs.declared.loads.Load.{Load}
+use Rattle.moka_hist.specs.declared.loads.Kind.TheVariants as kind
 use Rattle.moka_hist.specs.declared.notices.Notice.{Notice}
 use Rattle.moka_hist.specs.declared.notices.NoticeState.{NoticeState}
 use Rattle.moka_hist.specs.declared.notices.NoticeState.TheVariants as notice
@@ -268,6 +269,12 @@ module _ {K V E : Type 0} where
     readers = put_at w.readers owner (w.readers owner + 1);
   }
 
+  -- the call owns the load where nobody does, and else nothing changes
+  abbrev pub claimed_alone : (K → K → Bool) → DeskPart K V E → ℕ → Load K → Option ℕ →
+      DeskPart K V E
+  claimed_alone eq w call load None = claimed eq w call load None
+  claimed_alone eq w call load (Some owner) = w
+
   -- the settlement was read, if there is one
   abbrev pub read : DeskPart K V E → ℕ → DeskPart K V E
   read w call = cond (is_some (settlement_for w call))
@@ -309,6 +316,8 @@ module _ {K V E : Type 0} where
       found.Holds (chosen_holds w.rules (times_at w stored.stamp stored.modified) false cause)
   finds w (visit.WaitOrOwn call key kind) =
       found.WaitOrOwn (claim_of (w.owners (record { key = key; kind = kind })))
+  finds w (visit.OwnAlone call key) =
+      found.OwnAlone (is_some (w.owners (record { key = key; kind = kind.Compute })))
   finds w (visit.ReadSettled call) =
       found.ReadSettled (unwrap_or (settlement_for w call) settled.NotYet)
   finds w (visit.Settle call with) = found.Settle
@@ -335,6 +344,9 @@ module _ {K V E : Type 0} where
   makes eq w (visit.WaitOrOwn call key kind) =
       let load : Load K =
       record { key = key; kind = kind } in claimed eq w call load (w.owners load)
+  makes eq w (visit.OwnAlone call key) =
+      let load : Load K =
+      record { key = key; kind = kind.Compute } in claimed_alone eq w call load (w.owners load)
   makes eq w (visit.ReadSettled call) = read w call
   makes eq w (visit.Settle call with) = settled_as w call with
   makes eq w (visit.OpenAsk call takes) = opened w call takes

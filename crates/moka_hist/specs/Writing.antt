@@ -1,7 +1,9 @@
 -- Writing a value, and taking a record out.
 use Rattle.std.specs.Prelude.{ℕ, Bool, true, false, List, [], ◌∷◌, Option, Some, None}
 use Rattle.moka_hist.specs.State.{Call}
-use Rattle.moka_hist.specs.Plan.{Item, Change, Removal}
+use Rattle.moka_hist.specs.Plan.{Item, Change, Removal, end_load}
+use Rattle.moka_hist.specs.Entries.{unchanged, removed_value}
+use Rattle.moka_hist.specs.declared.visits.Settled.TheVariants as settled
 use Rattle.moka_hist.specs.Plan as plan
 use Rattle.moka_hist.specs.Next.{Next, goes, stays, waits}
 use Rattle.moka_hist.specs.declared.records.Stored.{Stored}
@@ -17,27 +19,39 @@ use Rattle.moka_hist.specs.declared.visits.Found.{Found}
 use Rattle.moka_hist.specs.declared.visits.Found.TheVariants as found
 
 -- the stamp that a removal asks for, and the cause that it hands in
-abbrev pub stamp_asked : Removal → Option ℕ
+abbrev pub stamp_asked : {K : Type 0} → Removal K → Option ℕ
 stamp_asked plan.To_invalidate = None
 stamp_asked plan.To_remove = None
 stamp_asked (plan.To_evict_chosen stamp cause) = Some stamp
+stamp_asked (plan.To_remove_as_told key) = None
 
-abbrev pub cause_handed : Removal → Option Cause
+abbrev pub cause_handed : {K : Type 0} → Removal K → Option Cause
 cause_handed plan.To_invalidate = None
 cause_handed plan.To_remove = None
 cause_handed (plan.To_evict_chosen stamp cause) = Some cause
+cause_handed (plan.To_remove_as_told key) = None
 
-module _ {V E : Type 0} where
+module _ {K V E : Type 0} where
   -- what a removal answers, with the value that it took out; and where it found nothing
-  abbrev pub removed_answer : Removal → V → Answer V E
+  abbrev pub removed_answer : Removal K → V → Answer K V E
   removed_answer plan.To_invalidate value = answer.Done
   removed_answer plan.To_remove value = answer.Found (Some value)
   removed_answer (plan.To_evict_chosen stamp cause) value = answer.Evicted
+  removed_answer (plan.To_remove_as_told key) value = removed_value key value
 
-  abbrev pub nothing_answer : Removal → Answer V E
+  abbrev pub nothing_answer : Removal K → Answer K V E
   nothing_answer plan.To_invalidate = answer.Done
   nothing_answer plan.To_remove = answer.Found None
   nothing_answer (plan.To_evict_chosen stamp cause) = answer.Kept
+  nothing_answer (plan.To_remove_as_told key) = unchanged key None
+
+  -- what is left of a removal: the answer, which a compute gives once those that wait know that it
+  -- is over
+  abbrev pub said : Removal K → Answer K V E → List (Item K V E)
+  said plan.To_invalidate answer = plan.Reply answer ∷ []
+  said plan.To_remove answer = plan.Reply answer ∷ []
+  said (plan.To_evict_chosen stamp cause) answer = plan.Reply answer ∷ []
+  said (plan.To_remove_as_told key) answer = end_load settled.Nothing answer
 
 -- the stamp of the record that was replaced
 abbrev pub old_stamp : {K V : Type 0} → TableAnswer K V → Option ℕ
@@ -69,19 +83,19 @@ module _ {K V E : Type 0} where
       goes c (once_told c.rules.listener key was (plan.Post (Upsert n (old_stamp was)) ∷ rest))
 
   -- nothing was found: the lock is freed; without a listener the clock is read
-  abbrev pub nothing_rest : Bool → Removal → List (Item K V E)
-  nothing_rest true removal = plan.Unlock false ∷ plan.Reply (nothing_answer removal) ∷ []
-  nothing_rest false removal = plan.Idle ∷ plan.Reply (nothing_answer removal) ∷ []
+  abbrev pub nothing_rest : Bool → Removal K → List (Item K V E)
+  nothing_rest true removal = plan.Unlock false ∷ said removal (nothing_answer removal)
+  nothing_rest false removal = plan.Idle ∷ said removal (nothing_answer removal)
 
   -- the removal is committed: a listener hears of it, the lock is freed, and it is posted
-  abbrev pub removed_rest : Bool → ℕ → Removal → K → Stored V → List (Item K V E)
+  abbrev pub removed_rest : Bool → ℕ → Removal K → K → Stored V → List (Item K V E)
   removed_rest false n removal key old =
-      plan.Post (Remove n old.stamp) ∷ plan.Reply (removed_answer removal old.value) ∷ []
+      plan.Post (Remove n old.stamp) ∷ said removal (removed_answer removal old.value)
   removed_rest true n removal key old =
       plan.Notice key old (cause_handed removal) false ∷ plan.Unlock true ∷
-      plan.Post (Remove n old.stamp) ∷ plan.Reply (removed_answer removal old.value) ∷ []
+      plan.Post (Remove n old.stamp) ∷ said removal (removed_answer removal old.value)
 
-  abbrev pub after_out : ℕ → Call K V E → Removal → K → TableTurn K V → Next K V E
+  abbrev pub after_out : ℕ → Call K V E → Removal K → K → TableTurn K V → Next K V E
   after_out n c removal key turn.Going = stays c
   after_out n c removal key (turn.Decided table.None) =
       goes c (nothing_rest c.rules.listener removal)

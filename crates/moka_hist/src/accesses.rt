@@ -26,7 +26,7 @@ pub enum Turn<K, V, E> {
     Going,
     Wait,
     Ask(Ask<K, V>),
-    Answer(Answer<V, E>),
+    Answer(Answer<K, V, E>),
 }
 
 impl<K, V, E> Turn<K, V, E> {

@@ -13,11 +13,26 @@ pub enum Start<K, V> {
     Try { key: K },
     /// The value is stored where no record is found.
     OrInsert { key: K, value: V },
+    /// The four computes ask what is to be done with what the key has. One at a time of a key goes.
+    Compute { key: K },
+    TryCompute { key: K },
+    /// Asks nothing where another compute of the key goes.
+    ComputeAlone { key: K },
+    /// Is told a value.
+    Upsert { key: K },
     Invalidate { key: K },
     Remove { key: K },
     /// The record of this stamp is taken out, where it still stands under the key and the cause
     /// holds.
     Evict { key: K, stamp: u64, cause: Cause },
+}
+
+/// What a compute is told to do: nothing, to store a value, or to take the record out.
+#[derive(Clone, PartialEq, Debug, Drop)]
+pub enum Op<V> {
+    Nop,
+    Put(V),
+    Remove,
 }
 
 /// What an open ask is told: by an initializer a value, that there is none, or why it gives none;
@@ -27,6 +42,7 @@ pub enum Told<V, E> {
     Value(V),
     Nothing,
     Err(E),
+    Op(Op<V>),
     Done,
     Off,
 }

@@ -7,6 +7,7 @@
 #![tactic(auto)]
 
 mod accesses;
+mod entries;
 mod events;
 mod key_list;
 mod listing;
@@ -21,10 +22,11 @@ mod visits;
 mod writes;
 
 pub use accesses::{Got, Turn, Want};
-pub use events::{Event, Start, Told};
+pub use entries::{CompResult, Entry};
+pub use events::{Event, Op, Start, Told};
 pub use key_list::KeyList;
 pub use listing::Listing;
-pub use loads::{Kind, Load, Sought};
+pub use loads::{Compute, Kind, Load, Sought};
 pub use notices::{Notice, NoticeState};
 pub use record_tests::Tests;
 pub use records::{Mode, Stored};

@@ -1,5 +1,7 @@
 //! What can be loaded: a key, by a kind of load.
 
+use crate::Takes;
+
 /// A kind of load. Loads of one key by different kinds don't wait for each other.
 /// Source: moka's `value_initializer`, which tells kinds apart by a type's id.
 #[derive(Clone, Copy, PartialEq, Eq, Hash, Debug)]
@@ -10,6 +12,8 @@ pub enum Kind {
     Optional,
     /// `try`: the initializer gives a value or an error.
     Try,
+    /// A compute, of whichever start: it is told what to do with what the key has.
+    Compute,
 }
 
 /// What an owner owns and others wait for: a key and a kind.
@@ -25,4 +29,11 @@ pub struct Load<K> {
 pub struct Sought<K> {
     pub load: Load<K>,
     pub replace: Option<u64>,
+}
+
+/// A compute of a key, and which answers its ask takes.
+#[derive(Clone, PartialEq, Debug, Drop)]
+pub struct Compute<K> {
+    pub key: K,
+    pub takes: Takes,
 }

@@ -1,19 +1,21 @@
 //! The replies to events.
 
-use crate::Cause;
+use crate::{Cause, CompResult};
 
 /// What a call asks of its caller.
 #[derive(Clone, PartialEq, Debug, Drop)]
 pub enum Ask<K, V> {
     /// The initializer of a load is to be run, and what it gives told.
     Init,
+    /// It is to be told what to do with the pair that the key has, if any.
+    Compute(Option<(K, V)>),
     /// The listener is to hear of a record that has left, and its answer is to be told.
     Listener { key: K, value: V, cause: Cause },
 }
 
 /// What a call answers in the end.
 #[derive(Clone, PartialEq, Debug, Drop)]
-pub enum Answer<V, E> {
+pub enum Answer<K, V, E> {
     Done,
     Found(Option<V>),
     /// The value of a load; `fresh` where this call's own initializer gave it.
@@ -22,6 +24,10 @@ pub enum Answer<V, E> {
     Nothing,
     /// The initializer of the load gave this error.
     InitErr(E),
+    /// What a compute has done.
+    Computed(CompResult<K, V>),
+    /// The compute was told this error.
+    ComputeErr(E),
     /// The owner that the call waited for was dropped, for the 200th time.
     RetriesExhausted,
     /// The record was taken out, by this call.
@@ -54,7 +60,7 @@ pub enum Reply<K, V, E> {
     Going,
     Wait,
     Ask(Ask<K, V>),
-    Answer(Answer<V, E>),
+    Answer(Answer<K, V, E>),
     Told,
     Dropped,
     Refused(Refusal),

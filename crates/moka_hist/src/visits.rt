@@ -29,6 +29,10 @@ pub enum Takes {
     Optional,
     /// A value or an error.
     Try,
+    /// What is to be done.
+    Op,
+    /// What is to be done, or an error.
+    TryOp,
 }
 
 /// A visit of the desk, with the number of the call that makes it.
@@ -80,6 +84,11 @@ pub enum Visit<K, V, E> {
         call: u64,
         key: K,
         kind: Kind,
+    },
+    /// Becomes the owner of the key's computes, where there is none, and does nothing else.
+    OwnAlone {
+        call: u64,
+        key: K,
     },
     /// Reads how the owner ended that the call waits for.
     ReadSettled {
@@ -142,6 +151,8 @@ pub enum Found<V, E> {
     Judge(bool),
     Holds(bool),
     WaitOrOwn(Claim),
+    /// Whether another call is the owner.
+    OwnAlone(bool),
     ReadSettled(Settled<V, E>),
     Settle,
     OpenNotice(Option<Cause>),

@@ -1,4 +1,6 @@
 //! Committed writes, and the places where they stand until they are applied.
+ghost use Rattle.std.specs.Prelude.{◌≡◌};
+ghost use Rattle.moka_hist.specs.Visits.{number_of};
 
 /// A committed write: the call that made it, and the stamp of the record that it replaced or took
 /// out.
@@ -6,6 +8,17 @@
 pub enum Write {
     Upsert { number: u64, old: Option<u64> },
     Remove { number: u64, old: u64 },
+}
+
+impl Write {
+    /// The number of the call that made the write.
+    pub fn number(&self) -> u64
+        ensures { result ≡ number_of self.now }
+    {
+        match self {
+            Write::Upsert { number, .. } | Write::Remove { number, .. } => *number,
+        }
+    }
 }
 
 /// What a call holds of writes: the place of a write of its own number, with the moment that it

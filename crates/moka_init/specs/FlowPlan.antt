@@ -15,7 +15,11 @@ use Rattle.moka_hist.specs.declared.accesses.Turn.TheVariants as turn
 use Rattle.moka_hist.specs.declared.accesses.Got.{Got}
 use Rattle.moka_hist.specs.declared.accesses.Got.TheVariants as got
 use Rattle.moka_hist.specs.declared.tables.TableTurn.TheVariants as table
-use Rattle.moka_init.specs.PointPlan.{plan_at, is_copied}
+use Rattle.moka_init.specs.PointPlan.{plan_at, is_copied_in}
+use Rattle.moka_init.specs.declared.points.Computing.{Computing}
+use Rattle.moka_init.specs.declared.points.Computing.TheVariants as computing
+use Rattle.moka_init.specs.declared.points.Point.{Point}
+use Rattle.moka_init.specs.declared.points.Point.TheVariants as point
 use Rattle.moka_init.specs.declared.flow.Flow.{Flow}
 
 module _ {K V E : Type 0} where
@@ -99,9 +103,30 @@ module _ {K V E : Type 0} where
     pub number : new.call ≡ old.call
     pub begun : new.begun ≡ old.begun
 
+  -- the pair that a compute is to ask with was copied
+  abbrev pub IsAskCopied : Computing K V E → Type 0
+  IsAskCopied (computing.Own compute) = Unit {0}
+  IsAskCopied (computing.OwnAlone key) = Unit {0}
+  IsAskCopied (computing.Read compute) = Unit {0}
+  IsAskCopied (computing.Ask compute found copy) = copy ≡ found
+  IsAskCopied (computing.Told compute found) = Unit {0}
+  IsAskCopied (computing.Settle answer) = Unit {0}
+
+  -- what the next step from there needs twice was copied
+  abbrev pub IsCopied : Point K V E → Type 0
+  IsCopied (point.Posting p) = Unit {0}
+  IsCopied (point.Looking p) = Unit {0}
+  IsCopied (point.Loading p) = Unit {0}
+  IsCopied (point.Computing p) = IsAskCopied p
+  IsCopied (point.Writing p) = Unit {0}
+  IsCopied (point.Removing p) = Unit {0}
+  IsCopied (point.Listening p) = is_copied_in p ≡ true
+  IsCopied (point.Answering answer) = Unit {0}
+  IsCopied point.Spent = Unit {0}
+
   -- what the flow's next step needs twice was copied
   abbrev pub IsReady : Flow K V E → Type 0
-  IsReady flow = is_copied flow.point ≡ true
+  IsReady flow = IsCopied flow.point
 
   -- the flow goes on so: its turn and the call that is left are these, of the same number, and
   -- where its operation is stays

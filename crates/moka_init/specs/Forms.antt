@@ -4,8 +4,6 @@ use Rattle.moka_hist.specs.Step.{Access}
 use Rattle.moka_hist.specs.Step as step
 use Rattle.moka_hist.specs.declared.accesses.Got.{Got}
 use Rattle.moka_hist.specs.declared.accesses.Got.TheVariants as got
-use Rattle.moka_hist.specs.declared.accesses.Want.{Want}
-use Rattle.moka_hist.specs.declared.accesses.Want.TheVariants as want
 use Rattle.moka_hist.specs.declared.events.Told.{Told}
 use Rattle.moka_hist.specs.declared.visits.Claim.{Claim}
 use Rattle.moka_hist.specs.declared.visits.Found.{Found}
@@ -30,6 +28,7 @@ module _ {K V E : Type 0} where
   IsFoundBy (visit.Judge replace key stored) f = (seen : Bool) × (f ≡ found.Judge seen)
   IsFoundBy (visit.Holds key stored cause) f = (holds : Bool) × (f ≡ found.Holds holds)
   IsFoundBy (visit.WaitOrOwn n key kind) f = (claim : Claim) × (f ≡ found.WaitOrOwn claim)
+  IsFoundBy (visit.OwnAlone n key) f = (owned : Bool) × (f ≡ found.OwnAlone owned)
   IsFoundBy (visit.ReadSettled n) f = (settled : Settled V E) × (f ≡ found.ReadSettled settled)
   IsFoundBy (visit.Settle n with) f = f ≡ found.Settle
   IsFoundBy (visit.OpenAsk n takes) f = f ≡ found.OpenAsk
@@ -45,12 +44,3 @@ module _ {K V E : Type 0} where
   HasForm (step.On_table operation) (got.Desk f) = ⊥
   HasForm (step.On_desk made) (got.Table turn) = ⊥
   HasForm (step.On_desk made) (got.Desk f) = IsFoundBy made f
-
-  -- the same of an access as it is wanted
-  abbrev pub FitsWant : Want K V E → Got K V E → Type 0
-  FitsWant (want.Begin operation) (got.Table turn) = Unit {0}
-  FitsWant (want.Begin operation) (got.Desk f) = ⊥
-  FitsWant want.Table (got.Table turn) = Unit {0}
-  FitsWant want.Table (got.Desk f) = ⊥
-  FitsWant (want.Desk made) (got.Table turn) = ⊥
-  FitsWant (want.Desk made) (got.Desk f) = IsFoundBy made f

@@ -9,6 +9,8 @@ use Rattle.moka_hist.specs.Step as step
 use Rattle.moka_hist.specs.declared.tables.TableOp.{TableOp}
 use Rattle.moka_hist.specs.declared.visits.Settled.{Settled}
 use Rattle.moka_hist.specs.declared.visits.Settled.TheVariants as settled
+use Rattle.moka_hist.specs.declared.visits.Takes.{Takes}
+use Rattle.moka_hist.specs.declared.visits.Takes.TheVariants as takes
 use Rattle.moka_hist.specs.declared.visits.Visit.{Visit}
 use Rattle.moka_hist.specs.declared.visits.Visit.TheVariants as visit
 use Rattle.moka_hist.specs.declared.tables.TableTurn.TheVariants as table
@@ -46,6 +48,15 @@ SettledNeedsMemory (settled.Err error) = Unit {0}
 SettledNeedsMemory settled.Nothing = ⊥
 SettledNeedsMemory settled.Aborted = ⊥
 
+-- memory may be wanting to open an ask that takes such answers: a compute asks with a copy of the
+-- pair that it found
+abbrev pub AskTakesCopies : Takes → Type 0
+AskTakesCopies takes.Value = Unit {0}
+AskTakesCopies takes.Optional = ⊥
+AskTakesCopies takes.Try = ⊥
+AskTakesCopies takes.Op = Unit {0}
+AskTakesCopies takes.TryOp = Unit {0}
+
 module _ {K V E : Type 0} where
   -- The access that is wanted, where this operation was begun: nothing else is, until it has
   -- decided.
@@ -69,9 +80,10 @@ module _ {K V E : Type 0} where
   VisitTakesCopies (visit.Judge replace key stored) = Unit {0}
   VisitTakesCopies (visit.Holds key stored cause) = Unit {0}
   VisitTakesCopies (visit.WaitOrOwn n key kind) = Unit {0}
+  VisitTakesCopies (visit.OwnAlone n key) = Unit {0}
   VisitTakesCopies (visit.ReadSettled n) = ⊥
   VisitTakesCopies (visit.Settle n with) = SettledNeedsMemory with
-  VisitTakesCopies (visit.OpenAsk n takes) = ⊥
+  VisitTakesCopies (visit.OpenAsk n takes) = AskTakesCopies takes
   VisitTakesCopies (visit.TakeTold n) = ⊥
   VisitTakesCopies (visit.PostWrite n write) = ⊥
   VisitTakesCopies (visit.TakeTurn n) = ⊥
@@ -97,6 +109,7 @@ module _ {K V E : Type 0} where
   VisitNeedsMemory w (visit.Judge replace key stored) = Unit {0}
   VisitNeedsMemory w (visit.Holds key stored cause) = Unit {0}
   VisitNeedsMemory w (visit.WaitOrOwn n key kind) = Unit {0}
+  VisitNeedsMemory w (visit.OwnAlone n key) = Unit {0}
   VisitNeedsMemory w (visit.ReadSettled n) = Unit {0}
   VisitNeedsMemory w (visit.Settle n with) = SettledNeedsMemory with
   VisitNeedsMemory w (visit.OpenAsk n takes) = Unit {0}

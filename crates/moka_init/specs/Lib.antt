@@ -4,4 +4,3 @@ pub mod Forms
 pub mod Grounds
 pub mod Telling
 pub mod Steps
-pub mod EmptyCache

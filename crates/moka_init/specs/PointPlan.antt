@@ -2,11 +2,21 @@
 use Rattle.std.specs.Prelude.{Bool, true, false, List, [], ◌∷◌, Some, None}
 use Rattle.moka_hist.specs.Plan.{Item, Aim, end_load}
 use Rattle.moka_hist.specs.Plan as plan
-use Rattle.moka_hist.specs.Writing.{nothing_answer}
+use Rattle.moka_hist.specs.Writing.{nothing_answer, said}
+use Rattle.moka_hist.specs.Entries.{entry, unchanged}
+use Rattle.moka_hist.specs.Computing.{end_compute}
+use Rattle.moka_hist.specs.declared.entries.CompResult.{CompResult}
+use Rattle.moka_hist.specs.declared.entries.CompResult.TheVariants as done
 use Rattle.moka_hist.specs.declared.replies.Answer.TheVariants as answer
 use Rattle.moka_hist.specs.declared.replies.Answer.{Answer}
+use Rattle.moka_hist.specs.declared.loads.Compute.{Compute}
+use Rattle.moka_hist.specs.declared.visits.Takes.{Takes}
+use Rattle.moka_hist.specs.declared.visits.Takes.TheVariants as takes
 use Rattle.moka_hist.specs.declared.visits.Settled.{Settled}
 use Rattle.moka_hist.specs.declared.visits.Settled.TheVariants as settled
+use Rattle.moka_init.specs.declared.points.Asks.{Asks}
+use Rattle.moka_init.specs.declared.points.Asks.TheVariants as asks
+use Rattle.moka_init.specs.declared.points.KeyCompute.{KeyCompute}
 use Rattle.moka_init.specs.declared.points.Look as looks
 use Rattle.moka_init.specs.declared.points.Look.TheVariants as look
 use Rattle.moka_init.specs.declared.points.Chosen.{Chosen}
@@ -30,6 +40,10 @@ use Rattle.moka_init.specs.declared.points.Looking.{Looking}
 use Rattle.moka_init.specs.declared.points.Looking.TheVariants as looking
 use Rattle.moka_init.specs.declared.points.Loading.{Loading}
 use Rattle.moka_init.specs.declared.points.Loading.TheVariants as loading
+use Rattle.moka_init.specs.declared.points.Computing.{Computing}
+use Rattle.moka_init.specs.declared.points.Computing.TheVariants as computing
+use Rattle.moka_init.specs.declared.points.Uncopied.{Uncopied}
+use Rattle.moka_init.specs.declared.points.Uncopied.TheVariants as uncopied
 use Rattle.moka_init.specs.declared.points.Writing.{Writing}
 use Rattle.moka_init.specs.declared.points.Writing.TheVariants as writing
 use Rattle.moka_init.specs.declared.points.Removing.{Removing}
@@ -39,12 +53,23 @@ use Rattle.moka_init.specs.declared.points.Listening.TheVariants as listening
 use Rattle.moka_init.specs.declared.points.Point.{Point}
 use Rattle.moka_init.specs.declared.points.Point.TheVariants as point
 
+-- which answers such an ask of a compute takes
+abbrev pub takes_by : Asks → Takes
+takes_by asks.Op = takes.Op
+takes_by asks.TryOp = takes.TryOp
+takes_by asks.Value = takes.Value
+
+abbrev pub compute_of : {K : Type 0} → KeyCompute K → Compute K
+compute_of c = record { key = c.key; takes = takes_by c.asks }
+
 module _ {K V : Type 0} where
   abbrev pub aim_of : looks.Look K V → Aim K V
   aim_of (look.Answer key) = plan.To_answer
   aim_of (look.Load sought) = plan.To_load sought
   aim_of (look.Own sought) = plan.To_own sought
   aim_of (look.Insert key value) = plan.To_insert key value
+  aim_of (look.Compute compute) = plan.To_compute (compute_of compute)
+  aim_of (look.Report key) = plan.To_report key
 
   -- the key that is looked up
   abbrev pub key_sought : looks.Look K V → K
@@ -52,6 +77,8 @@ module _ {K V : Type 0} where
   key_sought (look.Load sought) = sought.load.key
   key_sought (look.Own sought) = sought.load.key
   key_sought (look.Insert key value) = key
+  key_sought (look.Compute compute) = compute.key
+  key_sought (look.Report key) = key
 
   abbrev pub aim_at : Chosen K → Aim K V
   aim_at c = plan.To_evict c.key c.stamp c.cause
@@ -62,30 +89,62 @@ module _ {K V : Type 0} where
   key_locked (locked.TakeOut t) = t.key
   key_locked (locked.Find c) = c.key
 
-  -- what follows once the write of the value is posted
-  abbrev pub posted_after : Then → V → Posted K V
-  posted_after thens.Done value = posted.Done
-  posted_after thens.Settle value = posted.Settle value
-  posted_after thens.Loaded value = posted.Loaded value
+  -- what a compute has done that stored a value, in the place of another where its look had found
+  -- one, and one that took a value out
+  abbrev pub stored_as : K → V → Bool → CompResult K V
+  stored_as key value false = done.Inserted (entry key value true false)
+  stored_as key value true = done.ReplacedWith (entry key value true true)
 
-abbrev pub removal_of : Removal → plan.Removal
-removal_of removal.Invalidate = plan.To_invalidate
-removal_of removal.Remove = plan.To_remove
-removal_of (removal.Evict stamp cause) = plan.To_evict_chosen stamp cause
+  abbrev pub removed_as : K → V → CompResult K V
+  removed_as key value = done.Removed (entry key value false false)
+
+  -- what follows once the write of the value is posted
+  abbrev pub posted_after : Put K V → Posted K V
+  posted_after p = by p.then
+    where
+      by : Then → Posted K V
+      by thens.Done = posted.Done
+      by thens.Settle = posted.Settle p.value
+      by thens.Loaded = posted.Loaded p.value
+      by (thens.Compute replaced) = posted.Compute (stored_as p.key p.value replaced)
+
+  -- what follows once the write is posted that took this value's place, or took it out, where the
+  -- key or the value is answered
+  abbrev pub posted_with : Uncopied V → K → V → Posted K V
+  posted_with uncopied.Found key value = posted.Found value
+  posted_with uncopied.Removed key value = posted.Compute (removed_as key value)
+  posted_with (uncopied.Put own replaced) key value = posted.Compute (stored_as key own replaced)
+
+-- a write has taken the record's place
+abbrev pub is_upsert : {V : Type 0} → Uncopied V → Bool
+is_upsert uncopied.Found = false
+is_upsert uncopied.Removed = false
+is_upsert (uncopied.Put value replaced) = true
+
+-- what the key's record is taken out for
+abbrev pub removal_at : {K : Type 0} → K → Removal → plan.Removal K
+removal_at key removal.Invalidate = plan.To_invalidate
+removal_at key removal.Remove = plan.To_remove
+removal_at key (removal.Evict stamp cause) = plan.To_evict_chosen stamp cause
+removal_at key removal.Compute = plan.To_remove_as_told key
+
+abbrev pub removal_of : {K : Type 0} → TakeOut K → plan.Removal K
+removal_of t = removal_at t.key t.removal
 
 module _ {V E : Type 0} where
-  -- what an owner that ends so tells those that wait, and what it answers
+  -- what an owner that ends so tells those that wait
   abbrev pub settled_of : Ending V E → Settled V E
   settled_of (ending.Ready value fresh) = settled.Ready value
   settled_of (ending.Err error) = settled.Err error
   settled_of ending.Nothing = settled.Nothing
 
-  abbrev pub answer_of : Ending V E → Answer V E
+module _ {K V E : Type 0} where
+  -- and what it answers then
+  abbrev pub answer_of : Ending V E → Answer K V E
   answer_of (ending.Ready value fresh) = answer.Loaded value fresh
   answer_of (ending.Err error) = answer.InitErr error
   answer_of ending.Nothing = answer.Nothing
 
-module _ {K V E : Type 0} where
   -- how the owner ends is told to those that wait, and then answered
   abbrev pub settles : Ending V E → List (Item K V E)
   settles e = end_load (settled_of e) (answer_of e)
@@ -98,6 +157,7 @@ module _ {K V E : Type 0} where
       by thens.Done = plan.Reply answer.Done ∷ []
       by thens.Settle = settles (ending.Ready p.value true)
       by thens.Loaded = plan.Reply (answer.Loaded p.value true) ∷ []
+      by (thens.Compute replaced) = end_compute (answer.Computed (stored_as p.key p.value replaced))
 
   -- a write at its moment
   abbrev pub stores : Put K V → List (Item K V E)
@@ -105,11 +165,11 @@ module _ {K V E : Type 0} where
 
   -- a removal at its moment
   abbrev pub takes_out : TakeOut K → List (Item K V E)
-  takes_out t = plan.Moment (plan.To_take_out (removal_of t.removal) t.key) ∷ []
+  takes_out t = plan.Moment (plan.To_take_out (removal_of t) t.key) ∷ []
 
   -- nothing was found, which is answered
-  abbrev pub answers_nothing : Removal → List (Item K V E)
-  answers_nothing r = plan.Reply (nothing_answer (removal_of r)) ∷ []
+  abbrev pub says_nothing : TakeOut K → List (Item K V E)
+  says_nothing t = said (removal_of t) (nothing_answer (removal_of t))
 
   -- the chosen record is looked up
   abbrev pub finds : Chosen K → List (Item K V E)
@@ -128,6 +188,8 @@ module _ {K V E : Type 0} where
   drained_rest (drained.TakeOut t) = takes_out t
   drained_rest (drained.Lock l) = plan.Lock (key_locked l) ∷ locked_rest l
   drained_rest (drained.Loaded value) = plan.Reply (answer.Loaded value true) ∷ []
+  drained_rest (drained.Ask compute) = plan.Ask_op (compute_of compute) None ∷ []
+  drained_rest (drained.StillNone key) = plan.Reply (unchanged key None) ∷ []
 
   abbrev pub posted_rest : Posted K V → List (Item K V E)
   posted_rest (posted.Drain then) = plan.Drain ∷ drained_rest then
@@ -136,6 +198,7 @@ module _ {K V E : Type 0} where
   posted_rest (posted.Loaded value) = plan.Reply (answer.Loaded value true) ∷ []
   posted_rest (posted.Found value) = plan.Reply (answer.Found (Some value)) ∷ []
   posted_rest posted.Evicted = plan.Reply answer.Evicted ∷ []
+  posted_rest (posted.Compute done) = end_compute (answer.Computed done)
 
   -- ---- what a call that stands there has still to do, by what it is about
 
@@ -159,6 +222,14 @@ module _ {K V E : Type 0} where
   loading_plan (loading.Ask load) = plan.Ask load ∷ []
   loading_plan (loading.Told load) = plan.Told load ∷ []
 
+  abbrev pub computing_plan : Computing K V E → List (Item K V E)
+  computing_plan (computing.Own compute) = plan.Own_key (compute_of compute) ∷ []
+  computing_plan (computing.OwnAlone key) = plan.Own_alone key ∷ []
+  computing_plan (computing.Read compute) = plan.Read_key (compute_of compute) ∷ []
+  computing_plan (computing.Ask compute found copy) = plan.Ask_op (compute_of compute) found ∷ []
+  computing_plan (computing.Told compute found) = plan.Told_op (compute_of compute) found ∷ []
+  computing_plan (computing.Settle answer) = end_compute answer
+
   abbrev pub writing_plan : Writing K V → List (Item K V E)
   writing_plan (writing.Moment p) = stores p
   writing_plan (writing.Write p moment) = plan.Write p.key p.value moment ∷ put_rest p
@@ -168,8 +239,8 @@ module _ {K V E : Type 0} where
   removing_plan (removing.Holds c key stored) =
       plan.Holds c.key c.stamp c.cause key stored ∷ []
   removing_plan (removing.Moment t) = takes_out t
-  removing_plan (removing.Out t) = plan.Out (removal_of t.removal) t.key ∷ []
-  removing_plan (removing.Idle r) = plan.Idle ∷ answers_nothing r
+  removing_plan (removing.Out t) = plan.Out (removal_of t) t.key ∷ []
+  removing_plan (removing.Idle t) = plan.Idle ∷ says_nothing t
 
   abbrev pub listening_plan : Listening K V → List (Item K V E)
   listening_plan (listening.Ended number write then) =
@@ -177,43 +248,55 @@ module _ {K V E : Type 0} where
   listening_plan (listening.Lock l) = plan.Lock (key_locked l) ∷ locked_rest l
   listening_plan (listening.Notice key old cause upsert write then) =
       plan.Notice key old cause upsert ∷ plan.Unlock true ∷ plan.Post write ∷ posted_rest then
-  listening_plan (listening.Uncopied key old write) =
-      plan.Notice key old None false ∷ plan.Unlock true ∷ plan.Post write ∷
-      plan.Reply (answer.Found (Some old.value)) ∷ []
+  listening_plan (listening.Uncopied key old write then) =
+      plan.Notice key old None (is_upsert then) ∷ plan.Unlock true ∷ plan.Post write ∷
+      posted_rest (posted_with then key old.value)
   listening_plan (listening.Heard write then) =
       plan.Heard ∷ plan.Unlock true ∷ plan.Post write ∷ posted_rest then
   listening_plan (listening.Unlock write then) =
       plan.Unlock true ∷ plan.Post write ∷ posted_rest then
-  listening_plan (listening.Release r) = plan.Unlock false ∷ answers_nothing r
+  listening_plan (listening.Release t) = plan.Unlock false ∷ says_nothing t
 
   -- what a call that stands there has still to do
   abbrev pub plan_at : Point K V E → List (Item K V E)
   plan_at (point.Posting p) = posting_plan p
   plan_at (point.Looking p) = looking_plan p
   plan_at (point.Loading p) = loading_plan p
+  plan_at (point.Computing p) = computing_plan p
   plan_at (point.Writing p) = writing_plan p
   plan_at (point.Removing p) = removing_plan p
   plan_at (point.Listening p) = listening_plan p
   plan_at (point.Answering answer) = plan.Reply answer ∷ []
   plan_at point.Spent = []
 
--- ---- whether the value that is needed twice was copied
+-- ---- whether what is needed twice was copied
 
 module _ {K V : Type 0} where
   abbrev pub is_copied_in : Listening K V → Bool
   is_copied_in (listening.Ended number write then) = true
   is_copied_in (listening.Lock l) = true
   is_copied_in (listening.Notice key old cause upsert write then) = true
-  is_copied_in (listening.Uncopied key old write) = false
+  is_copied_in (listening.Uncopied key old write then) = false
   is_copied_in (listening.Heard write then) = true
   is_copied_in (listening.Unlock write then) = true
-  is_copied_in (listening.Release r) = true
+  is_copied_in (listening.Release t) = true
 
 module _ {K V E : Type 0} where
+  -- for all that can be seen: of the pair that a compute asks with a copy is made where its ask is
+  -- to open
+  abbrev pub is_ask_copied : Computing K V E → Bool
+  is_ask_copied (computing.Own compute) = true
+  is_ask_copied (computing.OwnAlone key) = true
+  is_ask_copied (computing.Read compute) = true
+  is_ask_copied (computing.Ask compute found copy) = false
+  is_ask_copied (computing.Told compute found) = true
+  is_ask_copied (computing.Settle answer) = true
+
   abbrev pub is_copied : Point K V E → Bool
   is_copied (point.Posting p) = true
   is_copied (point.Looking p) = true
   is_copied (point.Loading p) = true
+  is_copied (point.Computing p) = is_ask_copied p
   is_copied (point.Writing p) = true
   is_copied (point.Removing p) = true
   is_copied (point.Listening p) = is_copied_in p

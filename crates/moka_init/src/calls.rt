@@ -139,8 +139,8 @@ fn due_in_listening<K: Clone + Drop, V: Clone + Drop, E>(
             let visit = open_notice(call, key, old, *cause, *upsert)?;
             Ok(Some(visit))
         }
-        Listening::Uncopied { key, old, .. } => {
-            let visit = open_notice(call, key, old, None, false)?;
+        Listening::Uncopied { key, old, then, .. } => {
+            let visit = open_notice(call, key, old, None, then.is_upsert())?;
             Ok(Some(visit))
         }
         _ => Ok(None),

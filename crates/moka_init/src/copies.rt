@@ -5,10 +5,11 @@ ghost use Rattle.moka_hist.specs.Plan as plan;
 ghost use Rattle.moka_hist.specs.Step.{access_for, replace_of, want_for, takes_of, On_table};
 ghost use Rattle.moka_hist.specs.Writing.{stamp_asked};
 ghost use Rattle.moka_init.specs.Grounds.{SettledNeedsMemory};
-ghost use Rattle.moka_init.specs.PointPlan.{aim_of, key_locked, key_sought, removal_of, settled_of};
+ghost use Rattle.moka_init.specs.PointPlan.{aim_of, is_upsert, key_locked, key_sought};
+ghost use Rattle.moka_init.specs.PointPlan.{removal_of, settled_of, takes_by};
 
 use crate::calls::open_notice;
-use crate::points::{Ending, Locked, Look, Put, Removal, TakeOut};
+use crate::points::{Asks, Ending, Locked, Look, Put, Removal, TakeOut, Uncopied};
 use moka_hist::{Cause, Kind, Load, Settled, Stored, TableOp, Takes, Visit, Want};
 use std::alloc::AllocError;
 
@@ -20,6 +21,20 @@ pub(crate) fn takes_of(kind: Kind) -> Takes
         Kind::GetWith => Takes::Value,
         Kind::Optional => Takes::Optional,
         Kind::Try => Takes::Try,
+        Kind::Compute => Takes::Op,
+    }
+}
+
+impl Asks {
+    /// Which answers such an ask takes.
+    pub(crate) fn takes(self) -> Takes
+        ensures { result ≡ takes_by self }
+    {
+        match self {
+            Asks::Op => Takes::Op,
+            Asks::TryOp => Takes::TryOp,
+            Asks::Value => Takes::Value,
+        }
     }
 }
 
@@ -47,6 +62,8 @@ pub(crate) fn key_sought<K, V>(look: &Look<K, V>) -> &K
         Look::Load(sought) => &sought.load.key,
         Look::Own(sought) => &sought.load.key,
         Look::Insert { key, .. } => key,
+        Look::Compute(compute) => &compute.key,
+        Look::Report { key } => key,
     }
 }
 
@@ -59,6 +76,8 @@ pub(crate) fn replace_of<K, V>(look: &Look<K, V>) -> Option<u64>
         Look::Load(sought) => sought.replace,
         Look::Own(sought) => sought.replace,
         Look::Insert { .. } => None,
+        Look::Compute(_) => None,
+        Look::Report { .. } => None,
     }
 }
 
@@ -80,24 +99,25 @@ pub(crate) fn want_out<K: Clone + Drop, V, E>(
 ) -> Result<Want<K, V, E>, AllocError>
     requires { IsExact K.is_clone }
     ensures { IfOk result (λ want. want ≡ want_for begun
-        (access_for 0 (plan.Out (removal_of out.now.removal) out.now.key))) }
+        (access_for 0 (plan.Out (removal_of out.now) out.now.key))) }
 {
     if begun {
         return Ok(Want::Table);
     }
     let key = out.key.clone()?;
-    let stamp = stamp_asked(out.removal);
+    let stamp = stamp_asked(out);
     Ok(Want::Begin(TableOp::RemoveIf { key, stamp }))
 }
 
 // The stamp that a removal asks for.
-fn stamp_asked(removal: Removal) -> Option<u64>
-    ensures { result ≡ stamp_asked (removal_of removal) }
+fn stamp_asked<K>(out: &TakeOut<K>) -> Option<u64>
+    ensures { result ≡ stamp_asked (removal_of out.now) }
 {
-    match removal {
+    match out.removal {
         Removal::Invalidate => None,
         Removal::Remove => None,
         Removal::Evict { stamp, .. } => Some(stamp),
+        Removal::Compute => None,
     }
 }
 
@@ -133,6 +153,62 @@ pub(crate) fn want_judge<K: Clone + Drop, V: Clone + Drop, E>(
         key,
         stored,
     }))
+}
+
+/// The pair that was found, of which the ask gives out a copy.
+pub(crate) fn found_copy<K: Clone + Drop, V: Clone + Drop>(
+    found: &Option<(K, V)>,
+) -> Result<Option<(K, V)>, AllocError>
+    requires keys { IsExact K.is_clone }
+    requires values { IsExact V.is_clone }
+    ensures { IfOk result (λ copy. copy ≡ found.now) }
+{
+    match found {
+        Some(pair) => {
+            let copy = pair_copy(&pair.0, &pair.1)?;
+            Ok(Some(copy))
+        }
+        None => Ok(None),
+    }
+}
+
+/// An equal pair.
+pub(crate) fn pair_copy<K: Clone + Drop, V: Clone + Drop>(
+    key: &K,
+    value: &V,
+) -> Result<(K, V), AllocError>
+    requires keys { IsExact K.is_clone }
+    requires values { IsExact V.is_clone }
+    ensures { IfOk result (λ copy. copy ≡ (key.now, value.now)) }
+{
+    let key = key.clone()?;
+    let value = value.clone()?;
+    Ok((key, value))
+}
+
+/// Becomes the owner of the key's computes, or waits for it.
+pub(crate) fn want_own_key<K: Clone + Drop, V, E>(
+    call: u64,
+    key: &K,
+) -> Result<Want<K, V, E>, AllocError>
+    requires { IsExact K.is_clone }
+    ensures { IfOk result (λ want. want ≡ Want.Desk (Visit.WaitOrOwn call key.now Kind.Compute)) }
+{
+    let key = key.clone()?;
+    let kind = Kind::Compute;
+    Ok(Want::Desk(Visit::WaitOrOwn { call, key, kind }))
+}
+
+/// Becomes the owner of the key's computes where nobody is.
+pub(crate) fn want_own_alone<K: Clone + Drop, V, E>(
+    call: u64,
+    key: &K,
+) -> Result<Want<K, V, E>, AllocError>
+    requires { IsExact K.is_clone }
+    ensures { IfOk result (λ want. want ≡ Want.Desk (Visit.OwnAlone call key.now)) }
+{
+    let key = key.clone()?;
+    Ok(Want::Desk(Visit::OwnAlone { call, key }))
 }
 
 /// Becomes the owner of the load, or waits for it.
@@ -226,6 +302,19 @@ pub(crate) fn want_lock<K: Clone + Drop, V, E>(
 {
     let key = key.clone()?;
     Ok(Want::Desk(Visit::LockKey { call, key }))
+}
+
+impl<V> Uncopied<V> {
+    /// Whether a write has taken the record's place.
+    pub(crate) fn is_upsert(&self) -> bool
+        ensures { result ≡ is_upsert self.now }
+    {
+        match self {
+            Uncopied::Found => false,
+            Uncopied::Removed => false,
+            Uncopied::Put { .. } => true,
+        }
+    }
 }
 
 /// Opens the notice of the record that left.

@@ -10,12 +10,13 @@ ghost use Rattle.moka_init.specs.Forms.{HasForm};
 ghost use Rattle.moka_init.specs.Grounds.{access_at};
 
 use crate::flow::Flow;
-use crate::points::{Listening, Loading, Looking, Point, Posting, Removing, Writing};
+use crate::points::{Computing, Listening, Loading, Looking, Point, Posting, Removing, Writing};
 use moka_hist::{Answer, Found, Got, TableTurn, Turn};
 use std::mem;
 
 impl<K: Drop, V: Drop, E: Drop> Flow<K, V, E> {
     ghost use Rattle.moka_hist.specs.declared.replies.Answer.{Answer};
+    ghost use Rattle.moka_init.specs.declared.points.Computing.{Computing};
     ghost use Rattle.moka_init.specs.declared.points.Listening.{Listening};
     ghost use Rattle.moka_init.specs.declared.points.Loading.{Loading};
     ghost use Rattle.moka_init.specs.declared.points.Looking.{Looking};
@@ -62,6 +63,21 @@ impl<K: Drop, V: Drop, E: Drop> Flow<K, V, E> {
         }
     }
 
+    // After a visit, where the call stands at its computing.
+    pub(crate) fn computing_visited(&mut self, found: Found<V, E>) -> Turn<K, V, E>
+        requires there { (computing : Computing K V E)
+            × (self.old.point ≡ Point.Computing computing) }
+        requires ready { IsReady self.old }
+        requires form { HasForm (access_at self.old) (Got.Desk found) }
+        ensures { GoesOn self.old (next_of self.old.call (call_of self.old) (Got.Desk found))
+            result self.new }
+    {
+        match self.point_out() {
+            Point::Computing(computing) => self.after_computing(computing, found),
+            _ => unreachable!(),
+        }
+    }
+
     // After a visit, where the call stands at its writing.
     pub(crate) fn writing_visited(&mut self, found: Found<V, E>) -> Turn<K, V, E>
         requires there { (writing : Writing K V) × (self.old.point ≡ Point.Writing writing) }
@@ -104,7 +120,7 @@ impl<K: Drop, V: Drop, E: Drop> Flow<K, V, E> {
 
     // After its one visit, where the call only answers.
     pub(crate) fn answering_visited(&mut self, found: Found<V, E>) -> Turn<K, V, E>
-        requires there { (answer : Answer V E) × (self.old.point ≡ Point.Answering answer) }
+        requires there { (answer : Answer K V E) × (self.old.point ≡ Point.Answering answer) }
         requires form { HasForm (access_at self.old) (Got.Desk found) }
         ensures { GoesOn self.old (next_of self.old.call (call_of self.old) (Got.Desk found))
             result self.new }
@@ -116,7 +132,7 @@ impl<K: Drop, V: Drop, E: Drop> Flow<K, V, E> {
     }
 
     // The call's one step is its answer.
-    fn answers_alone(&mut self, answer: Answer<V, E>) -> Turn<K, V, E>
+    fn answers_alone(&mut self, answer: Answer<K, V, E>) -> Turn<K, V, E>
         ensures { GoesOn self.old
             (goes (standing self.old (plan_at self.old.point)) (plan.Reply answer ∷ []))
             result self.new }

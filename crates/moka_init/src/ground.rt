@@ -58,8 +58,10 @@ pub trait Ground<K: Eq + Clone, V: Clone, E: Clone> {
 
     ghost keeps_on: { (a b c : Self) → keeps a b → keeps b c → keeps a c };
 
-    /// It tells how many writes such a world owes and has logged.
-    ghost counts: { (g : Self) (w : World K V E) → stands g w → Counts w (account g).work };
+    /// It tells how many writes such a world owes and has logged, and whether the owner has ended
+    /// there that its call waits for.
+    ghost counts: { (g : Self) (w : World K V E) → stands g w
+        → Counts (account g).call w (account g).work };
 }
 
 /// A ground that nobody else changes while it is lent: what it stands for stays until its next

@@ -5,28 +5,21 @@
 //! The schedule machine drives them; the polls of a cache are to drive the same.
 #![tactic(auto)]
 
-#[cfg(test)]
-mod bare;
 mod calls;
+mod computing;
 mod copies;
 mod departing;
 mod flow;
 mod goings;
 mod ground;
 mod listening;
-#[cfg(test)]
-mod load_tests;
 mod loading;
 mod looking;
 mod points;
 mod posting;
-#[cfg(test)]
-mod removal_tests;
 mod removing;
 mod starts;
 mod takes;
-#[cfg(test)]
-mod tests;
 mod wants;
 mod writing;
 

@@ -3,15 +3,15 @@ ghost use Rattle.std.specs.Prelude.{◌≡◌, ◌∷◌, true, false, Bool, Opt
 ghost use Rattle.moka_hist.specs.Plan as plan;
 ghost use Rattle.moka_hist.specs.Listening.{after_lock, after_unlock, after_notice, after_hearing};
 ghost use Rattle.moka_hist.specs.Step.{next_of, access_of};
-ghost use Rattle.moka_init.specs.PointPlan.{answers_nothing, drained_rest, is_copied_in};
+ghost use Rattle.moka_init.specs.PointPlan.{says_nothing, drained_rest, is_copied_in};
 ghost use Rattle.moka_init.specs.PointPlan.{key_locked};
-ghost use Rattle.moka_init.specs.PointPlan.{listening_plan, locked_rest, posted_rest, removal_of};
+ghost use Rattle.moka_init.specs.PointPlan.{listening_plan, locked_rest, posted_rest};
 ghost use Rattle.moka_init.specs.FlowPlan.{standing, mid, GoesOn};
 ghost use Rattle.moka_init.specs.Forms.{HasForm, IsFoundBy};
 
 use crate::flow::Flow;
 use crate::points::{
-    Drained, Listening, Locked, Point, Posted, Posting, Removal, Removing, Writing,
+    Drained, Listening, Locked, Point, Posted, Posting, Removing, TakeOut, Writing,
 };
 use moka_hist::{Ask, Cause, Found, Got, Stored, Turn, Visit, Write};
 
@@ -46,7 +46,7 @@ impl<K: Drop, V: Drop, E: Drop> Flow<K, V, E> {
             Listening::Uncopied { .. } => unreachable!(),
             Listening::Heard { write, then } => self.after_heard(write, then, found),
             Listening::Unlock { write, then } => self.after_unlock(write, then, found),
-            Listening::Release(removal) => self.after_release(removal, found),
+            Listening::Release(out) => self.after_release(out, found),
         }
     }
 
@@ -166,15 +166,16 @@ impl<K: Drop, V: Drop, E: Drop> Flow<K, V, E> {
             _ => unreachable!(),
         }
     }
+
     // Nothing was written under the lock: nothing is left but to answer so.
-    fn after_release(&mut self, removal: Removal, found: Found<V, E>) -> Turn<K, V, E>
+    fn after_release(&mut self, out: TakeOut<K>, found: Found<V, E>) -> Turn<K, V, E>
         requires form { IsFoundBy {K = K} (Visit.UnlockKey self.old.call false) found }
         ensures { GoesOn self.old
-            (after_unlock (standing self.old (plan.Unlock false ∷ answers_nothing removal))
-            (answers_nothing removal) found) result self.new }
+            (after_unlock (standing self.old (plan.Unlock false ∷ says_nothing out))
+            (says_nothing out) found) result self.new }
     {
         match found {
-            Found::UnlockKey => self.answers(removal.nothing()),
+            Found::UnlockKey => self.ends_with_nothing(out),
             _ => unreachable!(),
         }
     }

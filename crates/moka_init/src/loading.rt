@@ -145,6 +145,7 @@ impl<K: Drop, V: Drop, E: Drop> Flow<K, V, E> {
             Told::Value(value) => self.stores(load, value),
             Told::Err(error) => self.settles(Ending::Err(error)),
             Told::Nothing => self.settles(Ending::Nothing),
+            Told::Op(_) => self.waits(Point::Loading(Loading::Told(load))),
             Told::Done => self.waits(Point::Loading(Loading::Told(load))),
             Told::Off => self.waits(Point::Loading(Loading::Told(load))),
         }
@@ -191,7 +192,7 @@ impl<K: Drop, V: Drop, E: Drop> Flow<K, V, E> {
 
 impl<V: Drop, E: Drop> Ending<V, E> {
     // What is answered once it is settled.
-    fn answer(self) -> Answer<V, E>
+    fn answer<K>(self) -> Answer<K, V, E>
         ensures { result ≡ answer_of self }
     {
         match self {

@@ -1,5 +1,5 @@
 //! Looking a key up.
-ghost use Rattle.std.specs.Prelude.{◌≡◌, true, [], ◌∷◌};
+ghost use Rattle.std.specs.Prelude.{true, [], ◌∷◌};
 ghost use Rattle.moka_hist.specs.Plan as plan;
 ghost use Rattle.moka_hist.specs.Looking.{after_get, after_judge, hits, misses};
 ghost use Rattle.moka_hist.specs.Plan.{put};
@@ -8,6 +8,7 @@ ghost use Rattle.moka_init.specs.PointPlan.{aim_of, key_sought, plan_at, looking
 ghost use Rattle.moka_init.specs.FlowPlan.{standing, mid, GoesOn};
 ghost use Rattle.moka_init.specs.Forms.{HasForm, IsFoundBy};
 
+use crate::computing::unchanged;
 use crate::flow::Flow;
 use crate::points::{Ending, Loading, Look, Looking, Point, Put, Then};
 use moka_hist::{Answer, Found, Got, Stored, TableAnswer, TableTurn, Turn, Visit};
@@ -55,10 +56,10 @@ impl<K: Drop, V: Drop, E: Drop> Flow<K, V, E> {
         requires form { IsFoundBy (Visit.Judge (replace_of (aim_of look)) key stored) found }
         ensures { GoesOn self.old
             (after_judge (standing self.old (plan.Judge (aim_of look) key stored ∷ []))
-            (aim_of look) stored found) result self.new }
+            (aim_of look) key stored found) result self.new }
     {
         match found {
-            Found::Judge(true) => self.hits(look, stored.value),
+            Found::Judge(true) => self.hits(look, key, stored.value),
             Found::Judge(false) => self.misses(look),
             _ => unreachable!(),
         }
@@ -74,6 +75,8 @@ impl<K: Drop, V: Drop, E: Drop> Flow<K, V, E> {
             Look::Load(sought) => self.goes(Point::Loading(Loading::Own(sought))),
             Look::Own(sought) => self.goes(Point::Loading(Loading::Ask(sought.load))),
             Look::Insert { key, value } => self.inserts(key, value),
+            Look::Compute(compute) => self.asks_with(compute, None),
+            Look::Report { key } => self.answers(unchanged(key, None)),
         }
     }
 
@@ -88,9 +91,9 @@ impl<K: Drop, V: Drop, E: Drop> Flow<K, V, E> {
         self.goes(point)
     }
 
-    fn hits(&mut self, look: Look<K, V>, value: V) -> Turn<K, V, E>
+    fn hits(&mut self, look: Look<K, V>, there: K, value: V) -> Turn<K, V, E>
         ensures { GoesOn self.old
-            (hits (standing self.old (plan_at self.old.point)) (aim_of look) value)
+            (hits (standing self.old (plan_at self.old.point)) (aim_of look) there value)
             result self.new }
     {
         match look {
@@ -107,6 +110,8 @@ impl<K: Drop, V: Drop, E: Drop> Flow<K, V, E> {
                 value,
                 fresh: false,
             }),
+            Look::Compute(compute) => self.asks_with(compute, Some((there, value))),
+            Look::Report { key } => self.answers(unchanged(key, Some((there, value)))),
         }
     }
 }

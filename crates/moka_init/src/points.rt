@@ -1,7 +1,25 @@
 //! Where a call stands: one variant for each item that can come first, with all that is still to
 //! do.
 
-use moka_hist::{Answer, Cause, Load, Sought, Stored, Write};
+use moka_hist::{Answer, Cause, CompResult, Load, Sought, Stored, Write};
+
+/// What the ask of a compute takes.
+#[derive(Clone, Copy)]
+pub enum Asks {
+    /// What is to be done.
+    Op,
+    /// The same, or an error.
+    TryOp,
+    /// A value that is to be stored.
+    Value,
+}
+
+/// A compute of a key, and what its ask takes.
+#[derive(Drop)]
+pub struct KeyCompute<K> {
+    pub key: K,
+    pub asks: Asks,
+}
 
 /// A key that is looked up, and what for.
 #[derive(Drop)]
@@ -14,6 +32,10 @@ pub enum Look<K, V> {
     Own(Sought<K>),
     /// To answer what is found, or else to store the value.
     Insert { key: K, value: V },
+    /// To ask what is to be done with what is found.
+    Compute(KeyCompute<K>),
+    /// To answer what is found, beside another compute that goes.
+    Report { key: K },
 }
 
 /// A record that was chosen to leave for the cause, by its key and its stamp.
@@ -33,6 +55,9 @@ pub enum Then {
     Settle,
     /// It is answered.
     Loaded,
+    /// The compute is over, and answers that it stored the value: in the place of another, if its
+    /// look had found one (`replaced`).
+    Compute { replaced: bool },
 }
 
 /// A value that is to be stored, and what follows then.
@@ -52,6 +77,8 @@ pub enum Removal {
     Remove,
     /// For the cause that it was chosen for, where it is the record of this stamp.
     Evict { stamp: u64, cause: Cause },
+    /// As a compute was told.
+    Compute,
 }
 
 /// A key whose record is to be taken out, and what for.
@@ -86,6 +113,10 @@ pub enum Drained<K, V> {
     Lock(Locked<K, V>),
     /// The value is answered: a disabled cache stores nothing.
     Loaded(V),
+    /// What is to be done with nothing is asked: a disabled cache is not looked at.
+    Ask(KeyCompute<K>),
+    /// That the key has no value is answered, since a disabled cache is not looked at.
+    StillNone(K),
 }
 
 /// What follows once a write is posted.
@@ -103,6 +134,8 @@ pub enum Posted<K, V> {
     Found(V),
     /// It took out a record that was chosen to leave.
     Evicted,
+    /// It was a compute's: that is over, and answers what it has done.
+    Compute(CompResult<K, V>),
 }
 
 /// Taking up owed writes, posting a write, and applying the log where it is full.
@@ -148,6 +181,28 @@ pub enum Loading<K, V, E> {
     Told(Load<K>),
 }
 
+/// Owning a key's computes or waiting for their owner, asking what is to be done with what the key
+/// has, and telling those that wait that it is done.
+#[derive(Drop)]
+pub enum Computing<K, V, E> {
+    Own(KeyCompute<K>),
+    OwnAlone(K),
+    Read(KeyCompute<K>),
+    /// The pair that was found is asked with. Its copy is given out, since the pair itself is needed
+    /// for the answer; it is made as the ask is about to open.
+    Ask {
+        compute: KeyCompute<K>,
+        found: Option<(K, V)>,
+        copy: Option<(K, V)>,
+    },
+    Told {
+        compute: KeyCompute<K>,
+        found: Option<(K, V)>,
+    },
+    /// The compute is over, which those that wait are told, and answers this.
+    Settle(Answer<K, V, E>),
+}
+
 /// Taking the moment of a write, and writing.
 #[derive(Drop)]
 pub enum Writing<K, V> {
@@ -167,7 +222,19 @@ pub enum Removing<K, V> {
     Moment(TakeOut<K>),
     Out(TakeOut<K>),
     /// Reading the clock, where no record was found to be taken out.
-    Idle(Removal),
+    Idle(TakeOut<K>),
+}
+
+/// What follows once a write is posted, of whose notice the key or the value is answered too.
+#[derive(Drop)]
+pub enum Uncopied<V> {
+    /// The removed value is answered.
+    Found,
+    /// A compute has taken the value out, which it answers with the key.
+    Removed,
+    /// A compute has stored the value, which it answers with the key: in the place of another, if
+    /// its look had found one (`replaced`).
+    Put { value: V, replaced: bool },
 }
 
 /// Holding a key's lock, telling the listener of a record that left, and hearing its answer.
@@ -189,11 +256,12 @@ pub enum Listening<K, V> {
         write: Write,
         then: Posted<K, V>,
     },
-    /// The same for a record whose value is answered too, and not copied yet.
+    /// The same for a record whose key or value is answered too, and not copied yet.
     Uncopied {
         key: K,
         old: Stored<V>,
         write: Write,
+        then: Uncopied<V>,
     },
     Heard {
         write: Write,
@@ -204,7 +272,7 @@ pub enum Listening<K, V> {
         then: Posted<K, V>,
     },
     /// Freeing the lock, under which nothing was written.
-    Release(Removal),
+    Release(TakeOut<K>),
 }
 
 /// Where a call stands.
@@ -213,11 +281,12 @@ pub enum Point<K, V, E> {
     Posting(Posting<K, V>),
     Looking(Looking<K, V>),
     Loading(Loading<K, V, E>),
+    Computing(Computing<K, V, E>),
     Writing(Writing<K, V>),
     Removing(Removing<K, V>),
     Listening(Listening<K, V>),
     /// Nothing is left but this answer: the cache is disabled.
-    Answering(Answer<V, E>),
+    Answering(Answer<K, V, E>),
     /// The call has answered.
     Spent,
 }

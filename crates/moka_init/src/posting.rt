@@ -1,5 +1,5 @@
 //! Taking up owed writes, posting, and applying the log.
-ghost use Rattle.std.specs.Prelude.{◌≡◌, ◌∷◌};
+ghost use Rattle.std.specs.Prelude.{◌∷◌};
 ghost use Rattle.moka_hist.specs.Plan as plan;
 ghost use Rattle.moka_hist.specs.Next.{goes};
 ghost use Rattle.moka_hist.specs.Posting.{once_ended, after_drain, after_post, after_turn};
@@ -9,6 +9,7 @@ ghost use Rattle.moka_init.specs.PointPlan.{plan_at, posting_plan, drained_rest,
 ghost use Rattle.moka_init.specs.FlowPlan.{standing, mid, GoesOn};
 ghost use Rattle.moka_init.specs.Forms.{HasForm, IsFoundBy};
 
+use crate::computing::unchanged;
 use crate::flow::Flow;
 use crate::points::{
     Drained, Ending, Listening, Loading, Looking, Point, Posted, Posting, Removing, Writing,
@@ -82,6 +83,8 @@ impl<K: Drop, V: Drop, E: Drop> Flow<K, V, E> {
             Drained::TakeOut(out) => self.goes(Point::Removing(Removing::Moment(out))),
             Drained::Lock(locked) => self.goes(Point::Listening(Listening::Lock(locked))),
             Drained::Loaded(value) => self.answers(Answer::Loaded { value, fresh: true }),
+            Drained::Ask(compute) => self.asks_with(compute, None),
+            Drained::StillNone(key) => self.answers(unchanged(key, None)),
         }
     }
 
@@ -110,6 +113,7 @@ impl<K: Drop, V: Drop, E: Drop> Flow<K, V, E> {
             Posted::Loaded(value) => self.answers(Answer::Loaded { value, fresh: true }),
             Posted::Found(value) => self.answers(Answer::Found(Some(value))),
             Posted::Evicted => self.answers(Answer::Evicted),
+            Posted::Compute(done) => self.ends(Answer::Computed(done)),
         }
     }
 

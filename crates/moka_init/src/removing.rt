@@ -4,14 +4,18 @@ ghost use Rattle.moka_hist.specs.Plan as plan;
 ghost use Rattle.moka_hist.specs.Looking.{after_get, after_holds, chosen_or_not, keeps};
 ghost use Rattle.moka_hist.specs.Step.{next_of, access_of};
 ghost use Rattle.moka_hist.specs.Writing.{after_moment, after_out, after_idle};
-ghost use Rattle.moka_hist.specs.Writing.{nothing_rest, removed_rest, removed_answer};
-ghost use Rattle.moka_init.specs.PointPlan.{aim_at, answers_nothing, finds, plan_at};
+ghost use Rattle.moka_hist.specs.Writing.{nothing_rest, removed_rest, removed_answer, said};
+ghost use Rattle.moka_hist.specs.Next.{goes};
+ghost use Rattle.moka_init.specs.PointPlan.{aim_at, finds, listening_plan, plan_at, says_nothing};
 ghost use Rattle.moka_init.specs.PointPlan.{removal_of, removing_plan, takes_out};
 ghost use Rattle.moka_init.specs.FlowPlan.{standing, mid, GoesOn};
 ghost use Rattle.moka_init.specs.Forms.{HasForm, IsFoundBy};
 
+use crate::computing::{removed_as, unchanged};
 use crate::flow::Flow;
-use crate::points::{Chosen, Listening, Point, Posted, Posting, Removal, Removing, TakeOut};
+use crate::points::{
+    Chosen, Listening, Point, Posted, Posting, Removal, Removing, TakeOut, Uncopied,
+};
 use moka_hist::{Answer, Found, Got, Stored, TableAnswer, TableTurn, Turn, Visit, Write};
 
 impl<K: Drop, V: Drop, E: Drop> Flow<K, V, E> {
@@ -34,7 +38,7 @@ impl<K: Drop, V: Drop, E: Drop> Flow<K, V, E> {
                 stored,
             } => self.after_holds(chosen, key, stored, found),
             Removing::Moment(out) => self.after_taken_moment(out, found),
-            Removing::Idle(removal) => self.after_idle(removal, found),
+            Removing::Idle(out) => self.after_idle(out, found),
             Removing::Find(_) => unreachable!(),
             Removing::Out(_) => unreachable!(),
         }
@@ -78,7 +82,7 @@ impl<K: Drop, V: Drop, E: Drop> Flow<K, V, E> {
             (keeps (standing self.old (plan_at self.old.point))) result self.new }
     {
         if self.rules.listener {
-            self.goes(Point::Listening(Listening::Release(chosen.removal())))
+            self.goes(Point::Listening(Listening::Release(chosen.take_out())))
         } else {
             self.answers(Answer::Kept)
         }
@@ -108,7 +112,7 @@ impl<K: Drop, V: Drop, E: Drop> Flow<K, V, E> {
         requires form { IsFoundBy {K = K} (Visit.StampMoment self.old.call) found }
         ensures { GoesOn self.old
             (after_moment (standing self.old (takes_out out))
-            (plan.To_take_out (removal_of out.removal) out.key) [] found) result self.new }
+            (plan.To_take_out (removal_of out) out.key) [] found) result self.new }
     {
         match found {
             Found::StampMoment(_) => self.goes(Point::Removing(Removing::Out(out))),
@@ -119,26 +123,26 @@ impl<K: Drop, V: Drop, E: Drop> Flow<K, V, E> {
     pub(crate) fn after_out(&mut self, out: TakeOut<K>, turn: TableTurn<K, V>) -> Turn<K, V, E>
         ensures { GoesOn self.old
             (after_out self.old.call
-            (standing self.old (plan.Out (removal_of out.removal) out.key ∷ []))
-            (removal_of out.removal) out.key turn) result self.new }
+            (standing self.old (plan.Out (removal_of out) out.key ∷ []))
+            (removal_of out) out.key turn) result self.new }
     {
         match turn {
             TableTurn::Going => self.goes(Point::Removing(Removing::Out(out))),
-            TableTurn::Decided(TableAnswer::None) => self.finds_nothing(out.removal),
+            TableTurn::Decided(TableAnswer::None) => self.finds_nothing(out),
             TableTurn::Decided(TableAnswer::Some { stored, .. }) => self.removes(out, stored),
         }
     }
 
     // Nothing was taken out: the lock is freed, or without a listener the clock read.
-    fn finds_nothing(&mut self, removal: Removal) -> Turn<K, V, E>
+    fn finds_nothing(&mut self, out: TakeOut<K>) -> Turn<K, V, E>
         ensures { GoesOn self.old
-            (mid self.old (nothing_rest self.old.rules.listener (removal_of removal)))
+            (mid self.old (nothing_rest self.old.rules.listener (removal_of out)))
             result self.new }
     {
         if self.rules.listener {
-            self.goes(Point::Listening(Listening::Release(removal)))
+            self.goes(Point::Listening(Listening::Release(out)))
         } else {
-            self.goes(Point::Removing(Removing::Idle(removal)))
+            self.goes(Point::Removing(Removing::Idle(out)))
         }
     }
 
@@ -146,7 +150,7 @@ impl<K: Drop, V: Drop, E: Drop> Flow<K, V, E> {
     fn removes(&mut self, out: TakeOut<K>, old: Stored<V>) -> Turn<K, V, E>
         ensures { GoesOn self.old
             (mid self.old (removed_rest self.old.rules.listener self.old.call
-            (removal_of out.removal) out.key old)) result self.new }
+            (removal_of out) out.key old)) result self.new }
     {
         let write = Write::Remove {
             number: self.call,
@@ -155,7 +159,7 @@ impl<K: Drop, V: Drop, E: Drop> Flow<K, V, E> {
         if self.rules.listener {
             self.tells_removed(out, old, write)
         } else {
-            self.goes(Point::removed(write, out.removal, old.value))
+            self.goes(Point::removed(write, out, old.value))
         }
     }
 
@@ -164,7 +168,7 @@ impl<K: Drop, V: Drop, E: Drop> Flow<K, V, E> {
         requires write { write ≡ Write.Remove self.old.call old.stamp }
         ensures { GoesOn self.old
             (mid self.old (removed_rest true self.old.call
-            (removal_of out.removal) out.key old)) result self.new }
+            (removal_of out) out.key old)) result self.new }
     {
         let TakeOut { key, removal } = out;
         match removal {
@@ -176,7 +180,8 @@ impl<K: Drop, V: Drop, E: Drop> Flow<K, V, E> {
                 write,
                 then: Posted::Done,
             })),
-            Removal::Remove => self.goes(Point::Listening(Listening::Uncopied { key, old, write })),
+            Removal::Remove => self.answers_removed(key, old, write, Uncopied::Found),
+            Removal::Compute => self.answers_removed(key, old, write, Uncopied::Removed),
             Removal::Evict { cause, .. } => self.goes(Point::Listening(Listening::Notice {
                 key,
                 old,
@@ -188,68 +193,76 @@ impl<K: Drop, V: Drop, E: Drop> Flow<K, V, E> {
         }
     }
 
-    fn after_idle(&mut self, removal: Removal, found: Found<V, E>) -> Turn<K, V, E>
+    // The notice of the record is due whose value is answered too.
+    fn answers_removed(
+        &mut self,
+        key: K,
+        old: Stored<V>,
+        write: Write,
+        then: Uncopied<V>,
+    ) -> Turn<K, V, E>
+        ensures { GoesOn self.old
+            (mid self.old (listening_plan (Listening.Uncopied key old write then))) result self.new }
+    {
+        self.goes(Point::Listening(Listening::Uncopied {
+            key,
+            old,
+            write,
+            then,
+        }))
+    }
+
+    fn after_idle(&mut self, out: TakeOut<K>, found: Found<V, E>) -> Turn<K, V, E>
         requires form { IsFoundBy {K = K} (Visit.Clock self.old.call) found }
         ensures { GoesOn self.old
-            (after_idle (standing self.old (plan.Idle ∷ answers_nothing removal))
-            (answers_nothing removal) found) result self.new }
+            (after_idle (standing self.old (plan.Idle ∷ says_nothing out))
+            (says_nothing out) found) result self.new }
     {
         match found {
-            Found::Clock(_) => self.answers(removal.nothing()),
+            Found::Clock(_) => self.ends_with_nothing(out),
             _ => unreachable!(),
+        }
+    }
+
+    // Nothing was taken out, which is answered, by a compute once those that wait know that it is
+    // over.
+    pub(crate) fn ends_with_nothing(&mut self, out: TakeOut<K>) -> Turn<K, V, E>
+        ensures { GoesOn self.old
+            (goes (standing self.old (plan_at self.old.point)) (says_nothing out)) result self.new }
+    {
+        match out.removal {
+            Removal::Invalidate => self.answers(Answer::Done),
+            Removal::Remove => self.answers(Answer::Found(None)),
+            Removal::Evict { .. } => self.answers(Answer::Kept),
+            Removal::Compute => self.ends(unchanged(out.key, None)),
         }
     }
 }
 
 impl<K> Chosen<K> {
-    // What the chosen record is taken out for.
-    fn removal(&self) -> Removal
-        ensures { result ≡ Removal.Evict self.now.stamp self.now.cause }
-    {
-        Removal::Evict {
-            stamp: self.stamp,
-            cause: self.cause,
-        }
-    }
-
     // The chosen record is to be taken out.
     fn take_out(self) -> TakeOut<K>
         ensures { result
             ≡ record { key = self.key; removal = Removal.Evict self.stamp self.cause } }
     {
-        TakeOut {
-            removal: self.removal(),
-            key: self.key,
-        }
+        let Chosen { key, stamp, cause } = self;
+        let removal = Removal::Evict { stamp, cause };
+        TakeOut { key, removal }
     }
 }
 
 impl<K: Drop, V: Drop, E: Drop> Point<K, V, E> {
     // The write is posted of a removal that took out a record of this value, and that is answered.
-    fn removed(write: Write, removal: Removal, value: V) -> Self
+    fn removed(write: Write, out: TakeOut<K>, value: V) -> Self
         ensures { plan_at result ≡ plan.Post write
-            ∷ plan.Reply (removed_answer (removal_of removal) value) ∷ [] }
+            ∷ said (removal_of out) (removed_answer (removal_of out) value) }
     {
-        let then = match removal {
+        let then = match out.removal {
             Removal::Invalidate => Posted::Done,
             Removal::Remove => Posted::Found(value),
             Removal::Evict { .. } => Posted::Evicted,
+            Removal::Compute => Posted::Compute(removed_as(out.key, value)),
         };
         Point::Posting(Posting::Post { write, then })
-    }
-}
-
-impl Removal {
-    ghost use Rattle.moka_hist.specs.Writing.{nothing_answer};
-
-    // What is answered where nothing was found.
-    pub(crate) fn nothing<V, E>(self) -> Answer<V, E>
-        ensures { result ≡ nothing_answer (removal_of self) }
-    {
-        match self {
-            Removal::Invalidate => Answer::Done,
-            Removal::Remove => Answer::Found(None),
-            Removal::Evict { .. } => Answer::Kept,
-        }
     }
 }

@@ -1,12 +1,14 @@
 //! Where a fresh call stands.
 
-ghost use Rattle.std.specs.Prelude.{◌≡◌};
+ghost use Rattle.std.specs.Prelude.{◌≡◌, [], ◌∷◌};
+ghost use Rattle.moka_hist.specs.Plan as plan;
 ghost use Rattle.moka_hist.specs.Plan.{is_disabled, get_plan, insert_plan, load_plan, plan_of, put};
 ghost use Rattle.moka_hist.specs.Plan.{or_insert_plan, seek, take_out, under_lock, look, To_evict};
-ghost use Rattle.moka_init.specs.PointPlan.{plan_at, put_rest, removal_of};
+ghost use Rattle.moka_init.specs.PointPlan.{plan_at, put_rest, removal_at, removal_of, takes_by};
 
 use crate::points::{
-    Chosen, Drained, Listening, Locked, Look, Point, Posting, Put, Removal, Removing, TakeOut, Then,
+    Asks, Chosen, Computing, Drained, KeyCompute, Listening, Locked, Look, Point, Posting, Put,
+    Removal, Removing, TakeOut, Then,
 };
 use moka_hist::{Answer, Kind, Load, Rules, Sought, Start};
 
@@ -32,6 +34,10 @@ impl<K: Drop, V: Drop, E: Drop> Point<K, V, E> {
             Start::Optional { key } => Point::seeks(rules, Kind::Optional, key, None),
             Start::Try { key } => Point::seeks(rules, Kind::Try, key, None),
             Start::OrInsert { key, value } => Point::or_insert(is_disabled(rules), key, value),
+            Start::Compute { key } => Point::computes(key, Asks::Op),
+            Start::TryCompute { key } => Point::computes(key, Asks::TryOp),
+            Start::ComputeAlone { key } => Point::Computing(Computing::OwnAlone(key)),
+            Start::Upsert { key } => Point::computes(key, Asks::Value),
             Start::Invalidate { key } => Point::takes_out(rules, Removal::Invalidate, key),
             Start::Remove { key } => Point::takes_out(rules, Removal::Remove, key),
             Start::Evict { key, stamp, cause } => {
@@ -92,16 +98,18 @@ impl<K: Drop, V: Drop, E: Drop> Point<K, V, E> {
         }
     }
 
-    fn takes_out(rules: Rules, removal: Removal, key: K) -> Self
-        ensures { plan_at result ≡ take_out rules (removal_of removal) key }
+    // A compute of the key, whose ask takes such answers.
+    fn computes(key: K, asks: Asks) -> Self
+        ensures { plan_at result
+            ≡ plan.Own_key (record { key = key; takes = takes_by asks }) ∷ [] }
     {
-        let out = TakeOut { key, removal };
-        let then = if rules.listener {
-            Drained::Lock(Locked::TakeOut(out))
-        } else {
-            Drained::TakeOut(out)
-        };
-        Point::Posting(Posting::Drain(then))
+        Point::Computing(Computing::Own(KeyCompute { key, asks }))
+    }
+
+    fn takes_out(rules: Rules, removal: Removal, key: K) -> Self
+        ensures { plan_at result ≡ take_out rules (removal_at key removal) key }
+    {
+        Point::removing(rules, TakeOut { key, removal })
     }
 
     // An eviction takes up nothing that is owed.
@@ -114,6 +122,18 @@ impl<K: Drop, V: Drop, E: Drop> Point<K, V, E> {
         } else {
             Point::Removing(Removing::Find(chosen))
         }
+    }
+
+    /// The record is taken out once nothing is owed, under its key's lock where a listener is set.
+    pub(crate) fn removing(rules: Rules, out: TakeOut<K>) -> Self
+        ensures { plan_at result ≡ take_out rules (removal_of out) out.key }
+    {
+        let then = if rules.listener {
+            Drained::Lock(Locked::TakeOut(out))
+        } else {
+            Drained::TakeOut(out)
+        };
+        Point::Posting(Posting::Drain(then))
     }
 
     /// The value is stored once nothing is owed, under its key's lock where a listener is set.

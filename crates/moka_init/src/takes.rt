@@ -68,7 +68,7 @@ impl<K: Drop, V: Drop, E: Drop> Flow<K, V, E> {
     }
 
     // The call has answered.
-    pub(crate) fn answers(&mut self, answer: Answer<V, E>) -> Turn<K, V, E>
+    pub(crate) fn answers(&mut self, answer: Answer<K, V, E>) -> Turn<K, V, E>
         ensures turn { result ≡ Turn.Answer answer }
         ensures flow { self.new ≡ record self.old { point = Point.Spent } }
     {
@@ -109,6 +109,7 @@ impl<K: Drop, V: Drop, E: Drop> Flow<K, V, E> {
             Point::Posting(_) => self.posting_visited(found),
             Point::Looking(_) => self.looking_visited(found),
             Point::Loading(_) => self.loading_visited(found),
+            Point::Computing(_) => self.computing_visited(found),
             Point::Writing(_) => self.writing_visited(found),
             Point::Removing(_) => self.removing_visited(found),
             Point::Listening(_) => self.listening_visited(found),

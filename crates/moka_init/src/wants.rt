@@ -1,26 +1,32 @@
 //! The next access of a flow.
-ghost use Rattle.std.specs.Prelude.{◌≡◌, IfOk, OnOk, OnErr};
+ghost use Rattle.std.specs.Prelude.{◌≡◌, [], ◌∷◌, true, false, None, IfOk, OnOk, OnErr};
+ghost use Rattle.moka_hist.specs.Plan as plan;
 ghost use Rattle.moka_hist.specs.Finite.{IsExact};
 ghost use Rattle.moka_init.specs.FlowPlan.{call_of, standing, IsLive, IsReady, StandsStill};
 ghost use Rattle.moka_init.specs.Grounds.{access_at, access_from, wish_for, wish_of, TakesCopies};
 ghost use Rattle.moka_init.specs.PointPlan.{posting_plan, looking_plan, loading_plan};
-ghost use Rattle.moka_init.specs.PointPlan.{writing_plan, removing_plan, listening_plan};
-ghost use Rattle.moka_init.specs.PointPlan.{is_copied};
+ghost use Rattle.moka_init.specs.PointPlan.{computing_plan, writing_plan, removing_plan};
+ghost use Rattle.moka_init.specs.PointPlan.{compute_of, is_copied, listening_plan};
 
+use crate::computing::{removed_as, stored_as};
 use crate::copies::{
-    key_locked, key_sought, replace_of, takes_of, want_get, want_holds, want_judge, want_lock,
-    want_notice, want_out, want_own, want_settle, want_write,
+    found_copy, key_locked, key_sought, pair_copy, replace_of, takes_of, want_get, want_holds,
+    want_judge, want_lock, want_notice, want_out, want_own, want_own_alone, want_own_key,
+    want_settle, want_write,
 };
 use crate::flow::Flow;
-use crate::points::{Listening, Loading, Looking, Point, Posted, Posting, Removing, Writing};
-use moka_hist::{Stored, Visit, Want, Write};
+use crate::points::{
+    Computing, KeyCompute, Listening, Loading, Looking, Point, Posted, Posting, Removing, Uncopied,
+    Writing,
+};
+use moka_hist::{Settled, Stored, Visit, Want, Write};
 use std::alloc::AllocError;
 use std::mem;
 
 impl<K: Clone + Drop, V: Clone + Drop, E: Clone + Drop> Flow<K, V, E> {
     /// The flow's next access. It makes the clones that the access needs, and leaves the flow; but
-    /// where a value is needed twice, for the listener and for the answer, the flow keeps a clone
-    /// of it. Condition: the call has not answered.
+    /// where a pair is needed twice, for the ask and for the answer, the flow keeps a clone of it.
+    /// Condition: the call has not answered.
     pub fn want(&mut self) -> Result<Want<K, V, E>, AllocError>
         requires keys { IsExact K.is_clone }
         requires values { IsExact V.is_clone }
@@ -29,19 +35,18 @@ impl<K: Clone + Drop, V: Clone + Drop, E: Clone + Drop> Flow<K, V, E> {
         ensures want { IfOk result (λ want. want ≡ wish_of self.old) }
         ensures ready { OnOk result (IsReady self.new) }
         ensures still { StandsStill self.old self.new }
-        ensures same { IsReady self.old → self.new ≡ self.old }
         ensures err { OnErr result (TakesCopies (access_at self.old)) }
     {
         self.copy()?;
         self.wanted()
     }
 
-    // Makes the copy of a value that is needed twice, where the flow stands there without it.
+    // Makes the copies of what is needed twice, where the flow stands there without them.
     fn copy(&mut self) -> Result<(), AllocError>
+        requires keys { IsExact K.is_clone }
         requires values { IsExact V.is_clone }
         ensures ready { OnOk result (IsReady self.new) }
         ensures still { StandsStill self.old self.new }
-        ensures same { IsReady self.old → self.new ≡ self.old }
         ensures err { OnErr result (TakesCopies (access_at self.old)) }
     {
         if self.is_copied() {
@@ -49,20 +54,92 @@ impl<K: Clone + Drop, V: Clone + Drop, E: Clone + Drop> Flow<K, V, E> {
         }
         let point = mem::replace(&mut self.point, Point::Spent);
         match point {
-            Point::Listening(Listening::Uncopied { key, old, write }) => {
-                self.copy_value(key, old, write)
+            Point::Listening(
+                Listening::Uncopied {
+                    key,
+                    old,
+                    write,
+                    then,
+                },
+            ) => self.copy_left(key, old, write, then),
+            Point::Computing(Computing::Ask { compute, found, .. }) => {
+                self.copy_found(compute, found)
             }
             _ => unreachable!(),
         }
     }
 
-    // Whether the flow has what its next step needs twice.
+    // Whether the flow has what its next step needs twice, for all that can be seen: of the pair
+    // that a compute asks with a copy is made where its ask is to open.
     fn is_copied(&self) -> bool
         ensures { result ≡ is_copied self.now.point }
     {
         match &self.point {
             Point::Listening(Listening::Uncopied { .. }) => false,
+            Point::Computing(Computing::Ask { .. }) => false,
             _ => true,
+        }
+    }
+
+    // The flow stands at the ask of the compute, with a copy of the pair if there was memory for
+    // one.
+    #[tactic(auto, using(crate::proofs::Asking::ask_takes_copies))]
+    fn copy_found(
+        &mut self,
+        compute: KeyCompute<K>,
+        found: Option<(K, V)>,
+    ) -> Result<(), AllocError>
+        requires keys { IsExact K.is_clone }
+        requires values { IsExact V.is_clone }
+        ensures ready { OnOk result (IsReady self.new) }
+        ensures call { call_of self.new
+            ≡ standing self.old (plan.Ask_op (compute_of compute) found ∷ []) }
+        ensures number { self.new.call ≡ self.old.call }
+        ensures begun { self.new.begun ≡ self.old.begun }
+        ensures err { OnErr result (TakesCopies (access_from self.old
+            (plan.Ask_op (compute_of compute) found ∷ []))) }
+    {
+        match found_copy(&found) {
+            Ok(copy) => {
+                self.stands_at(Point::Computing(Computing::Ask {
+                    compute,
+                    found,
+                    copy,
+                }));
+                Ok(())
+            }
+            Err(error) => {
+                self.stands_at(Point::Computing(Computing::Ask {
+                    compute,
+                    found,
+                    copy: None,
+                }));
+                Err(error)
+            }
+        }
+    }
+
+    // The flow stands at the notice of the record that left, with copies of what is answered of it
+    // if there was memory for them.
+    fn copy_left(
+        &mut self,
+        key: K,
+        old: Stored<V>,
+        write: Write,
+        then: Uncopied<V>,
+    ) -> Result<(), AllocError>
+        requires keys { IsExact K.is_clone }
+        requires values { IsExact V.is_clone }
+        ensures ready { OnOk result (IsReady self.new) }
+        ensures call { call_of self.new
+            ≡ standing self.old (listening_plan (Listening.Uncopied key old write then)) }
+        ensures number { self.new.call ≡ self.old.call }
+        ensures begun { self.new.begun ≡ self.old.begun }
+    {
+        match then {
+            Uncopied::Found => self.copy_value(key, old, write),
+            Uncopied::Removed => self.copy_pair(key, old, write),
+            Uncopied::Put { value, replaced } => self.copy_key(key, old, write, value, replaced),
         }
     }
 
@@ -72,27 +149,111 @@ impl<K: Clone + Drop, V: Clone + Drop, E: Clone + Drop> Flow<K, V, E> {
         requires values { IsExact V.is_clone }
         ensures ready { OnOk result (IsReady self.new) }
         ensures call { call_of self.new
-            ≡ standing self.old (listening_plan (Listening.Uncopied key old write)) }
+            ≡ standing self.old (listening_plan (Listening.Uncopied key old write Uncopied.Found)) }
         ensures number { self.new.call ≡ self.old.call }
         ensures begun { self.new.begun ≡ self.old.begun }
     {
         match old.value.clone() {
             Ok(value) => {
+                self.notices_removed(key, old, write, Posted::Found(value));
+                Ok(())
+            }
+            Err(error) => {
+                self.stands_uncopied(key, old, write, Uncopied::Found);
+                Err(error)
+            }
+        }
+    }
+
+    // The same, with copies of its key and its value.
+    fn copy_pair(&mut self, key: K, old: Stored<V>, write: Write) -> Result<(), AllocError>
+        requires keys { IsExact K.is_clone }
+        requires values { IsExact V.is_clone }
+        ensures ready { OnOk result (IsReady self.new) }
+        ensures call { call_of self.new
+            ≡ standing self.old (listening_plan (Listening.Uncopied key old write Uncopied.Removed)) }
+        ensures number { self.new.call ≡ self.old.call }
+        ensures begun { self.new.begun ≡ self.old.begun }
+    {
+        match pair_copy(&key, &old.value) {
+            Ok((own, value)) => {
+                self.notices_removed(key, old, write, Posted::Compute(removed_as(own, value)));
+                Ok(())
+            }
+            Err(error) => {
+                self.stands_uncopied(key, old, write, Uncopied::Removed);
+                Err(error)
+            }
+        }
+    }
+
+    // The flow stands at the notice of the replaced record, with a copy of the key if there was
+    // memory for one.
+    fn copy_key(
+        &mut self,
+        key: K,
+        old: Stored<V>,
+        write: Write,
+        value: V,
+        replaced: bool,
+    ) -> Result<(), AllocError>
+        requires keys { IsExact K.is_clone }
+        ensures ready { OnOk result (IsReady self.new) }
+        ensures call { call_of self.new ≡ standing self.old
+            (listening_plan (Listening.Uncopied key old write (Uncopied.Put value replaced))) }
+        ensures number { self.new.call ≡ self.old.call }
+        ensures begun { self.new.begun ≡ self.old.begun }
+    {
+        match key.clone() {
+            Ok(own) => {
+                let then = Posted::Compute(stored_as(own, value, replaced));
                 self.stands_at(Point::Listening(Listening::Notice {
                     key,
                     old,
                     cause: None,
-                    upsert: false,
+                    upsert: true,
                     write,
-                    then: Posted::Found(value),
+                    then,
                 }));
                 Ok(())
             }
             Err(error) => {
-                self.stands_at(Point::Listening(Listening::Uncopied { key, old, write }));
+                self.stands_uncopied(key, old, write, Uncopied::Put { value, replaced });
                 Err(error)
             }
         }
+    }
+
+    // The flow stands at the notice of the removed record, and this follows.
+    fn notices_removed(&mut self, key: K, old: Stored<V>, write: Write, then: Posted<K, V>)
+        ensures { self.new ≡ record self.old {
+          point =
+              Point.Listening (Listening.Notice key old None false write then);
+        } }
+    {
+        self.stands_at(Point::Listening(Listening::Notice {
+            key,
+            old,
+            cause: None,
+            upsert: false,
+            write,
+            then,
+        }));
+    }
+
+    // The flow stands at the notice of the record, of which nothing is copied.
+    fn stands_uncopied(&mut self, key: K, old: Stored<V>, write: Write, then: Uncopied<V>)
+        ensures { self.new ≡ record self.old {
+          point =
+              Point.Listening (Listening.Uncopied key old write then);
+        } }
+    {
+        self.stands_at(Point::Listening(Listening::Uncopied {
+            key,
+            old,
+            write,
+            then,
+        }));
     }
 
     // The flow's next access, with the clones that it needs.
@@ -108,6 +269,7 @@ impl<K: Clone + Drop, V: Clone + Drop, E: Clone + Drop> Flow<K, V, E> {
             Point::Posting(posting) => Ok(self.want_posting(posting)),
             Point::Looking(looking) => self.want_looking(looking),
             Point::Loading(loading) => self.want_loading(loading),
+            Point::Computing(computing) => self.want_computing(computing),
             Point::Writing(writing) => self.want_writing(writing),
             Point::Removing(removing) => self.want_removing(removing),
             Point::Listening(listening) => self.want_listening(listening),
@@ -161,6 +323,30 @@ impl<K: Clone + Drop, V: Clone + Drop, E: Clone + Drop> Flow<K, V, E> {
                 takes: takes_of(load.kind),
             })),
             Loading::Told(_) => Ok(Want::Desk(Visit::TakeTold { call })),
+        }
+    }
+
+    fn want_computing(&self, computing: &Computing<K, V, E>) -> Result<Want<K, V, E>, AllocError>
+        requires keys { IsExact K.is_clone }
+        ensures want { IfOk result (λ want.
+            want ≡ wish_for self.now (computing_plan computing.now)) }
+        ensures err { OnErr result
+            (TakesCopies (access_from self.now (computing_plan computing.now))) }
+    {
+        let call = self.call;
+        match computing {
+            Computing::Own(compute) => want_own_key(call, &compute.key),
+            Computing::OwnAlone(key) => want_own_alone(call, key),
+            Computing::Read(_) => Ok(Want::Desk(Visit::ReadSettled { call })),
+            Computing::Ask { compute, .. } => Ok(Want::Desk(Visit::OpenAsk {
+                call,
+                takes: compute.asks.takes(),
+            })),
+            Computing::Told { .. } => Ok(Want::Desk(Visit::TakeTold { call })),
+            Computing::Settle(_) => Ok(Want::Desk(Visit::Settle {
+                call,
+                with: Settled::Nothing,
+            })),
         }
     }
 
@@ -221,7 +407,9 @@ impl<K: Clone + Drop, V: Clone + Drop, E: Clone + Drop> Flow<K, V, E> {
                 upsert,
                 ..
             } => want_notice(call, key, old, *cause, *upsert),
-            Listening::Uncopied { key, old, .. } => want_notice(call, key, old, None, false),
+            Listening::Uncopied { key, old, then, .. } => {
+                want_notice(call, key, old, None, then.is_upsert())
+            }
             Listening::Heard { .. } => Ok(Want::Desk(Visit::NoticeEnded { call, notice: call })),
             Listening::Unlock { .. } => Ok(Want::Desk(Visit::UnlockKey { call, wrote: true })),
             Listening::Release(_) => Ok(Want::Desk(Visit::UnlockKey { call, wrote: false })),

@@ -3,12 +3,13 @@ ghost use Rattle.std.specs.Prelude.{◌≡◌, true, ◌∷◌, None};
 ghost use Rattle.moka_hist.specs.Plan as plan;
 ghost use Rattle.moka_hist.specs.Step.{next_of, access_of};
 ghost use Rattle.moka_hist.specs.Writing.{after_moment, after_write, once_told, old_stamp};
-ghost use Rattle.moka_init.specs.PointPlan.{writing_plan, put_rest, posted_after, stores};
+ghost use Rattle.moka_init.specs.PointPlan.{writing_plan, put_rest, posted_after, posted_rest, stores};
 ghost use Rattle.moka_init.specs.FlowPlan.{standing, mid, GoesOn};
 ghost use Rattle.moka_init.specs.Forms.{HasForm, IsFoundBy};
 
+use crate::computing::stored_as;
 use crate::flow::Flow;
-use crate::points::{Listening, Point, Posted, Posting, Put, Then, Writing};
+use crate::points::{Listening, Point, Posted, Posting, Put, Then, Uncopied, Writing};
 use moka_hist::{Found, Got, Stored, TableAnswer, TableTurn, Turn, Visit, Write};
 
 impl<K: Drop, V: Drop, E: Drop> Flow<K, V, E> {
@@ -96,7 +97,7 @@ impl<K: Drop, V: Drop, E: Drop> Flow<K, V, E> {
         }
     }
 
-    // The notice of the replaced record is due.
+    // The notice of the replaced record is due. A compute's key is answered too.
     fn opens(&mut self, put: Put<K, V>, old: Stored<V>, write: Write) -> Turn<K, V, E>
         ensures { GoesOn self.old
             (mid self.old
@@ -105,7 +106,27 @@ impl<K: Drop, V: Drop, E: Drop> Flow<K, V, E> {
             result self.new }
     {
         let Put { key, value, then } = put;
-        let then = then.posted(value);
+        match then {
+            Then::Done => self.notices(key, old, write, Posted::Done),
+            Then::Settle => self.notices(key, old, write, Posted::Settle(value)),
+            Then::Loaded => self.notices(key, old, write, Posted::Loaded(value)),
+            Then::Compute { replaced } => self.goes(Point::Listening(Listening::Uncopied {
+                key,
+                old,
+                write,
+                then: Uncopied::Put { value, replaced },
+            })),
+        }
+    }
+
+    // The notice of the replaced record is due, and this follows.
+    fn notices(&mut self, key: K, old: Stored<V>, write: Write, then: Posted<K, V>) -> Turn<K, V, E>
+        ensures { GoesOn self.old
+            (mid self.old
+            (plan.Notice key old None true ∷ plan.Unlock true ∷ plan.Post write
+            ∷ posted_rest then))
+            result self.new }
+    {
         self.goes(Point::Listening(Listening::Notice {
             key,
             old,
@@ -120,21 +141,14 @@ impl<K: Drop, V: Drop, E: Drop> Flow<K, V, E> {
 impl<K: Drop, V: Drop> Put<K, V> {
     // What follows once the write is posted.
     fn posted(self) -> Posted<K, V>
-        ensures { result ≡ posted_after self.then self.value }
+        ensures { result ≡ posted_after self }
     {
-        self.then.posted(self.value)
-    }
-}
-
-impl Then {
-    // What follows once the write of the value is posted.
-    fn posted<K, V: Drop>(self, value: V) -> Posted<K, V>
-        ensures { result ≡ posted_after self value }
-    {
-        match self {
+        let Put { key, value, then } = self;
+        match then {
             Then::Done => Posted::Done,
             Then::Settle => Posted::Settle(value),
             Then::Loaded => Posted::Loaded(value),
+            Then::Compute { replaced } => Posted::Compute(stored_as(key, value, replaced)),
         }
     }
 }

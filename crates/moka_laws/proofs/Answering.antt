@@ -24,7 +24,9 @@ use Rattle.moka_hist.specs.declared.visits.Settled.{Settled}
 use Rattle.moka_hist.specs.declared.visits.Settled.TheVariants as settled
 use Rattle.moka_hist.specs.declared.visits.Found.TheVariants as found
 use Rattle.moka_hist.specs.declared.accesses.Turn.{Turn}
-use Rattle.moka_laws.proofs.Rules.{put_plans, loaded_plans, kept_next, chosen_next, IsFresh, Disabled, fresh_plan}
+use Rattle.moka_hist.specs.Writing.{cause_handed, nothing_answer, removed_answer}
+use Rattle.moka_hist.specs.declared.writes.Write.TheVariants.{Remove}
+use Rattle.moka_laws.proofs.Rules.{put_plans, loaded_plans, kept_next, chosen_next, IsFresh, Disabled, fresh_plan, read_key_next, told_op_next, said_next}
 use Rattle.moka_laws.proofs.Counting.{none_some, put_cases}
 use Rattle.moka_laws.proofs.Kept.{IsKept, in_reached}
 use Rattle.moka_laws.proofs.StepCases.{OnStep, step_cases}
@@ -41,6 +43,7 @@ IsGiven (Some (answer.Value value)) = Unit {0}
 IsGiven (Some answer.Nothing) = Unit {0}
 IsGiven (Some (answer.Err error)) = Unit {0}
 IsGiven (Some answer.Done) = ⊥
+IsGiven (Some (answer.Op op)) = Unit {0}
 IsGiven (Some answer.Off) = ⊥
 
 -- what a call's ask takes is what an initializer gives
@@ -50,6 +53,7 @@ given_by asked (answer.Value value) e = tt
 given_by asked answer.Nothing e = tt
 given_by asked (answer.Err error) e = tt
 given_by None answer.Done e = absurd (false≢true e)
+given_by asked (answer.Op op) e = tt
 given_by (Some a) answer.Done e = absurd (false≢true e)
 given_by None answer.Off e = absurd (false≢true e)
 given_by (Some a) answer.Off e = absurd (false≢true e)
@@ -72,6 +76,11 @@ module _ {K V E : Type 0} where
   EndsWell (plan.Read sought ∷ rest) = Unit {0}
   EndsWell (plan.Ask load ∷ rest) = Unit {0}
   EndsWell (plan.Told load ∷ rest) = Unit {0}
+  EndsWell (plan.Own_key compute ∷ rest) = Unit {0}
+  EndsWell (plan.Own_alone key ∷ rest) = Unit {0}
+  EndsWell (plan.Read_key compute ∷ rest) = Unit {0}
+  EndsWell (plan.Ask_op compute pair ∷ rest) = Unit {0}
+  EndsWell (plan.Told_op compute pair ∷ rest) = Unit {0}
   EndsWell (plan.Holds key stamp cause there stored ∷ rest) = Unit {0}
   EndsWell (plan.Moment (plan.To_take_out removal key) ∷ rest) = Unit {0}
   EndsWell (plan.Out removal key ∷ rest) = Unit {0}
@@ -107,8 +116,10 @@ module _ {K V E : Type 0} where
 
   misses_well : (c : Call K V E) (aim : Aim K V) → LeftWell (misses c aim).left
   misses_well c plan.To_answer = tt
+  misses_well c (plan.To_report key) = tt
   misses_well c (plan.To_load sought) = tt
   misses_well c (plan.To_own sought) = tt
+  misses_well c (plan.To_compute compute) = tt
   misses_well c (plan.To_insert key value) =
       put_plans (λ p. LeftWell (goes c p).left) c.rules key value _ tt tt
   misses_well c (plan.To_evict key stamp cause) = keeps_well c
@@ -116,19 +127,23 @@ module _ {K V E : Type 0} where
   finds_well : (c : Call K V E) (aim : Aim K V) (k : K) (stored : Stored V) →
       LeftWell (finds_pair c aim k stored).left
   finds_well c plan.To_answer k stored = tt
+  finds_well c (plan.To_report key) k stored = tt
   finds_well c (plan.To_load sought) k stored = tt
   finds_well c (plan.To_insert under new) k stored = tt
   finds_well c (plan.To_own sought) k stored = tt
+  finds_well c (plan.To_compute compute) k stored = tt
   finds_well c (plan.To_evict key stamp cause) k stored =
       chosen_next (λ v. LeftWell v.left) c key stamp cause k stored (λ off. tt) (λ on. tt) tt
 
-  hits_well : (c : Call K V E) (aim : Aim K V) (value : V) → EndsWell c.plan →
-      LeftWell (hits c aim value).left
-  hits_well c plan.To_answer value h = tt
-  hits_well c (plan.To_load sought) value h = tt
-  hits_well c (plan.To_insert under new) value h = tt
-  hits_well c (plan.To_own sought) value h = tt
-  hits_well c (plan.To_evict key stamp cause) value h = h
+  hits_well : (c : Call K V E) (aim : Aim K V) (there : K) (value : V) → EndsWell c.plan →
+      LeftWell (hits c aim there value).left
+  hits_well c plan.To_answer there value h = tt
+  hits_well c (plan.To_report key) there value h = tt
+  hits_well c (plan.To_load sought) there value h = tt
+  hits_well c (plan.To_insert under new) there value h = tt
+  hits_well c (plan.To_own sought) there value h = tt
+  hits_well c (plan.To_compute compute) there value h = tt
+  hits_well c (plan.To_evict key stamp cause) there value h = h
 
   read_well : (c : Call K V E) (sought : Sought K) (with : Settled V E) → EndsWell c.plan →
       LeftWell (after_read c sought (found.ReadSettled with)).left
@@ -149,6 +164,7 @@ module _ {K V E : Type 0} where
   told_well c load answer.Nothing h = tt
   told_well c load (answer.Err error) h = tt
   told_well c load answer.Done h = h
+  told_well c load (answer.Op op) h = h
   told_well c load answer.Off h = h
 
   -- ---- what is told and settled
@@ -200,19 +216,37 @@ module _ {K V E : Type 0} where
       λ k stored some. (finds_well c aim k stored, d),
     )
     on_item (plan.Judge aim key stored) rest h p =
-        ((λ seen. (hits_well c aim stored.value p, d)), λ unseen. (misses_well c aim, d))
+        ((λ seen. (hits_well c aim key stored.value p, d)), λ unseen. (misses_well c aim, d))
     on_item (plan.Own sought) rest h p = ((λ able e. (tt, d)), (λ not e. (tt, d)), λ owner e. (tt, d))
+    on_item (plan.Own_key compute) rest h p =
+        (((λ able e. (tt, d)), λ not e. (tt, d)), λ owner e. (tt, d))
+    on_item (plan.Own_alone key) rest h p =
+        (((λ able e. (tt, d)), λ not e. (tt, d)), λ owner e. ((λ able. (tt, d)), λ not. (tt, d)))
     on_item (plan.Read sought) rest h p = (
       λ e. (p, d),
       λ with e. (read_well c sought with p, record { settled = λ x. settles_without w.desk n x (d.settled x); told = d.told }),
+    )
+    on_item (plan.Read_key compute) rest h p = (
+      λ e. (p, d),
+      λ with e. (read_key_next (λ v. LeftWell v.left) c compute with p tt, record { settled = λ x. settles_without w.desk n x (d.settled x); told = d.told }),
     )
     on_item (plan.Settle with) rest h p =
         let ready = some_ready with rest h in
         (goes_well c rest ready.1, record { settled = λ x. settles_with w.desk n with w.desk.settled x ready.0 (d.settled x); told = d.told })
     on_item (plan.Ask load) rest h p = (tt, record { settled = d.settled; told = λ x. none_told x w.desk.told n (d.told x) })
+    on_item (plan.Ask_op compute pair) rest h p =
+        (tt, record { settled = d.settled; told = λ x. none_told x w.desk.told n (d.told x) })
     on_item (plan.Told load) rest h p = (
       λ e. (p, d),
       λ given e. (told_well c load given p, record { settled = d.settled; told = λ x. none_told x w.desk.told n (d.told x) }),
+    )
+    on_item (plan.Told_op compute pair) rest h p = (
+      λ e. (p, d),
+      λ given e. (
+        told_op_next (λ v. LeftWell v.left) c compute pair given
+            (λ a. tt) (λ v able off. tt) (λ v able on. tt) (λ off. tt) (λ on. tt) p,
+        record { settled = d.settled; told = λ x. none_told x w.desk.told n (d.told x) },
+      ),
     )
     on_item (plan.Holds key stamp cause there stored) rest h p =
         ((λ e. (tt, d)), λ e. (keeps_well c, d))
@@ -221,10 +255,14 @@ module _ {K V E : Type 0} where
     on_item (plan.Write key value moment) rest h p = ((λ more. (p, d)), (λ off old. (h, d)), (λ on. (h, d)), λ k old on some. (h, d))
     on_item (plan.Out removal key) rest h p = (
       (λ more. (p, d)),
-      (λ off none. (tt, d)),
-      (λ on none. (tt, d)),
-      (λ k old off some. (tt, d)),
-      λ k old on some. (tt, d),
+      (λ off none. (said_next (λ v. LeftWell v.left) c (λ q. plan.Idle ∷ q) removal (nothing_answer removal) tt tt, d)),
+      (λ on none. (said_next (λ v. LeftWell v.left) c (λ q. plan.Unlock false ∷ q) removal (nothing_answer removal) tt tt, d)),
+      (λ k old off some. (said_next (λ v. LeftWell v.left) c (λ q. plan.Post (Remove n old.stamp) ∷ q) removal (removed_answer removal old.value) tt tt, d)),
+      λ k old on some. (
+        said_next (λ v. LeftWell v.left) c (λ q. plan.Notice key old (cause_handed removal) false ∷ plan.Unlock true ∷ plan.Post (Remove n old.stamp) ∷ q)
+            removal (removed_answer removal old.value) tt tt,
+        d,
+      ),
     )
     on_item plan.Idle rest h p = (goes_well c rest h, d)
     on_item (plan.Reply answer) rest h p = (tt, d)

@@ -9,9 +9,9 @@ use Rattle.moka_hist.specs.Next.{Next, goes, waits}
 use Rattle.moka_hist.specs.Looking.{hits, misses, keeps, finds_pair}
 use Rattle.moka_hist.specs.Loading.{after_read, after_abort, after_told, retries}
 use Rattle.moka_hist.specs.Step.{Step, takes_of}
-use Rattle.moka_hist.specs.Telling.{does_take}
+use Rattle.moka_hist.specs.Telling.{takes_error, does_take}
 use Rattle.moka_hist.specs.Visits.{settlement_for}
-use Rattle.moka_hist.specs.Writing.{nothing_answer, removed_answer}
+use Rattle.moka_hist.specs.Writing.{said, nothing_answer, removed_answer}
 use Rattle.moka_hist.specs.Run.{IsReached, fresh_call, started}
 use Rattle.moka_hist.specs.declared.accesses.Turn.{Turn}
 use Rattle.moka_hist.specs.declared.accesses.Turn.TheVariants as turn
@@ -35,20 +35,27 @@ use Rattle.moka_hist.specs.declared.visits.Found.TheVariants as found
 use Rattle.moka_laws.specs.Loads.{may_answer, AnswersFit}
 use Rattle.moka_laws.specs.Starting.{Leads}
 use Rattle.moka_laws.proofs.Counting.{none_some, some_same, put_here, put_there, put_cases, differ}
-use Rattle.moka_laws.proofs.Fitting.{AllFit, ToldFits}
+use Rattle.moka_laws.proofs.TakesFit.{AllTake, ToldFits, load_takes_no_op, compute_loses_none}
 use Rattle.moka_laws.proofs.Following.{IsFollowed}
 use Rattle.moka_laws.proofs.KindsOfEnds.{settlements_fit}
 use Rattle.moka_laws.proofs.Owning.{plan_left}
 use Rattle.moka_laws.proofs.Reached.{event_reached, run_reached}
 use Rattle.moka_laws.proofs.Roles.{IsLast}
-use Rattle.moka_laws.proofs.Rules.{put_plans, loaded_plans, kept_next, chosen_next}
+use Rattle.moka_laws.proofs.Rules.{put_plans, loaded_plans, kept_next, chosen_next, read_key_next, told_op_next_by, IsLoad, IsComputes}
 use Rattle.moka_laws.proofs.Safe.{in_well}
 use Rattle.moka_laws.proofs.Starting.{begins_so, follow_start}
 use Rattle.moka_laws.proofs.Steady.{step_calls, step_last}
 use Rattle.moka_laws.proofs.StepCases.{OnStep, step_cases}
 use Rattle.moka_laws.proofs.Outcomes.{Outcomes, outcomes}
+use Rattle.moka_hist.specs.declared.entries.CompResult.{CompResult}
+use Rattle.moka_hist.specs.declared.loads.Compute.{Compute}
+use Rattle.moka_hist.specs.declared.visits.Takes.{Takes}
+use Rattle.moka_hist.specs.declared.visits.Takes.TheVariants as takes
+use Rattle.moka_hist.specs.Computing.{after_told_op, after_read_key}
+use Rattle.moka_hist.specs.Entries.{unchanged, put_answer}
 
-same_answer : {K V E : Type 0} (a b : Answer V E) → ◌≡◌ {A = Turn K V E} (turn.Answer a) (turn.Answer b) →
+same_answer : {K V E : Type 0} (a b : Answer K V E) → ◌≡◌ {A = Turn K V E} (turn.Answer a)
+    (turn.Answer b) →
     a ≡ b
 same_answer a b e = cc
 
@@ -60,6 +67,10 @@ kind_of (start.GetWith key replace) = Some kind.GetWith
 kind_of (start.Optional key) = Some kind.Optional
 kind_of (start.Try key) = Some kind.Try
 kind_of (start.OrInsert key value) = None
+kind_of (start.Compute key) = None
+kind_of (start.TryCompute key) = None
+kind_of (start.ComputeAlone key) = None
+kind_of (start.Upsert key) = None
 kind_of (start.Invalidate key) = None
 kind_of (start.Remove key) = None
 kind_of (start.Evict key stamp cause) = None
@@ -106,6 +117,7 @@ told_nothing : (V E : Type 0) (k : Kind) → does_take {V = V} {E = E} (takes_of
 told_nothing V E kind.GetWith e = absurd (false≢true e)
 told_nothing V E kind.Optional e = refl
 told_nothing V E kind.Try e = absurd (false≢true e)
+told_nothing V E kind.Compute e = refl
 
 told_error : (V : Type 0) {E : Type 0} (k : Kind) (error : E) →
     does_take {V = V} (takes_of k) (told.Err error) ≡ true →
@@ -113,26 +125,37 @@ told_error : (V : Type 0) {E : Type 0} (k : Kind) (error : E) →
 told_error V kind.GetWith error e = absurd (false≢true e)
 told_error V kind.Optional error e = absurd (false≢true e)
 told_error V kind.Try error e = refl
+told_error V kind.Compute error e = absurd (false≢true e)
 
 module _ {K V : Type 0} (E : Type 0) (begin : Start K V) where
   -- what a removal for this answers
-  abbrev SuitsRemoval : Removal → Type 0
+  abbrev SuitsRemoval : Removal K → Type 0
   SuitsRemoval removal =
       ((value : V) → may_answer {E = E} begin (removed_answer removal value) ≡ true) ×
       (may_answer {E = E} begin (nothing_answer removal) ≡ true)
 
+  -- a compute that asks so answers as the start may
+  abbrev SuitsCompute : Takes → Type 0
+  SuitsCompute takes =
+      ((done : CompResult K V) → may_answer {E = E} begin (answer.Computed done) ≡ true) ×
+      ((error : E) → takes_error takes ≡ true →
+      may_answer begin (answer.ComputeErr error) ≡ true)
+
   -- a look for this goes on as the start may
   abbrev SuitsAim : Aim K V → Type 0
   SuitsAim plan.To_answer = (value : Option V) → may_answer {E = E} begin (answer.Found value) ≡ true
+  SuitsAim (plan.To_report key) =
+      (done : CompResult K V) → may_answer {E = E} begin (answer.Computed done) ≡ true
   SuitsAim (plan.To_load sought) = kind_of begin ≡ Some sought.load.kind
   SuitsAim (plan.To_own sought) = kind_of begin ≡ Some sought.load.kind
+  SuitsAim (plan.To_compute compute) = SuitsCompute compute.takes
   SuitsAim (plan.To_insert key own) =
       (value : V) (fresh : Bool) → may_answer {E = E} begin (answer.Loaded value fresh) ≡ true
   SuitsAim (plan.To_evict key stamp cause) = SuitsRemoval (plan.To_evict_chosen stamp cause)
 
 module _ {K V E : Type 0} (begin : Start K V) where
   -- the call may answer so
-  abbrev May : Answer V E → Type 0
+  abbrev May : Answer K V E → Type 0
   May a = may_answer begin a ≡ true
 
   -- the item answers as the start may
@@ -143,6 +166,11 @@ module _ {K V E : Type 0} (begin : Start K V) where
   Suits (plan.Read sought) = kind_of begin ≡ Some sought.load.kind
   Suits (plan.Ask load) = kind_of begin ≡ Some load.kind
   Suits (plan.Told load) = kind_of begin ≡ Some load.kind
+  Suits (plan.Own_key compute) = SuitsCompute E begin compute.takes
+  Suits (plan.Own_alone key) = SuitsCompute E begin takes.TryOp
+  Suits (plan.Read_key compute) = SuitsCompute E begin compute.takes
+  Suits (plan.Ask_op compute pair) = SuitsCompute E begin compute.takes
+  Suits (plan.Told_op compute pair) = SuitsCompute E begin compute.takes
   Suits (plan.Holds key stamp cause there stored) = SuitsRemoval E begin (plan.To_evict_chosen stamp cause)
   Suits (plan.Moment (plan.To_take_out removal key)) = SuitsRemoval E begin removal
   Suits (plan.Out removal key) = SuitsRemoval E begin removal
@@ -156,16 +184,17 @@ module _ {K V E : Type 0} (begin : Start K V) where
   -- what a step has to show
   record Leaves (next : Next K V E) : Type 0 where
     suits : AllSuit (plan_left next.left)
-    now : (a : Answer V E) → next.turn ≡ turn.Answer a → May a
+    now : (a : Answer K V E) → next.turn ≡ turn.Answer a → May a
 
-  answers_so : (a : Answer V E) (next : Next K V E) → next.left ≡ None → next.turn ≡ turn.Answer a → May a →
+  answers_so : (a : Answer K V E) (next : Next K V E) → next.left ≡ None →
+      next.turn ≡ turn.Answer a → May a →
       Leaves next
   answers_so a next none is may = record {
     suits = subst (λ v. AllSuit (plan_left v)) (sym none) tt;
     now = λ b e. subst May (same_answer {K = K} a b (sym is ∙ e)) may;
   }
 
-  on : (next : Next K V E) → ((a : Answer V E) → next.turn ≡ turn.Answer a → ⊥) →
+  on : (next : Next K V E) → ((a : Answer K V E) → next.turn ≡ turn.Answer a → ⊥) →
       AllSuit (plan_left next.left) → Leaves next
   on next going q = record { suits = q; now = λ a e. absurd (going a e) }
 
@@ -182,8 +211,10 @@ module _ {K V E : Type 0} (begin : Start K V) where
 
     misses_suit : (aim : Aim K V) → SuitsAim E begin aim → Leaves (misses c aim)
     misses_suit plan.To_answer s = answers_so (answer.Found None) _ refl refl (s None)
+    misses_suit (plan.To_report key) s = answers_so (unchanged key None) _ refl refl (s _)
     misses_suit (plan.To_load sought) s = on _ (λ b e. cc) (s, tt)
     misses_suit (plan.To_own sought) s = on _ (λ b e. cc) (s, tt)
+    misses_suit (plan.To_compute compute) s = on _ (λ b e. cc) (s, tt)
     misses_suit (plan.To_insert key value) s =
         put_plans (λ p. Leaves (goes c p)) c.rules key value (plan.Reply (answer.Loaded value true) ∷ [])
         (on _ (λ b e. cc) (tt, (tt, (s value true, tt))))
@@ -193,23 +224,30 @@ module _ {K V E : Type 0} (begin : Start K V) where
     finds_suit : (aim : Aim K V) (there : K) (stored : Stored V) → SuitsAim E begin aim →
         Leaves (finds_pair c aim there stored)
     finds_suit plan.To_answer there stored s = on _ (λ b e. cc) (s, tt)
+    finds_suit (plan.To_report key) there stored s = on _ (λ b e. cc) (s, tt)
     finds_suit (plan.To_load sought) there stored s = on _ (λ b e. cc) (s, tt)
     finds_suit (plan.To_own sought) there stored s = on _ (λ b e. cc) (s, tt)
+    finds_suit (plan.To_compute compute) there stored s = on _ (λ b e. cc) (s, tt)
     finds_suit (plan.To_insert key value) there stored s = on _ (λ b e. cc) (s, tt)
     finds_suit (plan.To_evict key stamp cause) there stored s =
         chosen_next Leaves c key stamp cause there stored
         (λ off. answers_so answer.Kept _ refl refl s.1)
         (λ is_on. on _ (λ b e. cc) (tt, (s.1, tt))) (on _ (λ b e. cc) (s, tt))
 
-    hits_suit : (aim : Aim K V) (value : V) → SuitsAim E begin aim → AllSuit c.plan → Leaves (hits c aim value)
-    hits_suit plan.To_answer value s p = answers_so (answer.Found (Some value)) _ refl refl (s (Some value))
-    hits_suit (plan.To_load sought) value s p =
+    hits_suit : (aim : Aim K V) (there : K) (value : V) → SuitsAim E begin aim → AllSuit c.plan →
+        Leaves (hits c aim there value)
+    hits_suit plan.To_answer there value s p =
+        answers_so (answer.Found (Some value)) _ refl refl (s (Some value))
+    hits_suit (plan.To_report key) there value s p =
+        answers_so (unchanged key (Some (there, value))) _ refl refl (s _)
+    hits_suit (plan.To_load sought) there value s p =
         answers_so (answer.Loaded value false) _ refl refl (loads_may E begin sought.load.kind value false s)
-    hits_suit (plan.To_own sought) value s p =
+    hits_suit (plan.To_own sought) there value s p =
         on _ (λ b e. cc) (tt, (loads_may E begin sought.load.kind value false s, tt))
-    hits_suit (plan.To_insert key own) value s p =
+    hits_suit (plan.To_compute compute) there value s p = on _ (λ b e. cc) (s, tt)
+    hits_suit (plan.To_insert key own) there value s p =
         answers_so (answer.Loaded value false) _ refl refl (s value false)
-    hits_suit (plan.To_evict key stamp cause) value s p = on _ (λ b e. cc) p
+    hits_suit (plan.To_evict key stamp cause) there value s p = on _ (λ b e. cc) p
 
     read_suits : (sought : Sought K) (with : Settled V E) → kind_of begin ≡ Some sought.load.kind →
         may_end sought.load.kind with ≡ true → AllSuit c.plan →
@@ -228,28 +266,69 @@ module _ {K V E : Type 0} (begin : Start K V) where
             (gives_up_may E begin sought.load.kind s))
         by false is = rw is (on _ (λ b e. cc) (s, tt))
 
+    read_key_suits : (compute : Compute K) (with : Settled V E) →
+        SuitsCompute E begin compute.takes →
+        AllSuit c.plan → Leaves (after_read_key c compute (found.ReadSettled with))
+    read_key_suits compute with s p = read_key_next Leaves c compute with
+        (on _ (λ b e. cc) p) (on _ (λ b e. cc) (s, tt))
+
     told_suits : (load : Load K) (given : Told V E) → kind_of begin ≡ Some load.kind →
-        does_take (takes_of load.kind) given ≡ true →
+        IsLoad load.kind → does_take (takes_of load.kind) given ≡ true →
         Leaves (after_told c load (found.TakeTold (Some given)))
-    told_suits load (told.Value value) s takes =
+    told_suits load (told.Value value) s one takes =
         let may : May (answer.Loaded value true) = loads_may E begin load.kind value true s in
         loaded_plans (λ p. Leaves (goes c p)) c.rules load value
         (on _ (λ b e. cc) (tt, (may, tt))) (on _ (λ b e. cc) (tt, (tt, (tt, (may, tt)))))
         (on _ (λ b e. cc) (tt, (tt, (tt, (tt, (may, tt))))))
-    told_suits load told.Nothing s takes = on _ (λ b e. cc) (
+    told_suits load told.Nothing s one takes = on _ (λ b e. cc) (
       tt,
       (nothing_may E begin load.kind s (told_nothing V E load.kind takes), tt),
     )
-    told_suits load (told.Err error) s takes = on _ (λ b e. cc) (
+    told_suits load (told.Err error) s one takes = on _ (λ b e. cc) (
       tt,
       (error_may begin load.kind error s (told_error V load.kind error takes), tt),
     )
-    told_suits load told.Done s takes = absurd (false≢true takes)
-    told_suits load told.Off s takes = absurd (false≢true takes)
+    told_suits load told.Done s one takes = absurd (false≢true takes)
+    told_suits load (told.Op op) s one takes = absurd (load_takes_no_op load.kind one takes)
+    told_suits load told.Off s one takes = absurd (false≢true takes)
+
+    -- what a compute answers the start may
+    unchanged_may : (key : K) (pair : Option (K × V)) (takes : Takes) →
+        SuitsCompute E begin takes → May (unchanged key pair)
+    unchanged_may key None takes s = s.0 _
+    unchanged_may key (Some pair) takes s = s.0 _
+
+    put_may : (key : K) (pair : Option (K × V)) (value : V) (takes : Takes) →
+        SuitsCompute E begin takes → May (put_answer key pair value)
+    put_may key None value takes s = s.0 _
+    put_may key (Some pair) value takes s = s.0 _
+
+    told_op_suits : (compute : Compute K) (pair : Option (K × V)) (given : Told V E) →
+        SuitsCompute E begin compute.takes → IsComputes compute.takes →
+        does_take compute.takes given ≡ true →
+        Leaves (after_told_op c compute pair (found.TakeTold (Some given)))
+    told_op_suits compute pair given s one takes = told_op_next_by Leaves c compute pair given
+        (on _ (λ b e. cc) (tt, (unchanged_may compute.key pair compute.takes s, tt)))
+        (λ error f. on _ (λ b e. cc)
+        (tt, (s.1 error (subst (λ v. does_take compute.takes v ≡ true) f takes), tt)))
+        (λ value disabled. on _ (λ b e. cc) (tt, (puts value, tt)))
+        (λ value able off. on _ (λ b e. cc) (tt, (tt, (tt, (puts value, tt)))))
+        (λ value able is_on. on _ (λ b e. cc) (tt, (tt, (tt, (tt, (puts value, tt))))))
+        (λ off. on _ (λ b e. cc) (tt, (((λ value. s.0 _), s.0 _), tt)))
+        (λ is_on. on _ (λ b e. cc) (tt, (tt, (((λ value. s.0 _), s.0 _), tt))))
+        (λ lost. absurd (compute_loses_none compute.takes given one takes lost))
+      where
+        puts : (value : V) → May (put_answer compute.key pair value)
+        puts value = put_may compute.key pair value compute.takes s
+
+  -- so does what is left of a removal
+  said_suits : (removal : Removal K) (a : Answer K V E) → May a → AllSuit (said removal a)
+  said_suits plan.To_invalidate a may = (may, tt)
+  said_suits plan.To_remove a may = (may, tt)
+  said_suits (plan.To_evict_chosen stamp cause) a may = (may, tt)
+  said_suits (plan.To_remove_as_told key) a may = (tt, (may, tt))
 
   module _ (eq : K → K → Bool) (w : World K V E) (n : ℕ) (c : Call K V E) (p : AllSuit c.plan)
-      (takes : (load : Load K) (given : Told V E) → c.plan ≡ plan.Told load ∷ [] →
-      w.desk.told n ≡ Some given → does_take (takes_of load.kind) given ≡ true)
       (ends : (sought : Sought K) (with : Settled V E) → c.plan ≡ plan.Read sought ∷ [] →
       settlement_for w.desk n ≡ Some with → may_end sought.load.kind with ≡ true) where
     abbrev After : World K V E → Next K V E → Type 0
@@ -259,70 +338,98 @@ module _ {K V E : Type 0} (begin : Start K V) where
     parks = on _ (λ b e. cc) p
 
     on_item : (item : Item K V E) (rest : List (Item K V E)) → c.plan ≡ item ∷ rest → IsLast (item ∷ rest) →
-        AllSuit (item ∷ rest) → Outcomes eq After w n c item rest
-    on_item plan.Drain rest e l q = (
+        AllSuit (item ∷ rest) → AllTake (w.desk.asks n) (w.desk.told n) (item ∷ rest) →
+        Outcomes eq After w n c item rest
+    on_item plan.Drain rest e l q t = (
       λ f. goes_suits c rest q.1,
       λ x xs f. on _ (λ b g. cc) (tt, q),
       λ x number xs f. on _ (λ b g. cc) (tt, (tt, q)),
     )
-    on_item (plan.Ended number) rest e l q = (λ f. goes_suits c rest q.1, λ f. parks)
-    on_item plan.Heard rest e l q = (λ f. goes_suits c rest q.1, λ f. parks)
-    on_item (plan.Lock key) rest e l q = (λ f. goes_suits c rest q.1, λ f. parks)
-    on_item (plan.Unlock wrote) rest e l q = goes_suits c rest q.1
-    on_item (plan.Notice key old cause upsert) rest e l q =
+    on_item (plan.Ended number) rest e l q t = (λ f. goes_suits c rest q.1, λ f. parks)
+    on_item plan.Heard rest e l q t = (λ f. goes_suits c rest q.1, λ f. parks)
+    on_item (plan.Lock key) rest e l q t = (λ f. goes_suits c rest q.1, λ f. parks)
+    on_item (plan.Unlock wrote) rest e l q t = goes_suits c rest q.1
+    on_item (plan.Notice key old cause upsert) rest e l q t =
         (λ f. goes_suits c rest q.1, λ f. on _ (λ b g. cc) (tt, q.1))
-    on_item (plan.Post write) rest e l q =
+    on_item (plan.Post write) rest e l q t =
         (λ f. goes_suits c rest q.1, λ f. on _ (λ b g. cc) (tt, (tt, (tt, q))))
-    on_item plan.Turn rest e l q = (λ f. goes_suits c rest q.1, λ f. parks)
-    on_item plan.Apply rest e l q = (λ f. goes_suits c rest q.1, λ x xs f. on _ (λ b g. cc) q)
-    on_item plan.End rest e l q = goes_suits c rest q.1
-    on_item (plan.Get aim key) rest e l q = (
+    on_item plan.Turn rest e l q t = (λ f. goes_suits c rest q.1, λ f. parks)
+    on_item plan.Apply rest e l q t = (λ f. goes_suits c rest q.1, λ x xs f. on _ (λ b g. cc) q)
+    on_item plan.End rest e l q t = goes_suits c rest q.1
+    on_item (plan.Get aim key) rest e l q t = (
       (λ more. on _ (λ b g. cc) p),
       (λ none. misses_suit c aim q.0),
       λ k stored some. finds_suit c aim k stored q.0,
     )
-    on_item (plan.Judge aim key stored) rest e l q =
-        ((λ seen. hits_suit c aim stored.value q.0 p), λ unseen. misses_suit c aim q.0)
-    on_item (plan.Own sought) rest e l q = (
+    on_item (plan.Judge aim key stored) rest e l q t =
+        ((λ seen. hits_suit c aim key stored.value q.0 p), λ unseen. misses_suit c aim q.0)
+    on_item (plan.Own sought) rest e l q t = (
       λ able none. on _ (λ b g. cc) (q.0, tt),
       λ disabled none. on _ (λ b g. cc) (q.0, tt),
       λ owner some. on _ (λ b g. cc) (q.0, tt),
     )
-    on_item (plan.Read sought) rest e l q = (
+    on_item (plan.Own_key compute) rest e l q t = (
+      (
+        (λ able none. on _ (λ b g. cc) (tt, (q.0, tt))),
+        λ disabled none. on _ (λ b g. cc) (tt, (q.0, tt)),
+      ),
+      λ owner some. on _ (λ b g. cc) (q.0, tt),
+    )
+    on_item (plan.Own_alone key) rest e l q t = (
+      (
+        (λ able none. on _ (λ b g. cc) (tt, (q.0, tt))),
+        λ disabled none. on _ (λ b g. cc) (tt, (q.0, tt)),
+      ),
+      λ owner some. (
+        (λ able. on _ (λ b g. cc) (tt, (q.0.0, tt))),
+        λ not. on _ (λ b g. cc) (tt, (q.0.0 _, tt)),
+      ),
+    )
+    on_item (plan.Read sought) rest e l q t = (
       λ none. parks,
       λ with some. read_suits c sought with q.0
           (ends sought with (e ∙ ap (λ r. plan.Read sought ∷ r) l) some) p,
     )
-    on_item (plan.Settle with) rest e l q = goes_suits c rest q.1
-    on_item (plan.Ask load) rest e l q = on _ (λ b g. cc) (q.0, tt)
-    on_item (plan.Told load) rest e l q = (
+    on_item (plan.Read_key compute) rest e l q t =
+        (λ none. parks, λ with some. read_key_suits c compute with q.0 p)
+    on_item (plan.Settle with) rest e l q t = goes_suits c rest q.1
+    on_item (plan.Ask load) rest e l q t = on _ (λ b g. cc) (q.0, tt)
+    on_item (plan.Ask_op compute pair) rest e l q t = on _ (λ b g. cc) (q.0, tt)
+    on_item (plan.Told load) rest e l q t = (
       λ none. parks,
-      λ given some. told_suits c load given q.0
-          (takes load given (e ∙ ap (λ r. plan.Told load ∷ r) l) some),
+      λ given some. told_suits c load given q.0 t.0.0
+          (subst (ToldFits (takes_of load.kind)) some t.0.2),
     )
-    on_item (plan.Holds key stamp cause there stored) rest e l q =
+    on_item (plan.Told_op compute pair) rest e l q t = (
+      λ none. parks,
+      λ given some. told_op_suits c compute pair given q.0 t.0.0
+          (subst (ToldFits compute.takes) some t.0.2),
+    )
+    on_item (plan.Holds key stamp cause there stored) rest e l q t =
         (λ leaves. on _ (λ b g. cc) (q.0, tt), λ stays. keeps_suit c q.0.1)
-    on_item (plan.Moment (plan.To_store key value)) rest e l q = on _ (λ b g. cc) (tt, q.1)
-    on_item (plan.Moment (plan.To_take_out removal key)) rest e l q = on _ (λ b g. cc) q
-    on_item (plan.Write key value moment) rest e l q = (
+    on_item (plan.Moment (plan.To_store key value)) rest e l q t = on _ (λ b g. cc) (tt, q.1)
+    on_item (plan.Moment (plan.To_take_out removal key)) rest e l q t = on _ (λ b g. cc) q
+    on_item (plan.Write key value moment) rest e l q t = (
       (λ more. on _ (λ b g. cc) p),
       (λ off old. on _ (λ b g. cc) (tt, q.1)),
       (λ is_on. on _ (λ b g. cc) (tt, (tt, q.1))),
       λ k old is_on some. on _ (λ b g. cc) (tt, (tt, (tt, q.1))),
     )
-    on_item (plan.Out removal key) rest e l q = (
+    on_item (plan.Out removal key) rest e l q t = (
       (λ more. on _ (λ b g. cc) p),
-      (λ off none. on _ (λ b g. cc) (tt, (q.0.1, tt))),
-      (λ is_on none. on _ (λ b g. cc) (tt, (q.0.1, tt))),
-      (λ k old off some. on _ (λ b g. cc) (tt, (q.0.0 old.value, tt))),
-      λ k old is_on some. on _ (λ b g. cc) (tt, (tt, (tt, (q.0.0 old.value, tt)))),
+      (λ off none. on _ (λ b g. cc) (tt, said_suits removal _ q.0.1)),
+      (λ is_on none. on _ (λ b g. cc) (tt, said_suits removal _ q.0.1)),
+      (λ k old off some. on _ (λ b g. cc) (tt, said_suits removal _ (q.0.0 old.value))),
+      λ k old is_on some. on _ (λ b g. cc)
+          (tt, (tt, (tt, said_suits removal _ (q.0.0 old.value)))),
     )
-    on_item plan.Idle rest e l q = goes_suits c rest q.1
-    on_item (plan.Reply a) rest e l q = answers_so a _ refl refl q.0
+    on_item plan.Idle rest e l q t = goes_suits c rest q.1
+    on_item (plan.Reply a) rest e l q t = answers_so a _ refl refl q.0
 
-    on_plan : (q : List (Item K V E)) → c.plan ≡ q → IsLast q → AllSuit q → OnStep eq After w n c q
-    on_plan [] e l q = parks
-    on_plan (item ∷ rest) e l q = outcomes eq After w n c item rest (on_item item rest e l q)
+    on_plan : (q : List (Item K V E)) → c.plan ≡ q → IsLast q → AllSuit q →
+        AllTake (w.desk.asks n) (w.desk.told n) q → OnStep eq After w n c q
+    on_plan [] e l q t = parks
+    on_plan (item ∷ rest) e l q t = outcomes eq After w n c item rest (on_item item rest e l q t)
 
 -- ---- as a call is started
 
@@ -333,7 +440,7 @@ module _ {K V : Type 0} (E : Type 0) where
   load_suits begin false sought s = (tt, (s, tt))
 
   -- what a removal is started for it may answer
-  out_suits : (begin : Start K V) (rules : Rules) (removal : Removal) (key : K) →
+  out_suits : (begin : Start K V) (rules : Rules) (removal : Removal K) (key : K) →
       SuitsRemoval E begin removal → AllSuit {E = E} begin (take_out rules removal key)
   out_suits begin rules removal key s = by rules.listener
     where
@@ -365,6 +472,11 @@ module _ {K V : Type 0} (E : Type 0) where
       by : (b : Bool) → AllSuit {E = E} (start.OrInsert key value) (or_insert_plan b key value)
       by true = (tt, (refl, tt))
       by false = (tt, (λ v fresh. refl, tt))
+  fresh_suits rules (start.Compute key) =
+      (((λ done. refl), λ error e. absurd (false≢true e)), tt)
+  fresh_suits rules (start.TryCompute key) = (((λ done. refl), λ error e. refl), tt)
+  fresh_suits rules (start.ComputeAlone key) = (((λ done. refl), λ error e. refl), tt)
+  fresh_suits rules (start.Upsert key) = (((λ done. refl), λ error e. absurd (false≢true e)), tt)
   fresh_suits rules (start.Invalidate key) =
       out_suits (start.Invalidate key) rules plan.To_invalidate key (λ value. refl, refl)
   fresh_suits rules (start.Remove key) =
@@ -388,21 +500,18 @@ module _ {K V E : Type 0} (eq : K → K → Bool) (begin : Start K V) (n : ℕ) 
   -- what its own step leaves, and answers
   own_step : (s t : State K V E) (reply : Turn K V E) → IsSuiting s → Step eq s n reply t →
       ((c : Call K V E) → t.calls n ≡ Some c → AllSuit begin c.plan) ×
-      ((a : Answer V E) → reply ≡ turn.Answer a → May {E = E} begin a)
+      ((a : Answer K V E) → reply ≡ turn.Answer a → May {E = E} begin a)
   own_step s t reply i step =
       let c : Call K V E = step.call in
       let well = in_well eq s i.reached in
       let last : IsLast c.plan = subst (λ v. IsLast (plan_left v)) step.live (well.served.fits n).last in
       step_cases eq (λ new next. Leaves begin next)
       (λ v r. ((c : Call K V E) → v.calls n ≡ Some c → AllSuit begin c.plan) ×
-      ((a : Answer V E) → r ≡ turn.Answer a → May {E = E} begin a)) s t n reply step
+      ((a : Answer K V E) → r ≡ turn.Answer a → May {E = E} begin a)) s t n reply step
       (on_plan begin eq s.world n c (i.suits c step.live)
-      (λ load given e some.
-      let fits = (subst (AllFit _ _ _) e (well.fitting.fit n c step.live)).0 in
-      subst (ToldFits load.kind) some fits.2)
-      (λ sought with e some. settlements_fit eq s n c with i.reached step.live
-      (record { sought = sought; reading = e; ended = some }))
-      c.plan refl last (i.suits c step.live))
+      (λ sought with e some.
+      settlements_fit eq s n c (plan.Read sought) [] sought.load with i.reached step.live e refl some)
+      c.plan refl last (i.suits c step.live) (well.fitting.taking.take n c step.live))
       (λ w next l. (
         λ d live. subst (λ v. AllSuit begin (plan_left v))
             (sym (put_here s.calls n next.left) ∙ live) l.suits,

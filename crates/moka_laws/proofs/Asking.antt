@@ -1,6 +1,6 @@
 -- The ask of a call is open until it is answered, and the answer is kept until the call takes it.
 use Rattle.std.proofs.Common.{◌≡◌, ℕ, ◌+◌, ◌≤◌, ◌==◌, Bool, true, false, cond, List, [], ◌∷◌, Option, Some, None, is_some, IsSome, refl, sym, ap, ◌∙◌, subst, arith}
-use Rattle.std.proofs.lemmas.Bool.{eqb-true}
+use Rattle.std.proofs.lemmas.Bool.{eqb-true, false≢true}
 use Rattle.moka_hist.specs.Finite.{put_at}
 use Rattle.moka_hist.specs.State.{State, World, Call, DeskPart}
 use Rattle.moka_hist.specs.Plan.{Item, Aim, plan_of}
@@ -11,7 +11,7 @@ use Rattle.moka_hist.specs.Loading.{after_read, after_told, retries}
 use Rattle.moka_hist.specs.Telling.{is_taken, does_take}
 use Rattle.moka_hist.specs.Dropping.{dropped}
 use Rattle.std.specs.Option.{option_map_or}
-use Rattle.moka_hist.specs.Step.{Step}
+use Rattle.moka_hist.specs.Step.{Step, takes_of}
 use Rattle.moka_hist.specs.Run.{IsReached, started, fresh_call}
 use Rattle.moka_hist.specs.declared.loads.Load.{Load}
 use Rattle.moka_hist.specs.declared.loads.Sought.{Sought}
@@ -25,16 +25,21 @@ use Rattle.moka_hist.specs.declared.visits.Settled.{Settled}
 use Rattle.moka_hist.specs.declared.visits.Settled.TheVariants as settled
 use Rattle.moka_hist.specs.declared.visits.Found.TheVariants as found
 use Rattle.moka_hist.specs.declared.accesses.Turn.{Turn}
-use Rattle.moka_laws.proofs.Rules.{put_plans, loaded_plans, kept_next, chosen_next, IsFresh, Disabled, fresh_plan}
+use Rattle.moka_hist.specs.Plan.{Removal}
+use Rattle.moka_hist.specs.declared.replies.Answer.{Answer}
+use Rattle.moka_hist.specs.Writing.{nothing_answer, removed_answer, said}
+use Rattle.moka_laws.proofs.Rules.{put_plans, loaded_plans, kept_next, chosen_next, IsFresh, Disabled, fresh_plan, read_key_next, told_op_next_by, IsLoad, IsComputes}
 use Rattle.moka_laws.proofs.Counting.{put_here, put_there}
 use Rattle.moka_laws.proofs.Weights.{weigh, weigh_call, weigh_goes}
-use Rattle.moka_laws.proofs.Plans.{IsLook, IsTail, Answering, Settling, IsDrained, Looking, Owning, Giving, Putting, Removing, Locking_out, IsPosted, Draining, Ended, Locking, IsPlan, Posted, Drained, Posting, Hearing, Noticing, Listening, Unlocking, Turning, Applying, Ending, Judging, Reading, Asking, Telling, Writing, Choosing, Finding, Chosen, Taking, Freeing, Idling, IsKnown, known_kept}
+use Rattle.moka_laws.proofs.Plans.{IsLook, IsTail, Answering, Settling, IsDrained, Looking, Owning, Giving, Putting, Removing, Locking_out, IsPosted, Draining, Ended, Locking, IsPlan, Posted, Drained, Posting, Hearing, Noticing, Listening, Unlocking, Turning, Applying, Ending, Judging, Reading, Asking, Telling, Writing, Choosing, Finding, Chosen, Taking, Freeing, Idling, IsKnown, known_kept, Asking_op, Owning_key, Owning_alone, Reading_key, Telling_op}
 use Rattle.moka_laws.proofs.Balance.{IsBalanced}
 use Rattle.moka_laws.proofs.Balanced.{balanced_kept, next_free}
 use Rattle.moka_laws.proofs.Kept.{IsKept, in_reached}
 use Rattle.moka_laws.proofs.StepCases.{OnStep, step_cases}
 use Rattle.moka_laws.proofs.Outcomes.{outcomes}
-use Rattle.moka_laws.proofs.Answering.{IsGiven, IsAnswering, HasAnswers, answering_kept}
+use Rattle.moka_laws.proofs.TakesFit.{AllTake, ToldFits, IsTaking, taking_kept, load_takes_no_op, compute_loses_none}
+use Rattle.moka_hist.specs.declared.loads.Compute.{Compute}
+use Rattle.moka_hist.specs.Computing.{after_told_op, after_read_key}
 
 -- how many there are of an open ask and an answer
 abbrev pub opened : {V E : Type 0} → Option Takes → Option (Told V E) → ℕ
@@ -44,6 +49,7 @@ module _ {K V E : Type 0} where
   -- the item takes the answer to an ask
   abbrev pub takes_told : Item K V E → ℕ
   takes_told (plan.Told load) = 1
+  takes_told (plan.Told_op compute pair) = 1
   takes_told _ = 0
 
   keeps_takes : (c : Call K V E) → weigh_call takes_told (keeps c).left ≡ 0
@@ -51,8 +57,10 @@ module _ {K V E : Type 0} where
 
   misses_takes : (c : Call K V E) (aim : Aim K V) → weigh_call takes_told (misses c aim).left ≡ 0
   misses_takes c plan.To_answer = refl
+  misses_takes c (plan.To_report key) = refl
   misses_takes c (plan.To_load sought) = refl
   misses_takes c (plan.To_own sought) = refl
+  misses_takes c (plan.To_compute compute) = refl
   misses_takes c (plan.To_insert key value) =
       put_plans (λ p. weigh_call takes_told (goes c p).left ≡ 0) c.rules key value _ refl refl
   misses_takes c (plan.To_evict key stamp cause) = keeps_takes c
@@ -60,20 +68,24 @@ module _ {K V E : Type 0} where
   finds_take : (c : Call K V E) (aim : Aim K V) (k : K) (stored : Stored V) →
       weigh_call takes_told (finds_pair c aim k stored).left ≡ 0
   finds_take c plan.To_answer k stored = refl
+  finds_take c (plan.To_report key) k stored = refl
   finds_take c (plan.To_load sought) k stored = refl
   finds_take c (plan.To_insert under new) k stored = refl
   finds_take c (plan.To_own sought) k stored = refl
+  finds_take c (plan.To_compute compute) k stored = refl
   finds_take c (plan.To_evict key stamp cause) k stored =
       chosen_next (λ v. weigh_call takes_told v.left ≡ 0) c key stamp cause k stored (λ off. refl)
       (λ on. refl) refl
 
-  hits_takes : (c : Call K V E) (aim : Aim K V) (value : V) → IsLook aim →
-      weigh_call takes_told (hits c aim value).left ≡ 0
-  hits_takes c plan.To_answer value l = refl
-  hits_takes c (plan.To_load sought) value l = refl
-  hits_takes c (plan.To_insert under new) value l = refl
-  hits_takes c (plan.To_own sought) value l = refl
-  hits_takes c (plan.To_evict key stamp cause) value l = absurd l
+  hits_takes : (c : Call K V E) (aim : Aim K V) (there : K) (value : V) → IsLook aim →
+      weigh_call takes_told (hits c aim there value).left ≡ 0
+  hits_takes c plan.To_answer there value l = refl
+  hits_takes c (plan.To_report key) there value l = refl
+  hits_takes c (plan.To_load sought) there value l = refl
+  hits_takes c (plan.To_insert under new) there value l = refl
+  hits_takes c (plan.To_own sought) there value l = refl
+  hits_takes c (plan.To_compute compute) there value l = refl
+  hits_takes c (plan.To_evict key stamp cause) there value l = absurd l
 
   either_takes : (b : Bool) (x y : Next K V E) → weigh_call takes_told x.left ≡ 0 → weigh_call takes_told y.left ≡ 0 →
       weigh_call takes_told (cond b x y).left ≡ 0
@@ -88,19 +100,50 @@ module _ {K V E : Type 0} where
   reads_take c sought settled.NotYet e = e
   reads_take c sought settled.Aborted e = either_takes (c.aborts + 1 == retries) _ _ refl refl
 
-  told_takes : (c : Call K V E) (load : Load K) (given : Told V E) → IsGiven (Some given) →
+  reads_take_key : (c : Call K V E) (compute : Compute K) (with : Settled V E) →
+      weigh takes_told c.plan ≡ 0 →
+      weigh_call takes_told (after_read_key c compute (found.ReadSettled with)).left ≡ 0
+  reads_take_key c compute with e =
+      read_key_next (λ v. weigh_call takes_told v.left ≡ 0) c compute with
+      (e)
+      (refl)
+
+  told_takes : (c : Call K V E) (load : Load K) (given : Told V E) → IsLoad load.kind →
+      does_take (takes_of load.kind) given ≡ true →
       weigh_call takes_told (after_told c load (found.TakeTold (Some given))).left ≡ 0
-  told_takes c load (answer.Value value) is =
+  told_takes c load (answer.Value value) one is =
       loaded_plans (λ p. weigh_call takes_told (goes c p).left ≡ 0)
       c.rules load value refl refl refl
-  told_takes c load answer.Nothing is = refl
-  told_takes c load (answer.Err error) is = refl
-  told_takes c load answer.Done is = absurd is
-  told_takes c load answer.Off is = absurd is
+  told_takes c load answer.Nothing one is = refl
+  told_takes c load (answer.Err error) one is = refl
+  told_takes c load answer.Done one is = absurd (false≢true is)
+  told_takes c load (answer.Op op) one is = absurd (load_takes_no_op load.kind one is)
+  told_takes c load answer.Off one is = absurd (false≢true is)
+
+  told_op_takes : (c : Call K V E) (compute : Compute K) (pair : Option (K × V))
+      (given : Told V E) → IsComputes compute.takes →
+      does_take compute.takes given ≡ true →
+      weigh_call takes_told (after_told_op c compute pair (found.TakeTold (Some given))).left ≡ 0
+  told_op_takes c compute pair given one is =
+      told_op_next_by (λ v. weigh_call takes_told v.left ≡ 0) c compute pair given
+      refl
+      (λ error e. refl)
+      (λ value off. refl)
+      (λ value able off. refl)
+      (λ value able on. refl)
+      (λ off. refl)
+      (λ on. refl)
+      (λ lost. absurd (compute_loses_none compute.takes given one is lost))
 
   fresh_none : (rules : Rules) (p : List (Item K V E)) → IsFresh rules p → weigh takes_told p ≡ 0
   fresh_none rules p (Disabled a d plain) = refl
   fresh_none rules p _ = refl
+
+  said_takes : (removal : Removal K) (a : Answer K V E) → weigh takes_told (said removal a) ≡ 0
+  said_takes plan.To_invalidate a = refl
+  said_takes plan.To_remove a = refl
+  said_takes (plan.To_evict_chosen stamp cause) a = refl
+  said_takes (plan.To_remove_as_told key) a = refl
 
   -- no plan takes two answers
   tail_few : (p : List (Item K V E)) → IsTail p → weigh takes_told p ≤ 1
@@ -110,6 +153,7 @@ module _ {K V E : Type 0} where
   drained_few : (p : List (Item K V E)) → IsDrained p → weigh takes_told p ≤ 1
   drained_few p (Looking aim key l) = omega arith
   drained_few p (Owning sought) = omega arith
+  drained_few p (Asking_op compute pair) = omega arith
   drained_few p (Giving a) = omega arith
   drained_few p (Removing removal key) = omega arith
   drained_few p (Locking_out removal key) = omega arith
@@ -136,12 +180,16 @@ module _ {K V E : Type 0} where
   plan_few p (Reading sought) = omega arith
   plan_few p (Asking load) = omega arith
   plan_few p (Telling load) = omega arith
+  plan_few p (Owning_key compute) = omega arith
+  plan_few p (Owning_alone key) = omega arith
+  plan_few p (Reading_key compute) = omega arith
+  plan_few p (Telling_op compute pair) = omega arith
   plan_few p (Choosing key stamp cause) = omega arith
   plan_few p (Finding key stamp cause) = omega arith
   plan_few p (Chosen key stamp cause there stored) = omega arith
   plan_few p (Taking removal key) = omega arith
-  plan_few p (Freeing a) = omega arith
-  plan_few p (Idling a) = omega arith
+  plan_few p (Freeing rest t) = omega (arith, tail_few rest t)
+  plan_few p (Idling rest t) = omega (arith, tail_few rest t)
 
   -- ---- what a step has to show
 
@@ -150,7 +198,8 @@ module _ {K V E : Type 0} where
     own : opened (asks n) (told n) ≡ weigh_call takes_told left
     others : (m : ℕ) → (n == m) ≡ false → (asks m ≡ d.asks m) × (told m ≡ d.told m)
 
-  module _ (eq : K → K → Bool) (w : World K V E) (n : ℕ) (c : Call K V E) (ready : HasAnswers w.desk)
+  module _ (eq : K → K → Bool) (w : World K V E) (n : ℕ) (c : Call K V E)
+      (takes : AllTake (w.desk.asks n) (w.desk.told n) c.plan)
       (was : opened (w.desk.asks n) (w.desk.told n) ≡ weigh takes_told c.plan) where
     abbrev Leaves : World K V E → Next K V E → Type 0
     Leaves new next = Asks w.desk n new.desk.asks new.desk.told next.left
@@ -183,6 +232,13 @@ module _ {K V E : Type 0} where
     on_drained p e (Locking key value rest t) =
         outcomes eq Leaves w n c (plan.Lock key) (plan.Moment (plan.To_store key value) ∷ rest)
         ((λ free. still (omega (arith, ap (weigh takes_told) e))), λ held. still refl)
+    on_drained p e (Asking_op compute pair) =
+        outcomes eq Leaves w n c (plan.Ask_op compute pair) [] (record {
+          own = ap (λ a. opened a (put_at w.desk.told n None n))
+              (put_here w.desk.asks n _) ∙ ap (λ t. 1 + cond {A = ℕ} (is_some t) 1 0)
+              (put_here w.desk.told n None);
+          others = λ m d. (put_there w.desk.asks n _ m d, put_there w.desk.told n None m d);
+        })
     on_drained p e (Giving a) = outcomes eq Leaves w n c (plan.Reply a) []
         (still (omega (arith, ap (weigh takes_told) e)))
     on_drained p e (Removing removal key) =
@@ -222,7 +278,7 @@ module _ {K V E : Type 0} where
         ((λ none. still (omega (arith, ap (weigh takes_told) e))), λ y ys some. still (omega (arith, ap (weigh takes_told) e)))
     on_plan p e (Ending x rest d) = outcomes eq Leaves w n c plan.End (plan.Post x ∷ rest) (still (omega (arith, ap (weigh takes_told) e)))
     on_plan p e (Judging aim key stored l) = outcomes eq Leaves w n c (plan.Judge aim key stored) [] (
-      (λ seen. still (omega (arith, hits_takes c aim stored.value l, ap (weigh takes_told) e))),
+      (λ seen. still (omega (arith, hits_takes c aim key stored.value l, ap (weigh takes_told) e))),
       λ unseen. still (omega (arith, misses_takes c aim, ap (weigh takes_told) e)),
     )
     on_plan p e (Reading sought) = outcomes eq Leaves w n c (plan.Read sought) [] (
@@ -238,14 +294,51 @@ module _ {K V E : Type 0} where
     on_plan p e (Telling load) = outcomes eq Leaves w n c (plan.Told load) [] (
       λ none. still refl,
       λ given some.
+          let fits = (subst (AllTake (w.desk.asks n) (w.desk.told n)) e takes).0 in
           let one : weigh takes_told c.plan ≡ 1 = ap (weigh takes_told) e in
           let told : cond {A = ℕ} (is_some (w.desk.told n)) 1 0 ≡ 1 = ap (λ t. cond {A = ℕ} (is_some t) 1 0) some in
           let gone : cond {A = ℕ} (is_some (put_at w.desk.told n None n)) 1 0 ≡ 0 = ap (λ t. cond {A = ℕ} (is_some t) 1 0) (put_here w.desk.told n None) in
           record {
-            own = omega (arith, was, told_takes c load given (subst IsGiven some (ready.told n)));
+            own = omega (arith, was, told_takes c load given fits.0 (subst (ToldFits (takes_of load.kind)) some fits.2));
             others = λ m d. (refl, put_there w.desk.told n None m d);
           },
     )
+    on_plan p e (Owning_key compute) = outcomes eq Leaves w n c (plan.Own_key compute) [] (
+      (
+        λ able none. still (omega (arith, ap (weigh takes_told) e)),
+        λ not none. still (omega (arith, ap (weigh takes_told) e)),
+      ),
+      λ owner some. still (omega (arith, ap (weigh takes_told) e)),
+    )
+    on_plan p e (Owning_alone key) = outcomes eq Leaves w n c (plan.Own_alone key) [] (
+      (
+        λ able none. still (omega (arith, ap (weigh takes_told) e)),
+        λ not none. still (omega (arith, ap (weigh takes_told) e)),
+      ),
+      λ owner some. (
+        λ able. still (omega (arith, ap (weigh takes_told) e)),
+        λ not. still (omega (arith, ap (weigh takes_told) e)),
+      ),
+    )
+    on_plan p e (Reading_key compute) = outcomes eq Leaves w n c (plan.Read_key compute) [] (
+      λ none. still refl,
+      λ with some.
+          let zero : weigh takes_told c.plan ≡ 0 = ap (weigh takes_told) e in
+          still (reads_take_key c compute with zero ∙ sym zero),
+    )
+    on_plan p e (Telling_op compute pair) =
+        outcomes eq Leaves w n c (plan.Told_op compute pair) [] (
+          λ none. still refl,
+          λ given some.
+              let fits = (subst (AllTake (w.desk.asks n) (w.desk.told n)) e takes).0 in
+              let one : weigh takes_told c.plan ≡ 1 = ap (weigh takes_told) e in
+              let told : cond {A = ℕ} (is_some (w.desk.told n)) 1 0 ≡ 1 = ap (λ t. cond {A = ℕ} (is_some t) 1 0) some in
+              let gone : cond {A = ℕ} (is_some (put_at w.desk.told n None n)) 1 0 ≡ 0 = ap (λ t. cond {A = ℕ} (is_some t) 1 0) (put_here w.desk.told n None) in
+              record {
+                own = omega (arith, was, told_op_takes c compute pair given fits.0 (subst (ToldFits compute.takes) some fits.2));
+                others = λ m d. (refl, put_there w.desk.told n None m d);
+              },
+        )
     on_plan p e (Writing key value moment rest t) = outcomes eq Leaves w n c (plan.Write key value moment) rest (
       (λ more. still refl),
       (λ off old. still (omega (arith, ap (weigh takes_told) e))),
@@ -274,22 +367,22 @@ module _ {K V E : Type 0} where
         )
     on_plan p e (Taking removal key) = outcomes eq Leaves w n c (plan.Out removal key) [] (
       (λ more. still refl),
-      (λ off none. still (omega (arith, ap (weigh takes_told) e))),
-      (λ on none. still (omega (arith, ap (weigh takes_told) e))),
-      (λ k old off some. still (omega (arith, ap (weigh takes_told) e))),
-      λ k old on some. still (omega (arith, ap (weigh takes_told) e)),
+      (λ off none. still (omega (arith, ap (weigh takes_told) e, said_takes removal (nothing_answer removal)))),
+      (λ on none. still (omega (arith, ap (weigh takes_told) e, said_takes removal (nothing_answer removal)))),
+      (λ k old off some. still (omega (arith, ap (weigh takes_told) e, said_takes removal (removed_answer removal old.value)))),
+      λ k old on some. still (omega (arith, ap (weigh takes_told) e, said_takes removal (removed_answer removal old.value))),
     )
-    on_plan p e (Freeing a) = outcomes eq Leaves w n c (plan.Unlock false) (plan.Reply a ∷ [])
-        (still (omega (arith, ap (weigh takes_told) e)))
-    on_plan p e (Idling a) = outcomes eq Leaves w n c plan.Idle (plan.Reply a ∷ [])
-        (still (omega (arith, ap (weigh takes_told) e)))
+    on_plan p e (Freeing rest t) = outcomes eq Leaves w n c (plan.Unlock false) rest
+        (goes_on rest (omega (arith, ap (weigh takes_told) e)))
+    on_plan p e (Idling rest t) = outcomes eq Leaves w n c plan.Idle rest
+        (goes_on rest (omega (arith, ap (weigh takes_told) e)))
 
   -- ---- of a state
 
   -- Each call has an ask or an answer exactly where it is to take one.
   pub record IsAsking (s : State K V E) : Type 0 where
     pub balanced : IsBalanced s
-    pub answering : IsAnswering s
+    pub taking : IsTaking s
     pub known : (n : ℕ) (c : Call K V E) → s.calls n ≡ Some c → IsKnown c
     pub asked : (n : ℕ) → opened (s.world.desk.asks n) (s.world.desk.told n) ≡ weigh_call takes_told (s.calls n)
 
@@ -321,11 +414,11 @@ module _ {K V E : Type 0} (eq : K → K → Bool) where
       let was : opened (s.world.desk.asks n) (s.world.desk.told n) ≡ weigh takes_told c.plan = i.asked n ∙ ap (weigh_call takes_told) step.live in
       record {
         balanced = (balanced_kept eq).step s t n turn i.balanced step;
-        answering = (answering_kept eq).step s t n turn i.answering step;
+        taking = (taking_kept eq).step s t n turn i.taking step;
         known = (known_kept eq).step s t n turn i.known step;
         asked = step_cases eq (λ new next. Asks s.world.desk n new.desk.asks new.desk.told next.left)
             (λ v _. (m : ℕ) → opened (v.world.desk.asks m) (v.world.desk.told m) ≡ weigh_call takes_told (v.calls m)) s t n turn step
-            (on_plan eq s.world n c i.answering.desk was c.plan refl (i.known n c step.live).plan) (λ w next b. asks_on s n w next.left i b);
+            (on_plan eq s.world n c (i.taking.take n c step.live) was c.plan refl (i.known n c step.live).plan) (λ w next b. asks_on s n w next.left i b);
       }
 
   asking_start : (s : State K V E) (start : Start K V) → IsAsking s → IsAsking (started s start)
@@ -333,7 +426,7 @@ module _ {K V E : Type 0} (eq : K → K → Bool) where
       let new : ℕ = s.world.desk.last + 1 in
       record {
         balanced = (balanced_kept eq).start s start i.balanced;
-        answering = (answering_kept eq).start s start i.answering;
+        taking = (taking_kept eq).start s start i.taking;
         known = (known_kept eq).start s start i.known;
         asked = asks_on s new s.world (Some (fresh_call s.world.desk.rules start)) i (record {
           own = i.asked new ∙ ap (weigh_call takes_told) (next_free s i.balanced) ∙ sym (fresh_none s.world.desk.rules _ (fresh_plan s.world.desk.rules start));
@@ -361,13 +454,13 @@ module _ {K V E : Type 0} (eq : K → K → Bool) where
   asking_kept = record {
     fresh = λ rules size tests has_log. record {
       balanced = (balanced_kept eq).fresh rules size tests has_log;
-      answering = (answering_kept eq).fresh rules size tests has_log;
+      taking = (taking_kept eq).fresh rules size tests has_log;
       known = (known_kept eq).fresh rules size tests has_log;
       asked = λ n. refl;
     };
     at = λ s moment i. record {
       balanced = (balanced_kept eq).at s moment i.balanced;
-      answering = (answering_kept eq).at s moment i.answering;
+      taking = (taking_kept eq).at s moment i.taking;
       known = (known_kept eq).at s moment i.known;
       asked = i.asked;
     };
@@ -375,19 +468,19 @@ module _ {K V E : Type 0} (eq : K → K → Bool) where
     step = asking_step;
     tell = λ s n given told i. record {
       balanced = (balanced_kept eq).tell s n given told i.balanced;
-      answering = (answering_kept eq).tell s n given told i.answering;
+      taking = (taking_kept eq).tell s n given told i.taking;
       known = (known_kept eq).tell s n given told i.known;
       asked = asking_tell s n given told i;
     };
     hear = λ s n off running i. record {
       balanced = (balanced_kept eq).hear s n off running i.balanced;
-      answering = (answering_kept eq).hear s n off running i.answering;
+      taking = (taking_kept eq).hear s n off running i.taking;
       known = (known_kept eq).hear s n off running i.known;
       asked = i.asked;
     };
     drop = λ s n c live between i. record {
       balanced = (balanced_kept eq).drop s n c live between i.balanced;
-      answering = (answering_kept eq).drop s n c live between i.answering;
+      taking = (taking_kept eq).drop s n c live between i.taking;
       known = (known_kept eq).drop s n c live between i.known;
       asked = asks_on s n (dropped s n c).world None i (record {
         own = ap (λ a. opened a (put_at s.world.desk.told n None n)) (put_here s.world.desk.asks n None) ∙ ap (λ t. opened {V = V} {E = E} None t) (put_here s.world.desk.told n None);
@@ -417,8 +510,28 @@ module _ {K V E : Type 0} where
             let told = ap (λ b. cond {A = ℕ} b 1 0) none in
             absurd (omega (arith, a.asked))
 
+    pub op_open : (compute : Compute K) (pair : Option (K × V)) (rest : List (Item K V E)) →
+        AsksWhole d n (plan.Told_op compute pair ∷ rest) → is_some (d.told n) ≡ false →
+        IsSome (d.asks n)
+    op_open compute pair rest a none = by (is_some (d.asks n)) refl
+      where
+        by : (b : Bool) → is_some (d.asks n) ≡ b → b ≡ true
+        by true e = refl
+        by false e =
+            let ask = ap (λ b. cond {A = ℕ} b 1 0) e in
+            let told = ap (λ b. cond {A = ℕ} b 1 0) none in
+            absurd (omega (arith, a.asked))
+
     pub ask_closed : (load : Load K) (rest : List (Item K V E)) → AsksWhole d n (plan.Told load ∷ rest) → is_some (d.told n) ≡ true → ¬ IsSome (d.asks n)
     ask_closed load rest a some = λ opens.
+        let ask = ap (λ b. cond {A = ℕ} b 1 0) opens in
+        let told = ap (λ b. cond {A = ℕ} b 1 0) some in
+        omega (arith, a.asked, a.few)
+
+    pub op_closed : (compute : Compute K) (pair : Option (K × V)) (rest : List (Item K V E)) →
+        AsksWhole d n (plan.Told_op compute pair ∷ rest) → is_some (d.told n) ≡ true →
+        ¬ IsSome (d.asks n)
+    op_closed compute pair rest a some = λ opens.
         let ask = ap (λ b. cond {A = ℕ} b 1 0) opens in
         let told = ap (λ b. cond {A = ℕ} b 1 0) some in
         omega (arith, a.asked, a.few)

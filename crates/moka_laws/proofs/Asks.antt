@@ -18,6 +18,7 @@ module _ {K V E : Type 0} where
   takes_may : (p : List (Item K V E)) → weigh takes_told p ≤ weigh may_write p
   takes_may [] = omega arith
   takes_may (plan.Told load ∷ rest) = let e = takes_may rest in omega arith
+  takes_may (plan.Told_op compute pair ∷ rest) = let e = takes_may rest in omega arith
   takes_may (_ ∷ rest) = let e = takes_may rest in omega arith
 
   call_may : (o : Option (Call K V E)) → 0 < weigh_call takes_told o → (c : Call K V E) × (o ≡ Some c) × (0 < weigh may_write c.plan)

@@ -19,7 +19,11 @@ use Rattle.moka_hist.specs.declared.accesses.Turn.TheVariants as turn
 use Rattle.moka_laws.proofs.Counting.{times_append, same_number, other_number}
 use Rattle.moka_laws.proofs.Sums.{sum_to}
 use Rattle.moka_laws.proofs.Weights.{weigh, weigh_call, weigh_goes}
-use Rattle.moka_laws.proofs.Posts.{once, among, among_owed, post_of, may_write, late, late_call, late_goes, late_none, posts_none, IsClear, keeps_clear, misses_clear, finds_clear, hits_clear, read_clear, told_clear}
+use Rattle.moka_hist.specs.Computing.{end_compute}
+use Rattle.moka_hist.specs.Writing.{cause_handed, nothing_answer, removed_answer}
+use Rattle.moka_laws.proofs.Rules.{said_next}
+use Rattle.moka_laws.proofs.Outcomes.{taken_out}
+use Rattle.moka_laws.proofs.Posts.{once, among, among_owed, post_of, may_write, late, late_call, late_goes, late_none, posts_none, IsClear, keeps_clear, misses_clear, finds_clear, hits_clear, read_clear, told_clear, read_key_clear, told_op_clear}
 use Rattle.moka_laws.proofs.StepCases.{OnStep}
 use Rattle.moka_laws.proofs.Outcomes.{Outcomes, outcomes}
 
@@ -206,7 +210,7 @@ module _ {K V E : Type 0} where
     )
     on_item (plan.Judge aim key stored) rest e t sp = (
       λ seen. clears w n (plan.Judge aim key stored ∷ rest) refl refl (λ x. refl)
-          (hits_clear c aim stored.value
+          (hits_clear c aim key stored.value
           (was_clear w n (plan.Judge aim key stored ∷ rest) c e t sp
           (λ x. omega (arith, posts_none x rest t))))
           (λ x. omega (arith, posts_none x rest t)) (omega arith),
@@ -225,20 +229,67 @@ module _ {K V E : Type 0} where
           (record { late = refl; posts = λ x. refl; may = omega arith })
           (λ x. omega (arith, posts_none x rest t)) (omega arith),
     )
+    on_item (plan.Own_key compute) rest e t sp = (
+      (
+        (λ able none. clears w n (plan.Own_key compute ∷ rest) refl refl (λ x. refl)
+            (record { late = refl; posts = λ x. refl; may = omega arith })
+            (λ x. omega (arith, posts_none x rest t)) (omega arith)),
+        λ not none. clears w n (plan.Own_key compute ∷ rest) refl refl (λ x. refl)
+            (record { late = refl; posts = λ x. refl; may = omega arith })
+            (λ x. omega (arith, posts_none x rest t)) (omega arith),
+      ),
+      λ owner some. clears w n (plan.Own_key compute ∷ rest) refl refl (λ x. refl)
+          (record { late = refl; posts = λ x. refl; may = omega arith })
+          (λ x. omega (arith, posts_none x rest t)) (omega arith),
+    )
+    on_item (plan.Own_alone key) rest e t sp = (
+      (
+        (λ able none. clears w n (plan.Own_alone key ∷ rest) refl refl (λ x. refl)
+            (record { late = refl; posts = λ x. refl; may = omega arith })
+            (λ x. omega (arith, posts_none x rest t)) (omega arith)),
+        λ not none. clears w n (plan.Own_alone key ∷ rest) refl refl (λ x. refl)
+            (record { late = refl; posts = λ x. refl; may = omega arith })
+            (λ x. omega (arith, posts_none x rest t)) (omega arith),
+      ),
+      λ owner some. (
+        (λ able. clears w n (plan.Own_alone key ∷ rest) refl refl (λ x. refl)
+            (record { late = refl; posts = λ x. refl; may = omega arith })
+            (λ x. omega (arith, posts_none x rest t)) (omega arith)),
+        λ not. clears w n (plan.Own_alone key ∷ rest) refl refl (λ x. refl)
+            (record { late = refl; posts = λ x. refl; may = omega arith })
+            (λ x. omega (arith, posts_none x rest t)) (omega arith),
+      ),
+    )
     on_item (plan.Read sought) rest e t sp = (
       λ none. stays_put w n (plan.Read sought ∷ rest) w.stay c e t sp mode.Parked turn.Wait,
       λ with some. clears w n (plan.Read sought ∷ rest) refl refl (λ x. refl)
           (read_clear c sought with (was_clear w n (plan.Read sought ∷ rest) c e t sp (λ x. omega (arith, posts_none x rest t))))
           (λ x. omega (arith, posts_none x rest t)) (omega arith),
     )
+    on_item (plan.Read_key compute) rest e t sp = (
+      λ none. stays_put w n (plan.Read_key compute ∷ rest) w.stay c e t sp mode.Parked turn.Wait,
+      λ with some. clears w n (plan.Read_key compute ∷ rest) refl refl (λ x. refl)
+          (read_key_clear c compute with (was_clear w n (plan.Read_key compute ∷ rest) c e t sp (λ x. omega (arith, posts_none x rest t))))
+          (λ x. omega (arith, posts_none x rest t)) (omega arith),
+    )
     on_item (plan.Settle with) rest e t sp = goes_on w n c (plan.Settle with) rest refl refl (λ x. refl) (late_none rest t) (λ x. refl) (omega arith)
     on_item (plan.Ask load) rest e t sp =
         clears w n (plan.Ask load ∷ rest) refl refl (λ x. refl) (record { late = refl; posts = λ x. refl; may = omega arith })
+        (λ x. omega (arith, posts_none x rest t)) (omega arith)
+    on_item (plan.Ask_op compute pair) rest e t sp =
+        clears w n (plan.Ask_op compute pair ∷ rest) refl refl (λ x. refl)
+        (record { late = refl; posts = λ x. refl; may = omega arith })
         (λ x. omega (arith, posts_none x rest t)) (omega arith)
     on_item (plan.Told load) rest e t sp = (
       λ none. stays_put w n (plan.Told load ∷ rest) w.stay c e t sp mode.Parked turn.Wait,
       λ given some. clears w n (plan.Told load ∷ rest) refl refl (λ x. refl)
           (told_clear c load given (was_clear w n (plan.Told load ∷ rest) c e t sp (λ x. omega (arith, posts_none x rest t))))
+          (λ x. omega (arith, posts_none x rest t)) (omega arith),
+    )
+    on_item (plan.Told_op compute pair) rest e t sp = (
+      λ none. stays_put w n (plan.Told_op compute pair ∷ rest) w.stay c e t sp mode.Parked turn.Wait,
+      λ given some. clears w n (plan.Told_op compute pair ∷ rest) refl refl (λ x. refl)
+          (told_op_clear c compute pair given (was_clear w n (plan.Told_op compute pair ∷ rest) c e t sp (λ x. omega (arith, posts_none x rest t))))
           (λ x. omega (arith, posts_none x rest t)) (omega arith),
     )
     on_item (plan.Holds key stamp cause there stored) rest e t sp = (
@@ -292,17 +343,28 @@ module _ {K V E : Type 0} where
     on_item (plan.Out removal key) rest e t sp = (
       (λ more. stays_put w n (plan.Out removal key ∷ rest) _ c e t sp mode.Mid turn.Going),
       (λ off none. clears w n (plan.Out removal key ∷ rest) refl refl (λ x. refl)
+          (said_next (λ v. IsClear v.left) c (λ q. plan.Idle ∷ q) removal (nothing_answer removal)
           (record { late = refl; posts = λ x. refl; may = omega arith })
+          (record { late = refl; posts = λ x. refl; may = omega arith }))
           (λ x. omega (arith, posts_none x rest t)) (omega arith)),
       (λ on none. clears w n (plan.Out removal key ∷ rest) refl refl (λ x. refl)
+          (said_next (λ v. IsClear v.left) c (λ q. plan.Unlock false ∷ q) removal (nothing_answer removal)
           (record { late = refl; posts = λ x. refl; may = omega arith })
+          (record { late = refl; posts = λ x. refl; may = omega arith }))
           (λ x. omega (arith, posts_none x rest t)) (omega arith)),
-      (λ k old off some. commits (plan.Post (Remove n old.stamp) ∷ plan.Reply _ ∷ []) refl refl
-          (λ x. omega arith)),
-      λ k old on some. commits
-          (plan.Notice key old _ false ∷ plan.Unlock true ∷ plan.Post (Remove n old.stamp)
-          ∷ plan.Reply _ ∷ [])
-          refl refl (λ x. omega arith),
+      (λ k old off some. said_next (Balances w n (plan.Out removal key ∷ rest)
+          (taken_out eq w n key)) c
+          (λ q. plan.Post (Remove n old.stamp) ∷ q) removal (removed_answer removal old.value)
+          (commits (plan.Post (Remove n old.stamp) ∷ plan.Reply _ ∷ []) refl refl (λ x. omega arith))
+          (commits (plan.Post (Remove n old.stamp) ∷ end_compute _) refl refl (λ x. omega arith))),
+      λ k old on some. said_next (Balances w n (plan.Out removal key ∷ rest)
+          (taken_out eq w n key)) c
+          (λ q. plan.Notice key old (cause_handed removal) false ∷ plan.Unlock true ∷ plan.Post (Remove n old.stamp) ∷ q)
+          removal (removed_answer removal old.value)
+          (commits (plan.Notice key old _ false ∷ plan.Unlock true ∷ plan.Post (Remove n old.stamp) ∷ plan.Reply _ ∷ [])
+          refl refl (λ x. omega arith))
+          (commits (plan.Notice key old _ false ∷ plan.Unlock true ∷ plan.Post (Remove n old.stamp) ∷ end_compute _)
+          refl refl (λ x. omega arith)),
     )
       where
         -- the removal is committed, and the call goes on with a plan that posts it

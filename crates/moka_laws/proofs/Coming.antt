@@ -8,11 +8,12 @@ use Rattle.moka_hist.specs.Plan.{Item}
 use Rattle.moka_hist.specs.Plan as plan
 use Rattle.moka_hist.specs.Visits.{is_free_for, is_unlocked_for, settlement_for}
 use Rattle.moka_hist.specs.Run.{IsReached}
-use Rattle.moka_hist.specs.declared.loads.Sought.{Sought}
+use Rattle.moka_hist.specs.declared.loads.Load.{Load}
 use Rattle.moka_laws.specs.Missing.{MissingCanCome, CanCome, HasOwner, OwnsAlike}
 use Rattle.moka_hist.specs.Notices.{HoldsLock}
 use Rattle.moka_hist.specs.SoundDesk.{SoundDesk}
 use Rattle.moka_laws.proofs.Locking.{in_locking, is_listening, locker_live}
+use Rattle.moka_laws.proofs.Outcomes.{computes_of}
 use Rattle.moka_laws.proofs.SoundReached.{reached_sound}
 use Rattle.moka_laws.proofs.Turns.{turn_held}
 use Rattle.moka_laws.proofs.Served.{waiters_served}
@@ -25,11 +26,13 @@ module _ {K V E : Type 0} (eq : K → K → Bool) where
       by None e m = absurd (false≢true (sym m))
       by (Some holder) e m = (holder, e, (turn_held eq s holder h).0 e)
 
-  owner_comes : (s : State K V E) (n : ℕ) (sought : Sought K) → is_some (settlement_for s.world.desk n) ≡ false → HasOwner eq s n sought.load →
-      CanCome eq s n (plan.Read sought)
-  owner_comes s n sought missing own = by own.served
+  owner_comes : (s : State K V E) (n : ℕ) (load : Load K) →
+      is_some (settlement_for s.world.desk n) ≡ false → HasOwner eq s n load →
+      (owner : ℕ) × (s.world.desk.joined n ≡ Some owner) × OwnsAlike eq s owner load
+  owner_comes s n load missing own = by own.served
     where
-      by : OwnsAlike eq s own.owner sought.load ⊎ IsSome (s.world.desk.settled own.owner) → CanCome eq s n (plan.Read sought)
+      by : OwnsAlike eq s own.owner load ⊎ IsSome (s.world.desk.settled own.owner) →
+          (owner : ℕ) × (s.world.desk.joined n ≡ Some owner) × OwnsAlike eq s owner load
       by (inl alike) = (own.owner, own.joined, alike)
       by (inr some) = absurd (false≢true (sym missing ∙ ap (λ o. is_some (option_and_then s.world.desk.settled o)) own.joined ∙ some))
 
@@ -51,7 +54,13 @@ module _ {K V E : Type 0} (eq : K → K → Bool) where
 
   pub can_come : IsEquivalence eq → MissingCanCome K V E eq
   can_come laws s n c plan.Turn rest h live e missing = turn_comes s n h missing
-  can_come laws s n c (plan.Read sought) rest h live e missing = owner_comes s n sought missing (waiters_served eq s n c sought rest h live e)
+  can_come laws s n c (plan.Read sought) rest h live e missing =
+      owner_comes s n sought.load missing
+      (waiters_served eq s n c (plan.Read sought) rest sought.load h live e refl)
+  can_come laws s n c (plan.Read_key compute) rest h live e missing =
+      owner_comes s n (computes_of compute.key) missing
+      (waiters_served eq s n c (plan.Read_key compute) rest (computes_of compute.key) h live e refl)
+  can_come laws s n c (plan.Told_op compute pair) rest h live e missing = missing
   can_come laws s n c (plan.Told load) rest h live e missing = missing
   can_come laws s n c (plan.Lock key) rest h live e missing = lock_comes laws s n key h missing
   can_come laws s n c plan.Heard rest h live e missing = missing

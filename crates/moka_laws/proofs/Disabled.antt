@@ -14,7 +14,7 @@ use Rattle.moka_hist.specs.Places.{IsLawful}
 use Rattle.moka_hist.specs.Step.{Step}
 use Rattle.moka_hist.specs.Tables.{taken_by}
 use Rattle.moka_hist.specs.Visits.{number_of}
-use Rattle.moka_hist.specs.Writing.{stamp_asked}
+use Rattle.moka_hist.specs.Writing.{nothing_answer, said, stamp_asked}
 use Rattle.moka_hist.specs.Run.{IsReached, fresh_call}
 use Rattle.moka_hist.specs.declared.accesses.Turn.{Turn}
 use Rattle.moka_hist.specs.declared.events.Told.{Told}
@@ -33,13 +33,15 @@ use Rattle.moka_hist.specs.declared.writes.Place.TheVariants as place
 use Rattle.moka_hist.specs.declared.writes.Write.{Write}
 use Rattle.moka_laws.specs.Removals.{DisabledStoresNothing, StoresNothing}
 use Rattle.moka_laws.proofs.Counting.{none_some, put_cases, times_same}
-use Rattle.moka_laws.proofs.Weights.{weigh, weigh_call, weigh_goes}
+use Rattle.moka_laws.proofs.Weights.{weigh, weigh_call, weigh_goes, weigh_said}
 use Rattle.moka_laws.proofs.Locking.{IsLocking, locking_kept}
-use Rattle.moka_laws.proofs.Rules.{chosen_next, kept_next, loaded_plans_by, IsFresh, Disabled, Puts, Locks_and_puts, Finds_or_puts, fresh_plan}
+use Rattle.moka_laws.proofs.Rules.{chosen_next, kept_next, loaded_plans_by, IsFresh, Disabled, Puts, Locks_and_puts, Finds_or_puts, fresh_plan, read_key_next, told_op_next}
 use Rattle.moka_laws.proofs.Kept.{IsKept, in_reached}
 use Rattle.moka_laws.proofs.Steady.{step_rules}
 use Rattle.moka_laws.proofs.StepCases.{OnStep, step_cases}
 use Rattle.moka_laws.proofs.Outcomes.{Outcomes, outcomes}
+use Rattle.moka_hist.specs.declared.loads.Compute.{Compute}
+use Rattle.moka_hist.specs.Computing.{after_told_op, after_read_key}
 
 none_in : {A : Type 0} (xs : List A) (x : A) → xs ≡ [] → Contains xs x → ⊥
 none_in xs x e h = let k = subst (λ v. Contains v x) e h in omega (arith, k.1)
@@ -75,28 +77,34 @@ module _ {K V E : Type 0} where
   misses_calm : (c : Call K V E) (aim : Aim K V) → inserts aim ≡ 0 →
       weigh_call stores (misses c aim).left ≡ 0
   misses_calm c plan.To_answer h = refl
+  misses_calm c (plan.To_report key) h = refl
   misses_calm c (plan.To_load sought) h = refl
   misses_calm c (plan.To_own sought) h = refl
+  misses_calm c (plan.To_compute compute) h = refl
   misses_calm c (plan.To_insert key value) h = absurd (omega (arith, h))
   misses_calm c (plan.To_evict key stamp cause) h = keeps_calm c
 
   finds_calm : (c : Call K V E) (aim : Aim K V) (there : K) (seen : Stored V) → inserts aim ≡ 0 →
       weigh_call stores (finds_pair c aim there seen).left ≡ 0
   finds_calm c plan.To_answer there seen h = refl
+  finds_calm c (plan.To_report key) there seen h = refl
   finds_calm c (plan.To_load sought) there seen h = refl
   finds_calm c (plan.To_own sought) there seen h = refl
+  finds_calm c (plan.To_compute compute) there seen h = refl
   finds_calm c (plan.To_insert key value) there seen h = absurd (omega (arith, h))
   finds_calm c (plan.To_evict key stamp cause) there seen h =
       chosen_next (λ v. weigh_call stores v.left ≡ 0) c key stamp cause there seen (λ off. refl)
       (λ on. refl) refl
 
-  hits_calm : (c : Call K V E) (aim : Aim K V) (value : V) → weigh stores c.plan ≡ 0 →
-      weigh_call stores (hits c aim value).left ≡ 0
-  hits_calm c plan.To_answer value p = refl
-  hits_calm c (plan.To_load sought) value p = refl
-  hits_calm c (plan.To_insert under new) value p = refl
-  hits_calm c (plan.To_own sought) value p = refl
-  hits_calm c (plan.To_evict key stamp cause) value p = p
+  hits_calm : (c : Call K V E) (aim : Aim K V) (there : K) (value : V) → weigh stores c.plan ≡ 0 →
+      weigh_call stores (hits c aim there value).left ≡ 0
+  hits_calm c plan.To_answer there value p = refl
+  hits_calm c (plan.To_report key) there value p = refl
+  hits_calm c (plan.To_load sought) there value p = refl
+  hits_calm c (plan.To_insert under new) there value p = refl
+  hits_calm c (plan.To_own sought) there value p = refl
+  hits_calm c (plan.To_compute compute) there value p = refl
+  hits_calm c (plan.To_evict key stamp cause) there value p = p
 
   either_calm : (b : Bool) (x y : Next K V E) → weigh_call stores x.left ≡ 0 →
       weigh_call stores y.left ≡ 0 →
@@ -112,6 +120,13 @@ module _ {K V E : Type 0} where
   read_calm c sought settled.NotYet p = p
   read_calm c sought settled.Aborted p = either_calm (c.aborts + 1 == retries) _ _ refl refl
 
+  read_key_calm : (c : Call K V E) (compute : Compute K) (with : Settled V E) →
+      weigh stores c.plan ≡ 0 →
+      weigh_call stores (after_read_key c compute (found.ReadSettled with)).left ≡ 0
+  read_key_calm c compute with p = read_key_next (λ v. weigh_call stores v.left ≡ 0) c compute with
+      (p)
+      (refl)
+
   told_calm : (c : Call K V E) (load : Load K) (given : Told V E) → is_disabled c.rules ≡ true →
       weigh stores c.plan ≡ 0 →
       weigh_call stores (after_told c load (found.TakeTold (Some given))).left ≡ 0
@@ -122,7 +137,20 @@ module _ {K V E : Type 0} where
   told_calm c load answer.Nothing off p = refl
   told_calm c load (answer.Err error) off p = refl
   told_calm c load answer.Done off p = p
+  told_calm c load (answer.Op op) off p = p
   told_calm c load answer.Off off p = p
+
+  told_op_calm : (c : Call K V E) (compute : Compute K) (pair : Option (K × V)) (given : Told V E) →
+      is_disabled c.rules ≡ true → weigh stores c.plan ≡ 0 →
+      weigh_call stores (after_told_op c compute pair (found.TakeTold (Some given))).left ≡ 0
+  told_op_calm c compute pair given off p =
+      told_op_next (λ v. weigh_call stores v.left ≡ 0) c compute pair given
+      (λ a. refl)
+      (λ value able free. absurd (false≢true (sym able ∙ off)))
+      (λ value able locked. absurd (false≢true (sym able ∙ off)))
+      (λ free. refl)
+      (λ locked. refl)
+      p
 
   form_calm : (rules : Rules) (p : List (Item K V E)) → IsFresh rules p → is_disabled rules ≡ true →
       weigh stores p ≡ 0
@@ -190,7 +218,7 @@ module _ {K V E : Type 0} where
           { empty = empty; calm = finds_calm c aim there seen (omega (arith, q)) },
     )
     on_item (plan.Judge aim key found) rest q = (
-      λ seen. record { empty = empty; calm = hits_calm c aim found.value p },
+      λ seen. record { empty = empty; calm = hits_calm c aim key found.value p },
       λ unseen. record { empty = empty; calm = misses_calm c aim (omega (arith, q)) },
     )
     on_item (plan.Own sought) rest q = (
@@ -198,17 +226,49 @@ module _ {K V E : Type 0} where
       λ disabled e. record { empty = empty; calm = refl },
       λ owner e. record { empty = empty; calm = refl },
     )
+    on_item (plan.Own_key compute) rest q = (
+      (
+        (λ able e. record { empty = empty; calm = refl }),
+        λ disabled e. record { empty = empty; calm = refl },
+      ),
+      λ owner e. record {
+        empty =
+            empty;
+        calm = refl;
+      },
+    )
+    on_item (plan.Own_alone key) rest q = (
+      (
+        (λ able e. record { empty = empty; calm = refl }),
+        λ disabled e. record { empty = empty; calm = refl },
+      ),
+      λ owner e. (
+        (λ able. record { empty = empty; calm = refl }),
+        λ not. record { empty = empty; calm = refl },
+      ),
+    )
     on_item (plan.Read sought) rest q = (
       λ e. record { empty = empty; calm = p },
       λ with e. record
           { empty = empty; calm = read_calm c sought with p },
     )
+    on_item (plan.Read_key compute) rest q = (
+      λ e. record { empty = empty; calm = p },
+      λ with e. record
+          { empty = empty; calm = read_key_calm c compute with p },
+    )
     on_item (plan.Settle with) rest q = goes_on rest empty (omega (arith, q))
     on_item (plan.Ask load) rest q = record { empty = empty; calm = refl }
+    on_item (plan.Ask_op compute pair) rest q = record { empty = empty; calm = refl }
     on_item (plan.Told load) rest q = (
       λ e. record { empty = empty; calm = p },
       λ given e. record
           { empty = empty; calm = told_calm c load given off p },
+    )
+    on_item (plan.Told_op compute pair) rest q = (
+      λ e. record { empty = empty; calm = p },
+      λ given e. record
+          { empty = empty; calm = told_op_calm c compute pair given off p },
     )
     on_item (plan.Holds key stamp cause there seen) rest q = (
       λ e. record { empty = empty; calm = refl },
@@ -221,12 +281,15 @@ module _ {K V E : Type 0} where
     on_item (plan.Write key value moment) rest q = absurd (omega (arith, q))
     on_item (plan.Out removal key) rest q = (
       λ more. record { empty = empty; calm = p },
-      λ e none. record { empty = empty; calm = refl },
-      λ e none. record { empty = empty; calm = refl },
+      λ e none. record { empty = empty; calm = omega (arith, out) },
+      λ e none. record { empty = empty; calm = omega (arith, out) },
       λ k old e some. absurd (nothing k old some),
       λ k old e some. absurd (nothing k old some),
     )
       where
+        out : weigh stores (said removal (nothing_answer removal)) ≡ 0
+        out = weigh_said stores removal (nothing_answer removal) refl refl
+
         nothing : (k : K) (old : Stored V) → taken_by (stamp_asked removal) (w.table.stored key) ≡
             Some (k, old) → ⊥
         nothing k old some = none_some (sym (ap (taken_by (stamp_asked removal))

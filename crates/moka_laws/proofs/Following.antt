@@ -114,6 +114,7 @@ module _ {K V E : Type 0} (eq : K → K → Bool) where
     is_told s n told.Nothing e l i = kept.tell s n told.Nothing e l i
     is_told s n (told.Err error) e l i = kept.tell s n (told.Err error) e l i
     is_told s n told.Done e l i = kept.hear s n false e l i
+    is_told s n (told.Op op) e l i = kept.tell s n (told.Op op) e l i
     is_told s n told.Off e l i = kept.hear s n true e l i
 
     happens : (s t : State K V E) (e : Event K V E) (r : Reply K V E) → I s → Leads eq s t →

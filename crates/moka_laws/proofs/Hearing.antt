@@ -21,20 +21,20 @@ use Rattle.moka_hist.specs.declared.visits.Found.TheVariants as found
 use Rattle.moka_hist.specs.declared.visits.Settled.{Settled}
 use Rattle.moka_hist.specs.declared.visits.Settled.TheVariants as settled
 use Rattle.moka_laws.specs.Loads.{said_of}
-use Rattle.moka_laws.specs.Readers.{Settles, WaitersAnswerSettled}
+use Rattle.moka_laws.specs.Readers.{Settles, WaitsForLoad, WaitersAnswerSettled}
 use Rattle.moka_laws.proofs.Between.{run_more}
 use Rattle.moka_laws.proofs.Counting.{none_some, some_same, put_cases, put_here, put_there, same_number, differ}
 use Rattle.moka_laws.proofs.Kept.{IsStable, runs}
 use Rattle.moka_laws.proofs.Weights.{weigh}
 use Rattle.moka_laws.proofs.Owning.{plan_left}
-use Rattle.moka_laws.proofs.Plans.{IsTail, Answering, Settling, Looking, Owning, Giving, Putting, Removing, Locking_out, Draining, Ended, Locking, IsPlan, Posted, Drained, Posting, Hearing, Noticing, Listening, Unlocking, Turning, Applying, Ending, Judging, Reading, Asking, Telling, Writing, Choosing, Finding, Chosen, Taking, Freeing, Idling}
+use Rattle.moka_laws.proofs.Plans.{Asking_op, Owning_key, Owning_alone, Reading_key, Telling_op, IsTail, Answering, Settling, Looking, Owning, Giving, Putting, Removing, Locking_out, Draining, Ended, Locking, IsPlan, Posted, Drained, Posting, Hearing, Noticing, Listening, Unlocking, Turning, Applying, Ending, Judging, Reading, Asking, Telling, Writing, Choosing, Finding, Chosen, Taking, Freeing, Idling}
 use Rattle.moka_laws.proofs.Reading.{OwnerOf, joins, joins_self, reader_joins}
 use Rattle.moka_laws.proofs.Reached.{step_reached}
 use Rattle.moka_laws.proofs.Roles.{Fits, awaited, owners}
 use Rattle.moka_laws.proofs.Safe.{IsWell, well_kept, in_well}
 use Rattle.moka_laws.proofs.Served.{enough, enough_own, joined_numbered}
 use Rattle.moka_laws.proofs.StepCases.{OnStep, step_cases}
-use Rattle.moka_laws.proofs.Outcomes.{Outcomes, outcomes}
+use Rattle.moka_laws.proofs.Outcomes.{Outcomes, outcomes, computes_of}
 use Rattle.moka_laws.proofs.Unread.{tail_role, drained_role, posted_role}
 
 no_load : {L : Type 0} (o : Option L) → 0 ≡ cond {A = ℕ} (is_some o) 1 0 → o ≡ None
@@ -53,15 +53,18 @@ module _ {K V E : Type 0} where
   -- ---- plans of owners that settle, and of those that wait
 
   -- an owner that settles answers with that step
-  settles_tail : (with : Settled V E) (rest p : List (Item K V E)) → p ≡ plan.Settle with ∷ rest → IsTail p → (a : Answer V E) × (rest ≡ plan.Reply a ∷ [])
+  settles_tail : (with : Settled V E) (rest p : List (Item K V E)) → p ≡ plan.Settle with ∷ rest →
+      IsTail p → (a : Answer K V E) × (rest ≡ plan.Reply a ∷ [])
   settles_tail with rest p e (Answering a) = cc
   settles_tail with rest p e (Settling other a) = (a, cc)
 
-  pub settles_form : (with : Settled V E) (rest p : List (Item K V E)) → p ≡ plan.Settle with ∷ rest → IsPlan p → (a : Answer V E) × (rest ≡ plan.Reply a ∷ [])
+  pub settles_form : (with : Settled V E) (rest p : List (Item K V E)) →
+      p ≡ plan.Settle with ∷ rest → IsPlan p → (a : Answer K V E) × (rest ≡ plan.Reply a ∷ [])
   settles_form with rest p e (Posted q (Ended r t)) = settles_tail with rest p e t
   settles_form with rest p e (Posted q (Draining r d)) = cc
   settles_form with rest p e (Drained q (Looking aim key look)) = cc
   settles_form with rest p e (Drained q (Owning sought)) = cc
+  settles_form with rest p e (Drained q (Asking_op compute pair)) = cc
   settles_form with rest p e (Drained q (Giving a)) = cc
   settles_form with rest p e (Drained q (Removing removal key)) = cc
   settles_form with rest p e (Drained q (Locking_out removal key)) = cc
@@ -79,17 +82,23 @@ module _ {K V E : Type 0} where
   settles_form with rest p e (Reading sought) = cc
   settles_form with rest p e (Asking load) = cc
   settles_form with rest p e (Telling load) = cc
+  settles_form with rest p e (Owning_key compute) = cc
+  settles_form with rest p e (Owning_alone key) = cc
+  settles_form with rest p e (Reading_key compute) = cc
+  settles_form with rest p e (Telling_op compute pair) = cc
   settles_form with rest p e (Writing key value moment q t) = cc
   settles_form with rest p e (Choosing key stamp cause) = cc
   settles_form with rest p e (Finding key stamp cause) = cc
   settles_form with rest p e (Chosen key stamp cause there stored) = cc
   settles_form with rest p e (Taking removal key) = cc
-  settles_form with rest p e (Freeing a) = cc
-  settles_form with rest p e (Idling a) = cc
+  settles_form with rest p e (Freeing q t) = cc
+  settles_form with rest p e (Idling q t) = cc
 
-  -- a call that waits reads next
-  pub reads_form : (p : List (Item K V E)) → is_some (awaited p) ≡ true → IsPlan p → (sought : Sought K) × (p ≡ plan.Read sought ∷ [])
-  reads_form p some (Reading sought) = (sought, refl)
+  -- a call that waits for an owner is to read how that ended, and nothing else
+  pub reads_form : (p : List (Item K V E)) → is_some (awaited p) ≡ true → IsPlan p →
+      (item : Item K V E) × (p ≡ item ∷ [])
+  reads_form p some (Reading sought) = (plan.Read sought, refl)
+  reads_form p some (Reading_key compute) = (plan.Read_key compute, refl)
   reads_form p some (Posted q d) = absurd (not_none (awaited q) some (posted_role q d))
   reads_form p some (Drained q d) = absurd (not_none (awaited q) some (drained_role q d))
   reads_form p some (Posting x q d) = absurd (not_none (awaited q) some (posted_role q d))
@@ -105,12 +114,15 @@ module _ {K V E : Type 0} where
   reads_form p some (Judging aim key stored look) = absurd (false≢true some)
   reads_form p some (Asking load) = absurd (false≢true some)
   reads_form p some (Telling load) = absurd (false≢true some)
+  reads_form p some (Owning_key compute) = absurd (false≢true some)
+  reads_form p some (Owning_alone key) = absurd (false≢true some)
+  reads_form p some (Telling_op compute pair) = absurd (false≢true some)
   reads_form p some (Choosing key stamp cause) = absurd (false≢true some)
   reads_form p some (Finding key stamp cause) = absurd (false≢true some)
   reads_form p some (Chosen key stamp cause there stored) = absurd (false≢true some)
   reads_form p some (Taking removal key) = absurd (false≢true some)
-  reads_form p some (Freeing a) = absurd (false≢true some)
-  reads_form p some (Idling a) = absurd (false≢true some)
+  reads_form p some (Freeing q t) = absurd (not_none (awaited q) some (tail_role q t))
+  reads_form p some (Idling q t) = absurd (not_none (awaited q) some (tail_role q t))
 
   -- ---- what is kept
 
@@ -186,6 +198,22 @@ module _ {K V E : Type 0} where
               (λ there is. keeps is);
         },
       )
+      on_item (plan.Own_key compute) rest = (
+        ((λ able e. same refl refl refl), λ not e. same refl refl refl),
+        λ who e. record {
+          last = refl;
+          kept = λ keeps j. put_cases w.desk.joined m (Some who) n (Some o)
+              (w.desk.settled o ≡ Some with) j
+              (λ here is.
+              let own = k.owner (computes_of compute.key) who e in
+              absurd (none_some (sym k.idle ∙ ap w.desk.owning (sym (some_same is)) ∙ own.1)))
+              (λ there is. keeps is);
+        },
+      )
+      on_item (plan.Own_alone key) rest = (
+        (λ able e. same refl refl refl, λ not e. same refl refl refl),
+        λ who e. (λ able. same refl refl refl, λ not. same refl refl refl),
+      )
       on_item (plan.Read sought) rest = (
         λ e. same refl refl refl,
         λ given e. record {
@@ -194,9 +222,21 @@ module _ {K V E : Type 0} where
               (λ there is. stays_without w.desk m o (k.enough there is) ∙ keeps is);
         },
       )
+      on_item (plan.Read_key compute) rest = (
+        λ e. same refl refl refl,
+        λ given e. record {
+          last = refl;
+          kept = λ keeps j. put_cases w.desk.joined m None n (Some o)
+              (settled_without w.desk m o ≡ Some with) j (λ here is. absurd (none_some is))
+              (λ there is. stays_without w.desk m o (k.enough there is) ∙ keeps is);
+        },
+      )
       on_item (plan.Settle given) rest = record { last = refl; kept = λ keeps j. stays_with w.desk m o given w.desk.settled k.apart ∙ keeps j }
       on_item (plan.Ask load) rest = same refl refl refl
+      on_item (plan.Ask_op compute pair) rest = same refl refl refl
       on_item (plan.Told load) rest = (λ e. same refl refl refl, λ given e. same refl refl refl)
+      on_item (plan.Told_op compute pair) rest =
+          (λ e. same refl refl refl, λ given e. same refl refl refl)
       on_item (plan.Holds key stamp cause there stored) rest =
           ((λ e. same refl refl refl), λ e. same refl refl refl)
       on_item (plan.Moment (plan.To_store key value)) rest = same refl refl refl
@@ -308,7 +348,7 @@ module _ {K V E : Type 0} (eq : K → K → Bool) where
   -- ---- as the call reads
 
   -- what an owner settled is answered by who reads it
-  read_says : (c : Call K V E) (sought : Sought K) (with : Settled V E) (said : Answer V E) →
+  read_says : (c : Call K V E) (sought : Sought K) (with : Settled V E) (said : Answer K V E) →
       said_of with false ≡ Some said → (after_read c sought (found.ReadSettled with)).turn ≡ turn.Answer said
   read_says c sought (settled.Ready value) said e = ap (λ a. turn.Answer a) (some_same e)
   read_says c sought (settled.Err error) said e = ap (λ a. turn.Answer a) (some_same e)
@@ -316,20 +356,21 @@ module _ {K V E : Type 0} (eq : K → K → Bool) where
   read_says c sought settled.NotYet said e = absurd (none_some e)
   read_says c sought settled.Aborted said e = absurd (none_some e)
 
-  heard : (u v : State K V E) (o n : ℕ) (with : Settled V E) (said : Answer V E) (reply : Turn K V E) → IsHeard o n with eq u → said_of with false ≡ Some said → u.world.desk.joined n ≡ Some o → Step eq u n reply v →
+  heard : (u v : State K V E) (o n : ℕ) (with : Settled V E) (said : Answer K V E)
+      (reply : Turn K V E) → IsHeard o n with eq u → said_of with false ≡ Some said →
+      WaitsForLoad u n o → Step eq u n reply v →
       reply ≡ turn.Answer said
-  heard u v o n with said reply i says j step =
+  heard u v o n with said reply i says wait step =
       let c : Call K V E = step.call in
-      let fits : Fits (u.world.desk.owning n) (u.world.desk.joined n) c.plan =
-      subst (λ v. Fits (u.world.desk.owning n) (u.world.desk.joined n) (plan_left v)) step.live (i.well.served.fits n) in
-      let form = reads_form c.plan (sym fits.waiting ∙ ap is_some j) (i.well.asking.known n c step.live).plan in
-      let there : settlement_for u.world.desk n ≡ Some with = ap (option_and_then u.world.desk.settled) j ∙ i.kept j in
+      let form : c.plan ≡ plan.Read wait.sought ∷ [] = ap (λ (d : Call K V E). d.plan) (some_same (sym step.live ∙ wait.live)) ∙ wait.reading in
+      let there : settlement_for u.world.desk n ≡ Some with = ap (option_and_then u.world.desk.settled) wait.joined ∙ i.kept wait.joined in
       step_cases eq (λ new next. next.turn ≡ turn.Answer said) (λ v r. r ≡ turn.Answer said) u v n reply step
-      (subst (λ p. OnStep eq (λ new next. next.turn ≡ turn.Answer said) u.world n c p) (sym form.1)
-      (outcomes eq (λ new next. next.turn ≡ turn.Answer said) u.world n c (plan.Read form.0) [] (
+      (subst (λ p. OnStep eq (λ new next. next.turn ≡ turn.Answer said) u.world n c p) (sym form)
+      (outcomes eq (λ new next. next.turn ≡ turn.Answer said) u.world n c (plan.Read wait.sought) [] (
         (λ none. absurd (none_some (sym none ∙ there))),
-        λ is some. ap (λ s. (after_read c form.0 (found.ReadSettled s)).turn) (some_same (sym some ∙ there))
-            ∙ read_says c form.0 with said says,
+        λ is some. ap (λ s. (after_read c wait.sought (found.ReadSettled s)).turn)
+            (some_same (sym some ∙ there))
+            ∙ read_says c wait.sought with said says,
       )))
       (λ w next l. l)
 

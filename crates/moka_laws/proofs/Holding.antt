@@ -30,7 +30,10 @@ use Rattle.moka_hist.specs.declared.writes.Holding.{Holding}
 use Rattle.moka_hist.specs.declared.writes.Holding.TheVariants as holding
 use Rattle.moka_hist.specs.declared.writes.Write.{Write}
 use Rattle.moka_hist.specs.declared.writes.Write.TheVariants.{Remove, Upsert}
-use Rattle.moka_laws.proofs.Rules.{put_plans, loaded_plans, kept_next, chosen_next, IsFresh, Disabled, fresh_plan}
+use Rattle.moka_hist.specs.Plan.{Removal}
+use Rattle.moka_hist.specs.declared.replies.Answer.{Answer}
+use Rattle.moka_hist.specs.Writing.{nothing_answer, removed_answer, said}
+use Rattle.moka_laws.proofs.Rules.{put_plans, loaded_plans, kept_next, chosen_next, IsFresh, Disabled, fresh_plan, read_key_next, told_op_next}
 use Rattle.moka_laws.proofs.Counting.{none_some, some_same, put_here, put_there, same_number}
 use Rattle.moka_laws.proofs.Sums.{sum_holds}
 use Rattle.moka_laws.proofs.Weights.{weigh, weigh_call}
@@ -41,6 +44,8 @@ use Rattle.moka_laws.proofs.Owning.{plan_left}
 use Rattle.moka_laws.proofs.Kept.{IsKept, in_reached}
 use Rattle.moka_laws.proofs.StepCases.{OnStep, step_cases}
 use Rattle.moka_laws.proofs.Outcomes.{Outcomes, outcomes}
+use Rattle.moka_hist.specs.declared.loads.Compute.{Compute}
+use Rattle.moka_hist.specs.Computing.{after_told_op, after_read_key}
 
 -- the call holds the place of a write of its own
 abbrev IsOwn : Option Holding → Type 0
@@ -136,8 +141,10 @@ module _ {K V E : Type 0} where
 
   misses_weigh : (c : Call K V E) (aim : Aim K V) → weigh_call held (misses c aim).left ≡ 0
   misses_weigh c plan.To_answer = refl
+  misses_weigh c (plan.To_report key) = refl
   misses_weigh c (plan.To_load sought) = refl
   misses_weigh c (plan.To_own sought) = refl
+  misses_weigh c (plan.To_compute compute) = refl
   misses_weigh c (plan.To_insert key value) =
       put_plans (λ p. weigh_call held (goes c p).left ≡ 0) c.rules key value _ refl refl
   misses_weigh c (plan.To_evict key stamp cause) = stays_weighs c
@@ -145,9 +152,11 @@ module _ {K V E : Type 0} where
   finds_weigh : (c : Call K V E) (aim : Aim K V) (k : K) (stored : Stored V) →
       weigh_call held (finds_pair c aim k stored).left ≡ 0
   finds_weigh c plan.To_answer k stored = refl
+  finds_weigh c (plan.To_report key) k stored = refl
   finds_weigh c (plan.To_load sought) k stored = refl
   finds_weigh c (plan.To_insert under new) k stored = refl
   finds_weigh c (plan.To_own sought) k stored = refl
+  finds_weigh c (plan.To_compute compute) k stored = refl
   finds_weigh c (plan.To_evict key stamp cause) k stored =
       chosen_next (λ v. weigh_call held v.left ≡ 0) c key stamp cause k stored (λ off. refl)
       (λ on. refl) refl
@@ -183,13 +192,16 @@ module _ {K V E : Type 0} where
     goes_holds c [] q = q
     goes_holds c (_ ∷ rest) q = q
 
-    hits_holds : (c : Call K V E) (aim : Aim K V) (value : V) → HoldsAs n h c.plan → h ≡ None →
-        HoldsAs n h (plan_left (hits c aim value).left)
-    hits_holds c plan.To_answer value p none = none
-    hits_holds c (plan.To_load sought) value p none = none
-    hits_holds c (plan.To_insert under new) value p none = none
-    hits_holds c (plan.To_own sought) value p none = (none, refl)
-    hits_holds c (plan.To_evict key stamp cause) value p none = p
+    hits_holds : (c : Call K V E) (aim : Aim K V) (there : K) (value : V) → HoldsAs n h c.plan →
+        h ≡ None →
+        HoldsAs n h (plan_left (hits c aim there value).left)
+    hits_holds c plan.To_answer there value p none = none
+    hits_holds c (plan.To_report key) there value p none = none
+    hits_holds c (plan.To_load sought) there value p none = none
+    hits_holds c (plan.To_insert under new) there value p none = none
+    hits_holds c (plan.To_own sought) there value p none = (none, refl)
+    hits_holds c (plan.To_compute compute) there value p none = (none, refl)
+    hits_holds c (plan.To_evict key stamp cause) there value p none = p
 
     read_holds : (c : Call K V E) (sought : Sought K) (with : Settled V E) → HoldsAs n h c.plan → h ≡ None →
         HoldsAs n h (plan_left (after_read c sought (found.ReadSettled with)).left)
@@ -200,6 +212,14 @@ module _ {K V E : Type 0} where
     read_holds c sought settled.Aborted p none =
         left_holds _ (either_weighs (c.aborts + 1 == retries) _ _ refl refl) none
 
+    read_key_holds : (c : Call K V E) (compute : Compute K) (with : Settled V E) →
+        HoldsAs n h c.plan → h ≡ None →
+        HoldsAs n h (plan_left (after_read_key c compute (found.ReadSettled with)).left)
+    read_key_holds c compute with p none =
+        read_key_next (λ v. HoldsAs n h (plan_left v.left)) c compute with
+        (p)
+        (none, refl)
+
     told_holds : (c : Call K V E) (load : Load K) (given : Told V E) → HoldsAs n h c.plan → h ≡ None →
         HoldsAs n h (plan_left (after_told c load (found.TakeTold (Some given))).left)
     told_holds c load (answer.Value value) p none =
@@ -209,7 +229,20 @@ module _ {K V E : Type 0} where
     told_holds c load answer.Nothing p none = (none, refl)
     told_holds c load (answer.Err error) p none = (none, refl)
     told_holds c load answer.Done p none = p
+    told_holds c load (answer.Op op) p none = p
     told_holds c load answer.Off p none = p
+
+    told_op_holds : (c : Call K V E) (compute : Compute K) (pair : Option (K × V))
+        (given : Told V E) → HoldsAs n h c.plan → h ≡ None →
+        HoldsAs n h (plan_left (after_told_op c compute pair (found.TakeTold (Some given))).left)
+    told_op_holds c compute pair given p none =
+        told_op_next (λ v. HoldsAs n h (plan_left v.left)) c compute pair given
+        (λ a. (none, refl))
+        (λ value able off. (none, refl))
+        (λ value able on. (none, refl))
+        (λ off. (none, refl))
+        (λ on. (none, refl))
+        (p)
 
   -- what a call holds is as much as before, once no moment is pending with it
   still_holds : (n : ℕ) (h : Option Holding) (rest : List (Item K V E)) → HoldsAs n h rest → HoldsAs n (option_map without_moment h) rest
@@ -243,6 +276,12 @@ module _ {K V E : Type 0} where
       own = subst (λ v. HoldsAs n v (plan_left left)) (sym (put_here d.holding n h)) q;
       others = λ m e. put_there d.holding n h m e;
     }
+
+  said_free : (removal : Removal K) (a : Answer K V E) → weigh held (said removal a) ≡ 0
+  said_free plan.To_invalidate a = refl
+  said_free plan.To_remove a = refl
+  said_free (plan.To_evict_chosen stamp cause) a = refl
+  said_free (plan.To_remove_as_told key) a = refl
 
   module _ (eq : K → K → Bool) (w : World K V E) (n : ℕ) (c : Call K V E) where
     abbrev After : World K V E → Next K V E → Type 0
@@ -280,7 +319,7 @@ module _ {K V E : Type 0} where
       λ k stored some. keeps w.desk n (left_holds n _ _ (finds_weigh c aim k stored) q.0),
     )
     on_item (plan.Judge aim key stored) rest p q = (
-      (λ seen. keeps w.desk n (hits_holds n _ c aim stored.value p q.0)),
+      (λ seen. keeps w.desk n (hits_holds n _ c aim key stored.value p q.0)),
       λ unseen. keeps w.desk n (left_holds n _ _ (misses_weigh c aim) q.0),
     )
     on_item (plan.Own sought) rest p q = (
@@ -288,10 +327,25 @@ module _ {K V E : Type 0} where
       (λ not e. keeps w.desk n (q.0, refl)),
       λ owner e. keeps w.desk n (q.0, refl),
     )
+    on_item (plan.Own_key compute) rest p q = (
+      ((λ able e. keeps w.desk n (q.0, refl)), λ not e. keeps w.desk n (q.0, refl)),
+      λ owner e. keeps w.desk n (q.0, refl),
+    )
+    on_item (plan.Own_alone key) rest p q = (
+      ((λ able e. keeps w.desk n (q.0, refl)), λ not e. keeps w.desk n (q.0, refl)),
+      λ owner e. ((λ able. keeps w.desk n (q.0, refl)), λ not. keeps w.desk n (q.0, refl)),
+    )
     on_item (plan.Read sought) rest p q = (λ e. keeps w.desk n p, λ with e. keeps w.desk n (read_holds n _ c sought with p q.0))
+    on_item (plan.Read_key compute) rest p q =
+        (λ e. keeps w.desk n p, λ with e. keeps w.desk n (read_key_holds n _ c compute with p q.0))
     on_item (plan.Settle with) rest p q = keeps w.desk n (goes_holds n _ c rest (free_holds n _ rest q.1 q.0))
     on_item (plan.Ask load) rest p q = keeps w.desk n (q.0, refl)
+    on_item (plan.Ask_op compute pair) rest p q = keeps w.desk n (q.0, refl)
     on_item (plan.Told load) rest p q = (λ e. keeps w.desk n p, λ given e. keeps w.desk n (told_holds n _ c load given p q.0))
+    on_item (plan.Told_op compute pair) rest p q = (
+      λ e. keeps w.desk n p,
+      λ given e. keeps w.desk n (told_op_holds n _ c compute pair given p q.0),
+    )
     on_item (plan.Holds key stamp cause there stored) rest p q = (
       (λ e. keeps w.desk n (q.0, refl)),
       λ e. keeps w.desk n (left_holds n _ _ (stays_weighs c) q.0),
@@ -310,10 +364,10 @@ module _ {K V E : Type 0} where
     on_item (plan.Out removal key) rest p q =
         let place = λ (old : ℕ). own_place (w.desk.holding n) n (Remove n old) refl q.0 in (
           (λ more. keeps w.desk n p),
-          (λ off none. keeps w.desk n (q.0, refl)),
-          (λ on none. keeps w.desk n (inr q.0, refl)),
-          (λ k old off some. keeps w.desk n (place old.stamp, refl)),
-          λ k old on some. keeps w.desk n (place old.stamp, refl),
+          (λ off none. keeps w.desk n (q.0, said_free removal (nothing_answer removal))),
+          (λ on none. keeps w.desk n (inr q.0, said_free removal (nothing_answer removal))),
+          (λ k old off some. keeps w.desk n (place old.stamp, said_free removal (removed_answer removal old.value))),
+          λ k old on some. keeps w.desk n (place old.stamp, said_free removal (removed_answer removal old.value)),
         )
     on_item plan.Idle rest p q =
         holds_now w.desk n None (goes_holds n None c rest (free_holds n None rest q.1 refl))

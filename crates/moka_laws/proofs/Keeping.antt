@@ -35,17 +35,21 @@ use Rattle.moka_hist.specs.declared.visits.Settled.TheVariants as settled
 use Rattle.moka_laws.specs.Removals.{IsKept, IsToKeep, KeepsByCause, KeptByCause}
 use Rattle.moka_laws.proofs.Counting.{differ_not, none_some, some_same, put_cases, put_here}
 use Rattle.moka_laws.proofs.Weights.{weigh, weigh_call}
-use Rattle.moka_laws.proofs.Rules.{chosen_by, kept_next, loaded_plans, put_plans}
+use Rattle.moka_laws.proofs.Rules.{chosen_by, kept_next, loaded_plans, put_plans, read_key_next, told_op_next_by, IsComputed, unchanged_computed, put_computed}
 use Rattle.moka_laws.proofs.Kept as events
 use Rattle.moka_laws.proofs.StepCases.{OnStep, more_step, step_cases}
 use Rattle.moka_laws.proofs.Outcomes.{Outcomes, outcomes}
+use Rattle.moka_hist.specs.declared.loads.Compute.{Compute}
+use Rattle.moka_hist.specs.Computing.{after_told_op, after_read_key}
+use Rattle.moka_hist.specs.Entries.{unchanged, put_answer}
 
 -- 1 where the answer is that the record was kept
-abbrev kept : {V E : Type 0} → Answer V E → ℕ
+abbrev kept : {K V E : Type 0} → Answer K V E → ℕ
 kept answer.Kept = 1
 kept _ = 0
 
-same_answer : {K V E : Type 0} (a b : Answer V E) → ◌≡◌ {A = Turn K V E} (turn.Answer a) (turn.Answer b) →
+same_answer : {K V E : Type 0} (a b : Answer K V E) → ◌≡◌ {A = Turn K V E} (turn.Answer a)
+    (turn.Answer b) →
     a ≡ b
 same_answer a b e = cc
 
@@ -82,7 +86,7 @@ module _ {K V E : Type 0} where
   not_keeps next q (inl e) = q.turn e
   not_keeps next q (inr h) = omega (arith, q.left, left_keeps next.left h)
 
-  answers_quiet : (a : Answer V E) → kept a ≡ 0 → ◌≡◌ {A = Turn K V E} (turn.Answer a)
+  answers_quiet : (a : Answer K V E) → kept a ≡ 0 → ◌≡◌ {A = Turn K V E} (turn.Answer a)
       (turn.Answer answer.Kept) → ⊥
   answers_quiet a none e = omega (
     arith,
@@ -100,14 +104,17 @@ module _ {K V E : Type 0} where
   goes_quiet c (_ ∷ rest) h = record { left = h; turn = λ e. cc }
 
   hits_quiet : (c : Call K V E) (aim : Aim K V) (key : K) (seen : Stored V) → keeping
-      (plan.Judge aim key seen) ≡ 0 → Quiet (hits c aim seen.value)
+      (plan.Judge aim key seen) ≡ 0 → Quiet (hits c aim key seen.value)
   hits_quiet c plan.To_answer key seen h = record
       { left = refl; turn = answers_quiet (answer.Found (Some seen.value)) refl }
+  hits_quiet c (plan.To_report under) key seen h = record
+      { left = refl; turn = answers_quiet (unchanged under (Some (key, seen.value))) refl }
   hits_quiet c (plan.To_load sought) key seen h = record
       { left = refl; turn = answers_quiet (answer.Loaded seen.value false) refl }
   hits_quiet c (plan.To_insert under new) key seen h = record
       { left = refl; turn = answers_quiet (answer.Loaded seen.value false) refl }
   hits_quiet c (plan.To_own sought) key seen h = record { left = refl; turn = λ e. cc }
+  hits_quiet c (plan.To_compute compute) key seen h = record { left = refl; turn = λ e. cc }
   hits_quiet c (plan.To_evict own stamp cause) key seen h = absurd (omega (arith, h))
 
   -- a record that is not seen by its replace test is loaded
@@ -132,6 +139,12 @@ module _ {K V E : Type 0} where
       by true e = rw e (record { left = refl; turn = answers_quiet answer.RetriesExhausted refl })
       by false e = rw e (record { left = refl; turn = λ f. cc })
 
+  read_key_quiet : (c : Call K V E) (compute : Compute K) (with : Settled V E) →
+      weigh keeping c.plan ≡ 0 → Quiet (after_read_key c compute (found.ReadSettled with))
+  read_key_quiet c compute with p = read_key_next (λ v. Quiet v) c compute with
+      (record { left = p; turn = λ e. cc })
+      (record { left = refl; turn = λ f. cc })
+
   told_quiet : (c : Call K V E) (load : Load K) (given : Told V E) → weigh keeping c.plan ≡ 0 → Quiet
       (after_told c load (found.TakeTold (Some given)))
   told_quiet c load (told.Value value) p =
@@ -141,7 +154,30 @@ module _ {K V E : Type 0} where
   told_quiet c load told.Nothing p = record { left = refl; turn = λ e. cc }
   told_quiet c load (told.Err error) p = record { left = refl; turn = λ e. cc }
   told_quiet c load told.Done p = record { left = p; turn = λ e. cc }
+  told_quiet c load (told.Op op) p = record { left = p; turn = λ e. cc }
   told_quiet c load told.Off p = record { left = p; turn = λ e. cc }
+
+  -- a compute answers nothing of that
+  computed_not : (a : Answer K V E) → IsComputed a → kept a ≡ 0
+  computed_not (answer.Computed done) is = refl
+  computed_not (answer.ComputeErr error) is = refl
+  computed_not _ is = absurd is
+
+  told_op_quiet : (c : Call K V E) (compute : Compute K) (pair : Option (K × V))
+      (given : Told V E) → weigh keeping c.plan ≡ 0 →
+      Quiet (after_told_op c compute pair (found.TakeTold (Some given)))
+  told_op_quiet c compute pair given p = told_op_next_by Quiet c compute pair given
+      (record { left = omega (arith, computed_not _ (unchanged_computed E compute.key pair)); turn = λ e. cc })
+      (λ error e. record { left = refl; turn = λ f. cc })
+      (λ value off. record { left = omega (arith, puts value); turn = λ e. cc })
+      (λ value able off. record { left = omega (arith, puts value); turn = λ e. cc })
+      (λ value able on. record { left = omega (arith, puts value); turn = λ e. cc })
+      (λ off. record { left = refl; turn = λ e. cc })
+      (λ on. record { left = refl; turn = λ e. cc })
+      (λ lost. record { left = p; turn = λ e. cc })
+    where
+      puts : (value : V) → kept (put_answer {E = E} compute.key pair value) ≡ 0
+      puts value = computed_not _ (put_computed E compute.key pair value)
 
   keeps_next : (c : Call K V E) → NextKeeps (keeps c)
   keeps_next c = kept_next NextKeeps c (λ off. inl refl) (λ on. inr tt)
@@ -193,6 +229,10 @@ module _ {K V : Type 0} (E : Type 0) where
       by : (b : Bool) → weigh keeping (or_insert_plan {V = V} {E = E} b key value) ≡ 0
       by true = refl
       by false = refl
+  fresh_calm rules (start.Compute key) = refl
+  fresh_calm rules (start.TryCompute key) = refl
+  fresh_calm rules (start.ComputeAlone key) = refl
+  fresh_calm rules (start.Upsert key) = refl
   fresh_calm rules (start.Invalidate key) = by rules.listener
     where
       by : (b : Bool) → weigh keeping (plan.Drain ∷ under_lock {V = V} {E = E} b key
@@ -272,9 +312,15 @@ module _ {K V E : Type 0} (s : State K V E) where
         (plan.Get aim key) (misses c aim)
     misses_by plan.To_answer key none = quiet (plan.Get plan.To_answer key) _ (λ h. h)
         (record { left = refl; turn = answers_quiet (answer.Found None) refl })
+    misses_by (plan.To_report under) key none =
+        quiet (plan.Get (plan.To_report under) key) _ (λ h. h)
+        (record { left = refl; turn = answers_quiet (unchanged under None) refl })
     misses_by (plan.To_load sought) key none = quiet (plan.Get (plan.To_load sought) key) _ (λ h. h)
         (record { left = refl; turn = λ e. cc })
     misses_by (plan.To_own sought) key none = quiet (plan.Get (plan.To_own sought) key) _ (λ h. h)
+        (record { left = refl; turn = λ e. cc })
+    misses_by (plan.To_compute compute) key none =
+        quiet (plan.Get (plan.To_compute compute) key) _ (λ h. h)
         (record { left = refl; turn = λ e. cc })
     misses_by (plan.To_insert under new) key none = quiet (plan.Get (plan.To_insert under new) key)
         _ (λ h. h)
@@ -289,11 +335,17 @@ module _ {K V E : Type 0} (s : State K V E) where
         Decides (plan.Get aim key) (finds_pair c aim there seen)
     finds_by plan.To_answer key there seen some = quiet (plan.Get plan.To_answer key) _ (λ h. h)
         (record { left = refl; turn = λ e. cc })
+    finds_by (plan.To_report under) key there seen some =
+        quiet (plan.Get (plan.To_report under) key) _ (λ h. h)
+        (record { left = refl; turn = λ e. cc })
     finds_by (plan.To_load sought) key there seen some = quiet (plan.Get (plan.To_load sought) key) _
         (λ h. h) (record { left = refl; turn = λ e. cc })
     finds_by (plan.To_insert under new) key there seen some = quiet (plan.Get (plan.To_insert under new) key) _
         (λ h. h) (record { left = refl; turn = λ e. cc })
     finds_by (plan.To_own sought) key there seen some = quiet (plan.Get (plan.To_own sought) key) _
+        (λ h. h) (record { left = refl; turn = λ e. cc })
+    finds_by (plan.To_compute compute) key there seen some =
+        quiet (plan.Get (plan.To_compute compute) key) _
         (λ h. h) (record { left = refl; turn = λ e. cc })
     finds_by (plan.To_evict own stamp cause) key there seen some =
         chosen_by (Decides
@@ -305,7 +357,8 @@ module _ {K V E : Type 0} (s : State K V E) where
         (λ h. h (subst (λ o. IsSomeAnd o (λ p. p.1.stamp ≡ stamp)) (sym some) same))
         (record { left = refl; turn = λ e. cc }))
 
-    out_by : (removal : Removal) (key : K) → weigh keeping c.plan ≡ 0 → (eq : K → K → Bool) (n : ℕ)
+    out_by : (removal : Removal K) (key : K) → weigh keeping c.plan ≡ 0 → (eq : K → K → Bool)
+        (n : ℕ)
         (rest : List (Item K V E)) →
         Outcomes eq (λ new next. Decides (plan.Out removal key) next) s.world n c
         (plan.Out removal key) rest
@@ -330,6 +383,17 @@ module _ {K V E : Type 0} (s : State K V E) where
       λ k old off some. quiet (plan.Out plan.To_remove key) _ (λ h. h)
           (record { left = refl; turn = λ e. cc }),
       λ k old on some. quiet (plan.Out plan.To_remove key) _ (λ h. h)
+          (record { left = refl; turn = λ e. cc }),
+    )
+    out_by (plan.To_remove_as_told own) key p eq n rest = (
+      λ more. undecided (plan.Out (plan.To_remove_as_told own) key) _ refl (record { left = p; turn = λ e. cc }),
+      λ off none. quiet (plan.Out (plan.To_remove_as_told own) key) _ (λ h. h)
+          (record { left = refl; turn = λ e. cc }),
+      λ on none. quiet (plan.Out (plan.To_remove_as_told own) key) _ (λ h. h)
+          (record { left = refl; turn = λ e. cc }),
+      λ k old off some. quiet (plan.Out (plan.To_remove_as_told own) key) _ (λ h. h)
+          (record { left = refl; turn = λ e. cc }),
+      λ k old on some. quiet (plan.Out (plan.To_remove_as_told own) key) _ (λ h. h)
           (record { left = refl; turn = λ e. cc }),
     )
     out_by (plan.To_evict_chosen stamp cause) key p eq n rest = (
@@ -420,17 +484,52 @@ module _ {K V E : Type 0} (s : State K V E) where
         λ disabled e. quiet (plan.Own sought) _ (λ h. h) (record { left = refl; turn = λ f. cc }),
         λ owner e. quiet (plan.Own sought) _ (λ h. h) (record { left = refl; turn = λ f. cc }),
       )
+      on_item (plan.Own_key compute) rest q = (
+        (
+          (λ able e. quiet (plan.Own_key compute) _ (λ h. h)
+              (record { left = refl; turn = λ f. cc })),
+          λ disabled e. quiet (plan.Own_key compute) _ (λ h. h)
+              (record { left = refl; turn = λ f. cc }),
+        ),
+        λ owner e. quiet (plan.Own_key compute) _ (λ h. h)
+            (record { left = refl; turn = λ f. cc }),
+      )
+      on_item (plan.Own_alone key) rest q = (
+        (
+          (λ able e. quiet (plan.Own_alone key) _ (λ h. h)
+              (record { left = refl; turn = λ f. cc })),
+          λ disabled e. quiet (plan.Own_alone key) _ (λ h. h)
+              (record { left = refl; turn = λ f. cc }),
+        ),
+        λ owner e. (
+          (λ able. quiet (plan.Own_alone key) _ (λ h. h)
+              (record { left = refl; turn = λ f. cc })),
+          λ not. quiet (plan.Own_alone key) _ (λ h. h)
+              (record { left = refl; turn = λ f. cc }),
+        ),
+      )
       on_item (plan.Read sought) rest q = (
         λ e. quiet (plan.Read sought) _ (λ h. h) (record { left = p; turn = λ f. cc }),
         λ with e. quiet (plan.Read sought) _ (λ h. h) (read_quiet c sought with p),
+      )
+      on_item (plan.Read_key compute) rest q = (
+        λ e. quiet (plan.Read_key compute) _ (λ h. h) (record { left = p; turn = λ f. cc }),
+        λ with e. quiet (plan.Read_key compute) _ (λ h. h) (read_key_quiet c compute with p),
       )
       on_item (plan.Settle with) rest q = quiet (plan.Settle with) _ (λ h. h)
           (goes_quiet c rest (omega (arith, q)))
       on_item (plan.Ask load) rest q = quiet (plan.Ask load) _ (λ h. h)
           (record { left = refl; turn = λ f. cc })
+      on_item (plan.Ask_op compute pair) rest q = quiet (plan.Ask_op compute pair) _ (λ h. h)
+          (record { left = refl; turn = λ f. cc })
       on_item (plan.Told load) rest q = (
         λ e. quiet (plan.Told load) _ (λ h. h) (record { left = p; turn = λ f. cc }),
         λ given e. quiet (plan.Told load) _ (λ h. h) (told_quiet c load given p),
+      )
+      on_item (plan.Told_op compute pair) rest q = (
+        λ e. quiet (plan.Told_op compute pair) _ (λ h. h) (record { left = p; turn = λ f. cc }),
+        λ given e. quiet (plan.Told_op compute pair) _ (λ h. h)
+            (told_op_quiet c compute pair given p),
       )
       on_item (plan.Holds key stamp cause there seen) rest q = (
         λ holds. quiet (plan.Holds key stamp cause there seen) _ (λ h. false≢true (sym h ∙ holds))

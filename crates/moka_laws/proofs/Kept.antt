@@ -78,6 +78,7 @@ module _ {K V E : Type 0} (eq : K → K → Bool) where
     is_told s n told.Nothing e i = kept.tell s n told.Nothing e i
     is_told s n (told.Err error) e i = kept.tell s n (told.Err error) e i
     is_told s n told.Done e i = kept.hear s n false e i
+    is_told s n (told.Op op) e i = kept.tell s n (told.Op op) e i
     is_told s n told.Off e i = kept.hear s n true e i
 
     happens : (P : State K V E → Type 0) (s t : State K V E) (e : Event K V E) (r : Reply K V E) → I s → Happens eq P s e r t → I t

@@ -18,7 +18,6 @@ use Rattle.moka_hist.specs.declared.events.Start.{Start}
 use Rattle.moka_hist.specs.declared.loads.Kind.{Kind}
 use Rattle.moka_hist.specs.declared.loads.Kind.TheVariants as kind
 use Rattle.moka_hist.specs.declared.loads.Load.{Load}
-use Rattle.moka_hist.specs.declared.loads.Sought.{Sought}
 use Rattle.moka_hist.specs.declared.replies.Answer.{Answer}
 use Rattle.moka_hist.specs.declared.visits.Settled.{Settled}
 use Rattle.moka_hist.specs.declared.visits.Settled.TheVariants as settled
@@ -31,23 +30,23 @@ use Rattle.moka_laws.proofs.Hearing.{settles_form, reads_form}
 use Rattle.moka_laws.proofs.Owning.{plan_left, kind_one, and_right}
 use Rattle.moka_laws.proofs.Plans.{IsPlan}
 use Rattle.moka_laws.proofs.Reading.{OwnerOf, Answered}
-use Rattle.moka_laws.proofs.Roles.{Fits, awaited}
+use Rattle.moka_laws.proofs.Roles.{Fits, awaited, awaits_first}
 use Rattle.moka_laws.proofs.Safe.{IsWell, well_kept}
 use Rattle.moka_laws.proofs.Served.{joined_numbered}
 use Rattle.moka_laws.proofs.Serving.{no_load}
 use Rattle.moka_laws.proofs.StepCases.{OnStep, step_cases}
-use Rattle.moka_laws.proofs.Outcomes.{Outcomes, outcomes}
+use Rattle.moka_laws.proofs.Outcomes.{Outcomes, outcomes, computes_of}
 
--- an owner of any kind may be dropped, and may end with a value
+-- an owner of any kind may be dropped
 aborted_ends : (V E : Type 0) (k : Kind) → may_end {V = V} {E = E} k settled.Aborted ≡ true
 aborted_ends V E kind.GetWith = refl
 aborted_ends V E kind.Optional = refl
 aborted_ends V E kind.Try = refl
+aborted_ends V E kind.Compute = refl
 
-ready_ends : {V : Type 0} (E : Type 0) (k : Kind) (value : V) → may_end {V = V} {E = E} k (settled.Ready value) ≡ true
-ready_ends E kind.GetWith value = refl
-ready_ends E kind.Optional value = refl
-ready_ends E kind.Try value = refl
+some_awaited : {A : Type 0} (o : Option A) → is_some o ≡ true → (a : A) × (o ≡ Some a)
+some_awaited None e = absurd (false≢true e)
+some_awaited (Some a) e = (a, refl)
 
 -- what is chosen is the one, or else the other
 chosen_or : {A : Type 0} (b : Bool) (x y z : A) → cond b x y ≡ z → ((b ≡ true) × (x ≡ z)) ⊎ (y ≡ z)
@@ -65,15 +64,7 @@ module _ {K V E : Type 0} where
       MayEndSo owned with → owned ≡ Some l → load_eq eq l load ≡ true → may_end load.kind with ≡ true
   ends_alike eq owned l load with may is alike =
       let same : l.kind ≡ load.kind = kind_one l.kind load.kind (and_right _ _ alike) in
-      by with (subst (λ v. MayEndSo v with) is may) same
-    where
-      by : (with : Settled V E) → MayEndSo (Some l) with → l.kind ≡ load.kind → may_end load.kind with ≡ true
-      by (settled.Ready value) may same = ready_ends E load.kind value
-      by settled.NotYet may same = subst (λ k. may_end {V = V} {E = E} k settled.NotYet ≡ true) same may
-      by (settled.Err error) may same =
-          subst (λ k. may_end {V = V} {E = E} k (settled.Err error) ≡ true) same may
-      by settled.Nothing may same = subst (λ k. may_end {V = V} {E = E} k settled.Nothing ≡ true) same may
-      by settled.Aborted may same = subst (λ k. may_end {V = V} {E = E} k settled.Aborted ≡ true) same may
+      subst (λ k. may_end k with ≡ true) same (subst (λ v. MayEndSo v with) is may)
 
   -- an owner that has just ended so
   abbrev EndedNow : DeskPart K V E → ℕ → ℕ → Settled V E → Option (Call K V E) → Type 0
@@ -133,9 +124,9 @@ module _ {K V E : Type 0} where
     }
 
     module _ (idle_by : (item : Item K V E) (rest : List (Item K V E)) → c.plan ≡ item ∷ rest →
-        ((sought : Sought K) → item ∷ rest ≡ plan.Read sought ∷ [] → ⊥) → w.desk.joined n ≡ None)
+        awaited (item ∷ []) ≡ None → w.desk.joined n ≡ None)
         (form : (with : Settled V E) (rest : List (Item K V E)) → c.plan ≡ plan.Settle with ∷ rest →
-        (a : Answer V E) × (rest ≡ plan.Reply a ∷ []))
+        (a : Answer K V E) × (rest ≡ plan.Reply a ∷ []))
         (may : (with : Settled V E) (rest : List (Item K V E)) → c.plan ≡ plan.Settle with ∷ rest →
         MayEndSo (w.desk.owning n) with) where
       -- the call ends its load
@@ -160,46 +151,46 @@ module _ {K V E : Type 0} where
 
       on_item : (item : Item K V E) (rest : List (Item K V E)) → c.plan ≡ item ∷ rest → Outcomes eq After w n c item rest
       on_item plan.Drain rest e =
-          let idle = idle_by plan.Drain rest e (λ sought f. cc) in (
+          let idle = idle_by plan.Drain rest e refl in (
             λ f. same refl refl refl idle,
             λ x xs f. same refl refl refl idle,
             λ x number xs f. same refl refl refl idle,
           )
       on_item (plan.Ended number) rest e =
-          let idle = idle_by (plan.Ended number) rest e (λ sought f. cc) in
+          let idle = idle_by (plan.Ended number) rest e refl in
           (λ f. same refl refl refl idle, λ f. same refl refl refl idle)
       on_item plan.Heard rest e =
-          let idle = idle_by plan.Heard rest e (λ sought f. cc) in
+          let idle = idle_by plan.Heard rest e refl in
           (λ f. same refl refl refl idle, λ f. same refl refl refl idle)
       on_item (plan.Lock key) rest e =
-          let idle = idle_by (plan.Lock key) rest e (λ sought f. cc) in
+          let idle = idle_by (plan.Lock key) rest e refl in
           (λ f. same refl refl refl idle, λ f. same refl refl refl idle)
       on_item (plan.Unlock wrote) rest e =
-          same refl refl refl (idle_by (plan.Unlock wrote) rest e (λ sought f. cc))
+          same refl refl refl (idle_by (plan.Unlock wrote) rest e refl)
       on_item (plan.Notice key old cause upsert) rest e =
-          let idle = idle_by (plan.Notice key old cause upsert) rest e (λ sought f. cc) in
+          let idle = idle_by (plan.Notice key old cause upsert) rest e refl in
           (λ f. same refl refl refl idle, λ f. same refl refl refl idle)
       on_item (plan.Post write) rest e =
-          let idle = idle_by (plan.Post write) rest e (λ sought f. cc) in
+          let idle = idle_by (plan.Post write) rest e refl in
           (λ f. same refl refl refl idle, λ f. same refl refl refl idle)
       on_item plan.Turn rest e =
-          let idle = idle_by plan.Turn rest e (λ sought f. cc) in
+          let idle = idle_by plan.Turn rest e refl in
           (λ f. same refl refl refl idle, λ f. same refl refl refl idle)
       on_item plan.Apply rest e =
-          let idle = idle_by plan.Apply rest e (λ sought f. cc) in
+          let idle = idle_by plan.Apply rest e refl in
           (λ f. same refl refl refl idle, λ x xs f. same refl refl refl idle)
-      on_item plan.End rest e = same refl refl refl (idle_by plan.End rest e (λ sought f. cc))
+      on_item plan.End rest e = same refl refl refl (idle_by plan.End rest e refl)
       on_item (plan.Get aim key) rest e =
-          let idle = idle_by (plan.Get aim key) rest e (λ sought f. cc) in (
+          let idle = idle_by (plan.Get aim key) rest e refl in (
             λ more. same refl refl refl idle,
             λ none. same refl refl refl idle,
             λ k stored some. same refl refl refl idle,
           )
       on_item (plan.Judge aim key stored) rest e =
-          let idle = idle_by (plan.Judge aim key stored) rest e (λ sought f. cc) in
+          let idle = idle_by (plan.Judge aim key stored) rest e refl in
           (λ seen. same refl refl refl idle, λ unseen. same refl refl refl idle)
       on_item (plan.Own sought) rest e =
-          let idle = idle_by (plan.Own sought) rest e (λ other f. cc) in (
+          let idle = idle_by (plan.Own sought) rest e refl in (
             λ able none. same refl refl refl idle,
             λ disabled none. same refl refl refl idle,
             λ who some. record {
@@ -211,6 +202,24 @@ module _ {K V E : Type 0} where
                   absurd (none_some (sym (gone o with f) ∙ ap w.desk.owning (sym is) ∙ own.1));
               ended = λ o with f. inl f;
             },
+          )
+      on_item (plan.Own_key compute) rest e =
+          let idle = idle_by (plan.Own_key compute) rest e refl in (
+            ((λ able none. same refl refl refl idle), λ disabled none. same refl refl refl idle),
+            λ who some. record {
+              last = refl;
+              joined = λ m h. put_there w.desk.joined n (Some who) m h;
+              own = λ o load with j a f.
+                  let is : who ≡ o = some_same (sym (put_here w.desk.joined n (Some who)) ∙ j) in
+                  let own = owner (computes_of compute.key) who some in
+                  absurd (none_some (sym (gone o with f) ∙ ap w.desk.owning (sym is) ∙ own.1));
+              ended = λ o with f. inl f;
+            },
+          )
+      on_item (plan.Own_alone key) rest e =
+          let idle = idle_by (plan.Own_alone key) rest e refl in (
+            (λ able none. same refl refl refl idle, λ not none. same refl refl refl idle),
+            λ who some. (λ able. same refl refl refl idle, λ not. same refl refl refl idle),
           )
       on_item (plan.Read sought) rest e = (
         λ none. record {
@@ -226,41 +235,60 @@ module _ {K V E : Type 0} where
           ended = λ o other f. inl (without_was w.desk n o other f);
         },
       )
+      on_item (plan.Read_key compute) rest e = (
+        λ none. record {
+          last = refl;
+          joined = λ m h. refl;
+          own = was;
+          ended = λ o with f. inl f;
+        },
+        λ with some. record {
+          last = refl;
+          joined = λ m h. put_there w.desk.joined n None m h;
+          own = λ o load other j a f. absurd (none_some (sym (put_here w.desk.joined n None) ∙ j));
+          ended = λ o other f. inl (without_was w.desk n o other f);
+        },
+      )
       on_item (plan.Settle with) rest e =
           let f = form with rest e in
-          ends with rest e (idle_by (plan.Settle with) rest e (λ sought g. cc)) (goes c rest)
+          ends with rest e (idle_by (plan.Settle with) rest e refl) (goes c rest)
           (ap (λ r. (goes c r).left) f.1) refl (λ o. refl) refl
       on_item (plan.Ask load) rest e =
-          same refl refl refl (idle_by (plan.Ask load) rest e (λ sought f. cc))
+          same refl refl refl (idle_by (plan.Ask load) rest e refl)
+      on_item (plan.Ask_op compute pair) rest e =
+          same refl refl refl (idle_by (plan.Ask_op compute pair) rest e refl)
       on_item (plan.Told load) rest e =
-          let idle = idle_by (plan.Told load) rest e (λ sought f. cc) in
+          let idle = idle_by (plan.Told load) rest e refl in
+          (λ none. same refl refl refl idle, λ given some. same refl refl refl idle)
+      on_item (plan.Told_op compute pair) rest e =
+          let idle = idle_by (plan.Told_op compute pair) rest e refl in
           (λ none. same refl refl refl idle, λ given some. same refl refl refl idle)
       on_item (plan.Holds key stamp cause there stored) rest e =
-          let idle = idle_by (plan.Holds key stamp cause there stored) rest e (λ sought f. cc) in
+          let idle = idle_by (plan.Holds key stamp cause there stored) rest e refl in
           (λ f. same refl refl refl idle, λ f. same refl refl refl idle)
       on_item (plan.Moment (plan.To_store key value)) rest e =
-          same refl refl refl (idle_by (plan.Moment (plan.To_store key value)) rest e (λ sought f. cc))
+          same refl refl refl (idle_by (plan.Moment (plan.To_store key value)) rest e refl)
       on_item (plan.Moment (plan.To_take_out removal key)) rest e =
           same refl refl refl
-          (idle_by (plan.Moment (plan.To_take_out removal key)) rest e (λ sought f. cc))
+          (idle_by (plan.Moment (plan.To_take_out removal key)) rest e refl)
       on_item (plan.Write key value moment) rest e =
-          let idle = idle_by (plan.Write key value moment) rest e (λ sought f. cc) in (
+          let idle = idle_by (plan.Write key value moment) rest e refl in (
             (λ more. same refl refl refl idle),
             (λ off old. same refl refl refl idle),
             (λ on. same refl refl refl idle),
             λ k old on some. same refl refl refl idle,
           )
       on_item (plan.Out removal key) rest e =
-          let idle = idle_by (plan.Out removal key) rest e (λ sought f. cc) in (
+          let idle = idle_by (plan.Out removal key) rest e refl in (
             (λ more. same refl refl refl idle),
             (λ off none. same refl refl refl idle),
             (λ on none. same refl refl refl idle),
             (λ k old off some. same refl refl refl idle),
             λ k old on some. same refl refl refl idle,
           )
-      on_item plan.Idle rest e = same refl refl refl (idle_by plan.Idle rest e (λ sought f. cc))
+      on_item plan.Idle rest e = same refl refl refl (idle_by plan.Idle rest e refl)
       on_item (plan.Reply a) rest e =
-          same refl refl refl (idle_by (plan.Reply a) rest e (λ sought f. cc))
+          same refl refl refl (idle_by (plan.Reply a) rest e refl)
 
       on_plan : (p : List (Item K V E)) → c.plan ≡ p → (p ≡ [] → ⊥) → OnStep eq After w n c p
       on_plan [] e full = absurd (full refl)
@@ -363,21 +391,26 @@ module _ {K V E : Type 0} (eq : K → K → Bool) where
           (i.ended o with e).0 (i.well.served.fits o)).owning)
 
       idle_by : (item : Item K V E) (rest : List (Item K V E)) → c.plan ≡ item ∷ rest →
-          ((sought : Sought K) → item ∷ rest ≡ plan.Read sought ∷ [] → ⊥) → s.world.desk.joined n ≡ None
+          awaited (item ∷ []) ≡ None → s.world.desk.joined n ≡ None
       idle_by item rest e not = by (s.world.desk.joined n) refl
         where
           by : (j : Option ℕ) → s.world.desk.joined n ≡ j → s.world.desk.joined n ≡ None
           by None is = is
           by (Some o) is =
-              let form = reads_form c.plan (sym fits.waiting ∙ ap is_some is) known in
-              absurd (not form.0 (sym e ∙ form.1))
+              let waits : is_some (awaited c.plan) ≡ true = sym fits.waiting ∙ ap is_some is in
+              let form = reads_form c.plan waits known in
+              let awaits = some_awaited (awaited c.plan) waits in
+              let one : item ≡ form.0 = let same : item ∷ rest ≡ form.0 ∷ [] = sym e ∙ form.1 in cc in
+              let none : awaited c.plan ≡ None = ap awaited form.1 ∙ ap (λ v. awaited (v ∷ [])) (sym one) ∙ not in
+              absurd (none_some (sym none ∙ awaits.1))
 
       may : (with : Settled V E) (rest : List (Item K V E)) → c.plan ≡ plan.Settle with ∷ rest →
           MayEndSo (s.world.desk.owning n) with
-      may with rest e = (subst (AllFit _ _ _) e (i.well.fitting.fit n c step.live)).0
+      may with rest e =
+          (subst (AllFit (s.world.desk.owning n)) e (i.well.fitting.fit n c step.live)).0
 
       full : c.plan ≡ [] → ⊥
-      full e = subst EndsWell e (i.well.asking.answering.calls n c step.live)
+      full e = subst EndsWell e (i.well.served.answering.calls n c step.live)
 
   ends_start : (s : State K V E) (start : Start K V) → EndsFit s → EndsFit (started s start)
   ends_start s start i = record {
@@ -446,14 +479,14 @@ module _ {K V E : Type 0} (eq : K → K → Bool) where
   }
 
   pub settlements_fit : SettlementsFit K V E eq
-  settlements_fit s n c with h live r =
+  settlements_fit s n c item rest load with h live e waits ended =
       let i : EndsFit s = in_reached eq EndsFit ends_kept s h in
-      let awaits : awaited (plan_left (s.calls n)) ≡ Some r.sought.load =
-      ap (λ v. awaited (plan_left v)) live ∙ ap awaited r.reading in
-      by i awaits (s.world.desk.joined n) refl r.ended
+      let awaits : awaited (plan_left (s.calls n)) ≡ Some load =
+      ap (λ v. awaited (plan_left v)) live ∙ ap awaited e ∙ awaits_first item rest load waits in
+      by i awaits (s.world.desk.joined n) refl ended
     where
-      by : EndsFit s → awaited (plan_left (s.calls n)) ≡ Some r.sought.load → (j : Option ℕ) →
+      by : EndsFit s → awaited (plan_left (s.calls n)) ≡ Some load → (j : Option ℕ) →
           s.world.desk.joined n ≡ j → option_and_then s.world.desk.settled j ≡ Some with →
-          may_end r.sought.load.kind with ≡ true
+          may_end load.kind with ≡ true
       by i a None e f = absurd (none_some f)
-      by i a (Some o) e f = i.reads n o r.sought.load with e a f
+      by i a (Some o) e f = i.reads n o load with e a f

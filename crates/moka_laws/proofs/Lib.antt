@@ -9,6 +9,7 @@ pub mod Counting
 pub mod Weights
 pub mod Holding
 pub mod Answering
+pub mod TakesFit
 pub mod Waits
 pub mod Sums
 pub mod Posts
@@ -30,6 +31,7 @@ pub mod Locking
 pub mod Replacing
 pub mod Noticing
 pub mod SettledNotices
+pub mod Unsettled
 pub mod Safe
 pub mod SoundReached
 pub mod Unread
@@ -60,3 +62,9 @@ pub mod Standing
 pub mod Removing
 pub mod Stamps
 pub mod Pending
+pub mod OwnersOwn
+pub mod Computing
+pub mod Computed
+pub mod Nops
+pub mod Apart
+pub mod OwnedUntil

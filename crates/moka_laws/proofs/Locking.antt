@@ -32,10 +32,17 @@ use Rattle.moka_laws.proofs.Weights.{weigh}
 use Rattle.moka_laws.proofs.Balance.{IsBalanced}
 use Rattle.moka_laws.proofs.Balanced.{balanced_kept, next_free}
 use Rattle.moka_laws.proofs.Owning.{plan_left}
-use Rattle.moka_laws.proofs.Rules.{put_plans_by, Finds_or_puts, Gives_back, loaded_plans_by, kept_next, chosen_by, IsFresh, Disabled, Gets, Loads, Owns, Puts, Locks_and_puts, Takes_out, Locks_and_takes_out, Evicts, Locks_and_evicts, fresh_plan}
+use Rattle.moka_laws.proofs.Rules.{put_plans_by, Computes, Computes_alone, Finds_or_puts, Gives_back, loaded_plans_by, kept_next, chosen_by, IsFresh, Disabled, Gets, Loads, Owns, Puts, Locks_and_puts, Takes_out, Locks_and_takes_out, Evicts, Locks_and_evicts, fresh_plan, read_key_next, told_op_next}
 use Rattle.moka_laws.proofs.Kept.{IsKept, in_reached}
 use Rattle.moka_laws.proofs.StepCases.{OnStep, step_cases}
 use Rattle.moka_laws.proofs.Outcomes.{Outcomes, outcomes}
+use Rattle.moka_hist.specs.declared.loads.Compute.{Compute}
+use Rattle.moka_hist.specs.Computing.{after_told_op, after_read_key}
+use Rattle.moka_hist.specs.Entries.{put_answer}
+use Rattle.moka_hist.specs.Computing.{end_compute}
+use Rattle.moka_hist.specs.Writing.{cause_handed, nothing_answer, removed_answer}
+use Rattle.moka_hist.specs.declared.writes.Write.TheVariants.{Remove}
+use Rattle.moka_laws.proofs.Rules.{said_next}
 
 true_false : true ≡ false → ⊥
 true_false e = false≢true (sym e)
@@ -215,7 +222,7 @@ module _ {K V E : Type 0} where
     is_off off = ap (λ v. v.listener) (sym rules) ∙ off
 
     -- the call frees its lock next, with nothing written under it
-    frees : (a : Answer V E) {old : List (Item K V E)} → (Outside old → ⊥) → Now old →
+    frees : (a : Answer K V E) {old : List (Item K V E)} → (Outside old → ⊥) → Now old →
         c.rules.listener ≡ true →
         Now (plan.Unlock false ∷ plan.Reply a ∷ [])
     frees a out q on = record {
@@ -232,6 +239,14 @@ module _ {K V E : Type 0} where
     reads sought rest settled.NotYet p q = keeps w.desk n c refl p
     reads sought rest settled.Aborted p q = either w.desk n c (c.aborts + 1 == retries) _ _ (keeps w.desk n c tt (free [] refl q (λ k i. i)))
         (keeps w.desk n c refl (free (plan.Own sought ∷ []) refl q (λ k i. i)))
+
+    reads_key : (compute : Compute K) (rest : List (Item K V E)) (with : Settled V E) → Now c.plan →
+        Now (plan.Read_key compute ∷ rest) →
+        Leaves w.desk n c w.desk.rules w.desk.locked (after_read_key c compute (found.ReadSettled with)).left
+    reads_key compute rest with p q =
+        read_key_next (λ v. Leaves w.desk n c w.desk.rules w.desk.locked v.left) c compute with
+        (keeps w.desk n c refl p)
+        (keeps w.desk n c refl (free (plan.Own_key compute ∷ []) refl q (λ k i. i)))
 
     told : (load : Load K) (rest : List (Item K V E)) (given : Told V E) → Now c.plan → Now (plan.Told load ∷ rest) →
         Leaves w.desk n c w.desk.rules w.desk.locked (after_told c load (found.TakeTold (Some given))).left
@@ -259,7 +274,42 @@ module _ {K V E : Type 0} where
         goes_on w.desk n c _
         (free (end_load (settled.Err error) (reply.InitErr error)) refl q (λ k i. i))
     told load rest answer.Done p q = keeps w.desk n c refl p
+    told load rest (answer.Op op) p q = keeps w.desk n c refl p
     told load rest answer.Off p q = keeps w.desk n c refl p
+
+    told_op : (compute : Compute K) (pair : Option (K × V)) (rest : List (Item K V E))
+        (given : Told V E) → Now c.plan → Now (plan.Told_op compute pair ∷ rest) →
+        Leaves w.desk n c w.desk.rules w.desk.locked (after_told_op c compute pair (found.TakeTold (Some given))).left
+    told_op compute pair rest given p q =
+        told_op_next (λ v. Leaves w.desk n c w.desk.rules w.desk.locked v.left) c compute pair given
+        (λ a. goes_on w.desk n c (end_compute a) (free (end_compute a) refl q (λ k i. i)))
+        (λ value able off. goes_on w.desk n c
+        (plan.Drain ∷ plan.Moment (plan.To_store compute.key value) ∷ end_compute (put_answer compute.key pair value)) (record {
+          none = λ e. ((q.none e).0, refl);
+          outside = λ e f. absurd (true_false (sym e ∙ is_off off));
+          inside = λ e k f. absurd (q.inside e k f);
+        }))
+        (λ value able on. goes_on w.desk n c
+        (plan.Drain ∷ plan.Lock compute.key ∷ plan.Moment (plan.To_store compute.key value)
+        ∷ end_compute (put_answer compute.key pair value)) (record {
+          none = λ e. absurd (true_false (sym (is_on on) ∙ e));
+          outside = λ e f. (refl, refl);
+          inside = λ e k f. absurd (q.inside e k f);
+        }))
+        (λ off. goes_on w.desk n c
+        (plan.Drain ∷ plan.Moment (plan.To_take_out (plan.To_remove_as_told compute.key) compute.key) ∷ []) (record {
+          none = λ e. ((q.none e).0, refl);
+          outside = λ e f. absurd (true_false (sym e ∙ is_off off));
+          inside = λ e k f. absurd (q.inside e k f);
+        }))
+        (λ on. goes_on w.desk n c
+        (plan.Drain ∷ plan.Lock compute.key ∷ plan.Moment
+        (plan.To_take_out (plan.To_remove_as_told compute.key) compute.key) ∷ []) (record {
+          none = λ e. absurd (true_false (sym (is_on on) ∙ e));
+          outside = λ e f. (refl, refl);
+          inside = λ e k f. absurd (q.inside e k f);
+        }))
+        (keeps w.desk n c refl p)
 
     -- the chosen record stays: the lock is to be freed, where a listener is set
     kept : (old : List (Item K V E)) → (Outside old → ⊥) → Now old →
@@ -275,8 +325,10 @@ module _ {K V E : Type 0} where
     missed : (aim : Aim K V) (key : K) (rest : List (Item K V E)) → Now (plan.Get aim key ∷ rest) →
         Leaves w.desk n c w.desk.rules w.desk.locked (misses c aim).left
     missed plan.To_answer key rest q = keeps w.desk n c tt (free _ refl q (λ k i. i))
+    missed (plan.To_report under) key rest q = keeps w.desk n c tt (free _ refl q (λ k i. i))
     missed (plan.To_load sought) key rest q = keeps w.desk n c refl (free _ refl q (λ k i. i))
     missed (plan.To_own sought) key rest q = keeps w.desk n c refl (free _ refl q (λ k i. i))
+    missed (plan.To_compute compute) key rest q = keeps w.desk n c refl (free _ refl q (λ k i. i))
     missed (plan.To_insert there value) key rest q =
         put_plans_by (λ v. Leaves w.desk n c w.desk.rules w.desk.locked (goes c v).left)
         c.rules there value _
@@ -307,11 +359,15 @@ module _ {K V E : Type 0} where
         Now (plan.Get aim key ∷ rest) →
         Leaves w.desk n c w.desk.rules w.desk.locked (finds_pair c aim k stored).left
     has_found plan.To_answer key k stored rest q = keeps w.desk n c refl (free _ refl q (λ l i. i))
+    has_found (plan.To_report under) key k stored rest q =
+        keeps w.desk n c refl (free _ refl q (λ l i. i))
     has_found (plan.To_load sought) key k stored rest q =
         keeps w.desk n c refl (free _ refl q (λ l i. i))
     has_found (plan.To_insert under new) key k stored rest q =
         keeps w.desk n c refl (free _ refl q (λ l i. i))
     has_found (plan.To_own sought) key k stored rest q =
+        keeps w.desk n c refl (free _ refl q (λ l i. i))
+    has_found (plan.To_compute compute) key k stored rest q =
         keeps w.desk n c refl (free _ refl q (λ l i. i))
     has_found (plan.To_evict there stamp cause) key k stored rest q =
         chosen_by (λ v. Leaves w.desk n c w.desk.rules w.desk.locked v.left)
@@ -322,15 +378,18 @@ module _ {K V E : Type 0} where
 
     hit : (aim : Aim K V) (key : K) (stored : Stored V) (rest : List (Item K V E)) → Now c.plan →
         Now (plan.Judge aim key stored ∷ rest) →
-        Leaves w.desk n c w.desk.rules w.desk.locked (hits c aim stored.value).left
+        Leaves w.desk n c w.desk.rules w.desk.locked (hits c aim key stored.value).left
     hit plan.To_answer key stored rest p q = keeps w.desk n c tt (free _ refl q (λ k i. i))
+    hit (plan.To_report under) key stored rest p q = keeps w.desk n c tt (free _ refl q (λ k i. i))
     hit (plan.To_load sought) key stored rest p q = keeps w.desk n c tt (free _ refl q (λ k i. i))
     hit (plan.To_insert under new) key stored rest p q = keeps w.desk n c tt (free _ refl q (λ k i. i))
     hit (plan.To_own sought) key stored rest p q = keeps w.desk n c refl (free _ refl q (λ k i. i))
+    hit (plan.To_compute compute) key stored rest p q =
+        keeps w.desk n c refl (free _ refl q (λ k i. i))
     hit (plan.To_evict there stamp cause) key stored rest p q = keeps w.desk n c refl p
 
     -- after a removal, the lock is to be freed where a listener is set
-    took : (removal : Removal) (key : K) (rest new : List (Item K V E)) →
+    took : (removal : Removal K) (key : K) (rest new : List (Item K V E)) →
         (c.rules.listener ≡ false → weigh of_key new ≡ 0) →
         (c.rules.listener ≡ true → (k : K) → k ≡ key → Inside k new) →
         Now (plan.Out removal key ∷ rest) → Now new
@@ -377,10 +436,32 @@ module _ {K V E : Type 0} where
       (λ not e. keeps w.desk n c refl (free _ refl q (λ k i. i))),
       λ owner e. keeps w.desk n c refl (free _ refl q (λ k i. i)),
     )
+    on_item (plan.Own_key compute) rest p q = (
+      (
+        (λ able e. keeps w.desk n c refl (free _ refl q (λ k i. i))),
+        λ not e. keeps w.desk n c refl (free _ refl q (λ k i. i)),
+      ),
+      λ owner e. keeps w.desk n c refl (free _ refl q (λ k i. i)),
+    )
+    on_item (plan.Own_alone key) rest p q = (
+      (
+        (λ able e. keeps w.desk n c refl (free _ refl q (λ k i. i))),
+        λ not e. keeps w.desk n c refl (free _ refl q (λ k i. i)),
+      ),
+      λ owner e. (
+        (λ able. keeps w.desk n c refl (free _ refl q (λ k i. i))),
+        λ not. keeps w.desk n c refl (free _ refl q (λ k i. i)),
+      ),
+    )
     on_item (plan.Read sought) rest p q = ((λ e. keeps w.desk n c refl p), λ with e. reads sought rest with p q)
+    on_item (plan.Read_key compute) rest p q =
+        ((λ e. keeps w.desk n c refl p), λ with e. reads_key compute rest with p q)
     on_item (plan.Settle with) rest p q = goes_on w.desk n c rest (like _ _ q (λ h. omega arith) (λ h. calm_outside rest h) (λ k i. absurd i))
     on_item (plan.Ask load) rest p q = keeps w.desk n c refl (free _ refl q (λ k i. i))
+    on_item (plan.Ask_op compute pair) rest p q = keeps w.desk n c refl (free _ refl q (λ k i. i))
     on_item (plan.Told load) rest p q = ((λ e. keeps w.desk n c refl p), λ given e. told load rest given p q)
+    on_item (plan.Told_op compute pair) rest p q =
+        ((λ e. keeps w.desk n c refl p), λ given e. told_op compute pair rest given p q)
     on_item (plan.Lock key) rest p q = (
       λ e. locks_now w.desk n c (Some key) (goes_rules c rest) (goes_locks _ _ c rest (record {
         none = λ f. absurd (let h = (q.none f).1 in omega arith);
@@ -444,22 +525,22 @@ module _ {K V E : Type 0} where
     )
     on_item (plan.Out removal key) rest p q = (
       (λ more. keeps w.desk n c refl p),
-      (λ off none. keeps w.desk n c refl
-          (took removal key rest (plan.Idle ∷ plan.Reply _ ∷ []) (λ f. refl)
-          (λ on k i. absurd (true_false (sym on ∙ off)))
-          q)),
-      (λ on none. keeps w.desk n c refl
-          (took removal key rest (plan.Unlock false ∷ plan.Reply _ ∷ [])
-          (λ f. absurd (true_false (sym on ∙ f)))
-          (λ f k i. refl) q)),
-      (λ there old off some. keeps w.desk n c refl
-          (took removal key rest (plan.Post _ ∷ plan.Reply _ ∷ []) (λ f. refl)
-          (λ on k i. absurd (true_false (sym on ∙ off)))
-          q)),
-      λ there old on some. keeps w.desk n c refl
-          (took removal key rest
-          (plan.Notice key old _ false ∷ plan.Unlock true ∷ plan.Post _ ∷ plan.Reply _ ∷ [])
-          (λ f. absurd (true_false (sym on ∙ f))) (λ f k i. (i, refl)) q),
+      (λ off none. said_next (λ v. Leaves w.desk n c w.desk.rules w.desk.locked v.left) c (λ q. plan.Idle ∷ q) removal (nothing_answer removal)
+          (keeps w.desk n c refl (took removal key rest (plan.Idle ∷ plan.Reply _ ∷ []) (λ f. refl)
+          (λ on k i. absurd (true_false (sym on ∙ off))) q))
+          (keeps w.desk n c refl (took removal key rest (plan.Idle ∷ end_compute _) (λ f. refl)
+          (λ on k i. absurd (true_false (sym on ∙ off))) q))),
+      (λ on none. said_next (λ v. Leaves w.desk n c w.desk.rules w.desk.locked v.left) c (λ q. plan.Unlock false ∷ q) removal (nothing_answer removal)
+          (keeps w.desk n c refl (took removal key rest (plan.Unlock false ∷ plan.Reply _ ∷ [])
+          (λ f. absurd (true_false (sym on ∙ f))) (λ f k i. refl) q))
+          (keeps w.desk n c refl (took removal key rest (plan.Unlock false ∷ end_compute _)
+          (λ f. absurd (true_false (sym on ∙ f))) (λ f k i. refl) q))),
+      (λ there old off some. said_next (λ v. Leaves w.desk n c w.desk.rules w.desk.locked v.left) c (λ q. plan.Post (Remove n old.stamp) ∷ q) removal (removed_answer removal old.value)
+          (keeps w.desk n c refl (took removal key rest (plan.Post (Remove n old.stamp) ∷ plan.Reply _ ∷ []) (λ f. refl) (λ on k i. absurd (true_false (sym on ∙ off))) q))
+          (keeps w.desk n c refl (took removal key rest (plan.Post (Remove n old.stamp) ∷ end_compute _) (λ f. refl) (λ on k i. absurd (true_false (sym on ∙ off))) q))),
+      λ there old on some. said_next (λ v. Leaves w.desk n c w.desk.rules w.desk.locked v.left) c (λ q. plan.Notice key old (cause_handed removal) false ∷ plan.Unlock true ∷ plan.Post (Remove n old.stamp) ∷ q) removal (removed_answer removal old.value)
+          (keeps w.desk n c refl (took removal key rest (plan.Notice key old (cause_handed removal) false ∷ plan.Unlock true ∷ plan.Post (Remove n old.stamp) ∷ plan.Reply _ ∷ []) (λ f. absurd (true_false (sym on ∙ f))) (λ f k i. (i, refl)) q))
+          (keeps w.desk n c refl (took removal key rest (plan.Notice key old (cause_handed removal) false ∷ plan.Unlock true ∷ plan.Post (Remove n old.stamp) ∷ end_compute _) (λ f. absurd (true_false (sym on ∙ f))) (λ f k i. (i, refl)) q)),
     )
     on_item plan.Idle rest p q = goes_on w.desk n c rest
         (like _ _ q (λ h. omega arith) (λ h. calm_outside rest h) (λ k i. absurd i))
@@ -505,17 +586,19 @@ module _ {K V E : Type 0} where
   fresh_form : (rules : Rules) (p : List (Item K V E)) → IsFresh rules p → Locks rules.listener None p
   fresh_form rules p (Disabled a d plain) = starts rules.listener _ refl (λ e. refl)
   fresh_form rules p (Gets key d) = starts rules.listener _ refl (λ e. refl)
-  fresh_form rules p (Loads sought d) = starts rules.listener _ refl (λ e. refl)
-  fresh_form rules p (Owns sought d) = starts rules.listener _ refl (λ e. refl)
+  fresh_form rules p (Loads sought d one) = starts rules.listener _ refl (λ e. refl)
+  fresh_form rules p (Owns sought d one) = starts rules.listener _ refl (λ e. refl)
+  fresh_form rules p (Computes compute one) = starts rules.listener _ refl (λ e. refl)
+  fresh_form rules p (Computes_alone key) = starts rules.listener _ refl (λ e. refl)
   fresh_form rules p (Finds_or_puts key value d) = starts rules.listener _ refl (λ e. refl)
   fresh_form rules p (Gives_back a d plain) = starts rules.listener _ refl (λ e. refl)
   fresh_form rules p (Puts key value d off) =
       starts rules.listener _ refl (λ e. absurd (true_false (sym e ∙ off)))
   fresh_form rules p (Locks_and_puts key value d on) =
       starts_locked rules.listener _ on (refl, refl)
-  fresh_form rules p (Takes_out removal key off) =
+  fresh_form rules p (Takes_out removal key off named) =
       starts rules.listener _ refl (λ e. absurd (true_false (sym e ∙ off)))
-  fresh_form rules p (Locks_and_takes_out removal key on) =
+  fresh_form rules p (Locks_and_takes_out removal key on named) =
       starts_locked rules.listener _ on (refl, refl)
   fresh_form rules p (Evicts key stamp cause off) =
       starts rules.listener _ refl (λ e. absurd (true_false (sym e ∙ off)))

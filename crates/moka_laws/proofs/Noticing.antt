@@ -39,12 +39,14 @@ use Rattle.moka_laws.proofs.Weights.{weigh_call}
 use Rattle.moka_laws.proofs.Posts.{once, among, among_owed, post_of, posts_held}
 use Rattle.moka_laws.proofs.Balance.{times_first, times_last}
 use Rattle.moka_laws.proofs.Owning.{plan_left}
-use Rattle.moka_laws.proofs.Plans.{IsTail, Answering, Settling, IsDrained, Looking, Putting, IsPosted, Draining, Ended, Locking, IsPlan, Posted, Drained, Posting, Hearing, Noticing, Listening, Unlocking, Turning, Applying, Ending, Judging, Owning, Giving, Reading, Asking, Telling, Writing, IsLook, Removing, Locking_out, Choosing, Finding, Chosen, Taking, Freeing, Idling}
+use Rattle.moka_laws.proofs.Plans.{IsTail, Answering, Settling, IsDrained, Looking, Putting, IsPosted, Draining, Ended, Locking, IsPlan, Posted, Drained, Posting, Hearing, Noticing, Listening, Unlocking, Turning, Applying, Ending, Judging, Owning, Giving, Reading, Asking, Telling, Writing, IsLook, Removing, Locking_out, Choosing, Finding, Chosen, Taking, Freeing, Idling, Asking_op, Owning_key, Owning_alone, Reading_key, Telling_op}
 use Rattle.moka_laws.proofs.Replacing.{IsReplacing, replacing_kept, not_opened}
-use Rattle.moka_laws.proofs.Rules.{put_plans, loaded_plans, kept_next, chosen_next, IsFresh, Disabled, fresh_plan}
+use Rattle.moka_laws.proofs.Rules.{put_plans, loaded_plans, kept_next, chosen_next, IsFresh, Disabled, fresh_plan, read_key_next, told_op_next}
 use Rattle.moka_laws.proofs.Kept.{IsKept, in_reached}
 use Rattle.moka_laws.proofs.StepCases.{OnStep, step_cases}
 use Rattle.moka_laws.proofs.Outcomes.{outcomes}
+use Rattle.moka_hist.specs.declared.loads.Compute.{Compute}
+use Rattle.moka_hist.specs.Computing.{after_told_op, after_read_key}
 
 -- ---- notices that are heard
 
@@ -108,6 +110,7 @@ module _ {K V E : Type 0} where
   pub drained_none : (n : ℕ) (c : Call K V E) (p : List (Item K V E)) → IsDrained p → naming n (plan_left (goes c p).left) ≡ None
   drained_none n c p (Looking aim key l) = refl
   drained_none n c p (Owning sought) = refl
+  drained_none n c p (Asking_op compute pair) = refl
   drained_none n c p (Giving a) = refl
   drained_none n c p (Removing removal key) = refl
   drained_none n c p (Locking_out removal key) = refl
@@ -123,8 +126,10 @@ module _ {K V E : Type 0} where
 
   pub misses_none : (n : ℕ) (c : Call K V E) (aim : Aim K V) → naming n (plan_left (misses c aim).left) ≡ None
   misses_none n c plan.To_answer = refl
+  misses_none n c (plan.To_report key) = refl
   misses_none n c (plan.To_load sought) = refl
   misses_none n c (plan.To_own sought) = refl
+  misses_none n c (plan.To_compute compute) = refl
   misses_none n c (plan.To_insert key value) =
       put_plans (λ p. naming n (plan_left (goes c p).left) ≡ None) c.rules key value
       (plan.Reply (reply.Loaded value true) ∷ []) refl refl
@@ -133,21 +138,25 @@ module _ {K V E : Type 0} where
   pub finds_none : (n : ℕ) (c : Call K V E) (aim : Aim K V) (there : K) (stored : Stored V) →
       naming n (plan_left (finds_pair c aim there stored).left) ≡ None
   finds_none n c plan.To_answer there stored = refl
+  finds_none n c (plan.To_report key) there stored = refl
   finds_none n c (plan.To_load sought) there stored = refl
   finds_none n c (plan.To_insert under new) there stored = refl
   finds_none n c (plan.To_own sought) there stored = refl
+  finds_none n c (plan.To_compute compute) there stored = refl
   finds_none n c (plan.To_evict key stamp cause) there stored =
       chosen_next (λ v. naming n (plan_left v.left) ≡ None) c key stamp cause there stored
       (λ off. refl)
       (λ on. refl) refl
 
-  pub hits_none : (n : ℕ) (c : Call K V E) (aim : Aim K V) (value : V) → IsLook aim →
-      naming n (plan_left (hits c aim value).left) ≡ None
-  hits_none n c plan.To_answer value l = refl
-  hits_none n c (plan.To_load sought) value l = refl
-  hits_none n c (plan.To_insert under new) value l = refl
-  hits_none n c (plan.To_own sought) value l = refl
-  hits_none n c (plan.To_evict key stamp cause) value l = absurd l
+  pub hits_none : (n : ℕ) (c : Call K V E) (aim : Aim K V) (there : K) (value : V) → IsLook aim →
+      naming n (plan_left (hits c aim there value).left) ≡ None
+  hits_none n c plan.To_answer there value l = refl
+  hits_none n c (plan.To_report key) there value l = refl
+  hits_none n c (plan.To_load sought) there value l = refl
+  hits_none n c (plan.To_insert under new) there value l = refl
+  hits_none n c (plan.To_own sought) there value l = refl
+  hits_none n c (plan.To_compute compute) there value l = refl
+  hits_none n c (plan.To_evict key stamp cause) there value l = absurd l
 
   either_none : (n : ℕ) (b : Bool) (x y : Next K V E) → naming n (plan_left x.left) ≡ None → naming n (plan_left y.left) ≡ None →
       naming n (plan_left (cond b x y).left) ≡ None
@@ -162,6 +171,14 @@ module _ {K V E : Type 0} where
   read_none n c sought settled.NotYet h = h
   read_none n c sought settled.Aborted h = either_none n (c.aborts + 1 == retries) _ _ refl refl
 
+  pub read_key_none : (n : ℕ) (c : Call K V E) (compute : Compute K) (with : Settled V E) →
+      naming n c.plan ≡ None →
+      naming n (plan_left (after_read_key c compute (found.ReadSettled with)).left) ≡ None
+  read_key_none n c compute with h =
+      read_key_next (λ v. naming n (plan_left v.left) ≡ None) c compute with
+      (h)
+      (refl)
+
   pub told_none : (n : ℕ) (c : Call K V E) (load : Load K) (given : Told V E) → naming n c.plan ≡ None →
       naming n (plan_left (after_told c load (found.TakeTold (Some given))).left) ≡ None
   told_none n c load (answer.Value value) h =
@@ -170,7 +187,20 @@ module _ {K V E : Type 0} where
   told_none n c load answer.Nothing h = refl
   told_none n c load (answer.Err error) h = refl
   told_none n c load answer.Done h = h
+  told_none n c load (answer.Op op) h = h
   told_none n c load answer.Off h = h
+
+  pub told_op_none : (n : ℕ) (c : Call K V E) (compute : Compute K) (pair : Option (K × V))
+      (given : Told V E) → naming n c.plan ≡ None →
+      naming n (plan_left (after_told_op c compute pair (found.TakeTold (Some given))).left) ≡ None
+  told_op_none n c compute pair given h =
+      told_op_next (λ v. naming n (plan_left v.left) ≡ None) c compute pair given
+      (λ a. refl)
+      (λ value able off. refl)
+      (λ value able on. refl)
+      (λ off. refl)
+      (λ on. refl)
+      (h)
 
   pub form_none : (n : ℕ) (rules : Rules) (p : List (Item K V E)) → IsFresh rules p → naming n p ≡ None
   form_none n rules p (Disabled a d plain) = refl
@@ -191,6 +221,7 @@ module _ {K V E : Type 0} where
   hears_held n y p (Posted rest (Ended more (Settling with a))) e = absurd (none_some e)
   hears_held n y p (Drained rest (Looking aim key l)) e = absurd (none_some e)
   hears_held n y p (Drained rest (Owning sought)) e = absurd (none_some e)
+  hears_held n y p (Drained rest (Asking_op compute pair)) e = absurd (none_some e)
   hears_held n y p (Drained rest (Giving a)) e = absurd (none_some e)
   hears_held n y p (Drained rest (Removing removal key)) e = absurd (none_some e)
   hears_held n y p (Drained rest (Locking_out removal key)) e = absurd (none_some e)
@@ -201,12 +232,16 @@ module _ {K V E : Type 0} where
   hears_held n y p (Reading sought) e = absurd (none_some e)
   hears_held n y p (Asking load) e = absurd (none_some e)
   hears_held n y p (Telling load) e = absurd (none_some e)
+  hears_held n y p (Owning_key compute) e = absurd (none_some e)
+  hears_held n y p (Owning_alone key) e = absurd (none_some e)
+  hears_held n y p (Reading_key compute) e = absurd (none_some e)
+  hears_held n y p (Telling_op compute pair) e = absurd (none_some e)
   hears_held n y p (Choosing key stamp cause) e = absurd (none_some e)
   hears_held n y p (Finding key stamp cause) e = absurd (none_some e)
   hears_held n y p (Chosen key stamp cause there stored) e = absurd (none_some e)
   hears_held n y p (Taking removal key) e = absurd (none_some e)
-  hears_held n y p (Freeing a) e = absurd (none_some e)
-  hears_held n y p (Idling a) e = absurd (none_some e)
+  hears_held n y p (Freeing rest t) e = absurd (none_some e)
+  hears_held n y p (Idling rest t) e = absurd (none_some e)
   -- ---- notices with the desk
 
 module _ {K V : Type 0} where
@@ -337,6 +372,8 @@ module _ {K V E : Type 0} where
           λ held. plain w.desk n o t p _ refl
               (ap (naming n) e),
         )
+    on_drained p e (Asking_op compute pair) =
+        outcomes eq (Made p) w n c (plan.Ask_op compute pair) [] (plain w.desk n o t p _ refl refl)
     on_drained p e (Giving a) = outcomes eq (Made p) w n c (plan.Reply a) [] (plain w.desk n o t p None refl refl)
     on_drained p e (Removing removal key) =
         outcomes eq (Made p) w n c (plan.Moment (plan.To_take_out removal key)) []
@@ -403,7 +440,7 @@ module _ {K V E : Type 0} where
     on_plan p e h (Ending v rest d) = outcomes eq (Made p) w n c plan.End (plan.Post v ∷ rest) (plain w.desk n o t p _ refl refl)
     on_plan p e h (Judging aim key stored l) = outcomes eq (Made p) w n c
         (plan.Judge aim key stored) [] (
-          (λ seen. plain w.desk n o t p _ refl (hits_none n c aim stored.value l)),
+          (λ seen. plain w.desk n o t p _ refl (hits_none n c aim key stored.value l)),
           λ unseen. plain w.desk n o t p _ refl (misses_none n c aim),
         )
     on_plan p e h (Reading sought) = outcomes eq (Made p) w n c (plan.Read sought) []
@@ -411,6 +448,31 @@ module _ {K V E : Type 0} where
     on_plan p e h (Asking load) = outcomes eq (Made p) w n c (plan.Ask load) [] (plain w.desk n o t p _ refl refl)
     on_plan p e h (Telling load) = outcomes eq (Made p) w n c (plan.Told load) []
         ((λ none. plain w.desk n o t p _ refl (ap (naming n) e)), λ given some. plain w.desk n o t p _ refl (told_none n c load given (ap (naming n) e)))
+    on_plan p e h (Owning_key compute) = outcomes eq (Made p) w n c (plan.Own_key compute) [] (
+      (
+        (λ able none. plain w.desk n o t p _ refl refl),
+        λ not none. plain w.desk n o t p _ refl refl,
+      ),
+      λ owner some. plain w.desk n o t p _ refl refl,
+    )
+    on_plan p e h (Owning_alone key) = outcomes eq (Made p) w n c (plan.Own_alone key) [] (
+      (
+        (λ able none. plain w.desk n o t p _ refl refl),
+        λ not none. plain w.desk n o t p _ refl refl,
+      ),
+      λ owner some.
+          ((λ able. plain w.desk n o t p _ refl refl), λ not. plain w.desk n o t p _ refl refl),
+    )
+    on_plan p e h (Reading_key compute) = outcomes eq (Made p) w n c (plan.Read_key compute) [] (
+      (λ none. plain w.desk n o t p _ refl (ap (naming n) e)),
+      λ with some. plain w.desk n o t p _ refl (read_key_none n c compute with (ap (naming n) e)),
+    )
+    on_plan p e h (Telling_op compute pair) =
+        outcomes eq (Made p) w n c (plan.Told_op compute pair) [] (
+          (λ none. plain w.desk n o t p _ refl (ap (naming n) e)),
+          λ given some. plain w.desk n o t p _ refl
+              (told_op_none n c compute pair given (ap (naming n) e)),
+        )
     on_plan p e h (Writing key value moment rest q) = outcomes eq (Made p) w n c (plan.Write key value moment) rest (
       (λ more. plain w.desk n o t p _ refl (ap (naming n) e)),
       (λ off old. plain w.desk n o t p _ refl refl),
@@ -446,10 +508,10 @@ module _ {K V E : Type 0} where
       λ k old on some. as_before w.desk n o t p _ (λ x r. refl)
           (λ y u is held. ap number_of (sym (some_same held)) ∙ some_same is),
     )
-    on_plan p e h (Freeing a) = outcomes eq (Made p) w n c (plan.Unlock false) (plan.Reply a ∷ [])
-        (plain w.desk n o t p _ refl refl)
-    on_plan p e h (Idling a) = outcomes eq (Made p) w n c plan.Idle (plan.Reply a ∷ [])
-        (plain w.desk n o t p _ refl refl)
+    on_plan p e h (Freeing rest q) = outcomes eq (Made p) w n c (plan.Unlock false) rest
+        (plain w.desk n o t p _ refl (tail_none n c rest q))
+    on_plan p e h (Idling rest q) = outcomes eq (Made p) w n c plan.Idle rest
+        (plain w.desk n o t p _ refl (tail_none n c rest q))
 
     at_plan : IsNamed n c.plan → IsPlan c.plan → OnStep eq (Made c.plan) w n c c.plan
     at_plan h k = on_plan c.plan refl h k

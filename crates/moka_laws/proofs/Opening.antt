@@ -1,9 +1,11 @@
 -- By which step a call comes to ask, and to end its own load without a value.
-use Rattle.std.proofs.Common.{◌≡◌, ℕ, ◌+◌, ◌==◌, Bool, true, false, cond, List, [], ◌∷◌, Option, Some, None, is_some, inl, inr, refl, sym, ap, ◌∙◌, subst, arith}
+use Rattle.std.proofs.Common.{◌≡◌, ℕ, ◌+◌, ◌==◌, Bool, true, false, List, [], ◌∷◌, Option, Some, None, inl, inr, refl, sym, ap, ◌∙◌, subst, arith}
 use Rattle.std.proofs.lemmas.Bool.{eqb-true, false≢true}
 use Rattle.std.specs.Cmp.{IsEquivalence}
 use Rattle.moka_hist.specs.State.{State, World, Call, fresh}
-use Rattle.moka_hist.specs.Plan.{Item, Aim, end_load, is_disabled, look}
+use Rattle.moka_hist.specs.Plan.{Item, Aim, Removal, end_load, is_disabled, look}
+use Rattle.moka_hist.specs.Entries.{put_answer}
+use Rattle.moka_hist.specs.Writing.{nothing_answer, removed_answer, said}
 use Rattle.moka_hist.specs.Plan as plan
 use Rattle.moka_hist.specs.Next.{Next, goes, stays}
 use Rattle.moka_hist.specs.Looking.{hits, misses, keeps, finds_pair}
@@ -20,32 +22,42 @@ use Rattle.moka_hist.specs.declared.loads.Load.{Load}
 use Rattle.moka_hist.specs.declared.loads.Sought.{Sought}
 use Rattle.moka_hist.specs.declared.records.Stored.{Stored}
 use Rattle.moka_hist.specs.declared.replies.Answer.{Answer}
+use Rattle.moka_hist.specs.declared.replies.Answer.TheVariants as answer
 use Rattle.moka_hist.specs.declared.replies.Ask.TheVariants as ask
 use Rattle.moka_hist.specs.declared.rules.Rules.{Rules}
 use Rattle.moka_hist.specs.declared.visits.Settled.{Settled}
 use Rattle.moka_hist.specs.declared.visits.Settled.TheVariants as settled
 use Rattle.moka_hist.specs.declared.visits.Found.TheVariants as found
-use Rattle.moka_laws.specs.Loads.{told_as, TakesTold, LooksInVain, IsToAsk, CameBy, OpenedByOwners, OwnEndsAreTold}
+use Rattle.moka_laws.specs.Loads.{said_of, told_as, TakesTold, LooksInVain, IsToAsk, CameBy, OpenedByOwners, OwnEndsAreTold}
 use Rattle.moka_laws.specs.Starting.{Leads}
 use Rattle.moka_laws.proofs.Counting.{none_some, some_same, put_cases, put_here}
-use Rattle.moka_laws.proofs.Weights.{weigh, weigh_call, weigh_goes}
 use Rattle.moka_laws.proofs.Following.{IsFollowed, follow, leads_more, no_leads}
 use Rattle.moka_laws.proofs.Owning.{plan_left, in_owned, wanted}
 use Rattle.moka_laws.proofs.Steady.{step_calls}
 use Rattle.moka_laws.proofs.Reached.{fresh_reached, run_reached}
 use Rattle.moka_laws.proofs.Roles.{IsLast}
-use Rattle.moka_laws.proofs.Rules.{put_plans, loaded_plans, kept_next, chosen_next, IsFresh, Disabled, fresh_plan}
+use Rattle.moka_laws.proofs.Rules.{put_plans, loaded_plans, kept_next, chosen_next, IsFresh, Disabled, fresh_plan, read_key_next, told_op_next_by, IsComputed, unchanged_computed, put_computed}
 use Rattle.moka_laws.proofs.Served.{in_served}
 use Rattle.moka_laws.proofs.StepCases.{OnStep, step_cases}
 use Rattle.moka_laws.proofs.Outcomes.{Outcomes, outcomes}
+use Rattle.moka_hist.specs.declared.loads.Compute.{Compute}
+use Rattle.moka_hist.specs.Computing.{after_told_op, after_read_key}
 
 module _ {K V E : Type 0} where
-  -- the item comes first where it stands at all: an ask, an owner's look, an end without a value
-  abbrev late : Item K V E → ℕ
-  late (plan.Ask load) = 1
-  late (plan.Get (plan.To_own sought) key) = 1
-  late (plan.Settle with) = cond (is_some (told_as with)) 1 0
-  late _ = 0
+  -- 1 where a load is ended so without a value, and that answered
+  abbrev ends_load : Settled V E → Answer K V E → ℕ
+  ends_load settled.Nothing answer.Nothing = 1
+  ends_load (settled.Err error) (answer.InitErr other) = 1
+  ends_load _ _ = 0
+
+  -- how many parts of the plan come first where they stand at all: an ask, an owner's look, an end
+  -- of a load without a value
+  abbrev lates : List (Item K V E) → ℕ
+  lates [] = 0
+  lates (plan.Ask load ∷ rest) = 1 + lates rest
+  lates (plan.Get (plan.To_own sought) key ∷ rest) = 1 + lates rest
+  lates (plan.Settle with ∷ plan.Reply a ∷ rest) = ends_load with a + lates rest
+  lates (_ ∷ rest) = lates rest
 
   abbrev behind : List (Item K V E) → List (Item K V E)
   behind [] = []
@@ -58,37 +70,73 @@ module _ {K V E : Type 0} where
 
   -- what a step of the call has to show
   record Leaves (s : State K V E) (n : ℕ) (c : Call K V E) (next : Next K V E) : Type 0 where
-    later : weigh late (behind (plan_left next.left)) ≡ 0
+    later : lates (behind (plan_left next.left)) ≡ 0
     looks : LooksAtOwn (plan_left next.left)
-    ends : (with : Settled V E) (said : Answer V E) (given : Told V E) → told_as with ≡ Some given →
-        plan_left next.left ≡ end_load with said → TakesTold s n c given
+    ends : (with : Settled V E) (said : Answer K V E) (given : Told V E) →
+        told_as with ≡ Some given →
+        said_of with false ≡ Some said → plan_left next.left ≡ end_load with said →
+        TakesTold s n c given
     asks : (load : Load K) → plan_left next.left ≡ plan.Ask load ∷ [] → IsToAsk s c load
     opens : next.turn ≡ turn.Ask ask.Init → (load : Load K) × (c.plan ≡ plan.Ask load ∷ [])
 
   -- ---- plans with no such item
 
-  behind_none : (p : List (Item K V E)) → weigh late p ≡ 0 → weigh late (behind p) ≡ 0
+  behind_none : (p : List (Item K V E)) → lates p ≡ 0 → lates (behind p) ≡ 0
   behind_none [] h = refl
-  behind_none (item ∷ rest) h = omega (arith, h)
+  behind_none (plan.Ask load ∷ rest) h = absurd (omega (arith, h))
+  behind_none (plan.Get (plan.To_own sought) key ∷ rest) h = absurd (omega (arith, h))
+  behind_none (plan.Settle with ∷ plan.Reply a ∷ rest) h = omega (arith, h)
+  behind_none (_ ∷ rest) h = h
 
-  looks_none : (p : List (Item K V E)) → weigh late p ≡ 0 → LooksAtOwn p
-  looks_none (plan.Get (plan.To_own sought) key ∷ rest) h = absurd (omega arith)
+  looks_none : (p : List (Item K V E)) → lates p ≡ 0 → LooksAtOwn p
+  looks_none (plan.Get (plan.To_own sought) key ∷ rest) h = absurd (omega (arith, h))
   looks_none [] h = tt
   looks_none (_ ∷ rest) h = tt
 
-  ends_not : (p : List (Item K V E)) (with : Settled V E) (said : Answer V E) (given : Told V E) →
-      weigh late p ≡ 0 → told_as with ≡ Some given → p ≡ end_load with said → ⊥
-  ends_not p with said given h e is =
-      let one : cond {A = ℕ} (is_some (told_as with)) 1 0 ≡ 1 =
-      ap (λ o. cond {A = ℕ} (is_some o) 1 0) e in
-      omega (arith, one, sym h ∙ ap (weigh late) is)
+  ends_one : (with : Settled V E) (said : Answer K V E) (given : Told V E) →
+      told_as with ≡ Some given → said_of with false ≡ Some said → ends_load with said ≡ 1
+  ends_one settled.Nothing said given e f = sym (ap (ends_load settled.Nothing) (some_same f))
+  ends_one (settled.Err error) said given e f =
+      sym (ap (ends_load (settled.Err error)) (some_same f))
+  ends_one (settled.Ready value) said given e f = absurd (none_some e)
+  ends_one settled.NotYet said given e f = absurd (none_some e)
+  ends_one settled.Aborted said given e f = absurd (none_some e)
 
-  asks_not : (p : List (Item K V E)) (load : Load K) → weigh late p ≡ 0 → p ≡ plan.Ask load ∷ [] → ⊥
-  asks_not p load h is = omega (arith, sym h ∙ ap (weigh late) is)
+  ends_not : (p : List (Item K V E)) (with : Settled V E) (said : Answer K V E) (given : Told V E) →
+      lates p ≡ 0 → told_as with ≡ Some given → said_of with false ≡ Some said →
+      p ≡ end_load with said → ⊥
+  ends_not p with said given h e f is =
+      omega (arith, ends_one with said given e f, sym h ∙ ap lates is)
 
-  left_weighs : (o : Option (Call K V E)) → weigh late (plan_left o) ≡ weigh_call late o
-  left_weighs None = refl
-  left_weighs (Some c) = refl
+  asks_not : (p : List (Item K V E)) (load : Load K) → lates p ≡ 0 → p ≡ plan.Ask load ∷ [] → ⊥
+  asks_not p load h is = omega (arith, sym h ∙ ap lates is)
+
+  goes_late : (c : Call K V E) (rest : List (Item K V E)) →
+      lates (plan_left (goes c rest).left) ≡ lates rest
+  goes_late c (plan.Reply a ∷ []) = refl
+  goes_late c (plan.Reply a ∷ x ∷ rest) = refl
+  goes_late c [] = refl
+  goes_late c (_ ∷ rest) = refl
+
+  -- a compute ends no load
+  computed_ends : (a : Answer K V E) → IsComputed a → ends_load settled.Nothing a ≡ 0
+  computed_ends (answer.Computed done) is = refl
+  computed_ends (answer.ComputeErr error) is = refl
+  computed_ends _ is = absurd is
+
+  nothing_late : (c : Call K V E) (removal : Removal K) →
+      lates (said {V = V} {E = E} removal (nothing_answer removal)) ≡ 0
+  nothing_late c plan.To_invalidate = refl
+  nothing_late c plan.To_remove = refl
+  nothing_late c (plan.To_evict_chosen stamp cause) = refl
+  nothing_late c (plan.To_remove_as_told key) = refl
+
+  removed_late : (c : Call K V E) (removal : Removal K) (value : V) →
+      lates (said {V = V} {E = E} removal (removed_answer removal value)) ≡ 0
+  removed_late c plan.To_invalidate value = refl
+  removed_late c plan.To_remove value = refl
+  removed_late c (plan.To_evict_chosen stamp cause) value = refl
+  removed_late c (plan.To_remove_as_told key) value = refl
 
   goes_not : (c : Call K V E) (rest : List (Item K V E)) → (goes c rest).turn ≡ turn.Ask ask.Init → ⊥
   goes_not c (plan.Reply a ∷ []) e = cc
@@ -96,29 +144,30 @@ module _ {K V E : Type 0} where
   goes_not c [] e = cc
   goes_not c (item ∷ rest) e = cc
 
-  fresh_quiet : (rules : Rules) (p : List (Item K V E)) → IsFresh rules p → weigh late p ≡ 0
+  fresh_quiet : (rules : Rules) (p : List (Item K V E)) → IsFresh rules p → lates p ≡ 0
   fresh_quiet rules p (Disabled a d plain) = refl
   fresh_quiet rules p _ = refl
 
   module _ (s : State K V E) (n : ℕ) (c : Call K V E) where
-    quiet : (next : Next K V E) → weigh late (plan_left next.left) ≡ 0 →
+    quiet : (next : Next K V E) → lates (plan_left next.left) ≡ 0 →
         (next.turn ≡ turn.Ask ask.Init → ⊥) → Leaves s n c next
     quiet next h not = record {
       later = behind_none (plan_left next.left) h;
       looks = looks_none (plan_left next.left) h;
-      ends = λ with said given e is. absurd (ends_not (plan_left next.left) with said given h e is);
+      ends = λ with said given e f is.
+          absurd (ends_not (plan_left next.left) with said given h e f is);
       asks = λ load is. absurd (asks_not (plan_left next.left) load h is);
       opens = λ e. absurd (not e);
     }
 
-    goes_on : (rest : List (Item K V E)) → weigh late rest ≡ 0 → Leaves s n c (goes c rest)
+    goes_on : (rest : List (Item K V E)) → lates rest ≡ 0 → Leaves s n c (goes c rest)
     goes_on rest h = quiet (goes c rest)
-        (left_weighs (goes c rest).left ∙ weigh_goes late c rest (λ a. refl) ∙ h) (goes_not c rest)
+        (goes_late c rest ∙ h) (goes_not c rest)
 
     -- the call is as it was, at an item that isn't one of these
-    parks : (next : Next K V E) → plan_left next.left ≡ c.plan → weigh late c.plan ≡ 0 →
+    parks : (next : Next K V E) → plan_left next.left ≡ c.plan → lates c.plan ≡ 0 →
         (next.turn ≡ turn.Ask ask.Init → ⊥) → Leaves s n c next
-    parks next same h not = quiet next (ap (weigh late) same ∙ h) not
+    parks next same h not = quiet next (ap lates same ∙ h) not
 
     keeps_quiet : Leaves s n c (keeps c)
     keeps_quiet = kept_next (Leaves s n c) c (λ off. quiet _ refl (λ e. cc)) (λ on. quiet _ refl (λ e. cc))
@@ -129,7 +178,7 @@ module _ {K V E : Type 0} where
     asks_now sought why = record {
       later = refl;
       looks = tt;
-      ends = λ with said given e is. cc;
+      ends = λ with said given e g is. cc;
       asks = λ load is. record { sought = sought; seeks = cc; why = inl why };
       opens = λ e. cc;
     }
@@ -137,11 +186,13 @@ module _ {K V E : Type 0} where
     misses_leave : (aim : Aim K V) (key : K) → c.plan ≡ plan.Get aim key ∷ [] →
         LooksAtOwn (plan.Get aim key ∷ []) → s.world.table.stored key ≡ None → Leaves s n c (misses c aim)
     misses_leave plan.To_answer key e l none = quiet _ refl (λ f. cc)
+    misses_leave (plan.To_report under) key e l none = quiet _ refl (λ f. cc)
     misses_leave (plan.To_load sought) key e l none = quiet _ refl (λ f. cc)
     misses_leave (plan.To_own sought) key e l none = asks_now sought (inl (
       e ∙ ap (λ k. look (plan.To_own sought) k) l,
       subst (λ k. s.world.table.stored k ≡ None) l none,
     ))
+    misses_leave (plan.To_compute compute) key e l none = quiet _ refl (λ f. cc)
     misses_leave (plan.To_insert there value) key e l none =
         put_plans (λ p. Leaves s n c (goes c p)) c.rules there value _
         (goes_on (plan.Drain ∷ plan.Moment (plan.To_store there value) ∷ _) refl)
@@ -157,21 +208,26 @@ module _ {K V E : Type 0} where
 
     finds_leave : (aim : Aim K V) (k : K) (stored : Stored V) → Leaves s n c (finds_pair c aim k stored)
     finds_leave plan.To_answer k stored = quiet _ refl (λ e. cc)
+    finds_leave (plan.To_report key) k stored = quiet _ refl (λ e. cc)
     finds_leave (plan.To_load sought) k stored = quiet _ refl (λ e. cc)
     finds_leave (plan.To_own sought) k stored = quiet _ refl (λ e. cc)
+    finds_leave (plan.To_compute compute) k stored = quiet _ refl (λ e. cc)
     finds_leave (plan.To_insert there value) k stored = quiet _ refl (λ e. cc)
     finds_leave (plan.To_evict there stamp cause) k stored =
         chosen_next (Leaves s n c) c there stamp cause k stored (λ off. quiet _ refl (λ e. cc))
         (λ on. quiet _ refl (λ e. cc)) (quiet _ refl (λ e. cc))
 
-    hits_leave : (aim : Aim K V) (value : V) → weigh late c.plan ≡ 0 → Leaves s n c (hits c aim value)
-    hits_leave plan.To_answer value h = quiet _ refl (λ e. cc)
-    hits_leave (plan.To_load sought) value h = quiet _ refl (λ e. cc)
-    hits_leave (plan.To_own sought) value h = quiet _ refl (λ e. cc)
-    hits_leave (plan.To_insert there own) value h = quiet _ refl (λ e. cc)
-    hits_leave (plan.To_evict there stamp cause) value h = parks _ refl h (λ e. cc)
+    hits_leave : (aim : Aim K V) (there : K) (value : V) → lates c.plan ≡ 0 →
+        Leaves s n c (hits c aim there value)
+    hits_leave plan.To_answer there value h = quiet _ refl (λ e. cc)
+    hits_leave (plan.To_report key) there value h = quiet _ refl (λ e. cc)
+    hits_leave (plan.To_load sought) there value h = quiet _ refl (λ e. cc)
+    hits_leave (plan.To_own sought) there value h = quiet _ refl (λ e. cc)
+    hits_leave (plan.To_compute compute) there value h = quiet _ refl (λ e. cc)
+    hits_leave (plan.To_insert under own) there value h = quiet _ refl (λ e. cc)
+    hits_leave (plan.To_evict under stamp cause) there value h = parks _ refl h (λ e. cc)
 
-    read_leave : (sought : Sought K) (with : Settled V E) → weigh late c.plan ≡ 0 →
+    read_leave : (sought : Sought K) (with : Settled V E) → lates c.plan ≡ 0 →
         Leaves s n c (after_read c sought (found.ReadSettled with))
     read_leave sought (settled.Ready value) h = quiet _ refl (λ e. cc)
     read_leave sought (settled.Err error) h = quiet _ refl (λ e. cc)
@@ -183,14 +239,20 @@ module _ {K V E : Type 0} where
         by true is = rw is (quiet _ refl (λ e. cc))
         by false is = rw is (quiet _ refl (λ e. cc))
 
+    read_key_leave : (compute : Compute K) (with : Settled V E) → lates c.plan ≡ 0 →
+        Leaves s n c (after_read_key c compute (found.ReadSettled with))
+    read_key_leave compute with h = read_key_next (λ v. Leaves s n c v) c compute with
+        (parks _ refl h (λ e. cc))
+        (quiet _ refl (λ f. cc))
+
     -- the own told answer
-    ends_now : (with : Settled V E) (said : Answer V E) (load : Load K) (given : Told V E) →
+    ends_now : (with : Settled V E) (said : Answer K V E) (load : Load K) (given : Told V E) →
         told_as with ≡ Some given → c.plan ≡ plan.Told load ∷ [] →
         s.world.desk.told n ≡ Some given → Leaves s n c (goes c (end_load with said))
     ends_now with said load given is e took = record {
       later = refl;
       looks = tt;
-      ends = λ other a tells f same.
+      ends = λ other a tells f g same.
           let one : with ≡ other = cc in
           record {
             load = load;
@@ -211,8 +273,27 @@ module _ {K V E : Type 0} where
     told_leave load (told.Err error) e took =
         ends_now (settled.Err error) _ load (told.Err error) refl e took
     told_leave load told.Done e took =
-        parks _ refl (ap (weigh late) e) (λ f. cc)
-    told_leave load told.Off e took = parks _ refl (ap (weigh late) e) (λ f. cc)
+        parks _ refl (ap lates e) (λ f. cc)
+    told_leave load (told.Op op) e took =
+        parks _ refl (ap lates e) (λ f. cc)
+    told_leave load told.Off e took = parks _ refl (ap lates e) (λ f. cc)
+
+    told_op_leave : (compute : Compute K) (pair : Option (K × V)) (given : Told V E) →
+        c.plan ≡ plan.Told_op compute pair ∷ [] →
+        Leaves s n c (after_told_op c compute pair (found.TakeTold (Some given)))
+    told_op_leave compute pair given e = told_op_next_by (Leaves s n c) c compute pair given
+        (quiet _ (omega (arith, computed_ends _ (unchanged_computed E compute.key pair))) (λ f. cc))
+        (λ error is. quiet _ refl (λ f. cc))
+        (λ value disabled. quiet _ (omega (arith, puts value)) (λ f. cc))
+        (λ value able off. quiet _ (omega (arith, puts value)) (λ f. cc))
+        (λ value able on. quiet _ (omega (arith, puts value)) (λ f. cc))
+        (λ off. quiet _ refl (λ f. cc))
+        (λ on. quiet _ refl (λ f. cc))
+        (λ lost. parks _ refl (ap lates e) (λ f. cc))
+      where
+        puts : (value : V) →
+            ends_load settled.Nothing (put_answer {E = E} compute.key pair value) ≡ 0
+        puts value = computed_ends _ (put_computed E compute.key pair value)
 
   module _ (eq : K → K → Bool) (s : State K V E) (n : ℕ) (c : Call K V E) where
     abbrev After : World K V E → Next K V E → Type 0
@@ -220,17 +301,17 @@ module _ {K V E : Type 0} where
 
     -- the owner's look stays undecided
     looks_on : (aim : Aim K V) (key : K) (rest : List (Item K V E)) → c.plan ≡ plan.Get aim key ∷ rest →
-        weigh late rest ≡ 0 → LooksAtOwn (plan.Get aim key ∷ rest) → Leaves s n c (stays c)
+        lates rest ≡ 0 → LooksAtOwn (plan.Get aim key ∷ rest) → Leaves s n c (stays c)
     looks_on aim key rest e h l = record {
-      later = ap (λ p. weigh late (behind p)) e ∙ h;
+      later = ap (λ p. lates (behind p)) e ∙ h;
       looks = subst LooksAtOwn (sym e) l;
-      ends = λ with said given f is. cc;
+      ends = λ with said given f g is. cc;
       asks = λ load is. cc;
       opens = λ f. cc;
     }
 
     on_item : (item : Item K V E) (rest : List (Item K V E)) → c.plan ≡ item ∷ rest → IsLast (item ∷ rest) →
-        weigh late rest ≡ 0 → LooksAtOwn (item ∷ rest) → Outcomes eq After s.world n c item rest
+        lates rest ≡ 0 → LooksAtOwn (item ∷ rest) → Outcomes eq After s.world n c item rest
     on_item plan.Drain rest e l h o = (
       λ f. goes_on s n c rest h,
       λ x xs f. quiet s n c _ (omega (arith, h)) (λ g. cc),
@@ -238,15 +319,15 @@ module _ {K V E : Type 0} where
     )
     on_item (plan.Ended number) rest e l h o = (
       λ f. goes_on s n c rest h,
-      λ f. parks s n c _ refl (ap (weigh late) e ∙ omega (arith, h)) (λ g. cc),
+      λ f. parks s n c _ refl (ap lates e ∙ omega (arith, h)) (λ g. cc),
     )
     on_item plan.Heard rest e l h o = (
       λ f. goes_on s n c rest h,
-      λ f. parks s n c _ refl (ap (weigh late) e ∙ omega (arith, h)) (λ g. cc),
+      λ f. parks s n c _ refl (ap lates e ∙ omega (arith, h)) (λ g. cc),
     )
     on_item (plan.Lock key) rest e l h o = (
       λ f. goes_on s n c rest h,
-      λ f. parks s n c _ refl (ap (weigh late) e ∙ omega (arith, h)) (λ g. cc),
+      λ f. parks s n c _ refl (ap lates e ∙ omega (arith, h)) (λ g. cc),
     )
     on_item (plan.Unlock wrote) rest e l h o = goes_on s n c rest h
     on_item (plan.Notice key old cause upsert) rest e l h o =
@@ -255,7 +336,7 @@ module _ {K V E : Type 0} where
         (λ f. goes_on s n c rest h, λ f. quiet s n c _ (omega (arith, h)) (λ g. cc))
     on_item plan.Turn rest e l h o = (
       λ f. goes_on s n c rest h,
-      λ f. parks s n c _ refl (ap (weigh late) e ∙ omega (arith, h)) (λ g. cc),
+      λ f. parks s n c _ refl (ap lates e ∙ omega (arith, h)) (λ g. cc),
     )
     on_item plan.Apply rest e l h o =
         (λ f. goes_on s n c rest h, λ x xs f. quiet s n c _ (omega (arith, h)) (λ g. cc))
@@ -267,7 +348,7 @@ module _ {K V E : Type 0} where
       λ k stored some. finds_leave s n c aim k stored,
     )
     on_item (plan.Judge aim key stored) rest e l h o = (
-      (λ seen. hits_leave s n c aim stored.value (ap (weigh late) e ∙ omega (arith, h))),
+      (λ seen. hits_leave s n c aim key stored.value (ap lates e ∙ omega (arith, h))),
       λ unseen. unseen_leave s n c aim key stored
           (e ∙ ap (λ r. plan.Judge aim key stored ∷ r) l) unseen,
     )
@@ -275,14 +356,14 @@ module _ {K V E : Type 0} where
       λ able none. record {
         later = refl;
         looks = refl;
-        ends = λ with said given f is. cc;
+        ends = λ with said given f g is. cc;
         asks = λ load is. cc;
         opens = λ f. cc;
       },
       λ disabled none. record {
         later = refl;
         looks = tt;
-        ends = λ with said given f is. cc;
+        ends = λ with said given f g is. cc;
         asks = λ load is.
             let same : sought.load ≡ load = cc in
             record {
@@ -298,21 +379,38 @@ module _ {K V E : Type 0} where
       },
       λ owner some. quiet s n c _ refl (λ g. cc),
     )
+    on_item (plan.Own_key compute) rest e l h o = (
+      (λ able none. quiet s n c _ refl (λ g. cc), λ disabled none. quiet s n c _ refl (λ g. cc)),
+      λ owner some. quiet s n c _ refl (λ g. cc),
+    )
+    on_item (plan.Own_alone key) rest e l h o = (
+      (λ able none. quiet s n c _ refl (λ g. cc), λ disabled none. quiet s n c _ refl (λ g. cc)),
+      λ owner some. (λ able. quiet s n c _ refl (λ g. cc), λ not. quiet s n c _ refl (λ g. cc)),
+    )
     on_item (plan.Read sought) rest e l h o = (
-      λ none. parks s n c _ refl (ap (weigh late) e ∙ omega (arith, h)) (λ g. cc),
-      λ with some. read_leave s n c sought with (ap (weigh late) e ∙ omega (arith, h)),
+      λ none. parks s n c _ refl (ap lates e ∙ omega (arith, h)) (λ g. cc),
+      λ with some. read_leave s n c sought with (ap lates e ∙ omega (arith, h)),
+    )
+    on_item (plan.Read_key compute) rest e l h o = (
+      λ none. parks s n c _ refl (ap lates e ∙ omega (arith, h)) (λ g. cc),
+      λ with some. read_key_leave s n c compute with (ap lates e ∙ omega (arith, h)),
     )
     on_item (plan.Settle with) rest e l h o = goes_on s n c rest h
     on_item (plan.Ask load) rest e l h o = record {
       later = refl;
       looks = tt;
-      ends = λ with said given f is. cc;
+      ends = λ with said given f g is. cc;
       asks = λ other is. cc;
       opens = λ f. (load, e ∙ ap (λ r. plan.Ask load ∷ r) l);
     }
+    on_item (plan.Ask_op compute pair) rest e l h o = quiet s n c _ refl (λ g. cc)
     on_item (plan.Told load) rest e l h o = (
-      λ none. parks s n c _ refl (ap (weigh late) e ∙ omega (arith, h)) (λ g. cc),
+      λ none. parks s n c _ refl (ap lates e ∙ omega (arith, h)) (λ g. cc),
       λ given some. told_leave s n c load given (e ∙ ap (λ r. plan.Told load ∷ r) l) some,
+    )
+    on_item (plan.Told_op compute pair) rest e l h o = (
+      λ none. parks s n c _ refl (ap lates e ∙ omega (arith, h)) (λ g. cc),
+      λ given some. told_op_leave s n c compute pair given (e ∙ ap (λ r. plan.Told_op compute pair ∷ r) l),
     )
     on_item (plan.Holds key stamp cause there stored) rest e l h o =
         (λ f. quiet s n c _ refl (λ g. cc), λ f. keeps_quiet s n c)
@@ -321,24 +419,25 @@ module _ {K V E : Type 0} where
     on_item (plan.Moment (plan.To_take_out removal key)) rest e l h o =
         quiet s n c _ (omega (arith, h)) (λ g. cc)
     on_item (plan.Write key value moment) rest e l h o = (
-      (λ more. parks s n c _ refl (ap (weigh late) e ∙ omega (arith, h)) (λ g. cc)),
+      (λ more. parks s n c _ refl (ap lates e ∙ omega (arith, h)) (λ g. cc)),
       (λ off old. quiet s n c _ (omega (arith, h)) (λ g. cc)),
       (λ on. quiet s n c _ (omega (arith, h)) (λ g. cc)),
       λ k old on some. quiet s n c _ (omega (arith, h)) (λ g. cc),
     )
     on_item (plan.Out removal key) rest e l h o = (
-      (λ more. parks s n c _ refl (ap (weigh late) e ∙ omega (arith, h)) (λ g. cc)),
-      (λ off none. quiet s n c _ refl (λ g. cc)),
-      (λ on none. quiet s n c _ refl (λ g. cc)),
-      (λ k old off some. quiet s n c _ refl (λ g. cc)),
-      λ k old on some. quiet s n c _ refl (λ g. cc),
+      (λ more. parks s n c _ refl (ap lates e ∙ omega (arith, h)) (λ g. cc)),
+      (λ off none. quiet s n c _ (nothing_late c removal) (λ g. cc)),
+      (λ on none. quiet s n c _ (nothing_late c removal) (λ g. cc)),
+      (λ k old off some. quiet s n c _ (removed_late c removal old.value) (λ g. cc)),
+      λ k old on some. quiet s n c _ (removed_late c removal old.value) (λ g. cc),
     )
     on_item plan.Idle rest e l h o = goes_on s n c rest h
     on_item (plan.Reply a) rest e l h o = quiet s n c _ refl (λ g. cc)
 
-    on_plan : (p : List (Item K V E)) → c.plan ≡ p → IsLast p → weigh late (behind p) ≡ 0 → LooksAtOwn p →
+    on_plan : (p : List (Item K V E)) → c.plan ≡ p → IsLast p → lates (behind p) ≡ 0 →
+        LooksAtOwn p →
         OnStep eq After s.world n c p
-    on_plan [] e l h o = parks s n c _ refl (ap (weigh late) e) (λ g. cc)
+    on_plan [] e l h o = parks s n c _ refl (ap lates e) (λ g. cc)
     on_plan (item ∷ rest) e l h o = outcomes eq After s.world n c item rest (on_item item rest e l h o)
 
 -- ---- of a state
@@ -346,10 +445,12 @@ module _ {K V E : Type 0} where
 module _ {K V E : Type 0} (eq : K → K → Bool) where
   -- the call came to ask, or to end its own load, by its cause
   record IsLed (s : State K V E) (n : ℕ) (c : Call K V E) : Type 0 where
-    later : weigh late (behind c.plan) ≡ 0
+    later : lates (behind c.plan) ≡ 0
     looks : LooksAtOwn c.plan
-    ends : (with : Settled V E) (said : Answer V E) (given : Told V E) → told_as with ≡ Some given →
-        c.plan ≡ end_load with said → CameBy eq s n c (λ u b. TakesTold u n b given)
+    ends : (with : Settled V E) (said : Answer K V E) (given : Told V E) →
+        told_as with ≡ Some given →
+        said_of with false ≡ Some said → c.plan ≡ end_load with said →
+        CameBy eq s n c (λ u b. TakesTold u n b given)
     asks : (load : Load K) → c.plan ≡ plan.Ask load ∷ [] → CameBy eq s n c (λ u b. IsToAsk u b load)
 
   record AreLed (s : State K V E) : Type 0 where
@@ -376,7 +477,7 @@ module _ {K V E : Type 0} (eq : K → K → Bool) where
   led_on s t n c led i = record {
     later = i.later;
     looks = i.looks;
-    ends = λ with said given e is. came_on s t n c _ led (i.ends with said given e is);
+    ends = λ with said given e f is. came_on s t n c _ led (i.ends with said given e f is);
     asks = λ load is. came_on s t n c _ led (i.asks load is);
   }
 
@@ -410,14 +511,14 @@ module _ {K V E : Type 0} (eq : K → K → Bool) where
       let is : l.0.left ≡ Some c = sym l.2 ∙ live in
       let same : plan_left l.0.left ≡ c.plan = ap plan_left is in
       record {
-        later = subst (λ p. weigh late (behind p) ≡ 0) same l.1.later;
+        later = subst (λ p. lates (behind p) ≡ 0) same l.1.later;
         looks = subst LooksAtOwn same l.1.looks;
-        ends = λ with said given e ends. record {
+        ends = λ with said given e f ends. record {
           before = s;
           reached = i.reached;
           call = step.call;
           live = step.live;
-          cause = l.1.ends with said given e (same ∙ ends);
+          cause = l.1.ends with said given e f (same ∙ ends);
           after = t;
           turn = reply;
           step = step;
@@ -455,11 +556,11 @@ module _ {K V E : Type 0} (eq : K → K → Bool) where
   led_fresh : (s : State K V E) (n : ℕ) (rules : Rules) (start : Start K V) → IsLed s n (fresh_call rules start)
   led_fresh s n rules start =
       let c : Call K V E = fresh_call rules start in
-      let h : weigh late c.plan ≡ 0 = fresh_quiet rules c.plan (fresh_plan rules start) in
+      let h : lates c.plan ≡ 0 = fresh_quiet rules c.plan (fresh_plan rules start) in
       record {
         later = behind_none c.plan h;
         looks = looks_none c.plan h;
-        ends = λ with said given e is. absurd (ends_not c.plan with said given h e is);
+        ends = λ with said given e f is. absurd (ends_not c.plan with said given h e f is);
         asks = λ load is. absurd (asks_not c.plan load h is);
       }
 
@@ -491,7 +592,8 @@ module _ {K V E : Type 0} (eq : K → K → Bool) where
       }) h.run
 
   pub own_ends_told : OwnEndsAreTold K V E eq
-  own_ends_told s n c with said given h live e is = ((in_led s h).led n c live).ends with said given e is
+  own_ends_told s n c with said given h live e f is =
+      ((in_led s h).led n c live).ends with said given e f is
 
   pub opened_by_owners : IsEquivalence eq → OpenedByOwners K V E eq
   opened_by_owners laws s t n c h live step =

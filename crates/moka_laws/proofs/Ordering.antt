@@ -27,10 +27,10 @@ use Rattle.moka_laws.proofs.Before.{Before, before_is, is_before, before_more, b
 use Rattle.moka_laws.proofs.Counting.{none_some, some_same, put_cases, put_here, put_there, differ, differ_not}
 use Rattle.moka_laws.proofs.Owning.{plan_left}
 use Rattle.moka_laws.proofs.Locking.{Locks}
-use Rattle.moka_laws.proofs.Plans.{IsTail, Answering, Settling, IsDrained, Looking, Putting, IsPosted, Draining, Ended, Locking, IsPlan, Posted, Drained, Posting, Hearing, Noticing, Listening, Unlocking, Turning, Applying, Ending, Judging, Owning, Giving, Reading, Asking, Telling, Writing, Removing, Locking_out, Choosing, Finding, Chosen, Taking, Freeing, Idling}
+use Rattle.moka_laws.proofs.Plans.{IsTail, Answering, Settling, IsDrained, Looking, Putting, IsPosted, Draining, Ended, Locking, IsPlan, Posted, Drained, Posting, Hearing, Noticing, Listening, Unlocking, Turning, Applying, Ending, Judging, Owning, Giving, Reading, Asking, Telling, Writing, Removing, Locking_out, Choosing, Finding, Chosen, Taking, Freeing, Idling, Asking_op, Owning_key, Owning_alone, Reading_key, Telling_op}
 use Rattle.moka_laws.proofs.Replacing.{opens_notice, listening, not_opened, opened_committed, told_once}
 use Rattle.moka_laws.proofs.Rules.{fresh_plan}
-use Rattle.moka_laws.proofs.Noticing.{IsNoticing, noticing_kept, naming, running, drained_none, posted_none, misses_none, finds_none, keeps_none, hits_none, read_none, told_none, form_none}
+use Rattle.moka_laws.proofs.Noticing.{IsNoticing, noticing_kept, naming, running, drained_none, posted_none, misses_none, finds_none, keeps_none, hits_none, read_none, told_none, form_none, read_key_none, told_op_none, tail_none}
 use Rattle.moka_laws.proofs.SoundReached.{IsSound, sound_kept, reached_sound}
 use Rattle.moka_laws.proofs.Kept.{IsKept, in_reached}
 use Rattle.moka_laws.proofs.StepCases.{OnStep, step_cases}
@@ -146,6 +146,8 @@ module _ {K V E : Type 0} where
           λ held. quiet p _ e (λ h. h)
               (ap (naming n) e),
         )
+    on_drained p e (Asking_op compute pair) =
+        outcomes eq (Made p) w n c (plan.Ask_op compute pair) [] (quiet p _ e (λ h. h) refl)
     on_drained p e (Giving a) = outcomes eq (Made p) w n c (plan.Reply a) [] (quiet p _ e (λ h. h) refl)
     on_drained p e (Removing removal key) =
         outcomes eq (Made p) w n c (plan.Moment (plan.To_take_out removal key)) []
@@ -260,7 +262,7 @@ module _ {K V E : Type 0} where
     on_plan p e (Ending v rest d) = outcomes eq (Made p) w n c plan.End (plan.Post v ∷ rest) (quiet p _ e (λ h. h) refl)
     on_plan p e (Judging aim key stored l) = outcomes eq (Made p) w n c (plan.Judge aim key stored)
         [] (
-          (λ seen. quiet p _ e (λ h. h) (hits_none n c aim stored.value l)),
+          (λ seen. quiet p _ e (λ h. h) (hits_none n c aim key stored.value l)),
           λ unseen. quiet p _ e (λ h. h) (misses_none n c aim),
         )
     on_plan p e (Reading sought) = outcomes eq (Made p) w n c (plan.Read sought) []
@@ -268,6 +270,23 @@ module _ {K V E : Type 0} where
     on_plan p e (Asking load) = outcomes eq (Made p) w n c (plan.Ask load) [] (quiet p _ e (λ h. h) refl)
     on_plan p e (Telling load) = outcomes eq (Made p) w n c (plan.Told load) []
         ((λ none. quiet p _ e (λ h. h) (ap (naming n) e)), λ given some. quiet p _ e (λ h. h) (told_none n c load given (ap (naming n) e)))
+    on_plan p e (Owning_key compute) = outcomes eq (Made p) w n c (plan.Own_key compute) [] (
+      ((λ able none. quiet p _ e (λ h. h) refl), λ not none. quiet p _ e (λ h. h) refl),
+      λ owner some. quiet p _ e (λ h. h) refl,
+    )
+    on_plan p e (Owning_alone key) = outcomes eq (Made p) w n c (plan.Own_alone key) [] (
+      ((λ able none. quiet p _ e (λ h. h) refl), λ not none. quiet p _ e (λ h. h) refl),
+      λ owner some. ((λ able. quiet p _ e (λ h. h) refl), λ not. quiet p _ e (λ h. h) refl),
+    )
+    on_plan p e (Reading_key compute) = outcomes eq (Made p) w n c (plan.Read_key compute) [] (
+      (λ none. quiet p _ e (λ h. h) (ap (naming n) e)),
+      λ with some. quiet p _ e (λ h. h) (read_key_none n c compute with (ap (naming n) e)),
+    )
+    on_plan p e (Telling_op compute pair) =
+        outcomes eq (Made p) w n c (plan.Told_op compute pair) [] (
+          (λ none. quiet p _ e (λ h. h) (ap (naming n) e)),
+          λ given some. quiet p _ e (λ h. h) (told_op_none n c compute pair given (ap (naming n) e)),
+        )
     on_plan p e (Writing key value moment rest t) = outcomes eq (Made p) w n c (plan.Write key value moment) rest (
       (λ more. quiet p _ e (λ h. h) (ap (naming n) e)),
       (λ off old. commits p _ e (λ h. h)),
@@ -298,10 +317,10 @@ module _ {K V E : Type 0} where
       (λ k old off some. commits p _ e (λ h. h)),
       λ k old on some. commits p _ e (λ h. h),
     )
-    on_plan p e (Freeing a) = outcomes eq (Made p) w n c (plan.Unlock false) (plan.Reply a ∷ [])
-        (locks p _ None e (λ h. h) refl)
-    on_plan p e (Idling a) = outcomes eq (Made p) w n c plan.Idle (plan.Reply a ∷ [])
-        (quiet p _ e (λ h. h) refl)
+    on_plan p e (Freeing rest t) = outcomes eq (Made p) w n c (plan.Unlock false) rest
+        (locks p _ None e (λ h. h) (tail_none n c rest t))
+    on_plan p e (Idling rest t) = outcomes eq (Made p) w n c plan.Idle rest
+        (quiet p _ e (λ h. h) (tail_none n c rest t))
 
     at_plan : IsPlan c.plan → OnStep eq (Made c.plan) w n c c.plan
     at_plan k = on_plan c.plan refl k

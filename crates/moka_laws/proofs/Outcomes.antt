@@ -8,7 +8,7 @@ use Rattle.moka_hist.specs.State.{Call, World, DeskPart}
 use Rattle.moka_hist.specs.Plan.{Item, Aim, Change, Removal, look, is_disabled}
 use Rattle.moka_hist.specs.Plan as plan
 use Rattle.moka_hist.specs.Causes.{chosen_holds}
-use Rattle.moka_hist.specs.Visits.{is_seen, cause_of, gave_back, decided, is_running, is_unlocked_for, locked_by, times_at, unlocked, with_notice, without_moment, first_of, holding_with, claimed, claim_of, finds, has_room, is_free_for, settlement_for, readers_without, settled_without, stamped, judged, settled_as, opened, took_told, ended_turn}
+use Rattle.moka_hist.specs.Visits.{is_seen, cause_of, gave_back, decided, is_running, is_unlocked_for, locked_by, times_at, unlocked, with_notice, without_moment, first_of, holding_with, claimed, claimed_alone, claim_of, finds, has_room, is_free_for, settlement_for, readers_without, settled_without, stamped, judged, settled_as, opened, took_told, ended_turn}
 use Rattle.moka_hist.specs.Tables.{answer_of, by_pair, removed, taken_by, written}
 use Rattle.moka_hist.specs.Bound.{times_of, stayed, decided_by, most_undecided}
 use Rattle.moka_hist.specs.Next.{Next, goes, stays, waits, asks, answers}
@@ -16,12 +16,17 @@ use Rattle.moka_hist.specs.Listening.{after_hearing, after_lock, after_notice}
 use Rattle.moka_hist.specs.Posting.{once_ended, after_drain, after_post, after_turn, after_apply}
 use Rattle.moka_hist.specs.Looking.{misses, hits, keeps, finds_pair, after_get, after_judge, after_holds}
 use Rattle.moka_hist.specs.Loading.{owner_rest, after_own, after_read, after_told}
-use Rattle.moka_hist.specs.Writing.{cause_handed, nothing_answer, nothing_rest, old_stamp, once_told, removed_answer, removed_rest, stamp_asked, after_out}
+use Rattle.moka_hist.specs.Writing.{cause_handed, nothing_answer, nothing_rest, old_stamp, once_told, removed_answer, removed_rest, said, stamp_asked, after_out}
+use Rattle.moka_hist.specs.Entries.{unchanged}
+use Rattle.moka_hist.specs.Computing.{compute_rest, report_rest, after_own_key, after_own_alone, after_read_key, after_told_op}
 use Rattle.moka_hist.specs.Step.{access_for, replace_of, takes_of}
 use Rattle.moka_hist.specs.declared.records.Stored.{Stored}
 use Rattle.moka_hist.specs.declared.events.Told.{Told}
 use Rattle.moka_hist.specs.declared.loads.Load.{Load}
 use Rattle.moka_hist.specs.declared.loads.Sought.{Sought}
+use Rattle.moka_hist.specs.declared.loads.Compute.{Compute}
+use Rattle.moka_hist.specs.declared.loads.Kind.TheVariants as kind
+use Rattle.moka_hist.specs.declared.visits.Takes.TheVariants as takes
 use Rattle.moka_hist.specs.declared.writes.Holding.TheVariants as holding
 use Rattle.moka_hist.specs.declared.notices.NoticeState.{NoticeState}
 use Rattle.moka_hist.specs.declared.notices.NoticeState.TheVariants as notice
@@ -50,6 +55,13 @@ put_same_at f n v e m = by (n == m) refl
 
 pub put_same : {A : Type 0} (f : ℕ → A) (n : ℕ) (v : A) → f n ≡ v → put_at f n v ≡ f
 put_same f n v e = λ i m. (put_same_at f n v e m) i
+
+-- what an owner of a key's computes owns, and the compute that one goes on as that owns them alone
+abbrev pub computes_of : {K : Type 0} → K → Load K
+computes_of key = record { key = key; kind = kind.Compute }
+
+abbrev pub alone_of : {K : Type 0} → K → Compute K
+alone_of key = record { key = key; takes = takes.TryOp }
 
 module _ {K V E : Type 0} (eq : K → K → Bool) where
   abbrev pub on_desk : World K V E → DeskPart K V E → World K V E
@@ -100,6 +112,17 @@ module _ {K V E : Type 0} (eq : K → K → Bool) where
   abbrev pub Undecided : (World K V E → Next K V E → Type 0) → World K V E → ℕ → Call K V E → Type 0
   Undecided M w n c = times_of w.stay n < most_undecided w.table → M (record w { stay = stayed w.stay n }) (stays c)
 
+  -- M holds where the call becomes the owner of the compute's key
+  abbrev pub OwnsKey : (World K V E → Next K V E → Type 0) → World K V E → ℕ → Call K V E →
+      Compute K → Type 0
+  OwnsKey M w n c compute =
+      (is_disabled c.rules ≡ false → w.desk.owners (computes_of compute.key) ≡ None →
+      M (on_desk w (claimed eq w.desk n (computes_of compute.key) None))
+      (goes c (plan.Drain ∷ plan.Get (plan.To_compute compute) compute.key ∷ []))) ×
+      (is_disabled c.rules ≡ true → w.desk.owners (computes_of compute.key) ≡ None →
+      M (on_desk w (claimed eq w.desk n (computes_of compute.key) None))
+      (goes c (plan.Drain ∷ plan.Ask_op compute None ∷ [])))
+
   -- M holds of each outcome of the item, with what is known there
   abbrev pub Outcomes : (World K V E → Next K V E → Type 0) → World K V E → ℕ → Call K V E → Item K V E → List (Item K V E) → Type 0
   Outcomes M w n c plan.Drain rest =
@@ -128,7 +151,8 @@ module _ {K V E : Type 0} (eq : K → K → Bool) where
       M (done w n) (finds_pair c aim k stored))
   Outcomes M w n c (plan.Judge aim key stored) rest =
       (is_seen w.desk (replace_of aim) key stored ≡ true →
-      M (on_desk w (judged w.desk stored.stamp stored.modified true)) (hits c aim stored.value)) ×
+      M (on_desk w (judged w.desk stored.stamp stored.modified true))
+      (hits c aim key stored.value)) ×
       (is_seen w.desk (replace_of aim) key stored ≡ false →
       M (on_desk w (judged w.desk stored.stamp stored.modified false)) (misses c aim))
   Outcomes M w n c (plan.Own sought) rest =
@@ -140,15 +164,38 @@ module _ {K V E : Type 0} (eq : K → K → Bool) where
       ((owner : ℕ) → w.desk.owners sought.load ≡ Some owner →
       M (on_desk w (claimed eq w.desk n sought.load (Some owner)))
       (goes c (plan.Read sought ∷ [])))
+  Outcomes M w n c (plan.Own_key compute) rest =
+      OwnsKey M w n c compute ×
+      ((owner : ℕ) → w.desk.owners (computes_of compute.key) ≡ Some owner →
+      M (on_desk w (claimed eq w.desk n (computes_of compute.key) (Some owner)))
+      (goes c (plan.Read_key compute ∷ [])))
+  Outcomes M w n c (plan.Own_alone key) rest =
+      OwnsKey M w n c (alone_of key) ×
+      ((owner : ℕ) → w.desk.owners (computes_of key) ≡ Some owner →
+      (is_disabled c.rules ≡ false →
+      M w (goes c (plan.Drain ∷ plan.Get (plan.To_report key) key ∷ []))) ×
+      (is_disabled c.rules ≡ true →
+      M w (goes c (plan.Drain ∷ plan.Reply (unchanged key None) ∷ []))))
   Outcomes M w n c (plan.Read sought) rest =
       (settlement_for w.desk n ≡ None → M w (waits c)) ×
       ((with : Settled V E) → settlement_for w.desk n ≡ Some with →
       M (on_desk w (was_read w.desk n)) (after_read c sought (found.ReadSettled with)))
+  Outcomes M w n c (plan.Read_key compute) rest =
+      (settlement_for w.desk n ≡ None → M w (waits c)) ×
+      ((with : Settled V E) → settlement_for w.desk n ≡ Some with →
+      M (on_desk w (was_read w.desk n)) (after_read_key c compute (found.ReadSettled with)))
   Outcomes M w n c (plan.Settle with) rest = M (on_desk w (settled_as w.desk n with)) (goes c rest)
   Outcomes M w n c (plan.Ask load) rest = M (on_desk w (opened w.desk n (takes_of load.kind))) (asks c ask.Init (plan.Told load ∷ []))
+  Outcomes M w n c (plan.Ask_op compute pair) rest =
+      M (on_desk w (opened w.desk n compute.takes))
+      (asks c (ask.Compute pair) (plan.Told_op compute pair ∷ []))
   Outcomes M w n c (plan.Told load) rest =
       (w.desk.told n ≡ None → M w (waits c)) ×
       ((given : Told V E) → w.desk.told n ≡ Some given → M (on_desk w (took_told w.desk n)) (after_told c load (found.TakeTold (Some given))))
+  Outcomes M w n c (plan.Told_op compute pair) rest =
+      (w.desk.told n ≡ None → M w (waits c)) ×
+      ((given : Told V E) → w.desk.told n ≡ Some given → M (on_desk w (took_told w.desk n))
+      (after_told_op c compute pair (found.TakeTold (Some given))))
   Outcomes M w n c (plan.Lock key) rest =
       (is_unlocked_for w.desk n key ≡ true → M (on_desk w (locked_by eq w.desk n key true)) (goes c rest)) ×
       (is_unlocked_for w.desk n key ≡ false → M w (waits c))
@@ -183,17 +230,16 @@ module _ {K V E : Type 0} (eq : K → K → Bool) where
       let out : Option (K × Stored V) = taken_by (stamp_asked removal) (w.table.stored key) in
       Undecided M w n c ×
       (c.rules.listener ≡ false → out ≡ None →
-      M (done w n) (goes c (plan.Idle ∷ plan.Reply (nothing_answer removal) ∷ []))) ×
+      M (done w n) (goes c (plan.Idle ∷ said removal (nothing_answer removal)))) ×
       (c.rules.listener ≡ true → out ≡ None →
-      M (done w n) (goes c (plan.Unlock false ∷ plan.Reply (nothing_answer removal) ∷ []))) ×
+      M (done w n) (goes c (plan.Unlock false ∷ said removal (nothing_answer removal)))) ×
       ((k : K) (old : Stored V) → c.rules.listener ≡ false → out ≡ Some (k, old) →
       M (taken_out w n key)
-      (goes c (plan.Post (Remove n old.stamp) ∷ plan.Reply (removed_answer removal old.value)
-      ∷ []))) ×
+      (goes c (plan.Post (Remove n old.stamp) ∷ said removal (removed_answer removal old.value)))) ×
       ((k : K) (old : Stored V) → c.rules.listener ≡ true → out ≡ Some (k, old) →
       M (taken_out w n key)
       (goes c (plan.Notice key old (cause_handed removal) false ∷ plan.Unlock true ∷
-      plan.Post (Remove n old.stamp) ∷ plan.Reply (removed_answer removal old.value) ∷ [])))
+      plan.Post (Remove n old.stamp) ∷ said removal (removed_answer removal old.value))))
   Outcomes M w n c plan.Idle rest = M (on_desk w (gave_back w.desk n)) (goes c rest)
   Outcomes M w n c (plan.Reply answer) rest = M (on_desk w (gave_back w.desk n)) (answers answer)
 
@@ -285,7 +331,8 @@ module _ {K V E : Type 0} (eq : K → K → Bool) where
     judged_so key stamp cause there stored rest true e o = o.0 e
     judged_so key stamp cause there stored rest false e o = o.1 e
 
-    took : (removal : Removal) (key : K) (rest : List (Item K V E)) (out : Option (K × Stored V)) →
+    took : (removal : Removal K) (key : K) (rest : List (Item K V E))
+        (out : Option (K × Stored V)) →
         taken_by (stamp_asked removal) (w.table.stored key) ≡ out →
         Outcomes M w n c (plan.Out removal key) rest →
         M (record w { table = by_pair out (removed eq n w.table key) w.table; stay = decided_by n })
@@ -308,7 +355,7 @@ module _ {K V E : Type 0} (eq : K → K → Bool) where
         is_seen w.desk (replace_of aim) key stored ≡ b →
         Outcomes M w n c (plan.Judge aim key stored) rest →
         M (on_desk w (judged w.desk stored.stamp stored.modified b))
-        (after_judge c aim stored (found.Judge b))
+        (after_judge c aim key stored (found.Judge b))
     judged_as aim key stored rest true e o = o.0 e
     judged_as aim key stored rest false e o = o.1 e
 
@@ -337,6 +384,49 @@ module _ {K V E : Type 0} (eq : K → K → Bool) where
     taken load rest None e o = subst (λ v. M (on_desk w (record w.desk { told = v })) (waits c)) (sym (put_same w.desk.told n None e)) (o.0 e)
     taken load rest (Some given) e o = o.1 given e
 
+    owns_key : (compute : Compute K) (b : Bool) → is_disabled c.rules ≡ b →
+        w.desk.owners (computes_of compute.key) ≡ None →
+        OwnsKey M w n c compute →
+        M (on_desk w (claimed eq w.desk n (computes_of compute.key) None))
+        (goes c (compute_rest b compute))
+    owns_key compute false is e o = o.0 is e
+    owns_key compute true is e o = o.1 is e
+
+    owned_key : (compute : Compute K) (rest : List (Item K V E)) (owner : Option ℕ) →
+        w.desk.owners (computes_of compute.key) ≡ owner →
+        Outcomes M w n c (plan.Own_key compute) rest →
+        M (on_desk w (claimed eq w.desk n (computes_of compute.key) owner))
+        (after_own_key c compute (found.WaitOrOwn (claim_of owner)))
+    owned_key compute rest None e o = owns_key compute (is_disabled c.rules) refl e o.0
+    owned_key compute rest (Some owner) e o = o.1 owner e
+
+    owned_alone : (key : K) (rest : List (Item K V E)) (owner : Option ℕ) →
+        w.desk.owners (computes_of key) ≡ owner → Outcomes M w n c (plan.Own_alone key) rest →
+        M (on_desk w (claimed_alone eq w.desk n (computes_of key) owner))
+        (after_own_alone c key (found.OwnAlone (is_some owner)))
+    owned_alone key rest None e o = owns_key (alone_of key) (is_disabled c.rules) refl e o.0
+    owned_alone key rest (Some owner) e o = by (is_disabled c.rules) refl
+      where
+        by : (b : Bool) → is_disabled c.rules ≡ b → M w (goes c (report_rest b key))
+        by false is = (o.1 owner e).0 is
+        by true is = (o.1 owner e).1 is
+
+    read_end : (compute : Compute K) (rest : List (Item K V E)) (with : Option (Settled V E)) →
+        settlement_for w.desk n ≡ with → Outcomes M w n c (plan.Read_key compute) rest →
+        M (on_desk w (cond (is_some with) (was_read w.desk n) w.desk))
+        (after_read_key c compute (found.ReadSettled (unwrap_or with settled.NotYet)))
+    read_end compute rest None e o = o.0 e
+    read_end compute rest (Some with) e o = o.1 with e
+
+    taken_op : (compute : Compute K) (pair : Option (K × V)) (rest : List (Item K V E))
+        (given : Option (Told V E)) → w.desk.told n ≡ given →
+        Outcomes M w n c (plan.Told_op compute pair) rest →
+        M (on_desk w (took_told w.desk n)) (after_told_op c compute pair (found.TakeTold given))
+    taken_op compute pair rest None e o =
+        subst (λ v. M (on_desk w (record w.desk { told = v })) (waits c))
+        (sym (put_same w.desk.told n None e)) (o.0 e)
+    taken_op compute pair rest (Some given) e o = o.1 given e
+
   pub outcomes : (M : World K V E → Next K V E → Type 0) (w : World K V E) (n : ℕ) (c : Call K V E) (item : Item K V E) (rest : List (Item K V E)) →
       Outcomes M w n c item rest → OnAccess eq M w n c item rest (access_for n item)
   outcomes M w n c plan.Drain rest o = drained M w n c rest w.desk.owed refl o
@@ -356,11 +446,20 @@ module _ {K V E : Type 0} (eq : K → K → Bool) where
       judged_as M w n c aim key stored rest (is_seen w.desk (replace_of aim) key stored) refl o
   outcomes M w n c (plan.Own sought) rest o =
       owned M w n c sought rest (w.desk.owners sought.load) refl o
+  outcomes M w n c (plan.Own_key compute) rest o =
+      owned_key M w n c compute rest (w.desk.owners (computes_of compute.key)) refl o
+  outcomes M w n c (plan.Own_alone key) rest o =
+      owned_alone M w n c key rest (w.desk.owners (computes_of key)) refl o
   outcomes M w n c (plan.Read sought) rest o =
       was_told M w n c sought rest (settlement_for w.desk n) refl o
+  outcomes M w n c (plan.Read_key compute) rest o =
+      read_end M w n c compute rest (settlement_for w.desk n) refl o
   outcomes M w n c (plan.Settle with) rest o = o
   outcomes M w n c (plan.Ask load) rest o = o
+  outcomes M w n c (plan.Ask_op compute pair) rest o = o
   outcomes M w n c (plan.Told load) rest o = taken M w n c load rest (w.desk.told n) refl o
+  outcomes M w n c (plan.Told_op compute pair) rest o =
+      taken_op M w n c compute pair rest (w.desk.told n) refl o
   outcomes M w n c (plan.Holds key stamp cause there stored) rest o =
       judged_so M w n c key stamp cause there stored rest (has_to_leave w.desk stored cause) refl o
   outcomes M w n c (plan.Moment (plan.To_store key value)) rest o = o

@@ -7,7 +7,11 @@ use Rattle.moka_hist.specs.Step.{replace_of}
 use Rattle.moka_hist.specs.Visits.{is_seen}
 use Rattle.moka_hist.specs.Finite.{put_key, load_eq, kind_eq}
 use Rattle.moka_hist.specs.State.{State, World, Call, DeskPart}
-use Rattle.moka_hist.specs.Plan.{Item, Aim, plan_of}
+use Rattle.moka_hist.specs.Plan.{Item, Aim, Removal, plan_of}
+use Rattle.moka_hist.specs.Computing.{after_told_op}
+use Rattle.moka_hist.specs.Entries.{unchanged}
+use Rattle.moka_hist.specs.Writing.{cause_handed, nothing_answer, removed_answer}
+use Rattle.moka_hist.specs.declared.writes.Write.TheVariants.{Remove}
 use Rattle.moka_hist.specs.Plan as plan
 use Rattle.moka_hist.specs.Visits.{owners_without}
 use Rattle.moka_hist.specs.Next.{Next, goes}
@@ -15,12 +19,13 @@ use Rattle.moka_hist.specs.Looking.{hits, misses, keeps as stays, finds_pair}
 use Rattle.moka_hist.specs.Loading.{after_read, after_told, retries}
 use Rattle.moka_hist.specs.Step.{Step, state_after}
 use Rattle.moka_hist.specs.Run.{IsReached, fresh_call}
-use Rattle.moka_hist.specs.Places.{Initializes}
+use Rattle.moka_hist.specs.Places.{AsksFor, Initializes}
 use Rattle.moka_hist.specs.declared.records.Stored.{Stored}
+use Rattle.moka_hist.specs.declared.loads.Compute as computes
 use Rattle.moka_hist.specs.declared.loads.Load.{Load}
 use Rattle.moka_hist.specs.declared.loads.Sought.{Sought}
 use Rattle.moka_hist.specs.declared.loads.Kind.{Kind}
-use Rattle.moka_hist.specs.declared.loads.Kind.TheVariants.{GetWith, Optional, Try}
+use Rattle.moka_hist.specs.declared.loads.Kind.TheVariants.{GetWith, Optional, Try, Compute}
 use Rattle.moka_hist.specs.declared.rules.Rules.{Rules}
 use Rattle.moka_hist.specs.declared.events.Start.{Start}
 use Rattle.moka_hist.specs.declared.events.Told.{Told}
@@ -29,29 +34,37 @@ use Rattle.moka_hist.specs.declared.visits.Settled.{Settled}
 use Rattle.moka_hist.specs.declared.visits.Settled.TheVariants as settled
 use Rattle.moka_hist.specs.declared.visits.Found.TheVariants as found
 use Rattle.moka_hist.specs.declared.accesses.Turn.{Turn}
-use Rattle.moka_laws.proofs.Rules.{put_plans, loaded_plans, kept_next, chosen_next, IsFresh, Disabled, fresh_plan}
+use Rattle.moka_laws.proofs.Rules.{put_plans, loaded_plans, kept_next, chosen_next, read_key_next, said_next, told_op_next, IsFresh, Disabled, fresh_plan}
 use Rattle.moka_laws.proofs.Counting.{some_same, none_some, put_cases, other_number}
 use Rattle.moka_laws.proofs.Weights.{weigh}
 use Rattle.moka_laws.proofs.Kept.{IsKept, in_reached}
 use Rattle.moka_laws.proofs.StepCases.{OnStep, step_cases}
-use Rattle.moka_laws.proofs.Outcomes.{Outcomes, outcomes}
+use Rattle.moka_laws.proofs.Outcomes.{alone_of, computes_of, Outcomes, OwnsKey, outcomes}
 
 -- a kind is equal to itself, and to no other
 kind_self : (a : Kind) → kind_eq a a ≡ true
 kind_self GetWith = refl
 kind_self Optional = refl
 kind_self Try = refl
+kind_self Compute = refl
 
 pub kind_one : (a b : Kind) → kind_eq a b ≡ true → a ≡ b
 kind_one GetWith GetWith e = refl
 kind_one Optional Optional e = refl
 kind_one Try Try e = refl
+kind_one Compute Compute e = refl
 kind_one GetWith Optional e = absurd (false≢true e)
 kind_one GetWith Try e = absurd (false≢true e)
+kind_one GetWith Compute e = absurd (false≢true e)
 kind_one Optional GetWith e = absurd (false≢true e)
 kind_one Optional Try e = absurd (false≢true e)
+kind_one Optional Compute e = absurd (false≢true e)
 kind_one Try GetWith e = absurd (false≢true e)
 kind_one Try Optional e = absurd (false≢true e)
+kind_one Try Compute e = absurd (false≢true e)
+kind_one Compute GetWith e = absurd (false≢true e)
+kind_one Compute Optional e = absurd (false≢true e)
+kind_one Compute Try e = absurd (false≢true e)
 
 and_left : (x y : Bool) → (x && y) ≡ true → x ≡ true
 and_left true y h = refl
@@ -86,46 +99,97 @@ module _ {K V E : Type 0} where
   -- the item is one of an owner that has not yet asked, or whose ask is open
   abbrev owning : Item K V E → ℕ
   owning (plan.Get (plan.To_own sought) key) = 1
+  owning (plan.Get (plan.To_compute compute) key) = 1
   owning (plan.Judge (plan.To_own sought) key stored) = 1
+  owning (plan.Judge (plan.To_compute compute) key stored) = 1
   owning (plan.Ask load) = 1
+  owning (plan.Ask_op compute found) = 1
   owning (plan.Told load) = 1
+  owning (plan.Told_op compute found) = 1
   owning _ = 0
 
-  -- the load that the plan's first item wants owned
+  -- the load that the plan wants owned, by its first item, or behind the posts of what was owed
   abbrev pub wanted : List (Item K V E) → Option (Load K)
+  wanted (plan.Drain ∷ rest) = wanted rest
+  wanted (plan.Ended number ∷ rest) = wanted rest
+  wanted (plan.Post write ∷ rest) = wanted rest
+  wanted (plan.Turn ∷ rest) = wanted rest
+  wanted (plan.Apply ∷ rest) = wanted rest
+  wanted (plan.End ∷ rest) = wanted rest
   wanted (plan.Get (plan.To_own sought) key ∷ rest) = Some sought.load
+  wanted (plan.Get (plan.To_compute compute) key ∷ rest) = Some (computes_of compute.key)
   wanted (plan.Judge (plan.To_own sought) key stored ∷ rest) = Some sought.load
+  wanted (plan.Judge (plan.To_compute compute) key stored ∷ rest) = Some (computes_of compute.key)
   wanted (plan.Ask load ∷ rest) = Some load
+  wanted (plan.Ask_op compute found ∷ rest) = Some (computes_of compute.key)
   wanted (plan.Told load ∷ rest) = Some load
+  wanted (plan.Told_op compute found ∷ rest) = Some (computes_of compute.key)
   wanted _ = None
 
+  -- how many items want one behind that place
   abbrev behind : List (Item K V E) → ℕ
   behind [] = 0
+  behind (plan.Drain ∷ rest) = behind rest
+  behind (plan.Ended number ∷ rest) = behind rest
+  behind (plan.Post write ∷ rest) = behind rest
+  behind (plan.Turn ∷ rest) = behind rest
+  behind (plan.Apply ∷ rest) = behind rest
+  behind (plan.End ∷ rest) = behind rest
   behind (item ∷ rest) = weigh owning rest
 
   abbrev pub plan_left : Option (Call K V E) → List (Item K V E)
   plan_left None = []
   plan_left (Some c) = c.plan
 
-  -- the call owns the load that its first item wants owned, and no later item wants one
+  -- the call owns the load that its plan wants owned, and no later item wants one
   pub record Owns (owners : Load K → Option ℕ) (n : ℕ) (plan : List (Item K V E)) : Type 0 where
     pub first : (load : Load K) → wanted plan ≡ Some load → owners load ≡ Some n
     pub later : behind plan ≡ 0
 
+  -- where no item wants one, the plan doesn't
+  wants_none : (p : List (Item K V E)) → weigh owning p ≡ 0 → wanted p ≡ None
+  wants_none [] h = refl
+  wants_none (plan.Drain ∷ rest) h = wants_none rest (omega arith)
+  wants_none (plan.Ended number ∷ rest) h = wants_none rest (omega arith)
+  wants_none (plan.Post write ∷ rest) h = wants_none rest (omega arith)
+  wants_none (plan.Turn ∷ rest) h = wants_none rest (omega arith)
+  wants_none (plan.Apply ∷ rest) h = wants_none rest (omega arith)
+  wants_none (plan.End ∷ rest) h = wants_none rest (omega arith)
+  wants_none (plan.Get (plan.To_own sought) key ∷ rest) h = absurd (omega arith)
+  wants_none (plan.Get (plan.To_compute compute) key ∷ rest) h = absurd (omega arith)
+  wants_none (plan.Judge (plan.To_own sought) key stored ∷ rest) h = absurd (omega arith)
+  wants_none (plan.Judge (plan.To_compute compute) key stored ∷ rest) h = absurd (omega arith)
+  wants_none (plan.Ask load ∷ rest) h = absurd (omega arith)
+  wants_none (plan.Ask_op compute found ∷ rest) h = absurd (omega arith)
+  wants_none (plan.Told load ∷ rest) h = absurd (omega arith)
+  wants_none (plan.Told_op compute found ∷ rest) h = absurd (omega arith)
+  wants_none (_ ∷ rest) h = refl
+
+  behind_none : (p : List (Item K V E)) → weigh owning p ≡ 0 → behind p ≡ 0
+  behind_none [] h = refl
+  behind_none (plan.Drain ∷ rest) h = behind_none rest (omega arith)
+  behind_none (plan.Ended number ∷ rest) h = behind_none rest (omega arith)
+  behind_none (plan.Post write ∷ rest) h = behind_none rest (omega arith)
+  behind_none (plan.Turn ∷ rest) h = behind_none rest (omega arith)
+  behind_none (plan.Apply ∷ rest) h = behind_none rest (omega arith)
+  behind_none (plan.End ∷ rest) h = behind_none rest (omega arith)
+  behind_none (_ ∷ rest) h = omega arith
+
   module _ (owners : Load K → Option ℕ) (n : ℕ) where
     owns_none : (plan : List (Item K V E)) → weigh owning plan ≡ 0 → Owns owners n plan
-    owns_none [] h = record { first = λ l e. absurd (none_some e); later = refl }
-    owns_none (plan.Get (plan.To_own sought) key ∷ rest) h = absurd (omega arith)
-    owns_none (plan.Judge (plan.To_own sought) key stored ∷ rest) h = absurd (omega arith)
-    owns_none (plan.Ask load ∷ rest) h = absurd (omega arith)
-    owns_none (plan.Told load ∷ rest) h = absurd (omega arith)
-    owns_none (_ ∷ rest) h = record { first = λ l e. absurd (none_some e); later = omega arith }
+    owns_none plan h =
+        record { first = λ l e. absurd (none_some (sym (wants_none plan h) ∙ e)); later = behind_none plan h }
 
-    goes_owns : (c : Call K V E) (rest : List (Item K V E)) → weigh owning rest ≡ 0 → Owns owners n (plan_left (goes c rest).left)
-    goes_owns c (plan.Reply a ∷ []) h = owns_none [] refl
-    goes_owns c (plan.Reply a ∷ x ∷ rest) h = owns_none (plan.Reply a ∷ x ∷ rest) h
-    goes_owns c [] h = owns_none [] h
-    goes_owns c (item ∷ rest) h = owns_none (item ∷ rest) h
+    goes_owns : (c : Call K V E) (rest : List (Item K V E)) → Owns owners n rest →
+        Owns owners n (plan_left (goes c rest).left)
+    goes_owns c (plan.Reply a ∷ []) o = owns_none [] refl
+    goes_owns c (plan.Reply a ∷ x ∷ rest) o = o
+    goes_owns c [] o = o
+    goes_owns c (item ∷ rest) o = o
+
+    goes_none : (c : Call K V E) (rest : List (Item K V E)) → weigh owning rest ≡ 0 →
+        Owns owners n (plan_left (goes c rest).left)
+    goes_none c rest h = goes_owns c rest (owns_none rest h)
 
     keeps_owns : (c : Call K V E) → Owns owners n (plan_left (stays c).left)
     keeps_owns c = kept_next (λ v. Owns owners n (plan_left v.left)) c (λ off. owns_none [] refl)
@@ -134,8 +198,10 @@ module _ {K V E : Type 0} where
     misses_owns : (c : Call K V E) (aim : Aim K V) (key : K) (rest : List (Item K V E)) → Owns owners n (plan.Get aim key ∷ rest) →
         Owns owners n (plan_left (misses c aim).left)
     misses_owns c plan.To_answer key rest o = owns_none [] refl
+    misses_owns c (plan.To_report under) key rest o = owns_none [] refl
     misses_owns c (plan.To_load sought) key rest o = owns_none (plan.Own sought ∷ []) refl
     misses_owns c (plan.To_own sought) key rest o = record { first = o.first; later = refl }
+    misses_owns c (plan.To_compute compute) key rest o = record { first = o.first; later = refl }
     misses_owns c (plan.To_insert there value) key rest o =
         put_plans (λ p. Owns owners n (plan_left (goes c p).left)) c.rules there value _
         (owns_none _ refl) (owns_none _ refl)
@@ -149,6 +215,8 @@ module _ {K V E : Type 0} where
         owns_none (plan.Own sought ∷ []) refl
     unseen_owns c d (plan.To_own sought) key stored rest e o =
         record { first = o.first; later = refl }
+    unseen_owns c d (plan.To_compute compute) key stored rest e o =
+        record { first = o.first; later = refl }
     unseen_owns c d _ key stored rest e o = absurd (false≢true (sym e))
 
     finds_owns : (c : Call K V E) (aim : Aim K V) (key k : K) (stored : Stored V) (rest : List (Item K V E)) →
@@ -156,24 +224,33 @@ module _ {K V E : Type 0} where
         Owns owners n (plan_left (finds_pair c aim k stored).left)
     finds_owns c plan.To_answer key k stored rest o =
         owns_none (plan.Judge plan.To_answer k stored ∷ []) refl
+    finds_owns c (plan.To_report under) key k stored rest o =
+        owns_none (plan.Judge (plan.To_report under) k stored ∷ []) refl
     finds_owns c (plan.To_load sought) key k stored rest o =
         owns_none (plan.Judge (plan.To_load sought) k stored ∷ []) refl
     finds_owns c (plan.To_insert under new) key k stored rest o =
         owns_none (plan.Judge (plan.To_insert under new) k stored ∷ []) refl
     finds_owns c (plan.To_own sought) key k stored rest o = record { first = o.first; later = refl }
+    finds_owns c (plan.To_compute compute) key k stored rest o =
+        record { first = o.first; later = refl }
     finds_owns c (plan.To_evict there stamp cause) key k stored rest o =
         chosen_next (λ v. Owns owners n (plan_left v.left)) c there stamp cause k stored
         (λ off. owns_none [] refl) (λ on. owns_none (plan.Unlock false ∷ plan.Reply _ ∷ []) refl)
         (owns_none (plan.Holds there stamp cause k stored ∷ []) refl)
 
-    hits_owns : (c : Call K V E) (aim : Aim K V) (value : V) → Owns owners n c.plan →
-        Owns owners n (plan_left (hits c aim value).left)
-    hits_owns c plan.To_answer value p = owns_none [] refl
-    hits_owns c (plan.To_load sought) value p = owns_none [] refl
-    hits_owns c (plan.To_insert under new) value p = owns_none [] refl
-    hits_owns c (plan.To_own sought) value p =
+    hits_owns : (c : Call K V E) (aim : Aim K V) (there : K) (value : V) (stored : Stored V)
+        (rest : List (Item K V E)) →
+        Owns owners n c.plan → Owns owners n (plan.Judge aim there stored ∷ rest) →
+        Owns owners n (plan_left (hits c aim there value).left)
+    hits_owns c plan.To_answer there value stored rest p o = owns_none [] refl
+    hits_owns c (plan.To_report key) there value stored rest p o = owns_none [] refl
+    hits_owns c (plan.To_load sought) there value stored rest p o = owns_none [] refl
+    hits_owns c (plan.To_insert under new) there value stored rest p o = owns_none [] refl
+    hits_owns c (plan.To_own sought) there value stored rest p o =
         owns_none (plan.Settle (settled.Ready value) ∷ plan.Reply _ ∷ []) refl
-    hits_owns c (plan.To_evict key stamp cause) value p = p
+    hits_owns c (plan.To_compute compute) there value stored rest p o =
+        record { first = o.first; later = refl }
+    hits_owns c (plan.To_evict key stamp cause) there value stored rest p o = p
 
     either_owns : (b : Bool) (x y : Next K V E) → Owns owners n (plan_left x.left) → Owns owners n (plan_left y.left) →
         Owns owners n (plan_left (cond b x y).left)
@@ -196,7 +273,17 @@ module _ {K V E : Type 0} where
     told_owns c load answer.Nothing h = owns_none _ refl
     told_owns c load (answer.Err error) h = owns_none _ refl
     told_owns c load answer.Done h = h
+    told_owns c load (answer.Op op) h = h
     told_owns c load answer.Off h = h
+
+    told_op_owns : (c : Call K V E) (compute : computes.Compute K) (pair : Option (K × V))
+        (given : Told V E) → Owns owners n c.plan →
+        Owns owners n (plan_left (after_told_op c compute pair (found.TakeTold (Some given))).left)
+    told_op_owns c compute pair given h =
+        told_op_next (λ v. Owns owners n (plan_left v.left)) c compute pair given
+        (λ a. owns_none _ refl) (λ value able off. owns_none _ refl)
+        (λ value able on. owns_none _ refl)
+        (λ off. owns_none _ refl) (λ on. owns_none _ refl) h
 
     fresh_weighs : (rules : Rules) (p : List (Item K V E)) → IsFresh rules p → weigh owning p ≡ 0
     fresh_weighs rules p (Disabled a d plain) = refl
@@ -261,40 +348,62 @@ module _ {K V E : Type 0} (eq : K → K → Bool) where
         Leaves w n new next
     keeps e o = record { one_owner = subst (OneOwner eq) (sym e) one; owns = o; others = λ m h load f. subst (λ v. v load ≡ Some m) (sym e) f }
 
+    -- the call owns the compute's key from now on
+    owns_key : (compute : computes.Compute K) → OwnsKey eq (Leaves w n) w n c compute
+    owns_key compute = (
+      (λ able none. record {
+        one_owner = claimed_one_owner (computes_of compute.key);
+        owns = record { first = λ l e. owns_now (computes_of compute.key) l e; later = refl };
+        others = claimed_others (computes_of compute.key) none;
+      }),
+      λ not none. record {
+        one_owner = claimed_one_owner (computes_of compute.key);
+        owns = record { first = λ l e. owns_now (computes_of compute.key) l e; later = refl };
+        others = claimed_others (computes_of compute.key) none;
+      },
+    )
+
     on_item : (item : Item K V E) (rest : List (Item K V E)) → Owns w.desk.owners n c.plan → Owns w.desk.owners n (item ∷ rest) →
         Outcomes eq (Leaves w n) w n c item rest
     on_item plan.Drain rest p o = (
-      λ e. keeps refl (goes_owns _ n c rest o.later),
-      λ x xs e. keeps refl
-          (owns_none _ n (plan.Post x ∷ plan.Drain ∷ rest) (omega (arith, o.later))),
-      λ x number xs e. keeps refl
-          (owns_none _ n (plan.Ended number ∷ plan.Post x ∷ plan.Drain ∷ rest) (omega (arith, o.later))),
+      λ e. keeps refl (goes_owns _ n c rest (record { first = o.first; later = o.later })),
+      λ x xs e. keeps refl (record { first = o.first; later = o.later }),
+      λ x number xs e. keeps refl (record { first = o.first; later = o.later }),
     )
-    on_item (plan.Ended number) rest p o = (λ e. keeps refl (goes_owns _ n c rest o.later), λ e. keeps refl p)
-    on_item plan.Heard rest p o = (λ e. keeps refl (goes_owns _ n c rest o.later), λ e. keeps refl p)
-    on_item (plan.Lock key) rest p o = (λ e. keeps refl (goes_owns _ n c rest o.later), λ e. keeps refl p)
-    on_item (plan.Unlock wrote) rest p o = keeps refl (goes_owns _ n c rest o.later)
-    on_item (plan.Notice key old cause upsert) rest p o =
-        ((λ e. keeps refl (goes_owns _ n c rest o.later)), λ e. keeps refl (owns_none _ n (plan.Heard ∷ rest) (omega (arith, o.later))))
+    on_item (plan.Ended number) rest p o = (
+      λ e. keeps refl (goes_owns _ n c rest (record { first = o.first; later = o.later })),
+      λ e. keeps refl p,
+    )
+    on_item plan.Heard rest p o =
+        (λ e. keeps refl (goes_none _ n c rest o.later), λ e. keeps refl p)
+    on_item (plan.Lock key) rest p o =
+        (λ e. keeps refl (goes_none _ n c rest o.later), λ e. keeps refl p)
+    on_item (plan.Unlock wrote) rest p o = keeps refl (goes_none _ n c rest o.later)
+    on_item (plan.Notice key old cause upsert) rest p o = (
+      (λ e. keeps refl (goes_none _ n c rest o.later)),
+      λ e. keeps refl (owns_none _ n (plan.Heard ∷ rest) (omega (arith, o.later))),
+    )
     on_item (plan.Post write) rest p o = (
-      λ e. keeps refl (goes_owns _ n c rest o.later),
-      λ e. keeps refl
-          (owns_none _ n (plan.Turn ∷ plan.Apply ∷ plan.End ∷ plan.Post write ∷ rest) (omega (arith, o.later))),
+      λ e. keeps refl (goes_owns _ n c rest (record { first = o.first; later = o.later })),
+      λ e. keeps refl (record { first = o.first; later = o.later }),
     )
-    on_item plan.Turn rest p o = (λ e. keeps refl (goes_owns _ n c rest o.later), λ e. keeps refl p)
+    on_item plan.Turn rest p o = (
+      λ e. keeps refl (goes_owns _ n c rest (record { first = o.first; later = o.later })),
+      λ e. keeps refl p,
+    )
     on_item plan.Apply rest p o = (
-      λ e. keeps refl (goes_owns _ n c rest o.later),
-      λ x xs e. keeps refl
-          (owns_none _ n (plan.Apply ∷ rest) (omega (arith, o.later))),
+      λ e. keeps refl (goes_owns _ n c rest (record { first = o.first; later = o.later })),
+      λ x xs e. keeps refl (record { first = o.first; later = o.later }),
     )
-    on_item plan.End rest p o = keeps refl (goes_owns _ n c rest o.later)
+    on_item plan.End rest p o =
+        keeps refl (goes_owns _ n c rest (record { first = o.first; later = o.later }))
     on_item (plan.Get aim key) rest p o = (
       (λ more. keeps refl p),
       (λ none. keeps refl (misses_owns _ n c aim key rest o)),
       λ k stored some. keeps refl (finds_owns _ n c aim key k stored rest o),
     )
     on_item (plan.Judge aim key stored) rest p o = (
-      (λ seen. keeps refl (hits_owns _ n c aim stored.value p)),
+      (λ seen. keeps refl (hits_owns _ n c aim key stored.value stored rest p o)),
       λ unseen. keeps refl (unseen_owns _ n c w.desk aim key stored rest unseen o),
     )
     on_item (plan.Own sought) rest p o = (
@@ -310,11 +419,31 @@ module _ {K V E : Type 0} (eq : K → K → Bool) where
       }),
       λ owner some. keeps refl (owns_none _ n (plan.Read sought ∷ []) refl),
     )
+    on_item (plan.Own_key compute) rest p o = (
+      owns_key compute,
+      λ owner some. keeps refl (owns_none _ n (plan.Read_key compute ∷ []) refl),
+    )
+    on_item (plan.Own_alone key) rest p o = (
+      owns_key (alone_of key),
+      λ owner some. (
+        (λ able. keeps refl (owns_none _ n (plan.Drain ∷ plan.Get (plan.To_report key) key ∷ []) refl)),
+        λ not. keeps refl (owns_none _ n (plan.Drain ∷ plan.Reply (unchanged key None) ∷ []) refl),
+      ),
+    )
     on_item (plan.Read sought) rest p o = (λ none. keeps refl p, λ with some. keeps refl (read_owns _ n c sought with p))
+    on_item (plan.Read_key compute) rest p o = (
+      λ none. keeps refl p,
+      λ with some. keeps refl (read_key_next (λ v. Owns w.desk.owners n (plan_left v.left)) c compute with p
+          (owns_none _ n (plan.Own_key compute ∷ []) refl)),
+    )
     on_item (plan.Settle with) rest p o =
-        record { one_owner = without_one_owner w.desk n one; owns = goes_owns _ n c rest o.later; others = without_others w.desk n }
+        record { one_owner = without_one_owner w.desk n one; owns = goes_none _ n c rest o.later; others = without_others w.desk n }
     on_item (plan.Ask load) rest p o = keeps refl (record { first = o.first; later = refl })
+    on_item (plan.Ask_op compute pair) rest p o =
+        keeps refl (record { first = o.first; later = refl })
     on_item (plan.Told load) rest p o = (λ none. keeps refl p, λ given some. keeps refl (told_owns _ n c load given p))
+    on_item (plan.Told_op compute pair) rest p o =
+        (λ none. keeps refl p, λ given some. keeps refl (told_op_owns _ n c compute pair given p))
     on_item (plan.Holds key stamp cause there stored) rest p o =
         ((λ e. keeps refl (owns_none _ n (plan.Moment _ ∷ []) refl)), λ e. keeps refl (keeps_owns _ n c))
     on_item (plan.Moment (plan.To_store key value)) rest p o =
@@ -331,13 +460,18 @@ module _ {K V E : Type 0} (eq : K → K → Bool) where
     )
     on_item (plan.Out removal key) rest p o = (
       (λ more. keeps refl p),
-      (λ off none. keeps refl (owns_none _ n (plan.Idle ∷ plan.Reply _ ∷ []) refl)),
-      (λ on none. keeps refl (owns_none _ n (plan.Unlock false ∷ plan.Reply _ ∷ []) refl)),
-      (λ k old off some. keeps refl (owns_none _ n (plan.Post _ ∷ plan.Reply _ ∷ []) refl)),
-      λ k old on some. keeps refl
-          (owns_none _ n (plan.Notice key old _ false ∷ plan.Unlock true ∷ plan.Post _ ∷ plan.Reply _ ∷ []) refl),
+      (λ off none. keeps refl (said_next (λ v. Owns w.desk.owners n (plan_left v.left)) c (λ q. plan.Idle ∷ q) removal
+          (nothing_answer removal) (owns_none _ n _ refl) (owns_none _ n _ refl))),
+      (λ on none. keeps refl (said_next (λ v. Owns w.desk.owners n (plan_left v.left)) c (λ q. plan.Unlock false ∷ q) removal
+          (nothing_answer removal) (owns_none _ n _ refl) (owns_none _ n _ refl))),
+      (λ k old off some. keeps refl (said_next (λ v. Owns w.desk.owners n (plan_left v.left)) c
+          (λ q. plan.Post (Remove n old.stamp) ∷ q) removal
+          (removed_answer removal old.value) (owns_none _ n _ refl) (owns_none _ n _ refl))),
+      λ k old on some. keeps refl (said_next (λ v. Owns w.desk.owners n (plan_left v.left)) c
+          (λ q. plan.Notice key old (cause_handed removal) false ∷ plan.Unlock true ∷ plan.Post (Remove n old.stamp) ∷ q) removal
+          (removed_answer removal old.value) (owns_none _ n _ refl) (owns_none _ n _ refl)),
     )
-    on_item plan.Idle rest p o = keeps refl (goes_owns _ n c rest o.later)
+    on_item plan.Idle rest p o = keeps refl (goes_none _ n c rest o.later)
     on_item (plan.Reply answer) rest p o = keeps refl (owns_none _ n [] refl)
 
     on_plan : (plan : List (Item K V E)) → c.plan ≡ plan → Owns w.desk.owners n c.plan → OnStep eq (Leaves w n) w n c plan
@@ -393,9 +527,16 @@ module _ {K V E : Type 0} (eq : K → K → Bool) (laws : IsEquivalence eq) wher
   pub in_owned : (s : State K V E) → IsReached eq s → IsOwned eq s
   in_owned s h = in_reached eq (IsOwned eq) owned_kept s h
 
+  -- a plan that waits for the answer to an ask of the load wants that owned
+  asks_wanted : (p : List (Item K V E)) (load : Load K) → AsksFor p load → wanted p ≡ Some load
+  asks_wanted (plan.Told asked ∷ []) load e = ap Some (sym e)
+  asks_wanted (plan.Told_op compute found ∷ []) load e = ap Some (sym e)
+  asks_wanted _ load e = absurd e
+
   -- a call with an open initializer owns its load
   initializer_owns : (s : State K V E) → IsOwned eq s → (n : ℕ) (load : Load K) → Initializes s n load → s.world.desk.owners load ≡ Some n
-  initializer_owns s i n load h = (i.calls n h.call h.live).first load (ap wanted h.asked)
+  initializer_owns s i n load h =
+      (i.calls n h.call h.live).first load (asks_wanted h.call.plan load h.asked)
 
   pub one_initializes : (s : State K V E) → IsReached eq s → (n m : ℕ) (a b : Load K) → Initializes s n a → Initializes s m b →
       load_eq eq a b ≡ true → n ≡ m

@@ -6,7 +6,7 @@ use Rattle.moka_hist.specs.Finite.{put_at}
 use Rattle.moka_hist.specs.State.{State, World, Call, DeskPart}
 use Rattle.moka_hist.specs.Plan.{Item, Aim, held_by}
 use Rattle.moka_hist.specs.Plan as plan
-use Rattle.moka_hist.specs.Visits.{claimed, has_room, is_unlocked_for, locked_by, makes, number_of, settlement_for}
+use Rattle.moka_hist.specs.Visits.{claimed_alone, claimed, has_room, is_unlocked_for, locked_by, makes, number_of, settlement_for}
 use Rattle.moka_hist.specs.Next.{Next, goes}
 use Rattle.moka_hist.specs.Looking.{hits, misses, keeps, finds_pair}
 use Rattle.moka_hist.specs.Loading.{after_read, after_told, after_abort, retries}
@@ -34,16 +34,19 @@ use Rattle.moka_hist.specs.declared.writes.Write.{Write}
 use Rattle.moka_laws.specs.Answered.{AnsweredIsPosted, IsPosted, PostedStays}
 use Rattle.moka_laws.proofs.Counting.{none_some, put_cases, put_there, other_number}
 use Rattle.moka_laws.proofs.Sums.{sum_has, sum_holds}
-use Rattle.moka_laws.proofs.Weights.{weigh, weigh_call, weigh_goes}
+use Rattle.moka_hist.specs.Writing.{nothing_answer, removed_answer, said}
+use Rattle.moka_laws.proofs.Weights.{weigh, weigh_call, weigh_goes, weigh_said}
 use Rattle.moka_laws.proofs.Posts.{among, among_owed, post_of, posts_held, fresh_clear}
 use Rattle.moka_laws.proofs.Balance.{IsBalanced, owed_append, among_last, times_first, with_calls}
 use Rattle.moka_laws.proofs.Balanced.{balanced_kept, gives_up}
-use Rattle.moka_laws.proofs.Rules.{put_plans, loaded_plans, kept_next, chosen_by}
+use Rattle.moka_laws.proofs.Rules.{put_plans, loaded_plans, kept_next, chosen_by, read_key_next, told_op_next}
 use Rattle.moka_laws.proofs.Between.{run_more}
 use Rattle.moka_laws.proofs.OnePlace.{contains_times}
 use Rattle.moka_laws.proofs.Kept.{IsKept, IsStable, in_reached, runs}
 use Rattle.moka_laws.proofs.StepCases.{OnStep, step_cases}
-use Rattle.moka_laws.proofs.Outcomes.{Outcomes, outcomes}
+use Rattle.moka_laws.proofs.Outcomes.{Outcomes, outcomes, computes_of}
+use Rattle.moka_hist.specs.declared.loads.Compute.{Compute}
+use Rattle.moka_hist.specs.Computing.{after_told_op, after_read_key}
 
 module _ {K V E : Type 0} where
   -- ---- the write of a live call is with no other call, and isn't owed
@@ -52,7 +55,7 @@ module _ {K V E : Type 0} where
   -- or that was owed, and it is gone where it answers.
   record Parts (owed : ℕ → ℕ) (n : ℕ) (plan : List (Item K V E)) (next : Next K V E) : Type 0 where
     posts : (x : ℕ) → (n == x) ≡ false → weigh_call (post_of x) next.left ≤ weigh (post_of x) plan + owed x
-    gone : (a : Answer V E) → next.turn ≡ turn.Answer a → next.left ≡ None
+    gone : (a : Answer K V E) → next.turn ≡ turn.Answer a → next.left ≡ None
 
   module _ (owed : ℕ → ℕ) (n : ℕ) (before : List (Item K V E)) where
     goes_parts : (c : Call K V E) (rest : List (Item K V E)) → ((x : ℕ) → (n == x) ≡ false → weigh (post_of x) rest ≤ weigh (post_of x) before + owed x) →
@@ -62,19 +65,23 @@ module _ {K V E : Type 0} where
       gone = by rest;
     }
       where
-        by : (rest : List (Item K V E)) → (a : Answer V E) → (goes c rest).turn ≡ turn.Answer a → (goes c rest).left ≡ None
+        by : (rest : List (Item K V E)) → (a : Answer K V E) → (goes c rest).turn ≡ turn.Answer a →
+            (goes c rest).left ≡ None
         by (plan.Reply b ∷ []) a e = refl
         by (plan.Reply b ∷ x ∷ rest) a e = cc
         by [] a e = cc
         by (_ ∷ rest) a e = cc
 
     -- the call goes on with nothing to post
-    clear_parts : {next : Next K V E} → ((x : ℕ) → weigh_call (post_of x) next.left ≡ 0) → ((a : Answer V E) → next.turn ≡ turn.Answer a → next.left ≡ None) →
+    clear_parts : {next : Next K V E} → ((x : ℕ) → weigh_call (post_of x) next.left ≡ 0) →
+        ((a : Answer K V E) → next.turn ≡ turn.Answer a → next.left ≡ None) →
         Parts owed n before next
     clear_parts h g = record { posts = λ x d. omega (arith, h x); gone = g }
 
     -- the call is as it was
-    still_parts : (next : Next K V E) → ((x : ℕ) → weigh_call (post_of x) next.left ≡ weigh (post_of x) before) → ((a : Answer V E) → next.turn ≡ turn.Answer a → next.left ≡ None) →
+    still_parts : (next : Next K V E) →
+        ((x : ℕ) → weigh_call (post_of x) next.left ≡ weigh (post_of x) before) →
+        ((a : Answer K V E) → next.turn ≡ turn.Answer a → next.left ≡ None) →
         Parts owed n before next
     still_parts next h g = record { posts = λ x d. omega (arith, h x); gone = g }
 
@@ -86,8 +93,10 @@ module _ {K V E : Type 0} where
 
     misses_parts : (aim : Aim K V) → Parts owed n before (misses c aim)
     misses_parts plan.To_answer = clear_parts owed n before (λ x. refl) (λ a e. refl)
+    misses_parts (plan.To_report key) = clear_parts owed n before (λ x. refl) (λ a e. refl)
     misses_parts (plan.To_load sought) = clear_parts owed n before (λ x. refl) (λ a e. cc)
     misses_parts (plan.To_own sought) = clear_parts owed n before (λ x. refl) (λ a e. cc)
+    misses_parts (plan.To_compute compute) = clear_parts owed n before (λ x. refl) (λ a e. cc)
     misses_parts (plan.To_insert key value) =
         put_plans (λ p. Parts owed n before (goes c p)) c.rules key value _
         (clear_parts owed n before (λ x. refl) (λ a e. cc))
@@ -97,22 +106,33 @@ module _ {K V E : Type 0} where
     finds_parts : (aim : Aim K V) (there : K) (stored : Stored V) → Parts owed n before
         (finds_pair c aim there stored)
     finds_parts plan.To_answer there stored = clear_parts owed n before (λ x. refl) (λ a e. cc)
+    finds_parts (plan.To_report key) there stored =
+        clear_parts owed n before (λ x. refl) (λ a e. cc)
     finds_parts (plan.To_load sought) there stored = clear_parts owed n before (λ x. refl) (λ a e. cc)
     finds_parts (plan.To_insert under new) there stored = clear_parts owed n before (λ x. refl) (λ a e. cc)
     finds_parts (plan.To_own sought) there stored = clear_parts owed n before (λ x. refl) (λ a e. cc)
+    finds_parts (plan.To_compute compute) there stored =
+        clear_parts owed n before (λ x. refl) (λ a e. cc)
     finds_parts (plan.To_evict key stamp cause) there stored =
         chosen_by (Parts owed n before) c key stamp cause there stored (λ other. keeps_parts)
         (λ same. clear_parts owed n before (λ x. refl) (λ a e. cc))
 
-  hits_parts : (owed : ℕ → ℕ) (n : ℕ) (c : Call K V E) (aim : Aim K V) (value : V) → Parts owed n c.plan
-      (hits c aim value)
-  hits_parts owed n c plan.To_answer value = clear_parts owed n c.plan (λ x. refl) (λ a e. refl)
-  hits_parts owed n c (plan.To_load sought) value = clear_parts owed n c.plan (λ x. refl)
+  hits_parts : (owed : ℕ → ℕ) (n : ℕ) (c : Call K V E) (aim : Aim K V) (there : K) (value : V) →
+      Parts owed n c.plan
+      (hits c aim there value)
+  hits_parts owed n c plan.To_answer there value =
+      clear_parts owed n c.plan (λ x. refl) (λ a e. refl)
+  hits_parts owed n c (plan.To_report key) there value =
+      clear_parts owed n c.plan (λ x. refl) (λ a e. refl)
+  hits_parts owed n c (plan.To_load sought) there value = clear_parts owed n c.plan (λ x. refl)
       (λ a e. refl)
-  hits_parts owed n c (plan.To_insert under new) value = clear_parts owed n c.plan (λ x. refl)
+  hits_parts owed n c (plan.To_insert under new) there value = clear_parts owed n c.plan (λ x. refl)
       (λ a e. refl)
-  hits_parts owed n c (plan.To_own sought) value = clear_parts owed n c.plan (λ x. refl) (λ a e. cc)
-  hits_parts owed n c (plan.To_evict key stamp cause) value = still_parts owed n c.plan _
+  hits_parts owed n c (plan.To_own sought) there value =
+      clear_parts owed n c.plan (λ x. refl) (λ a e. cc)
+  hits_parts owed n c (plan.To_compute compute) there value =
+      clear_parts owed n c.plan (λ x. refl) (λ a e. cc)
+  hits_parts owed n c (plan.To_evict key stamp cause) there value = still_parts owed n c.plan _
       (λ x. refl) (λ a e. cc)
 
   read_parts : (owed : ℕ → ℕ) (n : ℕ) (c : Call K V E) (sought : Sought K) (with : Settled V E) → Parts owed n c.plan (after_read c sought (found.ReadSettled with))
@@ -126,6 +146,12 @@ module _ {K V E : Type 0} where
       by true e = rw e (clear_parts owed n c.plan (λ x. refl) (λ a e. refl))
       by false e = rw e (clear_parts owed n c.plan (λ x. refl) (λ a e. cc))
 
+  read_key_parts : (owed : ℕ → ℕ) (n : ℕ) (c : Call K V E) (compute : Compute K)
+      (with : Settled V E) → Parts owed n c.plan (after_read_key c compute (found.ReadSettled with))
+  read_key_parts owed n c compute with = read_key_next (λ v. Parts owed n c.plan v) c compute with
+      (still_parts owed n c.plan _ (λ x. refl) (λ a e. cc))
+      (clear_parts owed n c.plan (λ x. refl) (λ a e. cc))
+
   told_parts : (owed : ℕ → ℕ) (n : ℕ) (c : Call K V E) (load : Load K) (given : Told V E) → Parts owed n c.plan (after_told c load (found.TakeTold (Some given)))
   told_parts owed n c load (answer.Value value) =
       loaded_plans (λ p. Parts owed n c.plan (goes c p)) c.rules load value
@@ -134,7 +160,20 @@ module _ {K V E : Type 0} where
   told_parts owed n c load answer.Nothing = clear_parts owed n c.plan (λ x. refl) (λ a e. cc)
   told_parts owed n c load (answer.Err error) = clear_parts owed n c.plan (λ x. refl) (λ a e. cc)
   told_parts owed n c load answer.Done = still_parts owed n c.plan _ (λ x. refl) (λ a e. cc)
+  told_parts owed n c load (answer.Op op) = still_parts owed n c.plan _ (λ x. refl) (λ a e. cc)
   told_parts owed n c load answer.Off = still_parts owed n c.plan _ (λ x. refl) (λ a e. cc)
+
+  told_op_parts : (owed : ℕ → ℕ) (n : ℕ) (c : Call K V E) (compute : Compute K)
+      (pair : Option (K × V)) (given : Told V E) →
+      Parts owed n c.plan (after_told_op c compute pair (found.TakeTold (Some given)))
+  told_op_parts owed n c compute pair given =
+      told_op_next (λ v. Parts owed n c.plan v) c compute pair given
+      (λ a. clear_parts owed n c.plan (λ x. refl) (λ a e. cc))
+      (λ value able off. (clear_parts owed n c.plan (λ x. refl) (λ a e. cc)))
+      (λ value able on. (clear_parts owed n c.plan (λ x. refl) (λ a e. cc)))
+      (λ off. (clear_parts owed n c.plan (λ x. refl) (λ a e. cc)))
+      (λ on. (clear_parts owed n c.plan (λ x. refl) (λ a e. cc)))
+      (still_parts owed n c.plan _ (λ x. refl) (λ a e. cc))
 
   -- what a step has to show
   record Leaves (w : World K V E) (n : ℕ) (plan : List (Item K V E)) (new : World K V E) (next : Next K V E) : Type 0 where
@@ -154,7 +193,9 @@ module _ {K V E : Type 0} where
     goes_on item rest e = goes_parts owes n c.plan c rest (λ x d. omega (arith, ap (weigh (post_of x)) e))
 
     -- the call goes on with another plan
-    moves : {next : Next K V E} → ((a : Answer V E) → next.turn ≡ turn.Answer a → ⊥) → ((x : ℕ) → (n == x) ≡ false → weigh_call (post_of x) next.left ≤ weigh (post_of x) c.plan + owes x) →
+    moves : {next : Next K V E} → ((a : Answer K V E) → next.turn ≡ turn.Answer a → ⊥) →
+        ((x : ℕ) → (n == x) ≡ false →
+        weigh_call (post_of x) next.left ≤ weigh (post_of x) c.plan + owes x) →
         Parts owes n c.plan next
     moves going h = record { posts = h; gone = λ a e. absurd (going a e) }
 
@@ -210,7 +251,7 @@ module _ {K V E : Type 0} where
       λ k stored some. as_owed refl refl (finds_parts owes n c.plan c aim k stored),
     )
     on_item (plan.Judge aim key stored) rest e = (
-      λ seen. as_owed refl refl (hits_parts owes n c aim stored.value),
+      λ seen. as_owed refl refl (hits_parts owes n c aim key stored.value),
       λ unseen. as_owed refl refl (misses_parts owes n c.plan c aim),
     )
     on_item (plan.Own sought) rest e = (
@@ -218,15 +259,43 @@ module _ {K V E : Type 0} where
       λ disabled none. as_owed refl refl (clear_parts owes n c.plan (λ x. refl) (λ a e. cc)),
       λ owner some. as_owed refl refl (clear_parts owes n c.plan (λ x. refl) (λ a e. cc)),
     )
+    on_item (plan.Own_key compute) rest e = (
+      (
+        (λ able none. as_owed refl refl (clear_parts owes n c.plan (λ x. refl) (λ a e. cc))),
+        λ disabled none. as_owed refl refl (clear_parts owes n c.plan (λ x. refl) (λ a e. cc)),
+      ),
+      λ owner some. as_owed refl refl (clear_parts owes n c.plan (λ x. refl) (λ a e. cc)),
+    )
+    on_item (plan.Own_alone key) rest e = (
+      (
+        (λ able none. as_owed refl refl (clear_parts owes n c.plan (λ x. refl) (λ a e. cc))),
+        λ disabled none. as_owed refl refl (clear_parts owes n c.plan (λ x. refl) (λ a e. cc)),
+      ),
+      λ owner some. (
+        (λ able. as_owed refl refl (clear_parts owes n c.plan (λ x. refl)
+            (λ a e. cc))),
+        λ not. as_owed refl refl (clear_parts owes n c.plan (λ x. refl) (λ a e. cc)),
+      ),
+    )
     on_item (plan.Read sought) rest e = (
       λ none. as_owed refl refl (still_parts owes n c.plan _ (λ x. refl) (λ a e. cc)),
       λ with some. as_owed refl refl (read_parts owes n c sought with),
     )
+    on_item (plan.Read_key compute) rest e = (
+      λ none. as_owed refl refl (still_parts owes n c.plan _ (λ x. refl) (λ a e. cc)),
+      λ with some. as_owed refl refl (read_key_parts owes n c compute with),
+    )
     on_item (plan.Settle with) rest e = as_owed refl refl (goes_on (plan.Settle with) rest e)
     on_item (plan.Ask load) rest e = as_owed refl refl (clear_parts owes n c.plan (λ x. refl) (λ a e. cc))
+    on_item (plan.Ask_op compute pair) rest e =
+        as_owed refl refl (clear_parts owes n c.plan (λ x. refl) (λ a e. cc))
     on_item (plan.Told load) rest e = (
       λ none. as_owed refl refl (still_parts owes n c.plan _ (λ x. refl) (λ a e. cc)),
       λ given some. as_owed refl refl (told_parts owes n c load given),
+    )
+    on_item (plan.Told_op compute pair) rest e = (
+      λ none. as_owed refl refl (still_parts owes n c.plan _ (λ x. refl) (λ a e. cc)),
+      λ given some. as_owed refl refl (told_op_parts owes n c compute pair given),
     )
     on_item (plan.Holds key stamp cause there stored) rest e = (
       λ holds. as_owed refl refl (clear_parts owes n c.plan (λ x. refl) (λ a e. cc)),
@@ -238,13 +307,26 @@ module _ {K V E : Type 0} where
         as_owed refl refl (moves (λ a e. cc) (λ x d. omega (arith, ap (weigh (post_of x)) e)))
     on_item (plan.Out removal key) rest e = (
       λ more. as_owed refl refl (still_parts owes n c.plan _ (λ x. refl) (λ a e. cc)),
-      λ off none. as_owed refl refl (clear_parts owes n c.plan (λ x. refl) (λ a e. cc)),
-      λ on none. as_owed refl refl (clear_parts owes n c.plan (λ x. refl) (λ a e. cc)),
+      λ off none. as_owed refl refl (clear_parts owes n c.plan
+          (λ x. omega (arith, out x (nothing_answer removal))) (λ a e. cc)),
+      λ on none. as_owed refl refl (clear_parts owes n c.plan
+          (λ x. omega (arith, out x (nothing_answer removal))) (λ a e. cc)),
       λ k old off some. as_owed refl refl (moves (λ a e. cc)
-          (λ x d. omega (arith, ap (λ b. cond {A = ℕ} b 1 0) (other_number n x d)))),
+          (λ x d. omega (
+            arith,
+            ap (λ b. cond {A = ℕ} b 1 0) (other_number n x d),
+            out x (removed_answer removal old.value),
+          ))),
       λ k old on some. as_owed refl refl (moves (λ a e. cc)
-          (λ x d. omega (arith, ap (λ b. cond {A = ℕ} b 1 0) (other_number n x d)))),
+          (λ x d. omega (
+            arith,
+            ap (λ b. cond {A = ℕ} b 1 0) (other_number n x d),
+            out x (removed_answer removal old.value),
+          ))),
     )
+      where
+        out : (x : ℕ) (a : Answer K V E) → weigh (post_of x) (said removal a) ≡ 0
+        out x a = weigh_said (post_of x) removal a refl refl
     on_item plan.Idle rest e = as_owed refl refl (goes_on plan.Idle rest e)
     on_item (plan.Write key value moment) rest e = (
       λ more. as_owed refl refl (still_parts owes n c.plan _ (λ x. refl) (λ a e. cc)),
@@ -430,6 +512,12 @@ module _ {K V E : Type 0} (eq : K → K → Bool) where
   visit_posted x d (visit.WaitOrOwn call key kind) = by (d.owners (record { key = key; kind = kind }))
     where
       by : (o : Option ℕ) → posted_in x d ≤ posted_in x (claimed eq d call (record { key = key; kind = kind }) o)
+      by None = omega arith
+      by (Some owner) = omega arith
+  visit_posted x d (visit.OwnAlone call key) = by (d.owners (computes_of key))
+    where
+      by : (o : Option ℕ) →
+          posted_in x d ≤ posted_in x (claimed_alone eq d call (computes_of key) o)
       by None = omega arith
       by (Some owner) = omega arith
   visit_posted x d (visit.ReadSettled call) = by (settlement_for d call) refl

@@ -33,11 +33,13 @@ use Rattle.moka_laws.specs.Removals.{PlacesComeBack}
 use Rattle.moka_laws.proofs.Counting.{none_some, put_here, put_there}
 use Rattle.moka_laws.proofs.Holding.{HoldsAs, IsHolding, all_leave, holding_kept, others_hold}
 use Rattle.moka_laws.proofs.Owning.{plan_left}
-use Rattle.moka_laws.proofs.Plans.{IsTail, Answering, Settling, IsDrained, Looking, Putting, IsPosted, Draining, Ended, Locking, IsPlan, Posted, Drained, Posting, Hearing, Noticing, Listening, Unlocking, Turning, Applying, Ending, Judging, Owning, Giving, Reading, Asking, Telling, Writing, IsLook, Removing, Locking_out, Choosing, Finding, Chosen, Taking, Freeing, Idling, AllKnown, known_kept}
-use Rattle.moka_laws.proofs.Rules.{put_plans, chosen_next, kept_next, loaded_plans, IsFresh, Disabled, fresh_plan}
+use Rattle.moka_laws.proofs.Plans.{IsTail, Answering, Settling, IsDrained, Looking, Putting, IsPosted, Draining, Ended, Locking, IsPlan, Posted, Drained, Posting, Hearing, Noticing, Listening, Unlocking, Turning, Applying, Ending, Judging, Owning, Giving, Reading, Asking, Telling, Writing, IsLook, Removing, Locking_out, Choosing, Finding, Chosen, Taking, Freeing, Idling, AllKnown, known_kept, Asking_op, Owning_key, Owning_alone, Reading_key, Telling_op}
+use Rattle.moka_laws.proofs.Rules.{put_plans, chosen_next, kept_next, loaded_plans, IsFresh, Disabled, fresh_plan, read_key_next, told_op_next}
 use Rattle.moka_laws.proofs.Kept.{IsKept, in_reached}
 use Rattle.moka_laws.proofs.StepCases.{OnStep, step_cases}
 use Rattle.moka_laws.proofs.Outcomes.{outcomes}
+use Rattle.moka_hist.specs.declared.loads.Compute.{Compute}
+use Rattle.moka_hist.specs.Computing.{after_told_op, after_read_key}
 
 -- the call has a place for a write of its own, and the moment of its change is pending
 abbrev IsPending : Option Holding → Type 0
@@ -71,6 +73,7 @@ module _ {K V E : Type 0} where
         (plan_left (goes c p).left)
     drained_pends c p (Looking aim key l) = tt
     drained_pends c p (Owning sought) = tt
+    drained_pends c p (Asking_op compute pair) = tt
     drained_pends c p (Giving a) = tt
     drained_pends c p (Putting key value rest t) = tt
     drained_pends c p (Locking key value rest t) = tt
@@ -87,8 +90,10 @@ module _ {K V E : Type 0} where
 
     misses_pends : (c : Call K V E) (aim : Aim K V) → h ≡ None → Pends h (plan_left (misses c aim).left)
     misses_pends c plan.To_answer none = tt
+    misses_pends c (plan.To_report key) none = tt
     misses_pends c (plan.To_load sought) none = tt
     misses_pends c (plan.To_own sought) none = tt
+    misses_pends c (plan.To_compute compute) none = tt
     misses_pends c (plan.To_insert key value) none =
         put_plans (λ q. Pends h (plan_left (goes c q).left)) c.rules key value
         (plan.Reply (reply.Loaded value true) ∷ []) tt tt
@@ -97,20 +102,24 @@ module _ {K V E : Type 0} where
     finds_pends : (c : Call K V E) (aim : Aim K V) (there : K) (stored : Stored V) → h ≡ None →
         Pends h (plan_left (finds_pair c aim there stored).left)
     finds_pends c plan.To_answer there stored none = tt
+    finds_pends c (plan.To_report key) there stored none = tt
     finds_pends c (plan.To_load sought) there stored none = tt
     finds_pends c (plan.To_insert under new) there stored none = tt
     finds_pends c (plan.To_own sought) there stored none = tt
+    finds_pends c (plan.To_compute compute) there stored none = tt
     finds_pends c (plan.To_evict key stamp cause) there stored none =
         chosen_next (λ v. Pends h (plan_left v.left)) c key stamp cause there stored (λ off. tt)
         (λ on. inl none) tt
 
-    hits_pends : (c : Call K V E) (aim : Aim K V) (value : V) → IsLook aim → Pends h
-        (plan_left (hits c aim value).left)
-    hits_pends c plan.To_answer value l = tt
-    hits_pends c (plan.To_load sought) value l = tt
-    hits_pends c (plan.To_insert under new) value l = tt
-    hits_pends c (plan.To_own sought) value l = tt
-    hits_pends c (plan.To_evict key stamp cause) value l = absurd l
+    hits_pends : (c : Call K V E) (aim : Aim K V) (there : K) (value : V) → IsLook aim → Pends h
+        (plan_left (hits c aim there value).left)
+    hits_pends c plan.To_answer there value l = tt
+    hits_pends c (plan.To_report key) there value l = tt
+    hits_pends c (plan.To_load sought) there value l = tt
+    hits_pends c (plan.To_insert under new) there value l = tt
+    hits_pends c (plan.To_own sought) there value l = tt
+    hits_pends c (plan.To_compute compute) there value l = tt
+    hits_pends c (plan.To_evict key stamp cause) there value l = absurd l
 
     either_pends : (b : Bool) (x y : Next K V E) → Pends h (plan_left x.left) → Pends h
         (plan_left y.left) → Pends h (plan_left (cond b x y).left)
@@ -125,6 +134,12 @@ module _ {K V E : Type 0} where
     read_pends c sought settled.NotYet p = p
     read_pends c sought settled.Aborted p = either_pends (c.aborts + 1 == retries) _ _ tt tt
 
+    read_key_pends : (c : Call K V E) (compute : Compute K) (with : Settled V E) → Pends h c.plan →
+        Pends h (plan_left (after_read_key c compute (found.ReadSettled with)).left)
+    read_key_pends c compute with p = read_key_next (λ v. Pends h (plan_left v.left)) c compute with
+        (p)
+        (tt)
+
     told_pends : (c : Call K V E) (load : Load K) (given : Told V E) → Pends h c.plan → Pends h
         (plan_left (after_told c load (found.TakeTold (Some given))).left)
     told_pends c load (answer.Value value) p = loaded_plans
@@ -132,7 +147,20 @@ module _ {K V E : Type 0} where
     told_pends c load answer.Nothing p = tt
     told_pends c load (answer.Err error) p = tt
     told_pends c load answer.Done p = p
+    told_pends c load (answer.Op op) p = p
     told_pends c load answer.Off p = p
+
+    told_op_pends : (c : Call K V E) (compute : Compute K) (pair : Option (K × V))
+        (given : Told V E) → Pends h c.plan →
+        Pends h (plan_left (after_told_op c compute pair (found.TakeTold (Some given))).left)
+    told_op_pends c compute pair given p =
+        told_op_next (λ v. Pends h (plan_left v.left)) c compute pair given
+        (λ a. tt)
+        (λ value able off. tt)
+        (λ value able on. tt)
+        (λ off. tt)
+        (λ on. tt)
+        (p)
 
     form_pends : (rules : Rules) (p : List (Item K V E)) → IsFresh rules p → Pends h p
     form_pends rules p (Disabled a d plain) = tt
@@ -162,6 +190,8 @@ module _ {K V E : Type 0} where
     )
     on_drained p k (Owning sought) = outcomes eq After w n c (plan.Own sought) []
         (λ able e. tt, λ disabled e. tt, λ owner e. tt)
+    on_drained p k (Asking_op compute pair) =
+        outcomes eq After w n c (plan.Ask_op compute pair) [] tt
     on_drained p k (Giving a) = outcomes eq After w n c (plan.Reply a) [] tt
     on_drained p k (Putting key value rest t) =
         outcomes eq After w n c (plan.Moment (plan.To_store key value)) rest
@@ -207,12 +237,20 @@ module _ {K V E : Type 0} where
     on_plan p e k (Ending x rest d) = outcomes eq After w n c plan.End (plan.Post x ∷ rest) tt
     on_plan p e k (Judging aim key stored l) =
         outcomes eq After w n c (plan.Judge aim key stored) []
-        ((λ seen. hits_pends _ c aim stored.value l), λ unseen. misses_pends _ c aim k.0)
+        ((λ seen. hits_pends _ c aim key stored.value l), λ unseen. misses_pends _ c aim k.0)
     on_plan p e k (Reading sought) = outcomes eq After w n c (plan.Read sought) []
         (λ f. q, λ with f. read_pends _ c sought with q)
     on_plan p e k (Asking load) = outcomes eq After w n c (plan.Ask load) [] tt
     on_plan p e k (Telling load) = outcomes eq After w n c (plan.Told load) []
         (λ f. q, λ given f. told_pends _ c load given q)
+    on_plan p e k (Owning_key compute) = outcomes eq After w n c (plan.Own_key compute) []
+        ((λ able none. tt, λ not none. tt), λ owner some. tt)
+    on_plan p e k (Owning_alone key) = outcomes eq After w n c (plan.Own_alone key) []
+        ((λ able none. tt, λ not none. tt), λ owner some. (λ able. tt, λ not. tt))
+    on_plan p e k (Reading_key compute) = outcomes eq After w n c (plan.Read_key compute) []
+        (λ f. q, λ with f. read_key_pends _ c compute with q)
+    on_plan p e k (Telling_op compute pair) = outcomes eq After w n c (plan.Told_op compute pair) []
+        (λ f. q, λ given f. told_op_pends _ c compute pair given q)
     on_plan p e k (Writing key value moment rest t) =
         outcomes eq After w n c (plan.Write key value moment) rest
         (λ more. q, λ off old. tt, λ on. tt, λ there old on some. tt)
@@ -235,8 +273,9 @@ module _ {K V E : Type 0} where
       λ there old off some. tt,
       λ there old on some. tt,
     )
-    on_plan p e k (Freeing a) = outcomes eq After w n c (plan.Unlock false) (plan.Reply a ∷ []) tt
-    on_plan p e k (Idling a) = outcomes eq After w n c plan.Idle (plan.Reply a ∷ []) tt
+    on_plan p e k (Freeing rest t) = outcomes eq After w n c (plan.Unlock false) rest
+        (tail_pends _ c rest t)
+    on_plan p e k (Idling rest t) = outcomes eq After w n c plan.Idle rest (tail_pends _ c rest t)
 
 -- ---- of a state
 
@@ -339,6 +378,7 @@ module _ {K V E : Type 0} (eq : K → K → Bool) where
       (Some (holding.Own pending)) p → ⊥
   used_drained n pending p (Looking aim key l) k = none_some (sym k.0)
   used_drained n pending p (Owning sought) k = none_some (sym k.0)
+  used_drained n pending p (Asking_op compute pair) k = none_some (sym k.0)
   used_drained n pending p (Giving a) k = none_some (sym k.0)
   used_drained n pending p (Putting key value rest t) k = none_some (sym k.0)
   used_drained n pending p (Locking key value rest t) k = none_some (sym k.0)
@@ -363,13 +403,17 @@ module _ {K V E : Type 0} (eq : K → K → Bool) where
   used n pending p (Reading sought) k q = absurd (none_some (sym k.0))
   used n pending p (Asking load) k q = absurd (none_some (sym k.0))
   used n pending p (Telling load) k q = absurd (none_some (sym k.0))
+  used n pending p (Owning_key compute) k q = absurd (none_some (sym k.0))
+  used n pending p (Owning_alone key) k q = absurd (none_some (sym k.0))
+  used n pending p (Reading_key compute) k q = absurd (none_some (sym k.0))
+  used n pending p (Telling_op compute pair) k q = absurd (none_some (sym k.0))
   used n pending p (Writing key value moment rest t) k q = inl (is_pending pending q)
   used n pending p (Choosing key stamp cause) k q = absurd (none_some (sym k.0))
   used n pending p (Finding key stamp cause) k q = absurd (none_some (sym k.0))
   used n pending p (Chosen key stamp cause there stored) k q = absurd (none_some (sym k.0))
   used n pending p (Taking removal key) k q = inl (is_pending pending q)
-  used n pending p (Freeing a) k q = inl (either_pending pending q)
-  used n pending p (Idling a) k q = inl (is_pending pending q)
+  used n pending p (Freeing rest t) k q = inl (either_pending pending q)
+  used n pending p (Idling rest t) k q = inl (is_pending pending q)
 
   pub places_back : PlacesComeBack K V E eq
   places_back s n h =

@@ -7,11 +7,14 @@ use Rattle.moka_hist.specs.Plan as plan
 use Rattle.moka_hist.specs.Next.{Next, goes}
 use Rattle.moka_hist.specs.Looking.{hits, misses, keeps, finds_pair}
 use Rattle.moka_hist.specs.Loading.{after_read, after_abort, after_told, retries}
+use Rattle.moka_hist.specs.Computing.{after_told_op}
+use Rattle.moka_hist.specs.Writing.{said}
 use Rattle.moka_hist.specs.Run.{IsReached, fresh_call}
 use Rattle.moka_hist.specs.Step.{Step, state_after}
 use Rattle.moka_hist.specs.declared.events.Start.{Start}
 use Rattle.moka_hist.specs.declared.events.Told.{Told}
 use Rattle.moka_hist.specs.declared.events.Told.TheVariants as told
+use Rattle.moka_hist.specs.declared.loads.Compute.{Compute}
 use Rattle.moka_hist.specs.declared.loads.Load.{Load}
 use Rattle.moka_hist.specs.declared.loads.Sought.{Sought}
 use Rattle.moka_hist.specs.declared.rules.Cause.{Cause}
@@ -24,9 +27,9 @@ use Rattle.moka_hist.specs.declared.visits.Settled.{Settled}
 use Rattle.moka_hist.specs.declared.visits.Settled.TheVariants as settled
 use Rattle.moka_hist.specs.declared.visits.Found.TheVariants as found
 use Rattle.moka_hist.specs.declared.writes.Write as write
-use Rattle.moka_laws.proofs.Rules.{put_plans, loaded_plans, kept_next, chosen_next, IsFresh, Disabled, Gets, Loads, Owns, Finds_or_puts, Gives_back, Puts, Locks_and_puts, Takes_out, Locks_and_takes_out, Evicts, Locks_and_evicts, fresh_plan}
+use Rattle.moka_laws.proofs.Rules.{put_plans, loaded_plans, kept_next, chosen_next, read_key_next, told_op_next, IsFresh, Disabled, Gets, Loads, Owns, Computes, Computes_alone, Finds_or_puts, Gives_back, Puts, Locks_and_puts, Takes_out, Locks_and_takes_out, Evicts, Locks_and_evicts, fresh_plan}
 use Rattle.moka_laws.proofs.StepCases.{OnStep, step_cases}
-use Rattle.moka_laws.proofs.Outcomes.{outcomes}
+use Rattle.moka_laws.proofs.Outcomes.{alone_of, outcomes, OwnsKey}
 use Rattle.moka_laws.proofs.Kept.{IsKept, in_reached}
 use Rattle.moka_laws.proofs.Counting.{none_some, put_cases}
 
@@ -38,22 +41,26 @@ IsLook _ = Unit {0}
 module _ {K V E : Type 0} where
   -- what is left once a call has written and posted its write: it settles, and answers
   pub data IsTail : List (Item K V E) → Type 0 where
-    Answering : (answer : Answer V E) → IsTail (plan.Reply answer ∷ [])
-    Settling : (with : Settled V E) (answer : Answer V E) → IsTail (plan.Settle with ∷ plan.Reply answer ∷ [])
+    Answering : (answer : Answer K V E) → IsTail (plan.Reply answer ∷ [])
+    Settling : (with : Settled V E) (answer : Answer K V E) →
+        IsTail (plan.Settle with ∷ plan.Reply answer ∷ [])
 
   -- what is left once it has taken up what was owed: it looks, owns, writes, or takes out
   pub data IsDrained : List (Item K V E) → Type 0 where
     Looking : (aim : Aim K V) (key : K) → IsLook aim → IsDrained (plan.Get aim key ∷ [])
     Owning : (sought : Sought K) → IsDrained (plan.Own sought ∷ [])
+    -- the owner of a key's computes asks, right away where the cache is disabled
+    Asking_op : (compute : Compute K) (found : Option (K × V)) →
+        IsDrained (plan.Ask_op compute found ∷ [])
     -- a disabled cache's or_insert answers
-    Giving : (answer : Answer V E) → IsDrained (plan.Reply answer ∷ [])
+    Giving : (answer : Answer K V E) → IsDrained (plan.Reply answer ∷ [])
     Putting : (key : K) (value : V) (rest : List (Item K V E)) → IsTail rest →
         IsDrained (plan.Moment (plan.To_store key value) ∷ rest)
     Locking : (key : K) (value : V) (rest : List (Item K V E)) → IsTail rest →
         IsDrained (plan.Lock key ∷ plan.Moment (plan.To_store key value) ∷ rest)
-    Removing : (removal : Removal) (key : K) →
+    Removing : (removal : Removal K) (key : K) →
         IsDrained (plan.Moment (plan.To_take_out removal key) ∷ [])
-    Locking_out : (removal : Removal) (key : K) →
+    Locking_out : (removal : Removal K) (key : K) →
         IsDrained (plan.Lock key ∷ plan.Moment (plan.To_take_out removal key) ∷ [])
 
   -- what is left once a write is posted: more may be owed, or it was the call's own
@@ -83,6 +90,12 @@ module _ {K V E : Type 0} where
     Reading : (sought : Sought K) → IsPlan (plan.Read sought ∷ [])
     Asking : (load : Load K) → IsPlan (plan.Ask load ∷ [])
     Telling : (load : Load K) → IsPlan (plan.Told load ∷ [])
+    -- a compute owns its key, waits for the owner, and takes what it was told
+    Owning_key : (compute : Compute K) → IsPlan (plan.Own_key compute ∷ [])
+    Owning_alone : (key : K) → IsPlan (plan.Own_alone key ∷ [])
+    Reading_key : (compute : Compute K) → IsPlan (plan.Read_key compute ∷ [])
+    Telling_op : (compute : Compute K) (found : Option (K × V)) →
+        IsPlan (plan.Told_op compute found ∷ [])
     Writing : (key : K) (value : V) (moment : ℕ) (rest : List (Item K V E)) → IsTail rest → IsPlan (plan.Write key value moment ∷ rest)
     -- a chosen record is looked up, under its key's lock where a listener is set, and judged
     Choosing : (key : K) (stamp : ℕ) (cause : Cause) →
@@ -92,9 +105,9 @@ module _ {K V E : Type 0} where
     Chosen : (key : K) (stamp : ℕ) (cause : Cause) (there : K) (stored : Stored V) →
         IsPlan (plan.Holds key stamp cause there stored ∷ [])
     -- a record is taken out; and where nothing was, the lock is freed or the clock is read
-    Taking : (removal : Removal) (key : K) → IsPlan (plan.Out removal key ∷ [])
-    Freeing : (answer : Answer V E) → IsPlan (plan.Unlock false ∷ plan.Reply answer ∷ [])
-    Idling : (answer : Answer V E) → IsPlan (plan.Idle ∷ plan.Reply answer ∷ [])
+    Taking : (removal : Removal K) (key : K) → IsPlan (plan.Out removal key ∷ [])
+    Freeing : (rest : List (Item K V E)) → IsTail rest → IsPlan (plan.Unlock false ∷ rest)
+    Idling : (rest : List (Item K V E)) → IsTail rest → IsPlan (plan.Idle ∷ rest)
 
   -- the call's plan has one of these forms, and it has not given up yet
   pub record IsKnown (c : Call K V E) : Type 0 where
@@ -114,12 +127,15 @@ module _ {K V E : Type 0} where
 
   keeps_known : (c : Call K V E) → c.aborts < retries → KnownIf (keeps c).left
   keeps_known c y = kept_next (λ v. KnownIf v.left) c (λ off. tt)
-      (λ on. record { plan = Freeing _; young = y })
+      (λ on. record { plan = Freeing _ (Answering _); young = y })
 
   misses_known : (c : Call K V E) (aim : Aim K V) → c.aborts < retries → KnownIf (misses c aim).left
   misses_known c plan.To_answer y = tt
+  misses_known c (plan.To_report key) y = tt
   misses_known c (plan.To_load sought) y = record { plan = Drained _ (Owning sought); young = y }
   misses_known c (plan.To_own sought) y = record { plan = Asking sought.load; young = y }
+  misses_known c (plan.To_compute compute) y =
+      record { plan = Drained _ (Asking_op compute None); young = y }
   misses_known c (plan.To_insert key value) y =
       put_plans (λ p. KnownIf (goes c p).left) c.rules key value
       (plan.Reply (answer.Loaded value true) ∷ [])
@@ -131,25 +147,33 @@ module _ {K V E : Type 0} where
       KnownIf (finds_pair c aim there stored).left
   finds_known c plan.To_answer there stored y =
       record { plan = Judging _ there stored tt; young = y }
+  finds_known c (plan.To_report key) there stored y =
+      record { plan = Judging _ there stored tt; young = y }
   finds_known c (plan.To_load sought) there stored y =
       record { plan = Judging _ there stored tt; young = y }
   finds_known c (plan.To_own sought) there stored y =
+      record { plan = Judging _ there stored tt; young = y }
+  finds_known c (plan.To_compute compute) there stored y =
       record { plan = Judging _ there stored tt; young = y }
   finds_known c (plan.To_insert key value) there stored y =
       record { plan = Judging _ there stored tt; young = y }
   finds_known c (plan.To_evict key stamp cause) there stored y =
       chosen_next (λ v. KnownIf v.left) c key stamp cause there stored (λ off. tt)
-      (λ on. record { plan = Freeing _; young = y })
+      (λ on. record { plan = Freeing _ (Answering _); young = y })
       (record { plan = Chosen key stamp cause there stored; young = y })
 
-  hits_known : (c : Call K V E) (aim : Aim K V) (value : V) → IsLook aim → c.aborts < retries →
-      KnownIf (hits c aim value).left
-  hits_known c plan.To_answer value l y = tt
-  hits_known c (plan.To_load sought) value l y = tt
-  hits_known c (plan.To_insert key unused) value l y = tt
-  hits_known c (plan.To_own sought) value l y =
+  hits_known : (c : Call K V E) (aim : Aim K V) (there : K) (value : V) → IsLook aim →
+      c.aborts < retries →
+      KnownIf (hits c aim there value).left
+  hits_known c plan.To_answer there value l y = tt
+  hits_known c (plan.To_report key) there value l y = tt
+  hits_known c (plan.To_load sought) there value l y = tt
+  hits_known c (plan.To_insert key unused) there value l y = tt
+  hits_known c (plan.To_own sought) there value l y =
       record { plan = Posted _ (Ended _ (Settling _ _)); young = y }
-  hits_known c (plan.To_evict key stamp cause) value l y = absurd l
+  hits_known c (plan.To_compute compute) there value l y =
+      record { plan = Drained _ (Asking_op compute (Some (there, value))); young = y }
+  hits_known c (plan.To_evict key stamp cause) there value l y = absurd l
 
   read_known : (c : Call K V E) (sought : Sought K) (with : Settled V E) → IsKnown c → KnownIf (after_read c sought (found.ReadSettled with)).left
   read_known c sought (settled.Ready value) h = tt
@@ -177,21 +201,43 @@ module _ {K V E : Type 0} where
   told_known c load told.Nothing h =
       record { plan = Posted _ (Ended _ (Settling _ _)); young = h.young }
   told_known c load told.Done h = record { plan = h.plan; young = h.young }
+  told_known c load (told.Op op) h = record { plan = h.plan; young = h.young }
   told_known c load told.Off h = record { plan = h.plan; young = h.young }
+
+  -- what is left of a removal
+  said_tail : (removal : Removal K) (a : Answer K V E) → IsTail (said removal a)
+  said_tail plan.To_invalidate a = Answering a
+  said_tail plan.To_remove a = Answering a
+  said_tail (plan.To_evict_chosen stamp cause) a = Answering a
+  said_tail (plan.To_remove_as_told key) a = Settling _ a
+
+  told_op_known : (c : Call K V E) (compute : Compute K) (pair : Option (K × V))
+      (given : Told V E) → IsKnown c →
+      KnownIf (after_told_op c compute pair (found.TakeTold (Some given))).left
+  told_op_known c compute pair given h = told_op_next (λ v. KnownIf v.left) c compute pair given
+      (λ a. record { plan = Posted _ (Ended _ (Settling _ a)); young = h.young })
+      (λ value able off. record { plan = Posted _ (Draining _ (Putting _ _ _ (Settling _ _))); young = h.young })
+      (λ value able on. record { plan = Posted _ (Draining _ (Locking _ _ _ (Settling _ _))); young = h.young })
+      (λ off. record { plan = Posted _ (Draining _ (Removing _ _)); young = h.young })
+      (λ on. record { plan = Posted _ (Draining _ (Locking_out _ _)); young = h.young })
+      (record { plan = h.plan; young = h.young })
 
   fresh_form : (rules : Rules) (p : List (Item K V E)) → IsFresh rules p → IsPlan p
   fresh_form rules p (Disabled a d plain) = Posted _ (Ended _ (Answering a))
   fresh_form rules p (Gets key d) = Posted _ (Draining _ (Looking _ key tt))
-  fresh_form rules p (Loads sought d) = Posted _ (Draining _ (Looking _ sought.load.key tt))
-  fresh_form rules p (Owns sought d) = Posted _ (Draining _ (Owning sought))
+  fresh_form rules p (Loads sought d one) = Posted _ (Draining _ (Looking _ sought.load.key tt))
+  fresh_form rules p (Owns sought d one) = Posted _ (Draining _ (Owning sought))
+  fresh_form rules p (Computes compute one) = Owning_key compute
+  fresh_form rules p (Computes_alone key) = Owning_alone key
   fresh_form rules p (Finds_or_puts key value d) = Posted _ (Draining _ (Looking _ key tt))
   fresh_form rules p (Gives_back a d plain) = Posted _ (Draining _ (Giving a))
   fresh_form rules p (Puts key value d off) =
       Posted _ (Draining _ (Putting key value _ (Answering _)))
   fresh_form rules p (Locks_and_puts key value d on) =
       Posted _ (Draining _ (Locking key value _ (Answering _)))
-  fresh_form rules p (Takes_out removal key off) = Posted _ (Draining _ (Removing removal key))
-  fresh_form rules p (Locks_and_takes_out removal key on) =
+  fresh_form rules p (Takes_out removal key off named) =
+      Posted _ (Draining _ (Removing removal key))
+  fresh_form rules p (Locks_and_takes_out removal key on named) =
       Posted _ (Draining _ (Locking_out removal key))
   fresh_form rules p (Evicts key stamp cause off) = Finding key stamp cause
   fresh_form rules p (Locks_and_evicts key stamp cause on) = Choosing key stamp cause
@@ -219,6 +265,8 @@ module _ {K V E : Type 0} where
       (λ not e. record { plan = Asking sought.load; young = h.young }),
       λ owner e. record { plan = Reading sought; young = h.young },
     )
+    on_drained p (Asking_op compute pair) =
+        outcomes eq Leaves w n c (plan.Ask_op compute pair) [] (record { plan = Telling_op compute pair; young = h.young })
     on_drained p (Giving a) = outcomes eq Leaves w n c (plan.Reply a) [] tt
     on_drained p (Putting key value rest t) =
         outcomes eq Leaves w n c (plan.Moment (plan.To_store key value)) rest
@@ -245,6 +293,12 @@ module _ {K V E : Type 0} where
     )
     on_posted p (Ended rest t) = on_tail rest t
 
+    owns_key : (compute : Compute K) → OwnsKey eq Leaves w n c compute
+    owns_key compute = (
+      (λ able e. record { plan = Posted _ (Draining _ (Looking _ compute.key tt)); young = h.young }),
+      λ not e. record { plan = Posted _ (Draining _ (Asking_op compute None)); young = h.young },
+    )
+
     on_plan : (p : List (Item K V E)) → IsPlan p → OnStep eq Leaves w n c p
     on_plan p (Posted rest d) = on_posted rest d
     on_plan p (Drained rest d) = on_drained rest d
@@ -267,13 +321,34 @@ module _ {K V E : Type 0} where
         ((λ e. record { plan = Ending x rest d; young = h.young }), λ y ys e. record { plan = Applying x rest d; young = h.young })
     on_plan p (Ending x rest d) = outcomes eq Leaves w n c plan.End (plan.Post x ∷ rest) (record { plan = Posting x rest d; young = h.young })
     on_plan p (Judging aim key stored l) =
-        outcomes eq Leaves w n c (plan.Judge aim key stored) []
-        ((λ seen. hits_known c aim stored.value l h.young), λ unseen. misses_known c aim h.young)
+        outcomes eq Leaves w n c (plan.Judge aim key stored) [] (
+          (λ seen. hits_known c aim key stored.value l h.young),
+          λ unseen. misses_known c aim h.young,
+        )
     on_plan p (Reading sought) = outcomes eq Leaves w n c (plan.Read sought) []
         ((λ e. record { plan = h.plan; young = h.young }), λ with e. read_known c sought with h)
     on_plan p (Asking load) = outcomes eq Leaves w n c (plan.Ask load) [] (record { plan = Telling load; young = h.young })
     on_plan p (Telling load) = outcomes eq Leaves w n c (plan.Told load) []
         ((λ e. record { plan = h.plan; young = h.young }), λ given e. told_known c load given h)
+    on_plan p (Owning_key compute) = outcomes eq Leaves w n c (plan.Own_key compute) []
+        (owns_key compute, λ owner e. record { plan = Reading_key compute; young = h.young })
+    on_plan p (Owning_alone key) = outcomes eq Leaves w n c (plan.Own_alone key) [] (
+      owns_key (alone_of key),
+      λ owner e. (
+        (λ able. record { plan = Posted _ (Draining _ (Looking _ key tt)); young = h.young }),
+        λ not. record { plan = Posted _ (Draining _ (Giving _)); young = h.young },
+      ),
+    )
+    on_plan p (Reading_key compute) = outcomes eq Leaves w n c (plan.Read_key compute) [] (
+      (λ e. record { plan = h.plan; young = h.young }),
+      λ with e. read_key_next (λ v. KnownIf v.left) c compute with
+          (record { plan = h.plan; young = h.young })
+          (record { plan = Owning_key compute; young = h.young }),
+    )
+    on_plan p (Telling_op compute pair) = outcomes eq Leaves w n c (plan.Told_op compute pair) [] (
+      (λ e. record { plan = h.plan; young = h.young }),
+      λ given e. told_op_known c compute pair given h,
+    )
     on_plan p (Writing key value moment rest t) = outcomes eq Leaves w n c (plan.Write key value moment) rest (
       (λ more. record { plan = h.plan; young = h.young }),
       (λ off old. record { plan = Posting _ rest (Ended rest t); young = h.young }),
@@ -298,13 +373,15 @@ module _ {K V E : Type 0} where
         )
     on_plan p (Taking removal key) = outcomes eq Leaves w n c (plan.Out removal key) [] (
       (λ more. record { plan = h.plan; young = h.young }),
-      (λ off none. record { plan = Idling _; young = h.young }),
-      (λ on none. record { plan = Freeing _; young = h.young }),
-      (λ k old off some. record { plan = Posting _ _ (Ended _ (Answering _)); young = h.young }),
-      λ k old on some. record { plan = Noticing key old _ _ _ _ (Answering _); young = h.young },
+      (λ off none. record { plan = Idling _ (said_tail removal _); young = h.young }),
+      (λ on none. record { plan = Freeing _ (said_tail removal _); young = h.young }),
+      (λ k old off some. record { plan = Posting _ _ (Ended _ (said_tail removal _)); young = h.young }),
+      λ k old on some. record { plan = Noticing key old _ _ _ _ (said_tail removal _); young = h.young },
     )
-    on_plan p (Freeing a) = outcomes eq Leaves w n c (plan.Unlock false) (plan.Reply a ∷ []) tt
-    on_plan p (Idling a) = outcomes eq Leaves w n c plan.Idle (plan.Reply a ∷ []) tt
+    on_plan p (Freeing rest t) = outcomes eq Leaves w n c (plan.Unlock false) rest
+        (goes_known c rest h.young (Posted _ (Ended _ t)))
+    on_plan p (Idling rest t) = outcomes eq Leaves w n c plan.Idle rest
+        (goes_known c rest h.young (Posted _ (Ended _ t)))
 
 module _ {K V E : Type 0} (eq : K → K → Bool) where
   -- each live call is known

@@ -22,8 +22,10 @@ use Rattle.moka_hist.specs.declared.events.Told.TheVariants as answer
 use Rattle.moka_hist.specs.declared.visits.Settled.{Settled}
 use Rattle.moka_hist.specs.declared.visits.Settled.TheVariants as settled
 use Rattle.moka_hist.specs.declared.visits.Found.TheVariants as found
-use Rattle.moka_laws.proofs.Rules.{put_plans, loaded_plans, kept_next, chosen_next, IsFresh, Disabled, fresh_plan}
+use Rattle.moka_laws.proofs.Rules.{put_plans, loaded_plans, kept_next, chosen_next, IsFresh, Disabled, fresh_plan, read_key_next, told_op_next}
 use Rattle.moka_laws.proofs.Weights.{weigh, weigh_call}
+use Rattle.moka_hist.specs.declared.loads.Compute.{Compute}
+use Rattle.moka_hist.specs.Computing.{after_told_op, after_read_key}
 
 -- 1 where two numbers are one, and else 0
 abbrev pub once : ℕ → ℕ → ℕ
@@ -148,8 +150,11 @@ module _ {K V E : Type 0} where
 
   pub misses_clear : (c : Call K V E) (aim : Aim K V) → IsClear (misses c aim).left
   misses_clear c plan.To_answer = record { late = refl; posts = λ x. refl; may = omega arith }
+  misses_clear c (plan.To_report key) = record { late = refl; posts = λ x. refl; may = omega arith }
   misses_clear c (plan.To_load sought) = record { late = refl; posts = λ x. refl; may = omega arith }
   misses_clear c (plan.To_own sought) = record { late = refl; posts = λ x. refl; may = omega arith }
+  misses_clear c (plan.To_compute compute) =
+      record { late = refl; posts = λ x. refl; may = omega arith }
   misses_clear c (plan.To_insert key value) =
       put_plans (λ p. IsClear (goes c p).left) c.rules key value _
       (record { late = refl; posts = λ x. refl; may = omega arith })
@@ -159,11 +164,15 @@ module _ {K V E : Type 0} where
   pub finds_clear : (c : Call K V E) (aim : Aim K V) (there : K) (stored : Stored V) →
       IsClear (finds_pair c aim there stored).left
   finds_clear c plan.To_answer there stored = record { late = refl; posts = λ x. refl; may = omega arith }
+  finds_clear c (plan.To_report key) there stored =
+      record { late = refl; posts = λ x. refl; may = omega arith }
   finds_clear c (plan.To_load sought) there stored =
       record { late = refl; posts = λ x. refl; may = omega arith }
   finds_clear c (plan.To_insert under new) there stored =
       record { late = refl; posts = λ x. refl; may = omega arith }
   finds_clear c (plan.To_own sought) there stored =
+      record { late = refl; posts = λ x. refl; may = omega arith }
+  finds_clear c (plan.To_compute compute) there stored =
       record { late = refl; posts = λ x. refl; may = omega arith }
   finds_clear c (plan.To_evict key stamp cause) there stored =
       chosen_next (λ v. IsClear v.left) c key stamp cause there stored
@@ -171,13 +180,21 @@ module _ {K V E : Type 0} where
       (λ on. record { late = refl; posts = λ x. refl; may = omega arith })
       (record { late = refl; posts = λ x. refl; may = omega arith })
 
-  pub hits_clear : (c : Call K V E) (aim : Aim K V) (value : V) → IsClear (Some c) →
-      IsClear (hits c aim value).left
-  hits_clear c plan.To_answer value h = record { late = refl; posts = λ x. refl; may = omega arith }
-  hits_clear c (plan.To_load sought) value h = record { late = refl; posts = λ x. refl; may = omega arith }
-  hits_clear c (plan.To_insert under new) value h = record { late = refl; posts = λ x. refl; may = omega arith }
-  hits_clear c (plan.To_own sought) value h = record { late = refl; posts = λ x. refl; may = omega arith }
-  hits_clear c (plan.To_evict key stamp cause) value h =
+  pub hits_clear : (c : Call K V E) (aim : Aim K V) (there : K) (value : V) → IsClear (Some c) →
+      IsClear (hits c aim there value).left
+  hits_clear c plan.To_answer there value h =
+      record { late = refl; posts = λ x. refl; may = omega arith }
+  hits_clear c (plan.To_report key) there value h =
+      record { late = refl; posts = λ x. refl; may = omega arith }
+  hits_clear c (plan.To_load sought) there value h =
+      record { late = refl; posts = λ x. refl; may = omega arith }
+  hits_clear c (plan.To_insert under new) there value h =
+      record { late = refl; posts = λ x. refl; may = omega arith }
+  hits_clear c (plan.To_own sought) there value h =
+      record { late = refl; posts = λ x. refl; may = omega arith }
+  hits_clear c (plan.To_compute compute) there value h =
+      record { late = refl; posts = λ x. refl; may = omega arith }
+  hits_clear c (plan.To_evict key stamp cause) there value h =
       record { late = h.late; posts = h.posts; may = h.may }
 
   either_clear : (b : Bool) (x y : Next K V E) → IsClear x.left → IsClear y.left → IsClear (cond b x y).left
@@ -204,5 +221,24 @@ module _ {K V E : Type 0} where
   told_clear c load answer.Nothing h = record { late = refl; posts = λ x. refl; may = omega arith }
   told_clear c load (answer.Err error) h =
       record { late = refl; posts = λ x. refl; may = omega arith }
+  told_clear c load (answer.Op op) h = record { late = h.late; posts = h.posts; may = h.may }
   told_clear c load answer.Done h = record { late = h.late; posts = h.posts; may = h.may }
   told_clear c load answer.Off h = record { late = h.late; posts = h.posts; may = h.may }
+
+  pub read_key_clear : (c : Call K V E) (compute : Compute K) (with : Settled V E) →
+      IsClear (Some c) →
+      IsClear (after_read_key c compute (found.ReadSettled with)).left
+  read_key_clear c compute with h = read_key_next (λ v. IsClear v.left) c compute with
+      (record { late = h.late; posts = h.posts; may = h.may })
+      (record { late = refl; posts = λ x. refl; may = omega arith })
+
+  pub told_op_clear : (c : Call K V E) (compute : Compute K) (pair : Option (K × V))
+      (given : Told V E) → IsClear (Some c) →
+      IsClear (after_told_op c compute pair (found.TakeTold (Some given))).left
+  told_op_clear c compute pair given h = told_op_next (λ v. IsClear v.left) c compute pair given
+      (λ a. record { late = refl; posts = λ x. refl; may = omega arith })
+      (λ value able off. record { late = refl; posts = λ x. refl; may = omega arith })
+      (λ value able on. record { late = refl; posts = λ x. refl; may = omega arith })
+      (λ off. record { late = refl; posts = λ x. refl; may = omega arith })
+      (λ on. record { late = refl; posts = λ x. refl; may = omega arith })
+      (record { late = h.late; posts = h.posts; may = h.may })

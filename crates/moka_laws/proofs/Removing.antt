@@ -12,7 +12,7 @@ use Rattle.moka_hist.specs.Looking.{keeps}
 use Rattle.moka_hist.specs.Dropping.{dropped}
 use Rattle.moka_hist.specs.Step.{Step, state_after}
 use Rattle.moka_hist.specs.Tables.{removed, taken_by}
-use Rattle.moka_hist.specs.Writing.{nothing_answer, removed_answer, stamp_asked}
+use Rattle.moka_hist.specs.Writing.{said, nothing_answer, removed_answer, stamp_asked}
 use Rattle.moka_hist.specs.Run.{started}
 use Rattle.moka_hist.specs.declared.accesses.Turn.{Turn}
 use Rattle.moka_hist.specs.declared.accesses.Turn.TheVariants as turn
@@ -29,7 +29,7 @@ use Rattle.moka_laws.proofs.Counting.{differ, none_some, some_same, put_here, pu
 use Rattle.moka_laws.proofs.OnePlace.{contains_times, times_contains}
 use Rattle.moka_laws.proofs.Posts.{may_write}
 use Rattle.moka_laws.proofs.Weights.{weigh}
-use Rattle.moka_laws.proofs.Rules.{chosen_by, kept_next}
+use Rattle.moka_laws.proofs.Rules.{chosen_by, kept_next, IsNamed, said_named}
 use Rattle.moka_laws.proofs.Kept.{in_reached}
 use Rattle.moka_laws.proofs.Following.{IsFollowed, leads_more, no_leads, step_leads}
 use Rattle.moka_laws.proofs.Starting.{begins_so, follow_start}
@@ -60,7 +60,7 @@ module _ {K V : Type 0} where
       )
       by false is e = absurd (none_some e)
 
-module _ {K V E : Type 0} (removal : Removal) (key : K) (n : ℕ) where
+module _ {K V E : Type 0} (removal : Removal K) (key : K) (n : ℕ) where
   -- ---- how far the call is
 
   -- it has still to take the record out
@@ -76,8 +76,8 @@ module _ {K V E : Type 0} (removal : Removal) (key : K) (n : ℕ) where
       (removal ≡ plan.To_evict_chosen stamp cause) × (own ≡ key)
   Early (plan.Holds own stamp cause there found ∷ []) =
       (removal ≡ plan.To_evict_chosen stamp cause) × (own ≡ key)
-  Early (plan.Moment (plan.To_take_out r k) ∷ []) = (r ≡ removal) × (k ≡ key)
-  Early (plan.Out r k ∷ []) = (r ≡ removal) × (k ≡ key)
+  Early (plan.Moment (plan.To_take_out r k) ∷ []) = (r ≡ removal) × (k ≡ key) × IsNamed r
+  Early (plan.Out r k ∷ []) = (r ≡ removal) × (k ≡ key) × IsNamed r
   Early _ = ⊥
 
   -- it has found nothing
@@ -139,7 +139,7 @@ module _ {K V E : Type 0} (removal : Removal) (key : K) (n : ℕ) where
     -- of one that took this pair out: so it is still, or it answers that, and has logged it
     data FromLate (pair : K × Stored V) (new : World K V E) (next : Next K V E) : Type 0 where
       Stays_late : (d : Call K V E) → next.left ≡ Some d → Late pair d.plan →
-          ((a : Answer V E) → next.turn ≡ turn.Answer a → ⊥) →
+          ((a : Answer K V E) → next.turn ≡ turn.Answer a → ⊥) →
           new.table ≡ t → FromLate pair new next
       Answers_late : next.left ≡ None → next.turn ≡ turn.Answer
           (removed_answer removal pair.1.value) → new.table ≡ t →
@@ -156,7 +156,7 @@ module _ {K V E : Type 0} (removal : Removal) (key : K) (n : ℕ) where
         FromEarly eq w.table new (waits c)
     waits_early p e h = Stays_early _ refl (subst Early (sym e) h) (inr refl)
 
-    keeps_early : {new : World K V E} → new.table ≡ w.table → ◌≡◌ {A = Answer V E}
+    keeps_early : {new : World K V E} → new.table ≡ w.table → ◌≡◌ {A = Answer K V E}
         (nothing_answer removal) answer.Kept → FromEarly eq w.table new (keeps c)
     keeps_early {new} same e =
         kept_next (FromEarly eq w.table new) c
@@ -195,7 +195,7 @@ module _ {K V E : Type 0} (removal : Removal) (key : K) (n : ℕ) where
         )
     on_early (plan.Holds own stamp cause there seen ∷ []) e h =
         outcomes eq (FromEarly eq w.table) w n c (plan.Holds own stamp cause there seen) [] (
-          λ holds. Stays_early _ refl (sym h.0, h.1) (inl refl),
+          λ holds. Stays_early _ refl (sym h.0, h.1, tt) (inl refl),
           λ not. keeps_early refl
               (ap nothing_answer h.0),
         )
@@ -204,18 +204,26 @@ module _ {K V E : Type 0} (removal : Removal) (key : K) (n : ℕ) where
         (Stays_early _ refl h (inl refl))
     on_early (plan.Out r k ∷ []) e h = outcomes eq (FromEarly eq w.table) w n c (plan.Out r k) [] (
       λ more. Stays_early _ refl (subst Early (sym e) h) (inl refl),
-      λ off none. Gets_empty _ refl (ap nothing_answer h.0) refl refl,
-      λ on none. Gets_empty _ refl (ap nothing_answer h.0) refl refl,
-      λ there old off some. Takes (there, old) _ refl
-          (refl, ap (λ v. removed_answer v old.value) h.0) refl (was there old some).0
+      λ off none. Gets_empty _ refl
+          (subst (λ v. Empty (plan.Idle ∷ v)) (sym (said_named r (nothing_answer r) h.2))
+          (ap nothing_answer h.0)) refl refl,
+      λ on none. Gets_empty _ refl
+          (subst (λ v. Empty (plan.Unlock false ∷ v)) (sym (said_named r (nothing_answer r) h.2))
+          (ap nothing_answer h.0)) refl refl,
+      λ there old off some. Takes (there, old) _ refl (late there old) refl (was there old some).0
           (was there old some).1
           (ap (λ v. removed eq n w.table v) h.1),
-      λ there old on some. Takes (there, old) _ refl
-          (refl, ap (λ v. removed_answer v old.value) h.0) refl (was there old some).0
+      λ there old on some. Takes (there, old) _ refl (late there old) refl (was there old some).0
           (was there old some).1
           (ap (λ v. removed eq n w.table v) h.1),
     )
       where
+        late : (there : K) (old : Stored V) → Late (there, old)
+            (plan.Post (Remove n old.stamp) ∷ said r (removed_answer r old.value))
+        late there old = subst (λ v. Late (there, old) (plan.Post (Remove n old.stamp) ∷ v))
+            (sym (said_named r (removed_answer r old.value) h.2))
+            (refl, ap (λ v. removed_answer v old.value) h.0)
+
         was : (there : K) (old : Stored V) → taken_by (stamp_asked r) (w.table.stored k) ≡ Some
             (there, old) →
             (w.table.stored key ≡ Some (there, old)) × IsAsked (stamp_asked removal) old.stamp
@@ -277,7 +285,7 @@ module _ {K V E : Type 0} (removal : Removal) (key : K) (n : ℕ) where
 -- ---- of a state
 
 module _ {K V E : Type 0} (eq : K → K → Bool) (laws : IsEquivalence eq) (begin : Start K V)
-    (removal : Removal) (key : K) (n : ℕ) where
+    (removal : Removal K) (key : K) (n : ℕ) where
   -- the call has taken this pair out, and is to answer that
   record HasTaken (s : State K V E) (p : List (Item K V E)) : Type 0 where
     pair : K × Stored V
@@ -300,7 +308,7 @@ module _ {K V E : Type 0} (eq : K → K → Bool) (laws : IsEquivalence eq) (beg
   IsSoIf s None = Unit {0}
   IsSoIf s (Some c) = IsSo s c.plan
 
-  abbrev Says : State K V E → Answer V E → Type 0
+  abbrev Says : State K V E → Answer K V E → Type 0
   Says s a = SaysTaken eq begin s n removal key a ⊎ SaysNothing s n removal a
 
   -- so it is as the others go on
@@ -335,14 +343,14 @@ module _ {K V E : Type 0} (eq : K → K → Bool) (laws : IsEquivalence eq) (beg
   -- what the call's own step leaves, and answers
   record Result (s : State K V E) (reply : Turn K V E) : Type 0 where
     so : IsSoIf s (s.calls n)
-    says : (a : Answer V E) → reply ≡ turn.Answer a → Says s a
+    says : (a : Answer K V E) → reply ≡ turn.Answer a → Says s a
 
-  no_answer : (r : Turn K V E) (a : Answer V E) → (r ≡ turn.Going) ⊎ (r ≡ turn.Wait) → r ≡
+  no_answer : (r : Turn K V E) (a : Answer K V E) → (r ≡ turn.Going) ⊎ (r ≡ turn.Wait) → r ≡
       turn.Answer a → ⊥
   no_answer r a (inl e) f = let g : turn.Going ≡ turn.Answer a = sym e ∙ f in cc
   no_answer r a (inr e) f = let g : turn.Wait ≡ turn.Answer a = sym e ∙ f in cc
 
-  same_answer : (a b : Answer V E) → ◌≡◌ {A = Turn K V E} (turn.Answer a) (turn.Answer b) → a ≡ b
+  same_answer : (a b : Answer K V E) → ◌≡◌ {A = Turn K V E} (turn.Answer a) (turn.Answer b) → a ≡ b
   same_answer a b e = cc
 
   module _ (s : State K V E) (i : IsStamped eq s) (was : WasStarted eq begin n s) where
@@ -358,7 +366,8 @@ module _ {K V E : Type 0} (eq : K → K → Bool) (laws : IsEquivalence eq) (beg
       left_none : next.left ≡ None → IsSoIf after (after.calls n)
       left_none e = subst (IsSoIf after) (sym (put_here s.calls n next.left ∙ e)) tt
 
-      says_nothing : (a : Answer V E) → next.turn ≡ turn.Answer (nothing_answer removal) → new.table ≡
+      says_nothing : (a : Answer K V E) → next.turn ≡ turn.Answer (nothing_answer removal) →
+          new.table ≡
           s.world.table →
           times n s.world.table.committed ≡ 0 → next.turn ≡ turn.Answer a → Says after a
       says_nothing a e same none f = inr (record {
@@ -545,16 +554,16 @@ module _ {K V E : Type 0} (eq : K → K → Bool) (laws : IsEquivalence eq) (beg
             so_if_on s t (s.calls n) led (ap (λ (v : TablePart K V). times n v.committed) same)
             (λ x p. subst (IsPast eq x) (sym same) p) h
 
-same_removal : {K : Type 0} (x y : Removal × K) → Some x ≡ Some y → (x.0 ≡ y.0) × (x.1 ≡ y.1)
+same_removal : {K : Type 0} (x y : Removal K × K) → Some x ≡ Some y → (x.0 ≡ y.0) × (x.1 ≡ y.1)
 same_removal {K = K} x y e = (
-  ap (λ (v : Removal × K). v.0) (some_same e),
+  ap (λ (v : Removal K × K). v.0) (some_same e),
   ap
-      (λ (v : Removal × K). v.1) (some_same e),
+      (λ (v : Removal K × K). v.1) (some_same e),
 )
 
 module _ {K V : Type 0} (E : Type 0) where
   -- a call that is started to take a record out has still to
-  starts_early : (rules : Rules) (begin : Start K V) (removal : Removal) (key : K) (n : ℕ) →
+  starts_early : (rules : Rules) (begin : Start K V) (removal : Removal K) (key : K) (n : ℕ) →
       removal_of begin ≡ Some (removal, key) →
       Early removal key n (plan_of {E = E} rules begin)
   starts_early rules (start.Get k) removal key n e = absurd (none_some e)
@@ -563,18 +572,22 @@ module _ {K V : Type 0} (E : Type 0) where
   starts_early rules (start.Optional k) removal key n e = absurd (none_some e)
   starts_early rules (start.Try k) removal key n e = absurd (none_some e)
   starts_early rules (start.OrInsert k value) removal key n e = absurd (none_some e)
+  starts_early rules (start.Compute k) removal key n e = absurd (none_some e)
+  starts_early rules (start.TryCompute k) removal key n e = absurd (none_some e)
+  starts_early rules (start.ComputeAlone k) removal key n e = absurd (none_some e)
+  starts_early rules (start.Upsert k) removal key n e = absurd (none_some e)
   starts_early rules (start.Invalidate k) removal key n e = by rules.listener
     where
       by : (b : Bool) → Early {V = V} {E = E} removal key n
           (under_lock b k (plan.Moment (plan.To_take_out plan.To_invalidate k) ∷ []))
-      by true = same_removal (plan.To_invalidate, k) (removal, key) e
-      by false = same_removal (plan.To_invalidate, k) (removal, key) e
+      by true = let f = same_removal (plan.To_invalidate, k) (removal, key) e in (f.0, f.1, tt)
+      by false = let f = same_removal (plan.To_invalidate, k) (removal, key) e in (f.0, f.1, tt)
   starts_early rules (start.Remove k) removal key n e = by rules.listener
     where
       by : (b : Bool) → Early {V = V} {E = E} removal key n
           (under_lock b k (plan.Moment (plan.To_take_out plan.To_remove k) ∷ []))
-      by true = same_removal (plan.To_remove, k) (removal, key) e
-      by false = same_removal (plan.To_remove, k) (removal, key) e
+      by true = let f = same_removal (plan.To_remove, k) (removal, key) e in (f.0, f.1, tt)
+      by false = let f = same_removal (plan.To_remove, k) (removal, key) e in (f.0, f.1, tt)
   starts_early rules (start.Evict k stamp cause) removal key n e = by rules.listener
     where
       same : (removal ≡ plan.To_evict_chosen stamp cause) × (k ≡ key)
@@ -625,7 +638,8 @@ module _ {K V E : Type 0} (eq : K → K → Bool) (laws : IsEquivalence eq) wher
       by (removals_answer s t (start.Remove key) plan.To_remove key n
       (answer.Found value) refl w step)
     where
-      same_found : (x y : Option V) → ◌≡◌ {A = Answer V E} (answer.Found x) (answer.Found y) → x ≡ y
+      same_found : (x y : Option V) → ◌≡◌ {A = Answer K V E} (answer.Found x) (answer.Found y) →
+          x ≡ y
       same_found x y e = cc
 
       by : SaysTaken eq (start.Remove key) t n plan.To_remove key (answer.Found value) ⊎
@@ -646,7 +660,7 @@ module _ {K V E : Type 0} (eq : K → K → Bool) (laws : IsEquivalence eq) wher
       by (removals_answer s t (start.Evict key stamp cause)
       (plan.To_evict_chosen stamp cause) key n answer.Evicted refl w step)
     where
-      not_kept : ◌≡◌ {A = Answer V E} answer.Evicted answer.Kept → ⊥
+      not_kept : ◌≡◌ {A = Answer K V E} answer.Evicted answer.Kept → ⊥
       not_kept e = cc
 
       by : SaysTaken eq (start.Evict key stamp cause) t n

@@ -42,11 +42,19 @@ use Rattle.moka_laws.proofs.Balance.{IsBalanced, times_first}
 use Rattle.moka_laws.proofs.Balanced.{balanced_kept, next_free}
 use Rattle.moka_laws.proofs.Locking.{IsLocking, locking_kept, of_key}
 use Rattle.moka_laws.proofs.Owning.{plan_left}
-use Rattle.moka_laws.proofs.Plans.{IsTail, Answering, Settling, IsDrained, Looking, Putting, IsPosted, Draining, Ended, Locking, IsPlan, Posted, Drained, Posting, Hearing, Noticing, Listening, Unlocking, Turning, Applying, Ending, Judging, Owning, Giving, Reading, Asking, Telling, Writing, IsKnown, known_kept, IsLook, Removing, Locking_out, Choosing, Finding, Chosen, Taking, Freeing, Idling}
-use Rattle.moka_laws.proofs.Rules.{put_plans, loaded_plans, kept_next, chosen_next, IsFresh, Disabled, fresh_plan}
+use Rattle.moka_laws.proofs.Plans.{IsTail, Answering, Settling, IsDrained, Looking, Putting, IsPosted, Draining, Ended, Locking, IsPlan, Posted, Drained, Posting, Hearing, Noticing, Listening, Unlocking, Turning, Applying, Ending, Judging, Owning, Giving, Reading, Asking, Telling, Writing, IsKnown, known_kept, IsLook, Removing, Locking_out, Choosing, Finding, Chosen, Taking, Freeing, Idling, Asking_op, Owning_key, Owning_alone, Reading_key, Telling_op}
+use Rattle.moka_laws.proofs.Rules.{put_plans, loaded_plans, kept_next, chosen_next, IsFresh, Disabled, fresh_plan, read_key_next, told_op_next}
 use Rattle.moka_laws.proofs.Kept.{IsKept, in_reached}
 use Rattle.moka_laws.proofs.StepCases.{OnStep, step_cases}
 use Rattle.moka_laws.proofs.Outcomes.{outcomes}
+use Rattle.moka_hist.specs.declared.loads.Compute.{Compute}
+use Rattle.moka_hist.specs.Computing.{after_told_op, after_read_key}
+use Rattle.moka_hist.specs.Writing.{nothing_answer, removed_answer}
+use Rattle.moka_hist.specs.Plan.{Removal}
+use Rattle.moka_laws.proofs.Rules.{said_next}
+use Rattle.moka_hist.specs.Writing.{cause_handed}
+use Rattle.moka_laws.proofs.Outcomes.{taken_out}
+use Rattle.moka_hist.specs.declared.writes.Write.TheVariants.{Remove}
 
 -- ---- writes that replaced a record
 
@@ -151,8 +159,10 @@ module _ {K V E : Type 0} where
 
   misses_clear : (c : Call K V E) (aim : Aim K V) → Clear (misses c aim).left
   misses_clear c plan.To_answer = record { swaps = λ x. refl; notice = refl }
+  misses_clear c (plan.To_report key) = record { swaps = λ x. refl; notice = refl }
   misses_clear c (plan.To_load sought) = record { swaps = λ x. refl; notice = refl }
   misses_clear c (plan.To_own sought) = record { swaps = λ x. refl; notice = refl }
+  misses_clear c (plan.To_compute compute) = record { swaps = λ x. refl; notice = refl }
   misses_clear c (plan.To_insert key value) =
       put_plans (λ p. Clear (goes c p).left) c.rules key value _
       (record { swaps = λ x. refl; notice = refl }) (record { swaps = λ x. refl; notice = refl })
@@ -161,21 +171,27 @@ module _ {K V E : Type 0} where
   finds_clear : (c : Call K V E) (aim : Aim K V) (there : K) (stored : Stored V) →
       Clear (finds_pair c aim there stored).left
   finds_clear c plan.To_answer there stored = record { swaps = λ x. refl; notice = refl }
+  finds_clear c (plan.To_report key) there stored = record { swaps = λ x. refl; notice = refl }
   finds_clear c (plan.To_load sought) there stored = record { swaps = λ x. refl; notice = refl }
   finds_clear c (plan.To_insert under new) there stored = record { swaps = λ x. refl; notice = refl }
   finds_clear c (plan.To_own sought) there stored = record { swaps = λ x. refl; notice = refl }
+  finds_clear c (plan.To_compute compute) there stored = record { swaps = λ x. refl; notice = refl }
   finds_clear c (plan.To_evict key stamp cause) there stored =
       chosen_next (λ v. Clear v.left) c key stamp cause there stored
       (λ off. record { swaps = λ x. refl; notice = refl })
       (λ on. record { swaps = λ x. refl; notice = refl })
       (record { swaps = λ x. refl; notice = refl })
 
-  hits_clear : (c : Call K V E) (aim : Aim K V) (value : V) → IsLook aim → Clear (hits c aim value).left
-  hits_clear c plan.To_answer value l = record { swaps = λ x. refl; notice = refl }
-  hits_clear c (plan.To_load sought) value l = record { swaps = λ x. refl; notice = refl }
-  hits_clear c (plan.To_insert under new) value l = record { swaps = λ x. refl; notice = refl }
-  hits_clear c (plan.To_own sought) value l = record { swaps = λ x. refl; notice = refl }
-  hits_clear c (plan.To_evict key stamp cause) value l = absurd l
+  hits_clear : (c : Call K V E) (aim : Aim K V) (there : K) (value : V) → IsLook aim →
+      Clear (hits c aim there value).left
+  hits_clear c plan.To_answer there value l = record { swaps = λ x. refl; notice = refl }
+  hits_clear c (plan.To_report key) there value l = record { swaps = λ x. refl; notice = refl }
+  hits_clear c (plan.To_load sought) there value l = record { swaps = λ x. refl; notice = refl }
+  hits_clear c (plan.To_insert under new) there value l =
+      record { swaps = λ x. refl; notice = refl }
+  hits_clear c (plan.To_own sought) there value l = record { swaps = λ x. refl; notice = refl }
+  hits_clear c (plan.To_compute compute) there value l = record { swaps = λ x. refl; notice = refl }
+  hits_clear c (plan.To_evict key stamp cause) there value l = absurd l
 
   either_clear : (b : Bool) (x y : Next K V E) → Clear x.left → Clear y.left → Clear (cond b x y).left
   either_clear true x y h k = h
@@ -189,6 +205,12 @@ module _ {K V E : Type 0} where
   read_clear c sought settled.Aborted h = either_clear (c.aborts + 1 == retries) _ _ (record { swaps = λ x. refl; notice = refl })
       (record { swaps = λ x. refl; notice = refl })
 
+  read_key_clear : (c : Call K V E) (compute : Compute K) (with : Settled V E) → Clear (Some c) →
+      Clear (after_read_key c compute (found.ReadSettled with)).left
+  read_key_clear c compute with h = read_key_next (λ v. Clear v.left) c compute with
+      (record { swaps = h.swaps; notice = h.notice })
+      (record { swaps = λ x. refl; notice = refl })
+
   told_clear : (c : Call K V E) (load : Load K) (given : Told V E) → Clear (Some c) → Clear (after_told c load (found.TakeTold (Some given))).left
   told_clear c load (answer.Value value) h =
       loaded_plans (λ p. Clear (goes c p).left) c.rules load value
@@ -197,7 +219,19 @@ module _ {K V E : Type 0} where
   told_clear c load answer.Nothing h = record { swaps = λ x. refl; notice = refl }
   told_clear c load (answer.Err error) h = record { swaps = λ x. refl; notice = refl }
   told_clear c load answer.Done h = record { swaps = h.swaps; notice = h.notice }
+  told_clear c load (answer.Op op) h = record { swaps = h.swaps; notice = h.notice }
   told_clear c load answer.Off h = record { swaps = h.swaps; notice = h.notice }
+
+  told_op_clear : (c : Call K V E) (compute : Compute K) (pair : Option (K × V))
+      (given : Told V E) → Clear (Some c) →
+      Clear (after_told_op c compute pair (found.TakeTold (Some given))).left
+  told_op_clear c compute pair given h = told_op_next (λ v. Clear v.left) c compute pair given
+      (λ a. record { swaps = λ x. refl; notice = refl })
+      (λ value able off. (record { swaps = λ x. refl; notice = refl }))
+      (λ value able on. (record { swaps = λ x. refl; notice = refl }))
+      (λ off. (record { swaps = λ x. refl; notice = refl }))
+      (λ on. (record { swaps = λ x. refl; notice = refl }))
+      (record { swaps = h.swaps; notice = h.notice })
 
   -- the plan posts nothing, and opens nothing
   record ClearPlan (p : List (Item K V E)) : Type 0 where
@@ -289,6 +323,7 @@ module _ {K V E : Type 0} where
   drained_clear : (p : List (Item K V E)) → IsDrained p → weigh notice_of p ≡ 0
   drained_clear p (Looking aim key l) = refl
   drained_clear p (Owning sought) = refl
+  drained_clear p (Asking_op compute pair) = refl
   drained_clear p (Giving a) = refl
   drained_clear p (Removing removal key) = refl
   drained_clear p (Locking_out removal key) = refl
@@ -316,12 +351,16 @@ module _ {K V E : Type 0} where
   plan_opens p (Reading sought) h = absurd (omega arith)
   plan_opens p (Asking load) h = absurd (omega arith)
   plan_opens p (Telling load) h = absurd (omega arith)
+  plan_opens p (Owning_key compute) h = absurd (omega arith)
+  plan_opens p (Owning_alone key) h = absurd (omega arith)
+  plan_opens p (Reading_key compute) h = absurd (omega arith)
+  plan_opens p (Telling_op compute pair) h = absurd (omega arith)
   plan_opens p (Choosing key stamp cause) h = absurd (omega arith)
   plan_opens p (Finding key stamp cause) h = absurd (omega arith)
   plan_opens p (Chosen key stamp cause there stored) h = absurd (omega arith)
   plan_opens p (Taking removal key) h = absurd (omega arith)
-  plan_opens p (Freeing a) h = absurd (omega arith)
-  plan_opens p (Idling a) h = absurd (omega arith)
+  plan_opens p (Freeing rest t) h = absurd (omega (arith, (tail_clear rest t).0))
+  plan_opens p (Idling rest t) h = absurd (omega (arith, (tail_clear rest t).0))
 
   pub opens_notice : (p : List (Item K V E)) → OpensNotice p → 0 < weigh notice_of p
   opens_notice (plan.Notice key old cause upsert ∷ rest) h = omega arith
@@ -363,6 +402,9 @@ module _ {K V E : Type 0} where
           λ held. stays_put eq w n c p mode.Parked turn.Wait w.stay e
               (omega (arith, (tail_clear rest t).0)),
         )
+    on_drained p e (Asking_op compute pair) =
+        outcomes eq (Made p) w n c (plan.Ask_op compute pair) []
+        (clears eq w n c p refl refl refl (record { swaps = λ x. refl; notice = refl }) refl (λ x. refl) (λ x. refl))
     on_drained p e (Giving a) = outcomes eq (Made p) w n c (plan.Reply a) []
         (clears eq w n c p refl refl refl (record { swaps = λ x. refl; notice = refl }) refl (λ x. refl)
         (λ x. refl))
@@ -447,7 +489,7 @@ module _ {K V E : Type 0} where
         (same eq w n c p refl refl refl (λ some. refl) (omega arith) (λ x. omega arith))
     on_plan p e (Judging aim key stored l) = outcomes eq (Made p) w n c (plan.Judge aim key stored)
         [] (
-          λ seen. clears eq w n c p refl refl refl (hits_clear c aim stored.value l) refl
+          λ seen. clears eq w n c p refl refl refl (hits_clear c aim key stored.value l) refl
               (λ x. refl) (λ x. refl),
           λ unseen. clears eq w n c p refl refl refl (misses_clear c aim) refl (λ x. refl)
               (λ x. refl),
@@ -462,6 +504,23 @@ module _ {K V E : Type 0} where
       (λ none. stays_put eq w n c p mode.Parked turn.Wait w.stay e refl),
       λ given some. clears eq w n c p refl refl refl (told_clear c load given (was_clear eq w n c p e refl (λ x. refl))) refl (λ x. refl) (λ x. refl),
     )
+    on_plan p e (Owning_key compute) = outcomes eq (Made p) w n c (plan.Own_key compute) [] (
+      (λ able none. clears eq w n c p refl refl refl (record { swaps = λ x. refl; notice = refl }) refl (λ x. refl) (λ x. refl), λ not none. clears eq w n c p refl refl refl (record { swaps = λ x. refl; notice = refl }) refl (λ x. refl) (λ x. refl)),
+      λ owner some. clears eq w n c p refl refl refl (record { swaps = λ x. refl; notice = refl }) refl (λ x. refl) (λ x. refl),
+    )
+    on_plan p e (Owning_alone key) = outcomes eq (Made p) w n c (plan.Own_alone key) [] (
+      (λ able none. clears eq w n c p refl refl refl (record { swaps = λ x. refl; notice = refl }) refl (λ x. refl) (λ x. refl), λ not none. clears eq w n c p refl refl refl (record { swaps = λ x. refl; notice = refl }) refl (λ x. refl) (λ x. refl)),
+      λ owner some. (λ able. clears eq w n c p refl refl refl (record { swaps = λ x. refl; notice = refl }) refl (λ x. refl) (λ x. refl), λ not. clears eq w n c p refl refl refl (record { swaps = λ x. refl; notice = refl }) refl (λ x. refl) (λ x. refl)),
+    )
+    on_plan p e (Reading_key compute) = outcomes eq (Made p) w n c (plan.Read_key compute) [] (
+      (λ none. stays_put eq w n c p mode.Parked turn.Wait w.stay e refl),
+      λ with some. clears eq w n c p refl refl refl (read_key_clear c compute with (was_clear eq w n c p e refl (λ x. refl))) refl (λ x. refl) (λ x. refl),
+    )
+    on_plan p e (Telling_op compute pair) =
+        outcomes eq (Made p) w n c (plan.Told_op compute pair) [] (
+          (λ none. stays_put eq w n c p mode.Parked turn.Wait w.stay e refl),
+          λ given some. clears eq w n c p refl refl refl (told_op_clear c compute pair given (was_clear eq w n c p e refl (λ x. refl))) refl (λ x. refl) (λ x. refl),
+        )
     on_plan p e (Writing key value moment rest t) = outcomes eq (Made p) w n c (plan.Write key value moment) rest (
       (λ more. stays_put eq w n c p mode.Mid turn.Going _ e (omega (arith, (tail_clear rest t).0))),
       (λ off old. record {
@@ -509,9 +568,11 @@ module _ {K V E : Type 0} where
     on_plan p e (Taking removal key) = outcomes eq (Made p) w n c (plan.Out removal key) [] (
       (λ more. stays_put eq w n c p mode.Mid turn.Going _ e refl),
       (λ off none. clears eq w n c p refl refl refl
-          (record { swaps = λ x. refl; notice = refl }) refl (λ x. refl) (λ x. refl)),
-      (λ l none. clears eq w n c p refl refl refl (record { swaps = λ x. refl; notice = refl }) refl
-          (λ x. refl) (λ x. refl)),
+          (said_next (λ v. Clear v.left) c (λ q. plan.Idle ∷ q) removal (nothing_answer removal)
+          (record { swaps = λ x. refl; notice = refl })
+          (record { swaps = λ x. refl; notice = refl })) refl (λ x. refl) (λ x. refl)),
+      (λ l none. clears eq w n c p refl refl refl
+          (said_next (λ v. Clear v.left) c (λ q. plan.Unlock false ∷ q) removal (nothing_answer removal) (record { swaps = λ x. refl; notice = refl }) (record { swaps = λ x. refl; notice = refl })) refl (λ x. refl) (λ x. refl)),
       (λ k old off some. record {
         last = refl;
         rules = refl;
@@ -521,23 +582,44 @@ module _ {K V E : Type 0} where
         own = λ l. absurd (listens off l);
         others = λ l x d. absurd (listens off l);
       }),
-      λ k old l some. record {
-        last = refl;
-        rules = refl;
-        mid = λ some. refl;
-        notices = λ m d. refl;
-        quiet = λ l. refl;
-        own = λ l. omega (arith, ap (λ b. cond {A = ℕ} b 1 0) (same_number n));
-        others = λ l x d. omega (arith, ap (λ b. cond {A = ℕ} b 1 0) (other_number n x d));
-      },
+      λ k old l some. said_next (Made p (taken_out eq w n key)) c
+          (λ q. plan.Notice key old (cause_handed removal) false ∷ plan.Unlock true ∷ plan.Post (Remove n old.stamp) ∷ q)
+          removal (removed_answer removal old.value)
+          (record {
+            last = refl;
+            rules = refl;
+            mid = λ some. refl;
+            notices = λ m d. refl;
+            quiet = λ l. refl;
+            own = λ l. omega (arith, ap (λ b. cond {A = ℕ} b 1 0) (same_number n));
+            others = λ l x d. omega (arith, ap (λ b. cond {A = ℕ} b 1 0) (other_number n x d));
+          })
+          (record {
+            last = refl;
+            rules = refl;
+            mid = λ some. refl;
+            notices = λ m d. refl;
+            quiet = λ l. refl;
+            own = λ l. omega (arith, ap (λ b. cond {A = ℕ} b 1 0) (same_number n));
+            others = λ l x d. omega (arith, ap (λ b. cond {A = ℕ} b 1 0) (other_number n x d));
+          }),
     )
       where
         listens : c.rules.listener ≡ false → w.desk.rules.listener ≡ true → ⊥
         listens off l = false≢true (sym off ∙ ap (λ v. v.listener) rules ∙ l)
-    on_plan p e (Freeing a) = outcomes eq (Made p) w n c (plan.Unlock false) (plan.Reply a ∷ [])
+    on_plan p e (Freeing _ (Answering a)) =
+        outcomes eq (Made p) w n c (plan.Unlock false) (plan.Reply a ∷ [])
         (clears eq w n c p refl refl refl (record { swaps = λ x. refl; notice = refl }) refl
         (λ x. refl) (λ x. refl))
-    on_plan p e (Idling a) = outcomes eq (Made p) w n c plan.Idle (plan.Reply a ∷ [])
+    on_plan p e (Freeing _ (Settling with a)) =
+        outcomes eq (Made p) w n c (plan.Unlock false) (plan.Settle with ∷ plan.Reply a ∷ [])
+        (clears eq w n c p refl refl refl (record { swaps = λ x. refl; notice = refl }) refl
+        (λ x. refl) (λ x. refl))
+    on_plan p e (Idling _ (Answering a)) = outcomes eq (Made p) w n c plan.Idle (plan.Reply a ∷ [])
+        (clears eq w n c p refl refl refl (record { swaps = λ x. refl; notice = refl }) refl
+        (λ x. refl) (λ x. refl))
+    on_plan p e (Idling _ (Settling with a)) =
+        outcomes eq (Made p) w n c plan.Idle (plan.Settle with ∷ plan.Reply a ∷ [])
         (clears eq w n c p refl refl refl (record { swaps = λ x. refl; notice = refl }) refl
         (λ x. refl) (λ x. refl))
 

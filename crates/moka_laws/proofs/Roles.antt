@@ -19,10 +19,15 @@ use Rattle.moka_hist.specs.declared.events.Told.TheVariants as answer
 use Rattle.moka_hist.specs.declared.visits.Settled.{Settled}
 use Rattle.moka_hist.specs.declared.visits.Settled.TheVariants as settled
 use Rattle.moka_hist.specs.declared.visits.Found.TheVariants as found
-use Rattle.moka_laws.proofs.Rules.{put_plans, loaded_plans, kept_next, chosen_next, IsFresh, Disabled, fresh_plan}
+use Rattle.moka_laws.specs.Missing.{waits_for}
+use Rattle.moka_laws.proofs.Counting.{none_some}
+use Rattle.moka_laws.proofs.Rules.{put_plans, loaded_plans, kept_next, chosen_next, IsFresh, Takes_out, Locks_and_takes_out, Disabled, fresh_plan, told_op_next}
 use Rattle.moka_laws.proofs.Weights.{weigh}
 use Rattle.moka_laws.proofs.Owning.{plan_left}
+use Rattle.moka_laws.proofs.Outcomes.{computes_of}
 use Rattle.moka_laws.proofs.Plans.{IsLook}
+use Rattle.moka_hist.specs.declared.loads.Compute.{Compute}
+use Rattle.moka_hist.specs.Computing.{after_told_op, after_read_key}
 
 module _ {K V E : Type 0} where
   -- an item that answers, or says itself how the call goes on, is the plan's last
@@ -34,6 +39,11 @@ module _ {K V E : Type 0} where
   IsLast (plan.Read sought ∷ rest) = rest ≡ []
   IsLast (plan.Ask load ∷ rest) = rest ≡ []
   IsLast (plan.Told load ∷ rest) = rest ≡ []
+  IsLast (plan.Own_key compute ∷ rest) = rest ≡ []
+  IsLast (plan.Own_alone key ∷ rest) = rest ≡ []
+  IsLast (plan.Read_key compute ∷ rest) = rest ≡ []
+  IsLast (plan.Ask_op compute pair ∷ rest) = rest ≡ []
+  IsLast (plan.Told_op compute pair ∷ rest) = rest ≡ []
   IsLast (plan.Holds key stamp cause there stored ∷ rest) = rest ≡ []
   IsLast (plan.Moment (plan.To_take_out removal key) ∷ rest) = rest ≡ []
   IsLast (plan.Out removal key ∷ rest) = rest ≡ []
@@ -46,6 +56,12 @@ module _ {K V E : Type 0} where
   owners (plan.Judge (plan.To_own sought) key stored) = 1
   owners (plan.Ask load) = 1
   owners (plan.Told load) = 1
+  owners (plan.Get (plan.To_compute compute) key) = 1
+  owners (plan.Judge (plan.To_compute compute) key stored) = 1
+  owners (plan.Ask_op compute pair) = 1
+  owners (plan.Told_op compute pair) = 1
+  owners (plan.Moment (plan.To_take_out (plan.To_remove_as_told own) key)) = 1
+  owners (plan.Out (plan.To_remove_as_told own) key) = 1
   owners (plan.Settle with) = 1
   owners _ = 0
 
@@ -53,6 +69,7 @@ module _ {K V E : Type 0} where
   abbrev pub awaited : List (Item K V E) → Option (Load K)
   awaited [] = None
   awaited (plan.Read sought ∷ rest) = Some sought.load
+  awaited (plan.Read_key compute ∷ rest) = Some (computes_of compute.key)
   awaited (_ ∷ rest) = awaited rest
 
   -- the plan is that of a call that owns this load, if any, and waits for this owner, if any
@@ -76,8 +93,12 @@ module _ {K V E : Type 0} where
 
     pub misses_fits : (c : Call K V E) (aim : Aim K V) (key : K) → Fits o j (plan.Get aim key ∷ []) → Fits o j (plan_left (misses c aim).left)
     misses_fits c plan.To_answer key f = record { last = tt; owning = omega (arith, f.owning); waiting = f.waiting }
+    misses_fits c (plan.To_report under) key f =
+        record { last = tt; owning = omega (arith, f.owning); waiting = f.waiting }
     misses_fits c (plan.To_load sought) key f = record { last = refl; owning = f.owning; waiting = f.waiting }
     misses_fits c (plan.To_own sought) key f = record { last = refl; owning = f.owning; waiting = f.waiting }
+    misses_fits c (plan.To_compute compute) key f =
+        record { last = refl; owning = f.owning; waiting = f.waiting }
     misses_fits c (plan.To_insert there value) key f =
         put_plans (λ p. Fits o j (plan_left (goes c p).left)) c.rules there value _
         (record { last = refl; owning = f.owning; waiting = f.waiting })
@@ -98,11 +119,15 @@ module _ {K V E : Type 0} where
         Fits o j (plan.Get aim key ∷ []) → Fits o j (plan_left (finds_pair c aim k stored).left)
     finds_fits c plan.To_answer key k stored f =
         record { last = refl; owning = f.owning; waiting = f.waiting }
+    finds_fits c (plan.To_report under) key k stored f =
+        record { last = refl; owning = f.owning; waiting = f.waiting }
     finds_fits c (plan.To_load sought) key k stored f =
         record { last = refl; owning = f.owning; waiting = f.waiting }
     finds_fits c (plan.To_insert under new) key k stored f =
         record { last = refl; owning = f.owning; waiting = f.waiting }
     finds_fits c (plan.To_own sought) key k stored f =
+        record { last = refl; owning = f.owning; waiting = f.waiting }
+    finds_fits c (plan.To_compute compute) key k stored f =
         record { last = refl; owning = f.owning; waiting = f.waiting }
     finds_fits c (plan.To_evict there stamp cause) key k stored f =
         chosen_next (λ v. Fits o j (plan_left v.left)) c there stamp cause k stored
@@ -112,14 +137,18 @@ module _ {K V E : Type 0} where
 
     pub hits_fits : (c : Call K V E) (aim : Aim K V) (key : K) (stored : Stored V) (value : V) →
         Fits o j c.plan → Fits o j (plan.Judge aim key stored ∷ []) →
-        Fits o j (plan_left (hits c aim value).left)
+        Fits o j (plan_left (hits c aim key value).left)
     hits_fits c plan.To_answer key stored value p f =
+        record { last = tt; owning = omega (arith, f.owning); waiting = f.waiting }
+    hits_fits c (plan.To_report under) key stored value p f =
         record { last = tt; owning = omega (arith, f.owning); waiting = f.waiting }
     hits_fits c (plan.To_load sought) key stored value p f =
         record { last = tt; owning = omega (arith, f.owning); waiting = f.waiting }
     hits_fits c (plan.To_insert under new) key stored value p f =
         record { last = tt; owning = omega (arith, f.owning); waiting = f.waiting }
     hits_fits c (plan.To_own sought) key stored value p f =
+        record { last = refl; owning = omega (arith, f.owning); waiting = f.waiting }
+    hits_fits c (plan.To_compute compute) key stored value p f =
         record { last = refl; owning = omega (arith, f.owning); waiting = f.waiting }
     hits_fits c (plan.To_evict there stamp cause) key stored value p f = p
 
@@ -135,7 +164,20 @@ module _ {K V E : Type 0} where
     told_fits c load (answer.Err error) p f =
         record { last = refl; owning = omega (arith, f.owning); waiting = f.waiting }
     told_fits c load answer.Done p f = p
+    told_fits c load (answer.Op op) p f = p
     told_fits c load answer.Off p f = p
+
+    pub told_op_fits : (c : Call K V E) (compute : Compute K) (pair : Option (K × V))
+        (given : Told V E) → Fits o j c.plan → Fits o j (plan.Told_op compute pair ∷ []) →
+        Fits o j (plan_left (after_told_op c compute pair (found.TakeTold (Some given))).left)
+    told_op_fits c compute pair given p f =
+        told_op_next (λ v. Fits o j (plan_left v.left)) c compute pair given
+        (λ a. record { last = refl; owning = omega (arith, f.owning); waiting = f.waiting })
+        (λ value able off. (record { last = refl; owning = omega (arith, f.owning); waiting = f.waiting }))
+        (λ value able on. (record { last = refl; owning = omega (arith, f.owning); waiting = f.waiting }))
+        (λ off. (record { last = refl; owning = omega (arith, f.owning); waiting = f.waiting }))
+        (λ on. (record { last = refl; owning = omega (arith, f.owning); waiting = f.waiting }))
+        (p)
 
   -- no load is awaited where the call has missed, hit or been told
   pub keeps_awaits : (c : Call K V E) → awaited (plan_left (keeps c).left) ≡ None
@@ -143,8 +185,10 @@ module _ {K V E : Type 0} where
 
   pub misses_awaits : (c : Call K V E) (aim : Aim K V) → awaited (plan_left (misses c aim).left) ≡ None
   misses_awaits c plan.To_answer = refl
+  misses_awaits c (plan.To_report key) = refl
   misses_awaits c (plan.To_load sought) = refl
   misses_awaits c (plan.To_own sought) = refl
+  misses_awaits c (plan.To_compute compute) = refl
   misses_awaits c (plan.To_insert key value) =
       put_plans (λ p. awaited (plan_left (goes c p).left) ≡ None) c.rules key value _ refl refl
   misses_awaits c (plan.To_evict key stamp cause) = keeps_awaits c
@@ -152,26 +196,37 @@ module _ {K V E : Type 0} where
   pub finds_awaits : (c : Call K V E) (aim : Aim K V) (k : K) (stored : Stored V) →
       awaited (plan_left (finds_pair c aim k stored).left) ≡ None
   finds_awaits c plan.To_answer k stored = refl
+  finds_awaits c (plan.To_report key) k stored = refl
   finds_awaits c (plan.To_load sought) k stored = refl
   finds_awaits c (plan.To_insert under new) k stored = refl
   finds_awaits c (plan.To_own sought) k stored = refl
+  finds_awaits c (plan.To_compute compute) k stored = refl
   finds_awaits c (plan.To_evict key stamp cause) k stored =
       chosen_next (λ v. awaited (plan_left v.left) ≡ None) c key stamp cause k stored (λ off. refl)
       (λ on. refl) refl
 
-  pub hits_awaits : (c : Call K V E) (aim : Aim K V) (value : V) → IsLook aim →
-      awaited (plan_left (hits c aim value).left) ≡ None
-  hits_awaits c plan.To_answer value l = refl
-  hits_awaits c (plan.To_load sought) value l = refl
-  hits_awaits c (plan.To_insert under new) value l = refl
-  hits_awaits c (plan.To_own sought) value l = refl
-  hits_awaits c (plan.To_evict key stamp cause) value l = absurd l
+  pub hits_awaits : (c : Call K V E) (aim : Aim K V) (there : K) (value : V) → IsLook aim →
+      awaited (plan_left (hits c aim there value).left) ≡ None
+  hits_awaits c plan.To_answer there value l = refl
+  hits_awaits c (plan.To_report key) there value l = refl
+  hits_awaits c (plan.To_load sought) there value l = refl
+  hits_awaits c (plan.To_insert under new) there value l = refl
+  hits_awaits c (plan.To_own sought) there value l = refl
+  hits_awaits c (plan.To_compute compute) there value l = refl
+  hits_awaits c (plan.To_evict key stamp cause) there value l = absurd l
 
   pub goes_awaits : (c : Call K V E) (rest : List (Item K V E)) → awaited (plan_left (goes c rest).left) ≡ awaited rest
   goes_awaits c (plan.Reply a ∷ []) = refl
   goes_awaits c (plan.Reply a ∷ x ∷ rest) = refl
   goes_awaits c [] = refl
   goes_awaits c (item ∷ rest) = refl
+
+  -- what an item waits for, its plan does
+  pub awaits_first : (item : Item K V E) (rest : List (Item K V E)) (load : Load K) →
+      waits_for item ≡ Some load → awaited (item ∷ rest) ≡ Some load
+  awaits_first (plan.Read sought) rest load e = e
+  awaits_first (plan.Read_key compute) rest load e = e
+  awaits_first _ rest load e = absurd (none_some e)
 
   either_fits : (o : Option (Load K)) (b : Bool) (x y : Next K V E) → Fits o None (plan_left x.left) → Fits o None (plan_left y.left) →
       Fits o None (plan_left (cond b x y).left)
@@ -190,8 +245,36 @@ module _ {K V E : Type 0} where
       either_fits o (c.aborts + 1 == retries) _ _ (record { last = tt; owning = omega (arith, f.owning); waiting = refl })
       (record { last = refl; owning = f.owning; waiting = refl })
 
+  pub read_key_fits : (o : Option (Load K)) (j : Option ℕ) (c : Call K V E) (compute : Compute K)
+      (with : Settled V E) →
+      Some with ≢ Some settled.NotYet → Fits o j (plan.Read_key compute ∷ []) →
+      Fits o None (plan_left (after_read_key c compute (found.ReadSettled with)).left)
+  read_key_fits o j c compute settled.NotYet n f = absurd (n refl)
+  read_key_fits o j c compute (settled.Ready value) n f =
+      record { last = refl; owning = f.owning; waiting = refl }
+  read_key_fits o j c compute (settled.Err error) n f =
+      record { last = refl; owning = f.owning; waiting = refl }
+  read_key_fits o j c compute settled.Nothing n f =
+      record { last = refl; owning = f.owning; waiting = refl }
+  read_key_fits o j c compute settled.Aborted n f =
+      record { last = refl; owning = f.owning; waiting = refl }
+
   fresh_form : (rules : Rules) (p : List (Item K V E)) → IsFresh rules p → Fits None None p
   fresh_form rules p (Disabled a d plain) = record { last = refl; owning = refl; waiting = refl }
+  fresh_form rules p (Takes_out plan.To_invalidate key off named) =
+      record { last = refl; owning = refl; waiting = refl }
+  fresh_form rules p (Locks_and_takes_out plan.To_invalidate key on named) =
+      record { last = refl; owning = refl; waiting = refl }
+  fresh_form rules p (Takes_out plan.To_remove key off named) =
+      record { last = refl; owning = refl; waiting = refl }
+  fresh_form rules p (Locks_and_takes_out plan.To_remove key on named) =
+      record { last = refl; owning = refl; waiting = refl }
+  fresh_form rules p (Takes_out (plan.To_evict_chosen stamp cause) key off named) =
+      record { last = refl; owning = refl; waiting = refl }
+  fresh_form rules p (Locks_and_takes_out (plan.To_evict_chosen stamp cause) key on named) =
+      record { last = refl; owning = refl; waiting = refl }
+  fresh_form rules p (Takes_out (plan.To_remove_as_told own) key off named) = absurd named
+  fresh_form rules p (Locks_and_takes_out (plan.To_remove_as_told own) key on named) = absurd named
   fresh_form rules p _ = record { last = refl; owning = refl; waiting = refl }
 
   pub fresh_fits : (rules : Rules) (start : Start K V) → Fits None None (plan_of rules start)

@@ -1,19 +1,32 @@
 -- How plans depend on the rules of the cache.
-use Rattle.std.proofs.Common.{◌≡◌, ◌==◌, refl, Bool, true, false, List, [], ◌∷◌, None}
+use Rattle.std.proofs.Common.{◌≡◌, ◌==◌, refl, Bool, true, false, List, [], ◌∷◌, Option, Some, None}
 use Rattle.std.proofs.lemmas.Bool.{eqb-true}
 use Rattle.moka_hist.specs.State.{Call}
-use Rattle.moka_hist.specs.Next.{Next, goes, answers}
+use Rattle.moka_hist.specs.Next.{Next, goes, answers, waits}
+use Rattle.moka_hist.specs.Entries.{put_answer, unchanged}
+use Rattle.moka_hist.specs.Writing.{said}
+use Rattle.moka_hist.specs.Computing.{after_read_key, after_told_op, end_compute, put_told}
 use Rattle.moka_hist.specs.Looking.{keeps, kept_rest, finds_pair, chosen_or_not}
 use Rattle.moka_hist.specs.Plan.{Item, Aim, Removal, put, under_lock, take_out, is_disabled, told_on, load_rest, loaded, get_plan, insert_plan, load_plan, or_insert_plan, seek, plan_of}
 use Rattle.moka_hist.specs.Plan as plan
 use Rattle.moka_hist.specs.declared.events.Start.{Start}
 use Rattle.moka_hist.specs.declared.events.Start.TheVariants as start
+use Rattle.moka_hist.specs.declared.events.Op.TheVariants as op
+use Rattle.moka_hist.specs.declared.events.Told.{Told}
+use Rattle.moka_hist.specs.declared.events.Told.TheVariants as told
+use Rattle.moka_hist.specs.declared.loads.Compute.{Compute}
 use Rattle.moka_hist.specs.declared.loads.Load.{Load}
 use Rattle.moka_hist.specs.declared.loads.Sought.{Sought}
+use Rattle.moka_hist.specs.declared.loads.Kind.{Kind}
 use Rattle.moka_hist.specs.declared.loads.Kind.TheVariants as kind
 use Rattle.moka_hist.specs.declared.records.Stored.{Stored}
 use Rattle.moka_hist.specs.declared.replies.Answer.{Answer}
 use Rattle.moka_hist.specs.declared.replies.Answer.TheVariants as answer
+use Rattle.moka_hist.specs.declared.visits.Found.TheVariants as found
+use Rattle.moka_hist.specs.declared.visits.Settled.{Settled}
+use Rattle.moka_hist.specs.declared.visits.Settled.TheVariants as settled
+use Rattle.moka_hist.specs.declared.visits.Takes.{Takes}
+use Rattle.moka_hist.specs.declared.visits.Takes.TheVariants as takes
 use Rattle.moka_hist.specs.declared.rules.Cause.{Cause}
 use Rattle.moka_hist.specs.declared.rules.Rules.{Rules}
 
@@ -97,9 +110,164 @@ module _ {K V E : Type 0} (P : Next K V E → Type 0) (c : Call K V E) where
   chosen_next key stamp cause there stored free locked same =
       chosen_by key stamp cause there stored (λ e. kept_next free locked) (λ e. same)
 
+-- no ask of a compute takes such an answer
+abbrev pub IsLost : {V E : Type 0} → Told V E → Type 0
+IsLost (told.Value value) = ⊥
+IsLost told.Nothing = Unit {0}
+IsLost (told.Err error) = ⊥
+IsLost (told.Op op) = ⊥
+IsLost told.Done = Unit {0}
+IsLost told.Off = Unit {0}
+
+module _ {K V E : Type 0} (P : Next K V E → Type 0) (c : Call K V E) where
+  -- what holds of a compute that has read how its owner ended: it begins anew, or waits on
+  pub read_key_next : (compute : Compute K) (with : Settled V E) → P (waits c) →
+      P (goes c (plan.Own_key compute ∷ [])) →
+      P (after_read_key c compute (found.ReadSettled with))
+  read_key_next compute settled.NotYet waits anew = waits
+  read_key_next compute (settled.Ready value) waits anew = anew
+  read_key_next compute (settled.Err error) waits anew = anew
+  read_key_next compute settled.Nothing waits anew = anew
+  read_key_next compute settled.Aborted waits anew = anew
+
+  -- what holds of one that stores what it was told, unless the cache is disabled
+  puts_next : (compute : Compute K) (pair : Option (K × V)) (value : V) →
+      (is_disabled c.rules ≡ true → P (goes c (end_compute (put_answer compute.key pair value)))) →
+      (is_disabled c.rules ≡ false → c.rules.listener ≡ false →
+      P (goes c (plan.Drain ∷ plan.Moment (plan.To_store compute.key value)
+      ∷ end_compute (put_answer compute.key pair value)))) →
+      (is_disabled c.rules ≡ false → c.rules.listener ≡ true →
+      P (goes c (plan.Drain ∷ plan.Lock compute.key ∷ plan.Moment (plan.To_store compute.key value)
+      ∷ end_compute (put_answer compute.key pair value)))) →
+      P (goes c (put_told (is_disabled c.rules) c compute.key pair value))
+  puts_next compute pair value ends free locked = by (is_disabled c.rules) refl
+    where
+      by : (b : Bool) → is_disabled c.rules ≡ b → P (goes c (put_told b c compute.key pair value))
+      by true e = ends e
+      by false e = put_plans_by (λ p. P (goes c p)) c.rules compute.key value
+          (end_compute (put_answer compute.key pair value)) (free e) (locked e)
+
+  -- what holds of a plan that answers, and of one that first settles, holds of what is left of a
+  -- removal
+  pub said_next : (before : List (Item K V E) → List (Item K V E)) (removal : Removal K)
+      (a : Answer K V E) →
+      P (goes c (before (plan.Reply a ∷ []))) → P (goes c (before (end_compute a))) →
+      P (goes c (before (said removal a)))
+  said_next before plan.To_invalidate a answers settles = answers
+  said_next before plan.To_remove a answers settles = answers
+  said_next before (plan.To_evict_chosen stamp cause) a answers settles = answers
+  said_next before (plan.To_remove_as_told key) a answers settles = settles
+
+  -- what holds of one that was told what to do: it ends, stores, takes out, or waits on where it was
+  -- told what no compute takes
+  pub told_op_next_by : (compute : Compute K) (pair : Option (K × V)) (given : Told V E) →
+      P (goes c (end_compute (unchanged compute.key pair))) →
+      ((error : E) → given ≡ told.Err error → P (goes c (end_compute (answer.ComputeErr error)))) →
+      ((value : V) → is_disabled c.rules ≡ true →
+      P (goes c (end_compute (put_answer compute.key pair value)))) →
+      ((value : V) → is_disabled c.rules ≡ false → c.rules.listener ≡ false →
+      P (goes c (plan.Drain ∷ plan.Moment (plan.To_store compute.key value)
+      ∷ end_compute (put_answer compute.key pair value)))) →
+      ((value : V) → is_disabled c.rules ≡ false → c.rules.listener ≡ true →
+      P (goes c (plan.Drain ∷ plan.Lock compute.key ∷ plan.Moment (plan.To_store compute.key value)
+      ∷ end_compute (put_answer compute.key pair value)))) →
+      (c.rules.listener ≡ false →
+      P (goes c (plan.Drain ∷ plan.Moment
+      (plan.To_take_out (plan.To_remove_as_told compute.key) compute.key) ∷ []))) →
+      (c.rules.listener ≡ true →
+      P (goes c (plan.Drain ∷ plan.Lock compute.key ∷ plan.Moment
+      (plan.To_take_out (plan.To_remove_as_told compute.key) compute.key) ∷ []))) →
+      (IsLost given → P (waits c)) →
+      P (after_told_op c compute pair (found.TakeTold (Some given)))
+  told_op_next_by compute pair (told.Op op.Nop) keeps fails none free locked out locked_out waits =
+      keeps
+  told_op_next_by compute pair (told.Op (op.Put value)) keeps fails none free locked out locked_out
+      waits =
+      puts_next compute pair value (none value) (free value) (locked value)
+  told_op_next_by compute pair (told.Value value) keeps fails none free locked out locked_out waits =
+      puts_next compute pair value (none value) (free value) (locked value)
+  told_op_next_by compute pair (told.Op op.Remove) keeps fails none free locked out locked_out waits =
+      locked_by (λ p. P (goes c p)) c.rules.listener compute.key
+      (plan.Moment (plan.To_take_out (plan.To_remove_as_told compute.key) compute.key) ∷ [])
+      out locked_out
+  told_op_next_by compute pair (told.Err error) keeps fails none free locked out locked_out waits =
+      fails error refl
+  told_op_next_by compute pair told.Nothing keeps fails none free locked out locked_out waits =
+      waits tt
+  told_op_next_by compute pair told.Done keeps fails none free locked out locked_out waits =
+      waits tt
+  told_op_next_by compute pair told.Off keeps fails none free locked out locked_out waits = waits tt
+
+  -- so where whatever the compute answers does for the end
+  pub told_op_next : (compute : Compute K) (pair : Option (K × V)) (given : Told V E) →
+      ((a : Answer K V E) → P (goes c (end_compute a))) →
+      ((value : V) → is_disabled c.rules ≡ false → c.rules.listener ≡ false →
+      P (goes c (plan.Drain ∷ plan.Moment (plan.To_store compute.key value)
+      ∷ end_compute (put_answer compute.key pair value)))) →
+      ((value : V) → is_disabled c.rules ≡ false → c.rules.listener ≡ true →
+      P (goes c (plan.Drain ∷ plan.Lock compute.key ∷ plan.Moment (plan.To_store compute.key value)
+      ∷ end_compute (put_answer compute.key pair value)))) →
+      (c.rules.listener ≡ false →
+      P (goes c (plan.Drain ∷ plan.Moment
+      (plan.To_take_out (plan.To_remove_as_told compute.key) compute.key) ∷ []))) →
+      (c.rules.listener ≡ true →
+      P (goes c (plan.Drain ∷ plan.Lock compute.key ∷ plan.Moment
+      (plan.To_take_out (plan.To_remove_as_told compute.key) compute.key) ∷ []))) →
+      P (waits c) →
+      P (after_told_op c compute pair (found.TakeTold (Some given)))
+  told_op_next compute pair given ends free locked out locked_out waits =
+      told_op_next_by compute pair given (ends (unchanged compute.key pair))
+      (λ error e. ends (answer.ComputeErr error))
+      (λ value off. ends (put_answer compute.key pair value)) free locked out locked_out
+      (λ lost. waits)
+
+-- the kind is a load's, and no compute's
+abbrev pub IsLoad : Kind → Type 0
+IsLoad kind.GetWith = Unit {0}
+IsLoad kind.Optional = Unit {0}
+IsLoad kind.Try = Unit {0}
+IsLoad kind.Compute = ⊥
+
+-- the asks of a compute take this: it is told what to do, or an error, or a value
+abbrev pub IsComputes : Takes → Type 0
+IsComputes takes.Value = Unit {0}
+IsComputes takes.Optional = ⊥
+IsComputes takes.Try = ⊥
+IsComputes takes.Op = Unit {0}
+IsComputes takes.TryOp = Unit {0}
+
+-- a call was started for this removal, and not told to do it
+abbrev pub IsNamed : {K : Type 0} → Removal K → Type 0
+IsNamed (plan.To_remove_as_told key) = ⊥
+IsNamed _ = Unit {0}
+
+-- the answer is a compute's: what it did, or the error that it was told
+abbrev pub IsComputed : {K V E : Type 0} → Answer K V E → Type 0
+IsComputed (answer.Computed done) = Unit {0}
+IsComputed (answer.ComputeErr error) = Unit {0}
+IsComputed _ = ⊥
+
+pub unchanged_computed : {K V : Type 0} (E : Type 0) (key : K) (pair : Option (K × V)) →
+    IsComputed (unchanged {E = E} key pair)
+unchanged_computed E key None = tt
+unchanged_computed E key (Some pair) = tt
+
+pub put_computed : {K V : Type 0} (E : Type 0) (key : K) (pair : Option (K × V)) (value : V) →
+    IsComputed (put_answer {E = E} key pair value)
+put_computed E key None value = tt
+put_computed E key (Some pair) value = tt
+
+-- a call that was started for its removal answers at once
+pub said_named : {K V E : Type 0} (removal : Removal K) (a : Answer K V E) → IsNamed removal →
+    said removal a ≡ plan.Reply a ∷ []
+said_named plan.To_invalidate a named = refl
+said_named plan.To_remove a named = refl
+said_named (plan.To_evict_chosen stamp cause) a named = refl
+said_named (plan.To_remove_as_told key) a named = absurd named
+
 -- the answer is not how a load ended without a value: neither nothing, nor an error, nor that the
 -- call gave up
-abbrev pub IsPlain : {V E : Type 0} → Answer V E → Type 0
+abbrev pub IsPlain : {K V E : Type 0} → Answer K V E → Type 0
 IsPlain answer.Nothing = ⊥
 IsPlain (answer.InitErr error) = ⊥
 IsPlain answer.RetriesExhausted = ⊥
@@ -108,17 +276,20 @@ IsPlain _ = Unit {0}
 module _ {K V E : Type 0} where
   -- the plans that fresh calls have by these rules
   pub data IsFresh (rules : Rules) : List (Item K V E) → Type 0 where
-    Disabled : (a : Answer V E) → is_disabled rules ≡ true → IsPlain a →
+    Disabled : (a : Answer K V E) → is_disabled rules ≡ true → IsPlain a →
         IsFresh rules (plan.Reply a ∷ [])
     Gets : (key : K) → is_disabled rules ≡ false →
         IsFresh rules (plan.Drain ∷ plan.Get plan.To_answer key ∷ [])
-    Loads : (sought : Sought K) → is_disabled rules ≡ false →
+    Loads : (sought : Sought K) → is_disabled rules ≡ false → IsLoad sought.load.kind →
         IsFresh rules (plan.Drain ∷ plan.Get (plan.To_load sought) sought.load.key ∷ [])
-    Owns : (sought : Sought K) → is_disabled rules ≡ true →
+    Owns : (sought : Sought K) → is_disabled rules ≡ true → IsLoad sought.load.kind →
         IsFresh rules (plan.Drain ∷ plan.Own sought ∷ [])
+    Computes : (compute : Compute K) → IsComputes compute.takes →
+        IsFresh rules (plan.Own_key compute ∷ [])
+    Computes_alone : (key : K) → IsFresh rules (plan.Own_alone key ∷ [])
     Finds_or_puts : (key : K) (value : V) → is_disabled rules ≡ false →
         IsFresh rules (plan.Drain ∷ plan.Get (plan.To_insert key value) key ∷ [])
-    Gives_back : (a : Answer V E) → is_disabled rules ≡ true → IsPlain a →
+    Gives_back : (a : Answer K V E) → is_disabled rules ≡ true → IsPlain a →
         IsFresh rules (plan.Drain ∷ plan.Reply a ∷ [])
     Puts : (key : K) (value : V) → is_disabled rules ≡ false → rules.listener ≡ false →
         IsFresh rules (plan.Drain ∷ plan.Moment (plan.To_store key value)
@@ -127,28 +298,29 @@ module _ {K V E : Type 0} where
         IsFresh rules
         (plan.Drain ∷ plan.Lock key ∷ plan.Moment (plan.To_store key value)
         ∷ plan.Reply answer.Done ∷ [])
-    Takes_out : (removal : Removal) (key : K) → rules.listener ≡ false →
+    Takes_out : (removal : Removal K) (key : K) → rules.listener ≡ false → IsNamed removal →
         IsFresh rules (plan.Drain ∷ plan.Moment (plan.To_take_out removal key) ∷ [])
-    Locks_and_takes_out : (removal : Removal) (key : K) → rules.listener ≡ true →
+    Locks_and_takes_out : (removal : Removal K) (key : K) → rules.listener ≡ true →
+        IsNamed removal →
         IsFresh rules (plan.Drain ∷ plan.Lock key ∷ plan.Moment (plan.To_take_out removal key) ∷ [])
     Evicts : (key : K) (stamp : _) (cause : Cause) → rules.listener ≡ false →
         IsFresh rules (plan.Get (plan.To_evict key stamp cause) key ∷ [])
     Locks_and_evicts : (key : K) (stamp : _) (cause : Cause) → rules.listener ≡ true →
         IsFresh rules (plan.Lock key ∷ plan.Get (plan.To_evict key stamp cause) key ∷ [])
 
-  takes_out : (rules : Rules) (removal : Removal) (key : K) →
+  takes_out : (rules : Rules) (removal : Removal K) (key : K) → IsNamed removal →
       IsFresh rules (take_out rules removal key)
-  takes_out rules removal key =
+  takes_out rules removal key named =
       locked_by (IsFresh rules) rules.listener key (plan.Moment (plan.To_take_out removal key) ∷ [])
-      (λ off. Takes_out removal key off) (λ on. Locks_and_takes_out removal key on)
+      (λ off. Takes_out removal key off named) (λ on. Locks_and_takes_out removal key on named)
 
-  loads : (rules : Rules) (sought : Sought K) →
+  loads : (rules : Rules) (sought : Sought K) → IsLoad sought.load.kind →
       IsFresh rules (load_plan {V = V} {E = E} (is_disabled rules) sought)
-  loads rules sought = by (is_disabled rules) refl
+  loads rules sought one = by (is_disabled rules) refl
     where
       by : (b : Bool) → is_disabled rules ≡ b → IsFresh rules (load_plan {V = V} {E = E} b sought)
-      by true e = Owns sought e
-      by false e = Loads sought e
+      by true e = Owns sought e one
+      by false e = Loads sought e one
 
   pub fresh_plan : (rules : Rules) (s : Start K V) → IsFresh rules (plan_of rules s)
   fresh_plan rules (start.Get key) = by (is_disabled rules) refl
@@ -162,16 +334,20 @@ module _ {K V E : Type 0} where
       by true e = Disabled answer.Done e tt
       by false e = put_plans_by (IsFresh rules) rules key value _ (λ off. Puts key value e off)
           (λ on. Locks_and_puts key value e on)
-  fresh_plan rules (start.GetWith key replace) = loads rules (seek kind.GetWith key replace)
-  fresh_plan rules (start.Optional key) = loads rules (seek kind.Optional key None)
-  fresh_plan rules (start.Try key) = loads rules (seek kind.Try key None)
+  fresh_plan rules (start.GetWith key replace) = loads rules (seek kind.GetWith key replace) tt
+  fresh_plan rules (start.Optional key) = loads rules (seek kind.Optional key None) tt
+  fresh_plan rules (start.Try key) = loads rules (seek kind.Try key None) tt
   fresh_plan rules (start.OrInsert key value) = by (is_disabled rules) refl
     where
       by : (b : Bool) → is_disabled rules ≡ b → IsFresh rules (or_insert_plan b key value)
       by true e = Gives_back _ e tt
       by false e = Finds_or_puts key value e
-  fresh_plan rules (start.Invalidate key) = takes_out rules plan.To_invalidate key
-  fresh_plan rules (start.Remove key) = takes_out rules plan.To_remove key
+  fresh_plan rules (start.Compute key) = Computes _ tt
+  fresh_plan rules (start.TryCompute key) = Computes _ tt
+  fresh_plan rules (start.ComputeAlone key) = Computes_alone key
+  fresh_plan rules (start.Upsert key) = Computes _ tt
+  fresh_plan rules (start.Invalidate key) = takes_out rules plan.To_invalidate key tt
+  fresh_plan rules (start.Remove key) = takes_out rules plan.To_remove key tt
   fresh_plan rules (start.Evict key stamp cause) = by rules.listener refl
     where
       by : (listener : Bool) → rules.listener ≡ listener →

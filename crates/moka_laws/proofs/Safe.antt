@@ -1,28 +1,26 @@
 -- What the desk needs for the next visit of a live call it has.
-use Rattle.std.proofs.Common.{◌≡◌, ℕ, ◌+◌, ◌||◌, Bool, true, false, cond, List, [], ◌∷◌, Option, Some, None, is_some, IsSome, IsNone, IsSomeAnd, refl, sym, ap, ◌∙◌, subst, arith}
+use Rattle.std.proofs.Common.{◌≡◌, ℕ, ◌||◌, Bool, true, false, cond, List, [], ◌∷◌, Option, Some, None, is_some, IsSome, IsNone, refl, sym, ap, ◌∙◌, subst, arith}
 use Rattle.moka_hist.specs.State.{State, Call, DeskPart}
 use Rattle.moka_hist.specs.Plan.{Item, Aim}
 use Rattle.moka_hist.specs.Plan as plan
-use Rattle.moka_hist.specs.Conditions.{may_end}
 use Rattle.moka_hist.specs.Step.{May, access_for, access_of}
 use Rattle.moka_hist.specs.Run.{IsReached}
 use Rattle.moka_hist.specs.Notices.{OpensNotice}
 use Rattle.moka_hist.specs.declared.records.Mode.{Mode}
 use Rattle.moka_hist.specs.declared.rules.Rules.{Rules}
 use Rattle.moka_hist.specs.declared.loads.Load.{Load}
-use Rattle.moka_hist.specs.declared.visits.Settled.{Settled}
-use Rattle.moka_hist.specs.declared.visits.Settled.TheVariants as settled
 use Rattle.std.proofs.lemmas.Bool.{false≢true}
 use Rattle.moka_laws.proofs.Counting.{none_some}
-use Rattle.moka_laws.proofs.Weights.{weigh}
-use Rattle.moka_laws.proofs.Asking.{AsksWhole, IsAsking, asking_kept, ask_open, none_asked, whole}
+use Rattle.moka_laws.proofs.Asking.{AsksWhole, IsAsking, asking_kept, ask_open, op_open, none_asked, whole}
 use Rattle.moka_laws.proofs.Holding.{IsHolding, HoldsAs, holding_kept, idle_free, freeing_free, is_unused}
 use Rattle.moka_laws.proofs.Owning.{plan_left}
-use Rattle.moka_laws.proofs.Roles.{Fits, owners}
+use Rattle.moka_laws.proofs.Roles.{Fits}
 use Rattle.moka_laws.proofs.Served.{IsServed, served_kept}
-use Rattle.moka_laws.proofs.Fitting.{AllFit, MayEndSo, IsFitting, fitting_kept}
+use Rattle.moka_laws.proofs.Fitting.{AllFit, IsFitting, fitting_kept}
 use Rattle.moka_laws.proofs.Turns.{TurnFits, IsTurning, turning_kept}
 use Rattle.moka_laws.proofs.Locking.{Locks, lock_free, lock_held}
+use Rattle.moka_laws.proofs.Outcomes.{computes_of}
+use Rattle.moka_laws.proofs.Unsettled.{IsUnsettled, owners_unsettled, unsettled_kept}
 use Rattle.moka_laws.proofs.Replacing.{IsReplacing, replacing_kept, not_opened}
 use Rattle.moka_laws.proofs.Kept.{IsKept, in_reached}
 
@@ -34,16 +32,6 @@ module _ {K : Type 0} where
   owns_none : (o : Option (Load K)) → 0 ≡ cond {A = ℕ} (is_some o) 1 0 → IsNone o
   owns_none None e = refl
   owns_none (Some l) e = absurd (omega (arith, e))
-
--- one that is to end its load owns it, and may end it so
-owner_ends : {K V E : Type 0} (o : Option (Load K)) (k : ℕ) → k + 1 ≡ cond {A = ℕ} (is_some o) 1 0 →
-    (with : Settled V E) → MayEndSo o with → IsSomeAnd o (λ load. may_end load.kind with ≡ true)
-owner_ends None k e with may = absurd (omega (arith, e))
-owner_ends (Some l) k e (settled.Ready value) may = refl
-owner_ends (Some l) k e settled.NotYet may = may
-owner_ends (Some l) k e (settled.Err error) may = may
-owner_ends (Some l) k e settled.Nothing may = may
-owner_ends (Some l) k e settled.Aborted may = may
 
 module _ {K V E : Type 0} where
   either_asked : (d : DeskPart K V E) (n : ℕ) → (is_some (d.told n) ≡ false → IsSome (d.asks n)) → is_some (d.asks n) || is_some (d.told n) ≡ true
@@ -74,6 +62,7 @@ module _ {K V E : Type 0} (eq : K → K → Bool) where
     pub holding : IsHolding s
     pub served : IsServed eq s
     pub fitting : IsFitting eq s
+    pub unsettled : IsUnsettled s
     pub asking : IsAsking s
     pub turning : IsTurning s
     pub replacing : IsReplacing s
@@ -84,6 +73,7 @@ module _ {K V E : Type 0} (eq : K → K → Bool) where
       holding = (holding_kept eq).fresh rules size tests has_log;
       served = (served_kept eq).fresh rules size tests has_log;
       fitting = (fitting_kept eq).fresh rules size tests has_log;
+      unsettled = (unsettled_kept eq).fresh rules size tests has_log;
       asking = (asking_kept eq).fresh rules size tests has_log;
       turning = (turning_kept eq).fresh rules size tests has_log;
       replacing = (replacing_kept eq).fresh rules size tests has_log;
@@ -92,6 +82,7 @@ module _ {K V E : Type 0} (eq : K → K → Bool) where
       holding = (holding_kept eq).at s moment i.holding;
       served = (served_kept eq).at s moment i.served;
       fitting = (fitting_kept eq).at s moment i.fitting;
+      unsettled = (unsettled_kept eq).at s moment i.unsettled;
       asking = (asking_kept eq).at s moment i.asking;
       turning = (turning_kept eq).at s moment i.turning;
       replacing = (replacing_kept eq).at s moment i.replacing;
@@ -100,6 +91,7 @@ module _ {K V E : Type 0} (eq : K → K → Bool) where
       holding = (holding_kept eq).start s start i.holding;
       served = (served_kept eq).start s start i.served;
       fitting = (fitting_kept eq).start s start i.fitting;
+      unsettled = (unsettled_kept eq).start s start i.unsettled;
       asking = (asking_kept eq).start s start i.asking;
       turning = (turning_kept eq).start s start i.turning;
       replacing = (replacing_kept eq).start s start i.replacing;
@@ -108,6 +100,7 @@ module _ {K V E : Type 0} (eq : K → K → Bool) where
       holding = (holding_kept eq).step s t n turn i.holding step;
       served = (served_kept eq).step s t n turn i.served step;
       fitting = (fitting_kept eq).step s t n turn i.fitting step;
+      unsettled = (unsettled_kept eq).step s t n turn i.unsettled step;
       asking = (asking_kept eq).step s t n turn i.asking step;
       turning = (turning_kept eq).step s t n turn i.turning step;
       replacing = (replacing_kept eq).step s t n turn i.replacing step;
@@ -116,6 +109,7 @@ module _ {K V E : Type 0} (eq : K → K → Bool) where
       holding = (holding_kept eq).tell s n given asked i.holding;
       served = (served_kept eq).tell s n given asked i.served;
       fitting = (fitting_kept eq).tell s n given asked i.fitting;
+      unsettled = (unsettled_kept eq).tell s n given asked i.unsettled;
       asking = (asking_kept eq).tell s n given asked i.asking;
       turning = (turning_kept eq).tell s n given asked i.turning;
       replacing = (replacing_kept eq).tell s n given asked i.replacing;
@@ -124,6 +118,7 @@ module _ {K V E : Type 0} (eq : K → K → Bool) where
       holding = (holding_kept eq).hear s n off running i.holding;
       served = (served_kept eq).hear s n off running i.served;
       fitting = (fitting_kept eq).hear s n off running i.fitting;
+      unsettled = (unsettled_kept eq).hear s n off running i.unsettled;
       asking = (asking_kept eq).hear s n off running i.asking;
       turning = (turning_kept eq).hear s n off running i.turning;
       replacing = (replacing_kept eq).hear s n off running i.replacing;
@@ -132,6 +127,7 @@ module _ {K V E : Type 0} (eq : K → K → Bool) where
       holding = (holding_kept eq).drop s n c live between i.holding;
       served = (served_kept eq).drop s n c live between i.served;
       fitting = (fitting_kept eq).drop s n c live between i.fitting;
+      unsettled = (unsettled_kept eq).drop s n c live between i.unsettled;
       asking = (asking_kept eq).drop s n c live between i.asking;
       turning = (turning_kept eq).drop s n c live between i.turning;
       replacing = (replacing_kept eq).drop s n c live between i.replacing;
@@ -167,15 +163,30 @@ module _ {K V E : Type 0} (eq : K → K → Bool) (s : State K V E) (well : IsWe
   may_item (plan.Own sought) rest e k =
       let alone : Fits (s.world.desk.owning n) (s.world.desk.joined n) (plan.Own sought ∷ []) =
       subst (λ v. Fits (s.world.desk.owning n) (s.world.desk.joined n) (plan.Own sought ∷ v)) k.fits.last k.fits in
+      (owns_none (s.world.desk.owning n) alone.owning, alone.waiting, owners_unsettled eq s well.unsettled well.served sought.load)
+  may_item (plan.Own_key compute) rest e k =
+      let alone : Fits (s.world.desk.owning n) (s.world.desk.joined n) (plan.Own_key compute ∷ []) =
+      subst (λ v. Fits (s.world.desk.owning n) (s.world.desk.joined n)
+      (plan.Own_key compute ∷ v)) k.fits.last k.fits in
+      (owns_none (s.world.desk.owning n) alone.owning, alone.waiting, owners_unsettled eq s well.unsettled well.served (computes_of compute.key))
+  may_item (plan.Own_alone key) rest e k =
+      let alone : Fits (s.world.desk.owning n) (s.world.desk.joined n) (plan.Own_alone key ∷ []) =
+      subst (λ v. Fits (s.world.desk.owning n) (s.world.desk.joined n)
+      (plan.Own_alone key ∷ v)) k.fits.last k.fits in
       (owns_none (s.world.desk.owning n) alone.owning, alone.waiting)
   may_item (plan.Read sought) rest e k = k.fits.waiting
+  may_item (plan.Read_key compute) rest e k = k.fits.waiting
   may_item (plan.Settle with) rest e k =
-      owner_ends (s.world.desk.owning n) (weigh owners rest) (omega (arith, k.fits.owning)) with
-      (subst (AllFit _ _ _) e (well.fitting.fit n c live)).0
+      (subst (AllFit (s.world.desk.owning n)) e (well.fitting.fit n c live)).0
   may_item (plan.Ask load) rest e k =
       let alone : AsksWhole s.world.desk n (plan.Ask load ∷ []) = subst (λ v. AsksWhole s.world.desk n (plan.Ask load ∷ v)) k.fits.last k.asks in
       none_asked s.world.desk n (plan.Ask load ∷ []) alone.asked refl
+  may_item (plan.Ask_op compute pair) rest e k =
+      let alone : AsksWhole s.world.desk n (plan.Ask_op compute pair ∷ []) = subst (λ v. AsksWhole s.world.desk n (plan.Ask_op compute pair ∷ v)) k.fits.last k.asks in
+      none_asked s.world.desk n (plan.Ask_op compute pair ∷ []) alone.asked refl
   may_item (plan.Told load) rest e k = either_asked s.world.desk n (ask_open s.world.desk n load rest k.asks)
+  may_item (plan.Told_op compute pair) rest e k =
+      either_asked s.world.desk n (op_open s.world.desk n compute pair rest k.asks)
   may_item (plan.Holds key stamp cause there stored) rest e k = tt
   may_item (plan.Moment change) rest e k =
       let free = is_unused eq s well.holding n c change rest live e in

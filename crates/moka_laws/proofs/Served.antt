@@ -18,7 +18,7 @@ use Rattle.moka_laws.proofs.Answering.{IsAnswering, answering_kept}
 use Rattle.moka_laws.proofs.Balance.{IsBalanced}
 use Rattle.moka_laws.proofs.Balanced.{balanced_kept, next_free}
 use Rattle.moka_laws.proofs.Owning.{plan_left}
-use Rattle.moka_laws.proofs.Roles.{Fits, awaited, fresh_fits}
+use Rattle.moka_laws.proofs.Roles.{Fits, awaited, awaits_first, fresh_fits}
 use Rattle.moka_laws.proofs.Reading.{joins, joins_self, Answered, OwnerOf}
 use Rattle.moka_laws.proofs.Serving.{part, Serves, drops, no_load, no_owner}
 use Rattle.moka_laws.proofs.ServingSteps.{on_plan}
@@ -202,17 +202,21 @@ module _ {K V E : Type 0} (eq : K → K → Bool) where
       by (Some c) e f = record { call = c; live = e; owned = own.0; owning = own.1; alike = own.2 }
 
   pub waiters_served : WaitersHaveOwners K V E eq
-  waiters_served s n c sought rest h live e =
+  waiters_served s n c item rest load h live e waits =
       let i : IsServed s = in_served s h in
-      let awaits : awaited (plan_left (s.calls n)) ≡ Some sought.load = ap (λ v. awaited (plan_left v)) live ∙ ap awaited e in
+      let awaits : awaited (plan_left (s.calls n)) ≡ Some load =
+      ap (λ v. awaited (plan_left v)) live ∙ ap awaited e ∙ awaits_first item rest load waits in
       by i awaits (s.world.desk.joined n) refl (i.fits n).waiting
     where
-      served : IsServed s → (o : ℕ) → Answered eq s.world.desk.owning s.world.desk.settled o sought.load →
-          OwnsAlike eq s o sought.load ⊎ IsSome (s.world.desk.settled o)
-      served i o (inl own) = inl (owner_alike s i o sought.load own)
+      served : IsServed s → (o : ℕ) → Answered eq s.world.desk.owning s.world.desk.settled o load →
+          OwnsAlike eq s o load ⊎ IsSome (s.world.desk.settled o)
+      served i o (inl own) = inl (owner_alike s i o load own)
       served i o (inr some) = inr some
 
-      by : IsServed s → awaited (plan_left (s.calls n)) ≡ Some sought.load → (j : Option ℕ) → s.world.desk.joined n ≡ j →
-          is_some (s.world.desk.joined n) ≡ is_some (awaited (plan_left (s.calls n))) → HasOwner eq s n sought.load
+      by : IsServed s → awaited (plan_left (s.calls n)) ≡ Some load → (j : Option ℕ) →
+          s.world.desk.joined n ≡ j →
+          is_some (s.world.desk.joined n) ≡ is_some (awaited (plan_left (s.calls n))) →
+          HasOwner eq s n load
       by i a None j waiting = absurd (false≢true (sym (ap is_some j) ∙ waiting ∙ ap is_some a))
-      by i a (Some o) j waiting = record { owner = o; joined = j; served = served i o (i.waits n o sought.load j a) }
+      by i a (Some o) j waiting =
+          record { owner = o; joined = j; served = served i o (i.waits n o load j a) }

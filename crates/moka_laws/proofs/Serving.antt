@@ -17,6 +17,8 @@ use Rattle.moka_laws.proofs.Owning.{plan_left}
 use Rattle.moka_laws.proofs.Roles.{Fits, IsLast, awaited, owners}
 use Rattle.moka_laws.proofs.Weights.{weigh}
 use Rattle.moka_laws.proofs.Reading.{joins, joins_self, fewer_readers, Answered, OwnerOf, answered_without, answered_with}
+use Rattle.moka_hist.specs.declared.loads.Compute.{Compute}
+use Rattle.moka_laws.proofs.Outcomes.{computes_of}
 
 -- what the desk keeps of owners and of those that wait for them
 pub record Part (K V E : Type 0) : Type 0 where
@@ -163,6 +165,51 @@ module _ {K V E : Type 0} (eq : K → K → Bool) where
       where
         by : (o : ℕ) (b : Bool) → (who == o) ≡ b →
             cond b (d.readers who + 1) (d.readers o) + joins o (d.joined n) ≡ d.readers o + joins o (put_at d.joined n (Some who) n)
+        by o true e =
+            let is = ap d.readers (eqb-true who o e) in
+            omega (
+              arith,
+              ap (joins o) free,
+              ap (joins o)
+                  (put_here d.joined n (Some who)),
+              ap (λ b. cond {A = ℕ} b 1 0) e,
+            )
+        by o false e =
+            omega (
+              arith,
+              ap (joins o) free,
+              ap (joins o)
+                  (put_here d.joined n (Some who)),
+              ap (λ b. cond {A = ℕ} b 1 0) e,
+            )
+
+    pub joins_key_owner : (compute : Compute K) (who : ℕ) {left : Option (Call K V E)} →
+        d.owners (computes_of compute.key) ≡ Some who →
+        plan_left left ≡ plan.Read_key compute ∷ [] → d.owning n ≡ None → d.joined n ≡ None →
+        Serves d n (part (record d { joined = put_at d.joined n (Some who); readers = put_at d.readers who (d.readers who + 1) })) left
+    joins_key_owner compute who owns p none free = record {
+      last = refl;
+      fits = subst (Fits (d.owning n) (put_at d.joined n (Some who) n)) (sym p)
+          (record {
+            last = refl;
+            owning = ap (λ v. cond (is_some v) 1 0) (sym none);
+            waiting = ap is_some
+                (put_here d.joined n (Some who));
+          });
+      owner = owner;
+      joined = λ m h. put_there d.joined n (Some who) m h;
+      owning = λ m h. refl;
+      counted = λ o. by o (who == o) refl;
+      others = λ m o l h j a. a;
+      own = λ o l j a.
+          let is = some_same (sym (put_here d.joined n (Some who)) ∙ j) in
+          let same = some_same (ap awaited (sym p) ∙ a) in
+          inl (subst (λ v. OwnerOf eq d.owning v l) is (subst (λ v. OwnerOf eq d.owning who v) same (owner (computes_of compute.key) who owns)));
+    }
+      where
+        by : (o : ℕ) (b : Bool) → (who == o) ≡ b →
+            cond b (d.readers who + 1)
+            (d.readers o) + joins o (d.joined n) ≡ d.readers o + joins o (put_at d.joined n (Some who) n)
         by o true e =
             let is = ap d.readers (eqb-true who o e) in
             omega (arith, ap (joins o) free, ap (joins o) (put_here d.joined n (Some who)), ap (λ b. cond {A = ℕ} b 1 0) e)

@@ -11,15 +11,17 @@ use Rattle.moka_hist.specs.declared.loads.Load.{Load}
 use Rattle.moka_hist.specs.declared.events.Told.{Told}
 use Rattle.moka_hist.specs.declared.events.Told.TheVariants as answer
 use Rattle.moka_hist.specs.declared.visits.Found.TheVariants as found
-use Rattle.moka_laws.proofs.Rules.{loaded_plans}
+use Rattle.moka_laws.proofs.Rules.{loaded_plans, told_op_next}
 use Rattle.moka_laws.proofs.Weights.{weigh}
 use Rattle.moka_laws.proofs.StepCases.{OnStep}
-use Rattle.moka_laws.proofs.Outcomes.{Outcomes, outcomes}
+use Rattle.moka_laws.proofs.Outcomes.{Outcomes, outcomes, computes_of}
 use Rattle.moka_laws.proofs.Answering.{HasAnswers, settlement_ready}
 use Rattle.moka_laws.proofs.Owning.{plan_left}
-use Rattle.moka_laws.proofs.Roles.{IsLast, owners, Fits, awaited, goes_fits, keeps_fits, misses_fits, unseen_fits, finds_fits, hits_fits, told_fits, read_fits, goes_awaits, keeps_awaits, misses_awaits, finds_awaits, hits_awaits}
+use Rattle.moka_laws.proofs.Roles.{IsLast, owners, Fits, awaited, goes_fits, keeps_fits, misses_fits, unseen_fits, finds_fits, hits_fits, told_fits, read_fits, read_key_fits, goes_awaits, keeps_awaits, misses_awaits, finds_awaits, hits_awaits}
 use Rattle.moka_laws.proofs.Reading.{joins, Answered, OwnerOf}
-use Rattle.moka_laws.proofs.Serving.{Serves, part, no_load, no_owner, at_most_one, keeps, keeps_none, claims, joins_owner, leaves_owner, ends_own}
+use Rattle.moka_laws.proofs.Serving.{Serves, part, no_load, no_owner, at_most_one, keeps, keeps_none, claims, joins_owner, joins_key_owner, leaves_owner, ends_own}
+use Rattle.moka_hist.specs.declared.loads.Compute.{Compute}
+use Rattle.moka_hist.specs.Computing.{after_told_op}
 
 module _ {K V E : Type 0} (eq : K → K → Bool) (w : World K V E) (n : ℕ) (c : Call K V E)
     (owner : (load : Load K) (o : ℕ) → w.desk.owners load ≡ Some o → OwnerOf eq w.desk.owning o load)
@@ -64,7 +66,21 @@ module _ {K V E : Type 0} (eq : K → K → Bool) (w : World K V E) (n : ℕ) (c
   takes_told load (answer.Err error) p f =
       goes_free (told_fits _ _ c load (answer.Err error) p.fits f) refl
   takes_told load answer.Done p f = goes_with _ p
+  takes_told load (answer.Op op) p f = goes_with _ p
   takes_told load answer.Off p f = goes_with _ p
+
+  takes_told_op : (compute : Compute K) (pair : Option (K × V)) (given : Told V E) → Plans c.plan →
+      Fits {V = V} {E = E} (w.desk.owning n) (w.desk.joined n) (plan.Told_op compute pair ∷ []) →
+      Serves eq w.desk n (part w.desk)
+      (after_told_op c compute pair (found.TakeTold (Some given))).left
+  takes_told_op compute pair given p f =
+      told_op_next (λ v. Serves eq w.desk n (part w.desk) v.left) c compute pair given
+      (λ a. goes_free (record { last = refl; owning = omega (arith, f.owning); waiting = f.waiting }) refl)
+      (λ value able off. goes_free (record { last = refl; owning = omega (arith, f.owning); waiting = f.waiting }) refl)
+      (λ value able on. goes_free (record { last = refl; owning = omega (arith, f.owning); waiting = f.waiting }) refl)
+      (λ off. goes_free (record { last = refl; owning = omega (arith, f.owning); waiting = f.waiting }) refl)
+      (λ on. goes_free (record { last = refl; owning = omega (arith, f.owning); waiting = f.waiting }) refl)
+      (goes_with _ p)
 
   -- a call fits a plan that tells as much as one that it fits
   like : (plan old : List (Item K V E)) → Plans old → IsLast plan → weigh owners plan ≡ weigh owners old → awaited plan ≡ awaited old → Plans plan
@@ -76,11 +92,11 @@ module _ {K V E : Type 0} (eq : K → K → Bool) (w : World K V E) (n : ℕ) (c
   -- a call that judges what may be seen goes on with a plan that awaits no load
   judges : (aim : Aim K V) (key : K) (stored : Stored V) → Plans c.plan →
       Fits {E = E} (w.desk.owning n) (w.desk.joined n) (plan.Judge aim key stored ∷ []) →
-      Serves eq w.desk n (part w.desk) (hits c aim stored.value).left
+      Serves eq w.desk n (part w.desk) (hits c aim key stored.value).left
   judges (plan.To_evict there stamp cause) key stored p f = goes_with _ p
   judges aim key stored p f =
       goes_free (hits_fits _ _ c aim key stored stored.value p.fits f)
-      (hits_awaits c aim stored.value tt)
+      (hits_awaits c aim key stored.value tt)
 
   on_item : (item : Item K V E) (rest : List (Item K V E)) → Plans c.plan → Plans (item ∷ rest) → Outcomes eq Leaves w n c item rest
   on_item plan.Drain rest p q = (
@@ -124,10 +140,37 @@ module _ {K V E : Type 0} (eq : K → K → Bool) (w : World K V E) (n : ℕ) (c
         λ not e. claims eq w.desk n owner enough enough_own sought.load none refl refl refl f.waiting,
         λ who e. joins_owner eq w.desk n owner enough enough_own sought who e refl none (no_owner (w.desk.joined n) f.waiting),
       )
+  on_item (plan.Own_key compute) rest p q =
+      let f = alone (plan.Own_key compute) rest q.fits.last q in
+      let none = no_load (w.desk.owning n) (sym f.owning) in (
+        (
+          λ able e. claims eq w.desk n owner enough enough_own (computes_of compute.key) none refl refl refl f.waiting,
+          λ not e. claims eq w.desk n owner enough enough_own (computes_of compute.key) none refl refl refl f.waiting,
+        ),
+        λ who e. joins_key_owner eq w.desk n owner enough enough_own compute who e refl none (no_owner (w.desk.joined n) f.waiting),
+      )
+  on_item (plan.Own_alone key) rest p q =
+      let f = alone (plan.Own_alone key) rest q.fits.last q in
+      let none = no_load (w.desk.owning n) (sym f.owning) in (
+        (
+          λ able e. claims eq w.desk n owner enough enough_own (computes_of key) none refl refl refl f.waiting,
+          λ not e. claims eq w.desk n owner enough enough_own (computes_of key) none refl refl refl f.waiting,
+        ),
+        λ who e. (
+          λ able. goes_free (record { last = refl; owning = f.owning; waiting = f.waiting }) refl,
+          λ not. goes_free (record { last = refl; owning = f.owning; waiting = f.waiting }) refl,
+        ),
+      )
   on_item (plan.Read sought) rest p q = (
     λ e. goes_with _ p,
     λ with e. leaves_owner eq w.desk n owner enough enough_own
         (read_fits _ _ c sought with (settlement_ready w.desk n with ready e) (alone (plan.Read sought) rest q.fits.last q)),
+  )
+  on_item (plan.Read_key compute) rest p q = (
+    λ e. goes_with _ p,
+    λ with e. leaves_owner eq w.desk n owner enough enough_own
+        (read_key_fits _ _ c compute with (settlement_ready w.desk n with ready e)
+        (alone (plan.Read_key compute) rest q.fits.last q)),
   )
   on_item (plan.Settle with) rest p q =
       let f : Fits None (w.desk.joined n) rest = record {
@@ -139,9 +182,16 @@ module _ {K V E : Type 0} (eq : K → K → Bool) (w : World K V E) (n : ℕ) (c
   on_item (plan.Ask load) rest p q =
       let f = alone (plan.Ask load) rest q.fits.last q in
       goes_free (record { last = refl; owning = f.owning; waiting = f.waiting }) refl
+  on_item (plan.Ask_op compute pair) rest p q =
+      let f = alone (plan.Ask_op compute pair) rest q.fits.last q in
+      goes_free (record { last = refl; owning = f.owning; waiting = f.waiting }) refl
   on_item (plan.Told load) rest p q = (
     λ e. goes_with _ p,
     λ given e. takes_told load given p (alone (plan.Told load) rest q.fits.last q),
+  )
+  on_item (plan.Told_op compute pair) rest p q = (
+    λ e. goes_with _ p,
+    λ given e. takes_told_op compute pair given p (alone (plan.Told_op compute pair) rest q.fits.last q),
   )
   on_item (plan.Holds key stamp cause there stored) rest p q =
       let f = alone (plan.Holds key stamp cause there stored) rest q.fits.last q in (
@@ -162,8 +212,44 @@ module _ {K V E : Type 0} (eq : K → K → Bool) (w : World K V E) (n : ℕ) (c
         (like (plan.Notice key old None true ∷ plan.Unlock true ∷ plan.Post _ ∷ rest)
         (plan.Write key value moment ∷ rest) q q.fits.last (omega arith) refl),
   )
-  on_item (plan.Out removal key) rest p q =
-      let f = alone (plan.Out removal key) rest q.fits.last q in (
+  on_item (plan.Out plan.To_invalidate key) rest p q =
+      let f = alone (plan.Out plan.To_invalidate key) rest q.fits.last q in (
+        (λ more. goes_with _ p),
+        (λ off none. goes_free (record { last = refl; owning = f.owning; waiting = f.waiting })
+            refl),
+        (λ on none. goes_free (record { last = refl; owning = f.owning; waiting = f.waiting })
+            refl),
+        (λ k old off some. goes_free
+            (record { last = refl; owning = f.owning; waiting = f.waiting }) refl),
+        λ k old on some. goes_free (record { last = refl; owning = f.owning; waiting = f.waiting })
+            refl,
+      )
+  on_item (plan.Out plan.To_remove key) rest p q =
+      let f = alone (plan.Out plan.To_remove key) rest q.fits.last q in (
+        (λ more. goes_with _ p),
+        (λ off none. goes_free (record { last = refl; owning = f.owning; waiting = f.waiting })
+            refl),
+        (λ on none. goes_free (record { last = refl; owning = f.owning; waiting = f.waiting })
+            refl),
+        (λ k old off some. goes_free
+            (record { last = refl; owning = f.owning; waiting = f.waiting }) refl),
+        λ k old on some. goes_free (record { last = refl; owning = f.owning; waiting = f.waiting })
+            refl,
+      )
+  on_item (plan.Out (plan.To_evict_chosen stamp cause) key) rest p q =
+      let f = alone (plan.Out (plan.To_evict_chosen stamp cause) key) rest q.fits.last q in (
+        (λ more. goes_with _ p),
+        (λ off none. goes_free (record { last = refl; owning = f.owning; waiting = f.waiting })
+            refl),
+        (λ on none. goes_free (record { last = refl; owning = f.owning; waiting = f.waiting })
+            refl),
+        (λ k old off some. goes_free
+            (record { last = refl; owning = f.owning; waiting = f.waiting }) refl),
+        λ k old on some. goes_free (record { last = refl; owning = f.owning; waiting = f.waiting })
+            refl,
+      )
+  on_item (plan.Out (plan.To_remove_as_told own) key) rest p q =
+      let f = alone (plan.Out (plan.To_remove_as_told own) key) rest q.fits.last q in (
         (λ more. goes_with _ p),
         (λ off none. goes_free (record { last = refl; owning = f.owning; waiting = f.waiting })
             refl),

@@ -38,13 +38,17 @@ use Rattle.moka_laws.specs.Loads.{is_aborted, is_reading, reads_aborted, test_as
 use Rattle.moka_laws.specs.Starting.{LeavesAlone, Leads, Way, WasStarted}
 use Rattle.moka_laws.specs.Starting as way
 use Rattle.moka_laws.proofs.Counting.{none_some, some_same, put_here, put_there, differ}
-use Rattle.moka_laws.proofs.Weights.{weigh, weigh_call, weigh_goes}
+use Rattle.moka_hist.specs.Writing.{said, nothing_answer, removed_answer}
+use Rattle.moka_hist.specs.declared.replies.Answer.{Answer}
+use Rattle.moka_laws.proofs.Weights.{weigh, weigh_call, weigh_goes, weigh_said}
 use Rattle.moka_laws.proofs.Following.{no_leads}
-use Rattle.moka_laws.proofs.Rules.{put_plans, loaded_plans, kept_next, chosen_by, chosen_next, IsFresh, Disabled, fresh_plan}
+use Rattle.moka_laws.proofs.Rules.{put_plans, loaded_plans, kept_next, chosen_by, chosen_next, IsFresh, Disabled, fresh_plan, read_key_next, told_op_next}
 use Rattle.moka_laws.proofs.Starting.{begins_so}
 use Rattle.moka_laws.proofs.Steady.{step_calls, step_last}
 use Rattle.moka_laws.proofs.StepCases.{OnStep, step_cases}
 use Rattle.moka_laws.proofs.Outcomes.{Outcomes, outcomes}
+use Rattle.moka_hist.specs.declared.loads.Compute.{Compute}
+use Rattle.moka_hist.specs.Computing.{after_told_op, after_read_key}
 
 -- ---- how often the test may still be asked
 
@@ -71,8 +75,10 @@ module _ {K V E : Type 0} where
 
   misses_tests : (c : Call K V E) (aim : Aim K V) → weigh_call tests (misses c aim).left ≤ look_tests aim
   misses_tests c plan.To_answer = omega arith
+  misses_tests c (plan.To_report key) = omega arith
   misses_tests c (plan.To_load sought) = omega arith
   misses_tests c (plan.To_own sought) = omega arith
+  misses_tests c (plan.To_compute compute) = omega arith
   misses_tests c (plan.To_insert key value) =
       put_plans (λ p. weigh_call tests (goes c p).left ≤ 0) c.rules key value _ (omega arith)
       (omega arith)
@@ -83,15 +89,19 @@ module _ {K V E : Type 0} where
       weigh_call tests (misses c aim).left + cond (is_some (replace_of aim)) 1 0 ≤ look_tests aim
   unseen_tests c d (plan.To_load sought) key stored e = omega (arith, test_once sought.replace)
   unseen_tests c d (plan.To_own sought) key stored e = omega (arith, test_once sought.replace)
+  unseen_tests c d (plan.To_compute compute) key stored e = omega arith
   unseen_tests c d plan.To_answer key stored e = omega arith
+  unseen_tests c d (plan.To_report under) key stored e = omega arith
   unseen_tests c d (plan.To_insert there value) key stored e = omega (arith, misses_tests c (plan.To_insert there value))
   unseen_tests c d (plan.To_evict there stamp cause) key stored e = omega (arith, keeps_tests c)
 
   finds_tests : (c : Call K V E) (aim : Aim K V) (there : K) (stored : Stored V) →
       weigh_call tests (finds_pair c aim there stored).left ≤ look_tests aim
   finds_tests c plan.To_answer there stored = omega arith
+  finds_tests c (plan.To_report key) there stored = omega arith
   finds_tests c (plan.To_load sought) there stored = omega arith
   finds_tests c (plan.To_own sought) there stored = omega arith
+  finds_tests c (plan.To_compute compute) there stored = omega arith
   finds_tests c (plan.To_insert key value) there stored = omega arith
   finds_tests c (plan.To_evict key stamp cause) there stored =
       chosen_next (λ v. weigh_call tests v.left ≤ 0) c key stamp cause there stored
@@ -110,6 +120,12 @@ module _ {K V E : Type 0} where
       by true is = rw is (omega arith)
       by false is = rw is (omega (arith, h))
 
+  read_key_tests : (c : Call K V E) (compute : Compute K) (with : Settled V E) →
+      weigh_call tests (after_read_key c compute (found.ReadSettled with)).left ≤ weigh tests c.plan
+  read_key_tests c compute with =
+      read_key_next (λ v. weigh_call tests v.left ≤ weigh tests c.plan) c compute with
+      (omega arith) (omega arith)
+
   told_tests : (c : Call K V E) (load : Load K) (given : Told V E) →
       weigh_call tests (after_told c load (found.TakeTold (Some given))).left ≤ weigh tests c.plan
   told_tests c load (told.Value value) =
@@ -118,7 +134,20 @@ module _ {K V E : Type 0} where
   told_tests c load told.Nothing = omega arith
   told_tests c load (told.Err error) = omega arith
   told_tests c load told.Done = omega arith
+  told_tests c load (told.Op op) = omega arith
   told_tests c load told.Off = omega arith
+
+  told_op_tests : (c : Call K V E) (compute : Compute K) (pair : Option (K × V))
+      (given : Told V E) →
+      weigh_call tests (after_told_op c compute pair (found.TakeTold (Some given))).left ≤ weigh tests c.plan
+  told_op_tests c compute pair given =
+      told_op_next (λ v. weigh_call tests v.left ≤ weigh tests c.plan) c compute pair given
+      (λ a. omega arith)
+      (λ value able off. (omega arith))
+      (λ value able on. (omega arith))
+      (λ off. (omega arith))
+      (λ on. (omega arith))
+      (omega arith)
 
   fresh_tests : (rules : Rules) (p : List (Item K V E)) → IsFresh rules p → weigh tests p ≤ 2
   fresh_tests rules p (Disabled a d plain) = omega arith
@@ -162,25 +191,42 @@ module _ {K V E : Type 0} where
     )
       where
         by_hit : (aim : Aim K V) → c.plan ≡ plan.Judge aim key stored ∷ rest →
-            Fewer (plan.Judge aim key stored ∷ rest) w (hits c aim stored.value)
+            Fewer (plan.Judge aim key stored ∷ rest) w (hits c aim key stored.value)
         by_hit plan.To_answer e = omega arith
+        by_hit (plan.To_report key) e = omega arith
         by_hit (plan.To_load sought) e = omega (arith, test_once sought.replace)
         by_hit (plan.To_own sought) e = omega (arith, test_once sought.replace)
+        by_hit (plan.To_compute compute) e = omega arith
         by_hit (plan.To_insert there own) e = omega arith
         by_hit (plan.To_evict there stamp cause) e = omega (arith, ap (weigh tests) e)
     asks_fewer (plan.Own sought) rest e =
         (λ able none. omega arith, λ disabled none. omega arith, λ owner some. omega arith)
+    asks_fewer (plan.Own_key compute) rest e =
+        ((λ able none. omega arith, λ disabled none. omega arith), λ owner some. omega arith)
+    asks_fewer (plan.Own_alone key) rest e = (
+      (λ able none. omega arith, λ disabled none. omega arith),
+      λ owner some. (λ able. omega arith, λ not. omega arith),
+    )
     asks_fewer (plan.Read sought) rest e = (
       λ none. omega (arith, ap (weigh tests) e),
       λ with some.
           let same = ap (weigh tests) e in
           omega (arith, same, read_tests c sought with (omega (arith, same))),
     )
+    asks_fewer (plan.Read_key compute) rest e = (
+      λ none. omega (arith, ap (weigh tests) e),
+      λ with some. omega (arith, ap (weigh tests) e, read_key_tests c compute with),
+    )
     asks_fewer (plan.Settle with) rest e = omega (arith, goes_tests c rest)
     asks_fewer (plan.Ask load) rest e = omega arith
+    asks_fewer (plan.Ask_op compute pair) rest e = omega arith
     asks_fewer (plan.Told load) rest e = (
       λ none. omega (arith, ap (weigh tests) e),
       λ given some. omega (arith, ap (weigh tests) e, told_tests c load given),
+    )
+    asks_fewer (plan.Told_op compute pair) rest e = (
+      λ none. omega (arith, ap (weigh tests) e),
+      λ given some. omega (arith, ap (weigh tests) e, told_op_tests c compute pair given),
     )
     asks_fewer (plan.Holds key stamp cause there stored) rest e =
         (λ f. omega arith, λ f. omega (arith, keeps_tests c))
@@ -194,11 +240,14 @@ module _ {K V E : Type 0} where
     )
     asks_fewer (plan.Out removal key) rest e = (
       (λ more. omega (arith, ap (weigh tests) e)),
-      (λ off none. omega arith),
-      (λ on none. omega arith),
-      (λ k old off some. omega arith),
-      λ k old on some. omega arith,
+      (λ off none. omega (arith, out (nothing_answer removal))),
+      (λ on none. omega (arith, out (nothing_answer removal))),
+      (λ k old off some. omega (arith, out (removed_answer removal old.value))),
+      λ k old on some. omega (arith, out (removed_answer removal old.value)),
     )
+      where
+        out : (a : Answer K V E) → weigh tests (said removal a) ≡ 0
+        out a = weigh_said tests removal a refl refl
     asks_fewer plan.Idle rest e = omega (arith, goes_tests c rest)
     asks_fewer (plan.Reply a) rest e = omega arith
 
@@ -229,8 +278,10 @@ module _ {K V E : Type 0} where
 
   misses_count : (c : Call K V E) (aim : Aim K V) → Counts c 0 (misses c aim)
   misses_count c plan.To_answer = λ d e. absurd (none_some e)
+  misses_count c (plan.To_report key) = λ d e. absurd (none_some e)
   misses_count c (plan.To_load sought) = goes_counts c (plan.Own sought ∷ [])
   misses_count c (plan.To_own sought) = goes_counts c (plan.Ask sought.load ∷ [])
+  misses_count c (plan.To_compute compute) = goes_counts c (plan.Ask_op compute None ∷ [])
   misses_count c (plan.To_insert key value) =
       goes_counts c (put c.rules key value (plan.Reply (answer.Loaded value true) ∷ []))
   misses_count c (plan.To_evict key stamp cause) = goes_counts c (kept_rest c.rules.listener)
@@ -238,19 +289,24 @@ module _ {K V E : Type 0} where
   finds_count : (c : Call K V E) (aim : Aim K V) (there : K) (stored : Stored V) →
       Counts c 0 (finds_pair c aim there stored)
   finds_count c plan.To_answer there stored = as_often c _ _ refl refl
+  finds_count c (plan.To_report key) there stored = as_often c _ _ refl refl
   finds_count c (plan.To_load sought) there stored = as_often c _ _ refl refl
   finds_count c (plan.To_own sought) there stored = as_often c _ _ refl refl
+  finds_count c (plan.To_compute compute) there stored = as_often c _ _ refl refl
   finds_count c (plan.To_insert key value) there stored = as_often c _ _ refl refl
   finds_count c (plan.To_evict key stamp cause) there stored =
       chosen_by (Counts c 0) c key stamp cause there stored
       (λ other. goes_counts c (kept_rest c.rules.listener)) (λ same. as_often c _ _ refl refl)
 
-  hits_count : (c : Call K V E) (aim : Aim K V) (value : V) → Counts c 0 (hits c aim value)
-  hits_count c plan.To_answer value = λ d e. absurd (none_some e)
-  hits_count c (plan.To_load sought) value = λ d e. absurd (none_some e)
-  hits_count c (plan.To_own sought) value = as_often c _ _ refl refl
-  hits_count c (plan.To_insert key own) value = λ d e. absurd (none_some e)
-  hits_count c (plan.To_evict key stamp cause) value = as_often c _ _ refl refl
+  hits_count : (c : Call K V E) (aim : Aim K V) (there : K) (value : V) →
+      Counts c 0 (hits c aim there value)
+  hits_count c plan.To_answer there value = λ d e. absurd (none_some e)
+  hits_count c (plan.To_report key) there value = λ d e. absurd (none_some e)
+  hits_count c (plan.To_load sought) there value = λ d e. absurd (none_some e)
+  hits_count c (plan.To_own sought) there value = as_often c _ _ refl refl
+  hits_count c (plan.To_compute compute) there value = as_often c _ _ refl refl
+  hits_count c (plan.To_insert key own) there value = λ d e. absurd (none_some e)
+  hits_count c (plan.To_evict key stamp cause) there value = as_often c _ _ refl refl
 
   told_count : (c : Call K V E) (load : Load K) (given : Told V E) →
       Counts c 0 (after_told c load (found.TakeTold (Some given)))
@@ -258,7 +314,18 @@ module _ {K V E : Type 0} where
   told_count c load told.Nothing = as_often c _ _ refl refl
   told_count c load (told.Err error) = as_often c _ _ refl refl
   told_count c load told.Done = as_often c _ _ refl refl
+  told_count c load (told.Op op) = as_often c _ _ refl refl
   told_count c load told.Off = as_often c _ _ refl refl
+
+  told_op_count : (c : Call K V E) (compute : Compute K) (pair : Option (K × V))
+      (given : Told V E) → Counts c 0 (after_told_op c compute pair (found.TakeTold (Some given)))
+  told_op_count c compute pair given = told_op_next (Counts c 0) c compute pair given
+      (λ a. as_often c _ _ refl refl)
+      (λ value able off. as_often c _ _ refl refl)
+      (λ value able on. as_often c _ _ refl refl)
+      (λ off. as_often c _ _ refl refl)
+      (λ on. as_often c _ _ refl refl)
+      (as_often c _ _ refl refl)
 
   -- an owner that was dropped is counted, and no other
   read_counts : (c : Call K V E) (sought : Sought K) (with : Settled V E) →
@@ -272,6 +339,12 @@ module _ {K V E : Type 0} where
       by : (b : Bool) → (c.aborts + 1 == retries) ≡ b → Counts c 1 (after_abort c sought)
       by true is = rw is (λ d e. absurd (none_some e))
       by false is = rw is (λ d e. sym (ap (λ (v : Call K V E). v.aborts) (some_same e)))
+
+  -- a compute counts none
+  read_key_counts : (c : Call K V E) (compute : Compute K) (with : Settled V E) →
+      Counts c 0 (after_read_key c compute (found.ReadSettled with))
+  read_key_counts c compute with = read_key_next (Counts c 0) c compute with
+      (as_often c _ _ refl refl) (as_often c _ _ refl refl)
 
   module _ (eq : K → K → Bool) (w : World K V E) (n : ℕ) (c : Call K V E) where
     -- how often it reads so with this plan
@@ -303,11 +376,19 @@ module _ {K V E : Type 0} where
       λ k stored some. finds_count c aim k stored,
     )
     counts (plan.Judge aim key stored) rest =
-        (λ seen. hits_count c aim stored.value, λ unseen. misses_count c aim)
+        (λ seen. hits_count c aim key stored.value, λ unseen. misses_count c aim)
     counts (plan.Own sought) rest = (
       λ able none. as_often c _ _ refl refl,
       λ disabled none. as_often c _ _ refl refl,
       λ owner some. as_often c _ _ refl refl,
+    )
+    counts (plan.Own_key compute) rest = (
+      (λ able none. as_often c _ _ refl refl, λ disabled none. as_often c _ _ refl refl),
+      λ owner some. as_often c _ _ refl refl,
+    )
+    counts (plan.Own_alone key) rest = (
+      (λ able none. as_often c _ _ refl refl, λ disabled none. as_often c _ _ refl refl),
+      λ owner some. (λ able. as_often c _ _ refl refl, λ not. as_often c _ _ refl refl),
     )
     counts (plan.Read sought) rest = (
       λ none. subst (λ o. Counts c (cond (option_map_or is_aborted o false) 1 0) (waits c)) (sym none)
@@ -315,10 +396,15 @@ module _ {K V E : Type 0} where
       λ with some. subst (λ o. Counts c (cond (option_map_or is_aborted o false) 1 0)
           (after_read c sought (found.ReadSettled with))) (sym some) (read_counts c sought with),
     )
+    counts (plan.Read_key compute) rest =
+        (λ none. as_often c _ _ refl refl, λ with some. read_key_counts c compute with)
     counts (plan.Settle with) rest = goes_counts c rest
     counts (plan.Ask load) rest = as_often c _ _ refl refl
+    counts (plan.Ask_op compute pair) rest = as_often c _ _ refl refl
     counts (plan.Told load) rest =
         (λ none. as_often c _ _ refl refl, λ given some. told_count c load given)
+    counts (plan.Told_op compute pair) rest =
+        (λ none. as_often c _ _ refl refl, λ given some. told_op_count c compute pair given)
     counts (plan.Holds key stamp cause there stored) rest =
         (λ e. as_often c _ _ refl refl, λ e. goes_counts c (kept_rest c.rules.listener))
     counts (plan.Moment (plan.To_store key value)) rest = as_often c _ _ refl refl
@@ -460,6 +546,7 @@ module _ {K V E : Type 0} (eq : K → K → Bool) where
       telling told.Nothing = record { call = inl refl; last = omega arith }
       telling (told.Err error) = record { call = inl refl; last = omega arith }
       telling told.Done = record { call = inl refl; last = omega arith }
+      telling (told.Op op) = record { call = inl refl; last = omega arith }
       telling told.Off = record { call = inl refl; last = omega arith }
   event_alone n u v (event.Drop m) r l alone h =
       looked_alone n u v (u.calls m) _ (λ c. Drops u m c c.mode r v) (refused_alone n u v _ r)

@@ -5,7 +5,7 @@ use Rattle.std.specs.Cmp.{IsEquivalence}
 use Rattle.std.specs.Option.{IsSomeAnd, option_map, option_map_or}
 use Rattle.moka_hist.specs.Finite.{load_eq, put_at, put_key, times}
 use Rattle.moka_hist.specs.State.{DeskPart}
-use Rattle.moka_hist.specs.Visits.{cause_of, claimed, decided, gave_back, has_room, is_unlocked_for, locked_by, makes, number_of, once_decided, opened_notice, unlocked, posted, settlement_for, took_owed, without_moment}
+use Rattle.moka_hist.specs.Visits.{claimed_alone, cause_of, claimed, decided, gave_back, has_room, is_unlocked_for, locked_by, makes, number_of, once_decided, opened_notice, unlocked, posted, settlement_for, took_owed, without_moment}
 use Rattle.moka_hist.specs.Conditions.{held_number, numbers_of, HoldsWrite, IsPlaceOf, IsUnused}
 use Rattle.moka_hist.specs.SoundDesk.{SoundDesk}
 use Rattle.moka_hist.specs.Dropping.{left, owed_with}
@@ -25,6 +25,7 @@ use Rattle.moka_laws.proofs.Counting.{none_some, some_same, put_cases, same_numb
 use Rattle.moka_laws.proofs.Posts.{among, among_owed, once}
 use Rattle.moka_laws.proofs.Balance.{times_first, among_last, owed_append}
 use Rattle.moka_laws.proofs.Holding.{numbers_stand, place_number}
+use Rattle.moka_laws.proofs.Outcomes.{computes_of}
 use Rattle.moka_laws.proofs.Owning.{loads_self, loads_alike}
 
 -- ---- writes: what calls hold, and how often each number stands with the desk
@@ -277,6 +278,12 @@ module _ {K V E : Type 0} where
     claimed_sound laws w call load idle None e h = both (claimed eq w call load None) (apart_in w h) (claims (load_eq eq) w.owners w.owning call load (loads_self eq laws load) (loads_alike eq laws load) idle e (loads_in w h)) (locks_in w h)
     claimed_sound laws w call load idle (Some owner) e h = both (claimed eq w call load (Some owner)) (apart_in w h) (loads_in w h) (locks_in w h)
 
+    alone_sound : IsEquivalence eq → (w : DeskPart K V E) (call : ℕ) (load : Load K) →
+        w.owning call ≡ None → (o : Option ℕ) → w.owners load ≡ o → SoundDesk eq w →
+        SoundDesk eq (claimed_alone eq w call load o)
+    alone_sound laws w call load idle None e h = claimed_sound laws w call load idle None e h
+    alone_sound laws w call load idle (Some owner) e h = h
+
     read_sound : (w : DeskPart K V E) (call : ℕ) → SoundDesk eq w → SoundDesk eq (makes eq w (visit.ReadSettled call))
     read_sound w call h = by (is_some (settlement_for w call)) refl
       where
@@ -315,6 +322,7 @@ module _ {K V E : Type 0} where
     told_sound w call answer.Nothing h = told_call_sound w call answer.Nothing h
     told_sound w call (answer.Err error) h = told_call_sound w call (answer.Err error) h
     told_sound w call answer.Done h = heard_sound w call false h
+    told_sound w call (answer.Op op) h = told_call_sound w call (answer.Op op) h
     told_sound w call answer.Off h = heard_sound w call true h
 
     pub entered_sound : EnteringKeepsSound K V E eq
@@ -384,6 +392,9 @@ module _ {K V E : Type 0} where
     visit_sound laws w (visit.WaitOrOwn call key kind) h may =
         let load : Load K = record { key = key; kind = kind } in
         claimed_sound laws w call load (is_none_of (w.owning call) may.0) (w.owners load) refl h
+    visit_sound laws w (visit.OwnAlone call key) h may =
+        let load : Load K = computes_of key in
+        alone_sound laws w call load (is_none_of (w.owning call) may.0) (w.owners load) refl h
     visit_sound laws w (visit.ReadSettled call) h may = read_sound w call h
     visit_sound laws w (visit.Settle call with) h may = both (makes eq w (visit.Settle call with)) (apart_in w h) (without_call (load_eq eq) w.owners w.owning call (loads_in w h)) (locks_in w h)
     visit_sound laws w (visit.OpenAsk call takes) h may = both (makes eq w (visit.OpenAsk call takes)) (apart_in w h) (loads_in w h) (locks_in w h)

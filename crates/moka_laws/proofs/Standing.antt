@@ -39,16 +39,20 @@ use Rattle.moka_hist.specs.declared.visits.Settled.TheVariants as settled
 use Rattle.moka_laws.specs.Listening.{locked_key}
 use Rattle.moka_laws.specs.Removals.{ChosenStands}
 use Rattle.moka_laws.proofs.Counting.{differ_not, none_some, put_cases, put_here}
-use Rattle.moka_laws.proofs.Weights.{weigh, weigh_call, weigh_goes}
+use Rattle.moka_hist.specs.Writing.{nothing_answer, removed_answer, said}
+use Rattle.moka_hist.specs.declared.replies.Answer.{Answer}
+use Rattle.moka_laws.proofs.Weights.{weigh, weigh_call, weigh_goes, weigh_said}
 use Rattle.moka_laws.proofs.Locking.{IsLocking, Inside, key_locked}
 use Rattle.moka_laws.proofs.Ordering.{one_lock}
 use Rattle.moka_laws.proofs.Owning.{plan_left}
-use Rattle.moka_laws.proofs.Rules.{put_plans, chosen_by, kept_next, loaded_plans, put_plans}
+use Rattle.moka_laws.proofs.Rules.{put_plans, chosen_by, kept_next, loaded_plans, put_plans, read_key_next, told_op_next}
 use Rattle.moka_laws.proofs.SoundReached.{IsSound, sound_kept}
 use Rattle.moka_laws.proofs.Steady.{step_calls, step_rules}
 use Rattle.moka_laws.proofs.Kept.{IsKept, in_reached}
 use Rattle.moka_laws.proofs.StepCases.{OnStep, step_cases}
 use Rattle.moka_laws.proofs.Outcomes.{Outcomes, outcomes}
+use Rattle.moka_hist.specs.declared.loads.Compute.{Compute}
+use Rattle.moka_hist.specs.Computing.{after_told_op, after_read_key}
 
 -- what is stored by key
 abbrev Map : Type 0 → Type 0 → Type 0
@@ -132,19 +136,24 @@ module _ {K V E : Type 0} where
 
   misses_calm : (c : Call K V E) (aim : Aim K V) → weigh_call chosen (misses c aim).left ≡ 0
   misses_calm c plan.To_answer = refl
+  misses_calm c (plan.To_report key) = refl
   misses_calm c (plan.To_load sought) = refl
   misses_calm c (plan.To_own sought) = refl
+  misses_calm c (plan.To_compute compute) = refl
   misses_calm c (plan.To_insert key value) =
       put_plans (λ p. weigh_call chosen (goes c p).left ≡ 0) c.rules key value _ refl refl
   misses_calm c (plan.To_evict key stamp cause) = keeps_calm c
 
-  hits_calm : (c : Call K V E) (aim : Aim K V) (value : V) → weigh chosen c.plan ≡ 0 → weigh_call chosen
-      (hits c aim value).left ≡ 0
-  hits_calm c plan.To_answer value p = refl
-  hits_calm c (plan.To_load sought) value p = refl
-  hits_calm c (plan.To_insert under new) value p = refl
-  hits_calm c (plan.To_own sought) value p = refl
-  hits_calm c (plan.To_evict key stamp cause) value p = p
+  hits_calm : (c : Call K V E) (aim : Aim K V) (there : K) (value : V) → weigh chosen c.plan ≡ 0 →
+      weigh_call chosen
+      (hits c aim there value).left ≡ 0
+  hits_calm c plan.To_answer there value p = refl
+  hits_calm c (plan.To_report key) there value p = refl
+  hits_calm c (plan.To_load sought) there value p = refl
+  hits_calm c (plan.To_insert under new) there value p = refl
+  hits_calm c (plan.To_own sought) there value p = refl
+  hits_calm c (plan.To_compute compute) there value p = refl
+  hits_calm c (plan.To_evict key stamp cause) there value p = p
 
   either_calm : (b : Bool) (x y : Next K V E) → weigh_call chosen x.left ≡ 0 →
       weigh_call chosen y.left ≡ 0 → weigh_call chosen (cond b x y).left ≡ 0
@@ -159,6 +168,13 @@ module _ {K V E : Type 0} where
   read_calm c sought settled.NotYet p = p
   read_calm c sought settled.Aborted p = either_calm (c.aborts + 1 == retries) _ _ refl refl
 
+  read_key_calm : (c : Call K V E) (compute : Compute K) (with : Settled V E) →
+      weigh chosen c.plan ≡ 0 →
+      weigh_call chosen (after_read_key c compute (found.ReadSettled with)).left ≡ 0
+  read_key_calm c compute with p = read_key_next (λ v. weigh_call chosen v.left ≡ 0) c compute with
+      (p)
+      (refl)
+
   told_calm : (c : Call K V E) (load : Load K) (given : Told V E) → weigh chosen c.plan ≡ 0 →
       weigh_call chosen (after_told c load (found.TakeTold (Some given))).left ≡ 0
   told_calm c load (told.Value value) p = loaded_plans
@@ -166,7 +182,20 @@ module _ {K V E : Type 0} where
   told_calm c load told.Nothing p = refl
   told_calm c load (told.Err error) p = refl
   told_calm c load told.Done p = p
+  told_calm c load (told.Op op) p = p
   told_calm c load told.Off p = p
+
+  told_op_calm : (c : Call K V E) (compute : Compute K) (pair : Option (K × V)) (given : Told V E) →
+      weigh chosen c.plan ≡ 0 →
+      weigh_call chosen (after_told_op c compute pair (found.TakeTold (Some given))).left ≡ 0
+  told_op_calm c compute pair given p =
+      told_op_next (λ v. weigh_call chosen v.left ≡ 0) c compute pair given
+      (λ a. refl)
+      (λ value able off. refl)
+      (λ value able on. refl)
+      (λ off. refl)
+      (λ on. refl)
+      (p)
 
   module _ (eq : K → K → Bool) (w : World K V E) (n : ℕ) (c : Call K V E) where
     -- what a step has to show
@@ -184,9 +213,11 @@ module _ {K V E : Type 0} where
         (plan.Get aim key ∷ rest)) →
         StandsIf w.table.stored (finds_pair c aim there seen).left
     finds_on plan.To_answer key there seen rest e some inside = inl refl
+    finds_on (plan.To_report under) key there seen rest e some inside = inl refl
     finds_on (plan.To_load sought) key there seen rest e some inside = inl refl
     finds_on (plan.To_insert under new) key there seen rest e some inside = inl refl
     finds_on (plan.To_own sought) key there seen rest e some inside = inl refl
+    finds_on (plan.To_compute compute) key there seen rest e some inside = inl refl
     finds_on (plan.To_evict own stamp cause) key there seen rest e some inside =
         chosen_by (λ v. StandsIf w.table.stored v.left) c own stamp cause there seen
         (λ other. calm_if w.table.stored (keeps c).left (keeps_calm c))
@@ -223,7 +254,7 @@ module _ {K V E : Type 0} where
       λ there seen some. finds_on aim key there seen rest e some i,
     )
     on_calm (plan.Judge aim key found) rest e p q i = (
-      λ seen. calm_if _ (hits c aim found.value).left (hits_calm c aim found.value p),
+      λ seen. calm_if _ (hits c aim key found.value).left (hits_calm c aim key found.value p),
       λ unseen. calm_if _ (misses c aim).left (misses_calm c aim),
     )
     on_calm (plan.Own sought) rest e p q i = (
@@ -231,23 +262,42 @@ module _ {K V E : Type 0} where
       λ disabled f. inl refl,
       λ owner f. inl refl,
     )
+    on_calm (plan.Own_key compute) rest e p q i =
+        ((λ able f. inl refl, λ disabled f. inl refl), λ owner f. inl refl)
+    on_calm (plan.Own_alone key) rest e p q i = (
+      (λ able f. inl refl, λ disabled f. inl refl),
+      λ owner f. (λ able. inl refl, λ disabled. inl refl),
+    )
     on_calm (plan.Read sought) rest e p q i = (
       λ f. inl p,
       λ with f. calm_if _ _
           (read_calm c sought with p),
     )
+    on_calm (plan.Read_key compute) rest e p q i = (
+      λ f. inl p,
+      λ with f. calm_if _ _
+          (read_key_calm c compute with p),
+    )
     on_calm (plan.Settle with) rest e p q i = goes_on _ rest (omega (arith, q))
     on_calm (plan.Ask load) rest e p q i = inl refl
+    on_calm (plan.Ask_op compute pair) rest e p q i = inl refl
     on_calm (plan.Told load) rest e p q i = (
       λ f. inl p,
       λ given f. calm_if _ _
           (told_calm c load given p),
+    )
+    on_calm (plan.Told_op compute pair) rest e p q i = (
+      λ f. inl p,
+      λ given f. calm_if _ _
+          (told_op_calm c compute pair given p),
     )
     on_calm (plan.Holds key stamp cause there seen) rest e p q i = absurd (omega (arith, q))
     on_calm (plan.Moment (plan.To_store key value)) rest e p q i = inl (omega (arith, q))
     on_calm (plan.Moment (plan.To_take_out plan.To_invalidate key)) rest e p q i = inl
         (omega (arith, q))
     on_calm (plan.Moment (plan.To_take_out plan.To_remove key)) rest e p q i = inl
+        (omega (arith, q))
+    on_calm (plan.Moment (plan.To_take_out (plan.To_remove_as_told own) key)) rest e p q i = inl
         (omega (arith, q))
     on_calm (plan.Moment (plan.To_take_out (plan.To_evict_chosen stamp cause) key)) rest e p q i =
         absurd (omega (arith, q))
@@ -259,11 +309,14 @@ module _ {K V E : Type 0} where
     )
     on_calm (plan.Out removal key) rest e p q i = (
       λ more. inl p,
-      λ off none. inl refl,
-      λ on none. inl refl,
-      λ k old off some. inl refl,
-      λ k old on some. inl refl,
+      λ off none. inl (omega (arith, out (nothing_answer removal))),
+      λ on none. inl (omega (arith, out (nothing_answer removal))),
+      λ k old off some. inl (omega (arith, out (removed_answer removal old.value))),
+      λ k old on some. inl (omega (arith, out (removed_answer removal old.value))),
     )
+      where
+        out : (a : Answer K V E) → weigh chosen (said removal a) ≡ 0
+        out a = weigh_said chosen removal a refl refl
     on_calm plan.Idle rest e p q i = goes_on _ rest (omega (arith, q))
     on_calm (plan.Reply a) rest e p q i = tt
 
@@ -379,6 +432,10 @@ module _ {K V : Type 0} (E : Type 0) where
       by : (b : Bool) → weigh chosen (or_insert_plan {V = V} {E = E} b key value) ≡ 0
       by true = refl
       by false = refl
+  fresh_calm rules (start.Compute key) = refl
+  fresh_calm rules (start.TryCompute key) = refl
+  fresh_calm rules (start.ComputeAlone key) = refl
+  fresh_calm rules (start.Upsert key) = refl
   fresh_calm rules (start.Invalidate key) = by rules.listener
     where
       by : (b : Bool) → weigh chosen (plan.Drain ∷ under_lock {V = V} {E = E} b key

@@ -3,7 +3,7 @@ use Rattle.std.proofs.Common.{◌≡◌, ℕ, zero, suc, ◌==◌, Bool, true, f
 use Rattle.moka_hist.specs.Finite.{times}
 use Rattle.moka_hist.specs.State.{State, World, DeskPart, TablePart}
 use Rattle.moka_hist.specs.Tables.{Operates, by_pair, removed, taken_by, written}
-use Rattle.moka_hist.specs.Visits.{claimed, is_unlocked_for, locked_by, makes, read, settlement_for}
+use Rattle.moka_hist.specs.Visits.{claimed, claimed_alone, is_unlocked_for, locked_by, makes, read, settlement_for}
 use Rattle.moka_hist.specs.Step.{Access, On_table, On_desk, access_of, Gets, Step}
 use Rattle.moka_hist.specs.Run.{Goings}
 use Rattle.moka_hist.specs.declared.accesses.Got.{Got}
@@ -20,6 +20,7 @@ use Rattle.moka_hist.specs.declared.visits.Visit.TheVariants as visit
 use Rattle.moka_laws.proofs.Counting.{other_number, put_there}
 use Rattle.moka_laws.proofs.Balance.{times_last}
 use Rattle.moka_laws.proofs.Kept.{IsStable}
+use Rattle.moka_laws.proofs.Outcomes.{computes_of}
 
 module _ {K V : Type 0} (eq : K → K → Bool) where
   -- an operation of this call commits none but its own
@@ -75,6 +76,11 @@ module _ {K V E : Type 0} (eq : K → K → Bool) where
   visit_base d (visit.WaitOrOwn call key kind) = by (d.owners (record { key = key; kind = kind }))
     where
       by : (o : Option ℕ) → SameBase d (claimed eq d call (record { key = key; kind = kind }) o)
+      by None = record { rules = refl; last = refl }
+      by (Some owner) = record { rules = refl; last = refl }
+  visit_base d (visit.OwnAlone call key) = by (d.owners (computes_of key))
+    where
+      by : (o : Option ℕ) → SameBase d (claimed_alone eq d call (computes_of key) o)
       by None = record { rules = refl; last = refl }
       by (Some owner) = record { rules = refl; last = refl }
   visit_base d (visit.ReadSettled call) = by (is_some (settlement_for d call)) refl

@@ -1,12 +1,12 @@
 -- A call whose answer says that it has stored a value has committed its write.
-use Rattle.std.proofs.Common.{◌≡◌, ℕ, ◌+◌, ◌≤◌, ◌==◌, Bool, true, false, cond, List, [], ◌∷◌, ◌++◌, Some, None, refl, sym, ap, ◌∙◌, subst, arith}
+use Rattle.std.proofs.Common.{◌≡◌, ℕ, ◌+◌, ◌≤◌, ◌==◌, Bool, true, false, cond, List, [], ◌∷◌, ◌++◌, Some, None, refl, sym, ap, ◌∙◌, subst, arith, Option}
 use Rattle.std.proofs.lemmas.Bool.{eqb-true, false≢true}
 use Rattle.moka_hist.specs.Plan.{or_insert_plan, seek}
 use Rattle.moka_hist.specs.Step.{replace_of}
 use Rattle.moka_hist.specs.Visits.{is_seen}
 use Rattle.moka_hist.specs.Finite.{times}
 use Rattle.moka_hist.specs.State.{DeskPart, State, World, Call}
-use Rattle.moka_hist.specs.Plan.{Item, Aim, insert_plan, is_disabled, load_plan, plan_of}
+use Rattle.moka_hist.specs.Plan.{Item, Aim, Removal, insert_plan, is_disabled, load_plan, plan_of}
 use Rattle.moka_hist.specs.Plan as plan
 use Rattle.moka_hist.specs.Next.{Next, goes}
 use Rattle.moka_hist.specs.Looking.{hits, misses, finds_pair}
@@ -29,7 +29,7 @@ use Rattle.moka_hist.specs.declared.replies.Answer.TheVariants as reply
 use Rattle.moka_hist.specs.declared.visits.Settled.{Settled}
 use Rattle.moka_hist.specs.declared.visits.Settled.TheVariants as settled
 use Rattle.moka_hist.specs.declared.visits.Found.TheVariants as found
-use Rattle.moka_laws.specs.Answered.{StoredIsCommitted, says_stored}
+use Rattle.moka_laws.specs.Answered.{has_stored, StoredIsCommitted, says_stored}
 use Rattle.moka_laws.proofs.Counting.{differ, none_some, some_same, put_cases, put_here, put_there, same_number}
 use Rattle.moka_laws.proofs.Weights.{weigh, weigh_call}
 use Rattle.moka_laws.proofs.Balance.{times_last}
@@ -37,25 +37,46 @@ use Rattle.moka_laws.proofs.OnePlace.{times_contains}
 use Rattle.moka_laws.proofs.Owning.{plan_left}
 use Rattle.moka_laws.proofs.Roles.{IsLast}
 use Rattle.moka_laws.proofs.Safe.{IsWell, in_well, well_kept}
-use Rattle.moka_laws.proofs.Rules.{put_plans, loaded_plans_by, put_plans}
+use Rattle.moka_laws.proofs.Rules.{put_plans, loaded_plans_by, put_plans, read_key_next, told_op_next_by}
+use Rattle.moka_hist.specs.Entries.{unchanged, put_answer}
 use Rattle.moka_laws.proofs.Starting.{begins_so, from_start}
 use Rattle.moka_laws.proofs.Steady.{rules_stable, step_calls, step_commits, step_last, step_rules}
 use Rattle.moka_laws.proofs.Kept.{IsStable}
 use Rattle.moka_laws.proofs.StepCases.{OnStep, step_cases}
 use Rattle.moka_laws.proofs.Outcomes.{Outcomes, outcomes}
+use Rattle.moka_hist.specs.declared.loads.Compute.{Compute}
+use Rattle.moka_hist.specs.Computing.{after_told_op, after_read_key}
 
--- 1 where the answer of an insert or a load says that a value was stored
-abbrev stored : {V E : Type 0} → Answer V E → ℕ
+-- 1 where the answer of an insert, a load or a compute says that a value was stored
+abbrev stored : {K V E : Type 0} → Answer K V E → ℕ
 stored reply.Done = 1
 stored (reply.Loaded value fresh) = cond fresh 1 0
+stored (reply.Computed done) = cond (has_stored done) 1 0
 stored _ = 0
 
 counts : (fresh : Bool) → fresh ≡ true → cond {A = ℕ} fresh 1 0 ≡ 1
 counts fresh e = ap (λ b. cond {A = ℕ} b 1 0) e
 
-same_answer : {K V E : Type 0} (a b : Answer V E) → ◌≡◌ {A = Turn K V E} (turns.Answer a)
+same_answer : {K V E : Type 0} (a b : Answer K V E) → ◌≡◌ {A = Turn K V E} (turns.Answer a)
     (turns.Answer b) → a ≡ b
 same_answer a b e = cc
+
+unchanged_stores : {K V : Type 0} (E : Type 0) (key : K) (pair : Option (K × V)) →
+    stored (unchanged {E = E} key pair) ≡ 0
+unchanged_stores E key None = refl
+unchanged_stores E key (Some pair) = refl
+
+put_stores : {K V : Type 0} (E : Type 0) (key : K) (pair : Option (K × V)) (value : V) →
+    stored (put_answer {E = E} key pair value) ≡ 1
+put_stores E key None value = refl
+put_stores E key (Some pair) value = refl
+
+-- 1 where a call was started to take a record out so
+abbrev for_out : {K : Type 0} → Removal K → ℕ
+for_out plan.To_invalidate = 1
+for_out plan.To_remove = 1
+for_out (plan.To_evict_chosen stamp cause) = 1
+for_out (plan.To_remove_as_told key) = 0
 
 module _ {K V E : Type 0} where
   -- the item makes a write; it answers that a value was stored
@@ -68,10 +89,10 @@ module _ {K V E : Type 0} where
   says (plan.Reply a) = stored a
   says _ = 0
 
-  -- the item takes a record out, or is to
+  -- the item takes a record out, or is to, for which the call was started
   abbrev takes : Item K V E → ℕ
-  takes (plan.Moment (plan.To_take_out removal key)) = 1
-  takes (plan.Out removal key) = 1
+  takes (plan.Moment (plan.To_take_out removal key)) = for_out removal
+  takes (plan.Out removal key) = for_out removal
   takes (plan.Get (plan.To_evict key stamp cause) at) = 1
   takes (plan.Judge (plan.To_evict key stamp cause) at found) = 1
   takes (plan.Holds key stamp cause there found) = 1
@@ -88,7 +109,7 @@ module _ {K V E : Type 0} where
   record Says (committed : ℕ) (next : Next K V E) : Type 0 where
     left : weigh_call says next.left ≤ weigh_call makes next.left + committed
     plain : weigh_call takes next.left ≡ 0
-    now : (a : Answer V E) → next.turn ≡ turns.Answer a → stored a ≤ committed
+    now : (a : Answer K V E) → next.turn ≡ turns.Answer a → stored a ≤ committed
 
   module _ (k : ℕ) where
     goes_says : (c : Call K V E) (rest : List (Item K V E)) → weigh says rest ≤ weigh makes rest + k →
@@ -105,7 +126,7 @@ module _ {K V E : Type 0} where
 
     -- the call has its plan still
     stays_says : (c : Call K V E) (next : Next K V E) → next.left ≡ Some c →
-        ((a : Answer V E) → next.turn ≡ turns.Answer a → ⊥) → Stores k c.plan → Says k next
+        ((a : Answer K V E) → next.turn ≡ turns.Answer a → ⊥) → Stores k c.plan → Says k next
     stays_says c next is going p = record {
       left = subst (λ v. weigh_call says v ≤ weigh_call makes v + k) (sym is) p.says;
       plain = subst (λ v. weigh_call takes v ≡ 0) (sym is) p.plain;
@@ -120,9 +141,17 @@ module _ {K V E : Type 0} where
       now = λ b e. omega
           (arith, ap stored (same_answer (reply.Found None) b e));
     }
+    misses_says c (plan.To_report under) key t = record {
+      left = omega arith;
+      plain = refl;
+      now = λ b e. omega
+          (arith, ap stored (same_answer (unchanged under None) b e));
+    }
     misses_says c (plan.To_load sought) key t = record
         { left = omega arith; plain = refl; now = λ b e. cc }
     misses_says c (plan.To_own sought) key t = record
+        { left = omega arith; plain = refl; now = λ b e. cc }
+    misses_says c (plan.To_compute compute) key t = record
         { left = omega arith; plain = refl; now = λ b e. cc }
     misses_says c (plan.To_insert under new) key t =
         put_plans (λ q. Says k (goes c q)) c.rules under new _
@@ -134,22 +163,33 @@ module _ {K V E : Type 0} where
         (plan.Get aim key) ≡ 0 → Says k (finds_pair c aim there found)
     finds_says c plan.To_answer key there found t = record
         { left = omega arith; plain = refl; now = λ b e. cc }
+    finds_says c (plan.To_report under) key there found t = record
+        { left = omega arith; plain = refl; now = λ b e. cc }
     finds_says c (plan.To_load sought) key there found t = record
         { left = omega arith; plain = refl; now = λ b e. cc }
     finds_says c (plan.To_insert under new) key there found t = record
         { left = omega arith; plain = refl; now = λ b e. cc }
     finds_says c (plan.To_own sought) key there found t = record
         { left = omega arith; plain = refl; now = λ b e. cc }
+    finds_says c (plan.To_compute compute) key there found t = record
+        { left = omega arith; plain = refl; now = λ b e. cc }
     finds_says c (plan.To_evict own stamp cause) key there found t = absurd (omega (arith, t))
 
     hits_says : (c : Call K V E) (aim : Aim K V) (key : K) (found : Stored V) → takes
-        (plan.Judge aim key found) ≡ 0 → Says k (hits c aim found.value)
+        (plan.Judge aim key found) ≡ 0 → Says k (hits c aim key found.value)
     hits_says c plan.To_answer key found t =
         record {
           left = omega arith;
           plain = refl;
           now = λ b e. omega
               (arith, ap stored (same_answer (reply.Found (Some found.value)) b e));
+        }
+    hits_says c (plan.To_report under) key found t =
+        record {
+          left = omega arith;
+          plain = refl;
+          now = λ b e. omega
+              (arith, ap stored (same_answer (unchanged under (Some (key, found.value))) b e));
         }
     hits_says c (plan.To_load sought) key found t =
         record {
@@ -166,6 +206,8 @@ module _ {K V E : Type 0} where
               (arith, ap stored (same_answer (reply.Loaded found.value false) b e));
         }
     hits_says c (plan.To_own sought) key found t = record
+        { left = omega arith; plain = refl; now = λ b e. cc }
+    hits_says c (plan.To_compute compute) key found t = record
         { left = omega arith; plain = refl; now = λ b e. cc }
     hits_says c (plan.To_evict own stamp cause) key found t = absurd (omega (arith, t))
 
@@ -213,6 +255,13 @@ module _ {K V E : Type 0} where
         })
         by false e = rw e (record { left = omega arith; plain = refl; now = λ b e. cc })
 
+    read_key_says : (c : Call K V E) (compute : Compute K) (with : Settled V E) → Stores k c.plan →
+        Says k (after_read_key c compute (found.ReadSettled with))
+    read_key_says c compute with p = read_key_next (λ v. Says k v) c compute with
+        (record { left = p.says; plain = p.plain; now = λ b e. cc })
+        (record
+        { left = omega arith; plain = refl; now = λ b e. cc })
+
     told_says : (c : Call K V E) (load : Load K) (given : Told V E) → is_disabled c.rules ≡ false →
         Stores k c.plan →
         Says k (after_told c load (found.TakeTold (Some given)))
@@ -226,7 +275,34 @@ module _ {K V E : Type 0} where
     told_says c load (answer.Err error) able p =
         record { left = omega arith; plain = refl; now = λ b e. cc }
     told_says c load answer.Done able p = record { left = p.says; plain = p.plain; now = λ b e. cc }
+    told_says c load (answer.Op op) able p =
+        record { left = p.says; plain = p.plain; now = λ b e. cc }
     told_says c load answer.Off able p = record { left = p.says; plain = p.plain; now = λ b e. cc }
+
+    told_op_says : (c : Call K V E) (compute : Compute K) (pair : Option (K × V))
+        (given : Told V E) → is_disabled c.rules ≡ false → Stores k c.plan →
+        Says k (after_told_op c compute pair (found.TakeTold (Some given)))
+    told_op_says c compute pair given able p = told_op_next_by (Says k) c compute pair given
+        (record {
+          left = omega (arith, unchanged_stores E compute.key pair);
+          plain = refl;
+          now = λ b e. cc;
+        })
+        (λ error f. record { left = omega arith; plain = refl; now = λ b e. cc })
+        (λ value disabled. absurd (false≢true (sym able ∙ disabled)))
+        (λ value yes off. record {
+          left = omega (arith, put_stores E compute.key pair value);
+          plain = refl;
+          now = λ b e. cc;
+        })
+        (λ value yes on. record {
+          left = omega (arith, put_stores E compute.key pair value);
+          plain = refl;
+          now = λ b e. cc;
+        })
+        (λ off. record { left = omega arith; plain = refl; now = λ b e. cc })
+        (λ on. record { left = omega arith; plain = refl; now = λ b e. cc })
+        (λ lost. record { left = p.says; plain = p.plain; now = λ b e. cc })
 
   module _ (eq : K → K → Bool) (w : World K V E) (n : ℕ) (c : Call K V E)
       (able : is_disabled c.rules ≡ false) where
@@ -303,23 +379,50 @@ module _ {K V E : Type 0} where
       λ no e. record { left = omega arith; plain = refl; now = λ b e. cc },
       λ owner e. record { left = omega arith; plain = refl; now = λ b e. cc },
     )
+    on_item (plan.Own_key compute) rest l p q = (
+      (
+        (λ yes e. record { left = omega arith; plain = refl; now = λ b e. cc }),
+        λ no e. record { left = omega arith; plain = refl; now = λ b e. cc },
+      ),
+      λ owner e. record { left = omega arith; plain = refl; now = λ b e. cc },
+    )
+    on_item (plan.Own_alone key) rest l p q = (
+      (
+        (λ yes e. record { left = omega arith; plain = refl; now = λ b e. cc }),
+        λ no e. record { left = omega arith; plain = refl; now = λ b e. cc },
+      ),
+      λ owner e. (
+        (λ able. record { left = omega arith; plain = refl; now = λ b e. cc }),
+        λ not. record { left = omega arith; plain = refl; now = λ b e. cc },
+      ),
+    )
     on_item (plan.Read sought) rest l p q = (
       λ e. record { left = p.says; plain = p.plain; now = λ b e. cc },
       λ with e. read_says _ c sought with p,
+    )
+    on_item (plan.Read_key compute) rest l p q = (
+      λ e. record { left = p.says; plain = p.plain; now = λ b e. cc },
+      λ with e. read_key_says _ c compute with p,
     )
     on_item (plan.Settle with) rest l p q = goes_says _ c rest (omega (arith, q.says))
         (omega (arith, q.plain))
     on_item (plan.Ask load) rest l p q = record
         { left = omega arith; plain = refl; now = λ b e. cc }
+    on_item (plan.Ask_op compute pair) rest l p q = record
+        { left = omega arith; plain = refl; now = λ b e. cc }
     on_item (plan.Told load) rest l p q = (
       λ e. record { left = p.says; plain = p.plain; now = λ b e. cc },
       λ given e. told_says _ c load given able p,
     )
+    on_item (plan.Told_op compute pair) rest l p q = (
+      λ e. record { left = p.says; plain = p.plain; now = λ b e. cc },
+      λ given e. told_op_says _ c compute pair given able p,
+    )
     on_item (plan.Holds key stamp cause there found) rest l p q = absurd (omega (arith, q.plain))
     on_item (plan.Moment (plan.To_store key value)) rest l p q =
         record { left = omega (arith, q.says); plain = omega (arith, q.plain); now = λ b e. cc }
-    on_item (plan.Moment (plan.To_take_out removal key)) rest l p q = absurd
-        (omega (arith, q.plain))
+    on_item (plan.Moment (plan.To_take_out removal key)) rest l p q =
+        record { left = omega (arith, q.says); plain = omega (arith, q.plain); now = λ b e. cc }
     on_item (plan.Write key value moment) rest l p q = (
       λ more. record { left = p.says; plain = p.plain; now = λ b e. cc },
       λ off old. record {
@@ -343,7 +446,17 @@ module _ {K V E : Type 0} where
       where
         one : times n (w.table.committed ++ n ∷ []) ≡ times n w.table.committed + 1
         one = omega (arith, times_last n n w.table.committed, ap (λ b. cond {A = ℕ} b 1 0) (same_number n))
-    on_item (plan.Out removal key) rest l p q = absurd (omega (arith, q.plain))
+    on_item (plan.Out (plan.To_remove_as_told own) key) rest l p q = (
+      (λ more. record { left = p.says; plain = p.plain; now = λ b e. cc }),
+      (λ off none. record { left = omega arith; plain = refl; now = λ b e. cc }),
+      (λ on none. record { left = omega arith; plain = refl; now = λ b e. cc }),
+      (λ k old off some. record { left = omega arith; plain = refl; now = λ b e. cc }),
+      λ k old on some. record { left = omega arith; plain = refl; now = λ b e. cc },
+    )
+    on_item (plan.Out plan.To_invalidate key) rest l p q = absurd (omega (arith, q.plain))
+    on_item (plan.Out plan.To_remove key) rest l p q = absurd (omega (arith, q.plain))
+    on_item (plan.Out (plan.To_evict_chosen stamp cause) key) rest l p q =
+        absurd (omega (arith, q.plain))
     on_item plan.Idle rest l p q = goes_says _ c rest (omega (arith, q.says))
         (omega (arith, q.plain))
     on_item (plan.Reply a) rest l p q =
@@ -380,12 +493,12 @@ module _ {K V E : Type 0} (eq : K → K → Bool) (n : ℕ) where
   -- what a step of this call leaves
   own_step : (s t : State K V E) (turn : Turn K V E) → IsSaying s → (step : Step eq s n turn t) →
       ((c : Call K V E) → t.calls n ≡ Some c → Stores (times n t.world.table.committed) c.plan) ×
-      ((a : Answer V E) → turn ≡ turns.Answer a → stored a ≤ times n t.world.table.committed)
+      ((a : Answer K V E) → turn ≡ turns.Answer a → stored a ≤ times n t.world.table.committed)
   own_step s t turn i step =
       step_cases eq (λ w next. Says (times n w.table.committed) next)
       (λ v r. ((c : Call K V E) → v.calls n ≡ Some c → Stores
       (times n v.world.table.committed) c.plan) ×
-      ((a : Answer V E) → r ≡ turns.Answer a → stored a ≤
+      ((a : Answer K V E) → r ≡ turns.Answer a → stored a ≤
       times n v.world.table.committed)) s t n turn step
       (on_plan eq s.world n step.call (able_call s step.call i step.live) step.call.plan refl
       (last_of s step.call i.well step.live)
@@ -473,7 +586,7 @@ module _ {K V E : Type 0} (eq : K → K → Bool) where
       (record { says = omega arith; plain = refl })
 
   -- what an insert or a load is to do on a cache that is not disabled
-  fresh_stores : (rules : Rules) (s : Start K V) (a : Answer V E) → is_disabled rules ≡ false →
+  fresh_stores : (rules : Rules) (s : Start K V) (a : Answer K V E) → is_disabled rules ≡ false →
       says_stored s a ≡ true → Stores {K = K} {V = V} {E = E} 0 (plan_of rules s)
   fresh_stores rules (start.Insert key value) a able e =
       subst (λ b. Stores {K = K} {V = V} {E = E} 0 (insert_plan b rules key value)) (sym able)
@@ -488,13 +601,17 @@ module _ {K V E : Type 0} (eq : K → K → Bool) where
   fresh_stores rules (start.OrInsert key value) a able e =
       subst (λ b. Stores {K = K} {V = V} {E = E} 0 (or_insert_plan b key value)) (sym able)
       (record { says = omega arith; plain = refl })
+  fresh_stores rules (start.Compute key) a able e = record { says = omega arith; plain = refl }
+  fresh_stores rules (start.TryCompute key) a able e = record { says = omega arith; plain = refl }
+  fresh_stores rules (start.ComputeAlone key) a able e = record { says = omega arith; plain = refl }
+  fresh_stores rules (start.Upsert key) a able e = record { says = omega arith; plain = refl }
   fresh_stores rules (start.Get key) a able e = absurd (false≢true e)
   fresh_stores rules (start.Invalidate key) a able e = absurd (false≢true e)
   fresh_stores rules (start.Remove key) a able e = absurd (false≢true e)
   fresh_stores rules (start.Evict key stamp cause) a able e = absurd (false≢true e)
 
   -- an answer that says so counts
-  says_counts : (s : Start K V) (a : Answer V E) → says_stored s a ≡ true → stored a ≡ 1
+  says_counts : (s : Start K V) (a : Answer K V E) → says_stored s a ≡ true → stored a ≡ 1
   says_counts (start.Insert key value) reply.Done e = refl
   says_counts (start.Insert key value) (reply.Loaded v fresh) e = absurd (false≢true e)
   says_counts (start.GetWith key replace) (reply.Loaded value fresh) e = counts fresh e
@@ -505,6 +622,10 @@ module _ {K V E : Type 0} (eq : K → K → Bool) where
   says_counts (start.Try key) reply.Done e = absurd (false≢true e)
   says_counts (start.OrInsert key own) (reply.Loaded value fresh) e = counts fresh e
   says_counts (start.OrInsert key own) reply.Done e = absurd (false≢true e)
+  says_counts (start.Compute key) (reply.Computed done) e = counts (has_stored done) e
+  says_counts (start.TryCompute key) (reply.Computed done) e = counts (has_stored done) e
+  says_counts (start.ComputeAlone key) (reply.Computed done) e = counts (has_stored done) e
+  says_counts (start.Upsert key) (reply.Computed done) e = counts (has_stored done) e
   says_counts _ _ e = absurd (false≢true e)
 
   pub stored_committed : StoredIsCommitted K V E eq

@@ -24,7 +24,9 @@ use Rattle.moka_hist.specs.declared.visits.Settled.TheVariants as settled
 use Rattle.moka_hist.specs.declared.visits.Found.TheVariants as found
 use Rattle.moka_hist.specs.declared.accesses.Turn.{Turn}
 use Rattle.moka_laws.specs.Missing.{TurnIsHeld, AppliesLog, IsApplying}
-use Rattle.moka_laws.proofs.Rules.{put_plans, loaded_plans, kept_next, chosen_by, IsFresh, Disabled, fresh_plan}
+use Rattle.moka_hist.specs.Writing.{cause_handed, nothing_answer, removed_answer}
+use Rattle.moka_hist.specs.declared.writes.Write.TheVariants.{Remove}
+use Rattle.moka_laws.proofs.Rules.{said_next, put_plans, loaded_plans, kept_next, chosen_by, IsFresh, Disabled, fresh_plan, read_key_next, told_op_next}
 use Rattle.moka_laws.proofs.Counting.{none_some, some_same, put_here, put_there, differ_not, other_number}
 use Rattle.moka_laws.proofs.Weights.{weigh}
 use Rattle.moka_laws.proofs.Balance.{IsBalanced}
@@ -33,6 +35,8 @@ use Rattle.moka_laws.proofs.Owning.{plan_left}
 use Rattle.moka_laws.proofs.Kept.{IsKept, in_reached}
 use Rattle.moka_laws.proofs.StepCases.{OnStep, step_cases}
 use Rattle.moka_laws.proofs.Outcomes.{Outcomes, outcomes}
+use Rattle.moka_hist.specs.declared.loads.Compute.{Compute}
+use Rattle.moka_hist.specs.Computing.{after_told_op, after_read_key}
 
 module _ {K V E : Type 0} where
   -- the item is one of a turn
@@ -116,8 +120,10 @@ module _ {K V E : Type 0} where
 
   misses_calm : (c : Call K V E) (aim : Aim K V) → weigh of_turn (plan_left (misses c aim).left) ≡ 0
   misses_calm c plan.To_answer = refl
+  misses_calm c (plan.To_report key) = refl
   misses_calm c (plan.To_load sought) = refl
   misses_calm c (plan.To_own sought) = refl
+  misses_calm c (plan.To_compute compute) = refl
   misses_calm c (plan.To_insert key value) =
       put_plans (λ p. weigh of_turn (plan_left (goes c p).left) ≡ 0) c.rules key value _ refl refl
   misses_calm c (plan.To_evict key stamp cause) = keeps_calm c
@@ -125,20 +131,24 @@ module _ {K V E : Type 0} where
   finds_calm : (c : Call K V E) (aim : Aim K V) (there : K) (stored : Stored V) →
       weigh of_turn (plan_left (finds_pair c aim there stored).left) ≡ 0
   finds_calm c plan.To_answer there stored = refl
+  finds_calm c (plan.To_report key) there stored = refl
   finds_calm c (plan.To_load sought) there stored = refl
   finds_calm c (plan.To_insert under new) there stored = refl
   finds_calm c (plan.To_own sought) there stored = refl
+  finds_calm c (plan.To_compute compute) there stored = refl
   finds_calm c (plan.To_evict key stamp cause) there stored =
       chosen_by (λ v. weigh of_turn (plan_left v.left) ≡ 0) c key stamp cause there stored
       (λ other. keeps_calm c) (λ same. refl)
 
-  hits_calm : (c : Call K V E) (aim : Aim K V) (value : V) → weigh of_turn c.plan ≡ 0 →
-      weigh of_turn (plan_left (hits c aim value).left) ≡ 0
-  hits_calm c plan.To_answer value h = refl
-  hits_calm c (plan.To_load sought) value h = refl
-  hits_calm c (plan.To_insert under new) value h = refl
-  hits_calm c (plan.To_own sought) value h = refl
-  hits_calm c (plan.To_evict key stamp cause) value h = h
+  hits_calm : (c : Call K V E) (aim : Aim K V) (there : K) (value : V) → weigh of_turn c.plan ≡ 0 →
+      weigh of_turn (plan_left (hits c aim there value).left) ≡ 0
+  hits_calm c plan.To_answer there value h = refl
+  hits_calm c (plan.To_report key) there value h = refl
+  hits_calm c (plan.To_load sought) there value h = refl
+  hits_calm c (plan.To_insert under new) there value h = refl
+  hits_calm c (plan.To_own sought) there value h = refl
+  hits_calm c (plan.To_compute compute) there value h = refl
+  hits_calm c (plan.To_evict key stamp cause) there value h = h
 
   either_calm : (b : Bool) (x y : Next K V E) → weigh of_turn (plan_left x.left) ≡ 0 → weigh of_turn (plan_left y.left) ≡ 0 →
       weigh of_turn (plan_left (cond b x y).left) ≡ 0
@@ -153,6 +163,14 @@ module _ {K V E : Type 0} where
   read_calm c sought settled.NotYet h = h
   read_calm c sought settled.Aborted h = either_calm (c.aborts + 1 == retries) _ _ refl refl
 
+  read_key_calm : (c : Call K V E) (compute : Compute K) (with : Settled V E) →
+      weigh of_turn c.plan ≡ 0 →
+      weigh of_turn (plan_left (after_read_key c compute (found.ReadSettled with)).left) ≡ 0
+  read_key_calm c compute with h =
+      read_key_next (λ v. weigh of_turn (plan_left v.left) ≡ 0) c compute with
+      (h)
+      (refl)
+
   told_calm : (c : Call K V E) (load : Load K) (given : Told V E) → weigh of_turn c.plan ≡ 0 →
       weigh of_turn (plan_left (after_told c load (found.TakeTold (Some given))).left) ≡ 0
   told_calm c load (answer.Value value) h =
@@ -161,7 +179,20 @@ module _ {K V E : Type 0} where
   told_calm c load answer.Nothing h = refl
   told_calm c load (answer.Err error) h = refl
   told_calm c load answer.Done h = h
+  told_calm c load (answer.Op op) h = h
   told_calm c load answer.Off h = h
+
+  told_op_calm : (c : Call K V E) (compute : Compute K) (pair : Option (K × V)) (given : Told V E) →
+      weigh of_turn c.plan ≡ 0 →
+      weigh of_turn (plan_left (after_told_op c compute pair (found.TakeTold (Some given))).left) ≡ 0
+  told_op_calm c compute pair given h =
+      told_op_next (λ v. weigh of_turn (plan_left v.left) ≡ 0) c compute pair given
+      (λ a. refl)
+      (λ value able off. refl)
+      (λ value able on. refl)
+      (λ off. refl)
+      (λ on. refl)
+      (h)
 
   form_calm : (rules : Rules) (p : List (Item K V E)) → IsFresh rules p → weigh of_turn p ≡ 0
   form_calm rules p (Disabled a d plain) = refl
@@ -250,7 +281,7 @@ module _ {K V E : Type 0} where
         )
     on_item (plan.Judge aim key stored) rest e q =
         let c_calm : weigh of_turn c.plan ≡ 0 = omega (arith, ap (weigh of_turn) e, q.first) in (
-          (λ seen. calm _ n (hits_calm c aim stored.value c_calm) q.has),
+          (λ seen. calm _ n (hits_calm c aim key stored.value c_calm) q.has),
           λ unseen. calm _ n (misses_calm c aim) q.has,
         )
     on_item (plan.Own sought) rest e q = (
@@ -258,14 +289,33 @@ module _ {K V E : Type 0} where
       λ disabled none. calm _ n refl q.has,
       λ owner some. calm _ n refl q.has,
     )
+    on_item (plan.Own_key compute) rest e q = (
+      ((λ able none. calm _ n refl q.has), λ disabled none. calm _ n refl q.has),
+      λ owner some. calm _ n refl q.has,
+    )
+    on_item (plan.Own_alone key) rest e q = (
+      ((λ able none. calm _ n refl q.has), λ disabled none. calm _ n refl q.has),
+      λ owner some. ((λ able. calm _ n refl q.has), λ not. calm _ n refl q.has),
+    )
     on_item (plan.Read sought) rest e q =
         let c_calm : weigh of_turn c.plan ≡ 0 = omega (arith, ap (weigh of_turn) e, q.first) in
         (λ none. calm _ n c_calm q.has, λ with some. calm _ n (read_calm c sought with c_calm) q.has)
+    on_item (plan.Read_key compute) rest e q =
+        let c_calm : weigh of_turn c.plan ≡ 0 = omega (arith, ap (weigh of_turn) e, q.first) in (
+          λ none. calm _ n c_calm q.has,
+          λ with some. calm _ n (read_key_calm c compute with c_calm) q.has,
+        )
     on_item (plan.Settle with) rest e q = calm _ n (goes_calm c rest q.first) q.has
     on_item (plan.Ask load) rest e q = calm _ n refl q.has
+    on_item (plan.Ask_op compute pair) rest e q = calm _ n refl q.has
     on_item (plan.Told load) rest e q =
         let c_calm : weigh of_turn c.plan ≡ 0 = omega (arith, ap (weigh of_turn) e, q.first) in
         (λ none. calm _ n c_calm q.has, λ given some. calm _ n (told_calm c load given c_calm) q.has)
+    on_item (plan.Told_op compute pair) rest e q =
+        let c_calm : weigh of_turn c.plan ≡ 0 = omega (arith, ap (weigh of_turn) e, q.first) in (
+          λ none. calm _ n c_calm q.has,
+          λ given some. calm _ n (told_op_calm c compute pair given c_calm) q.has,
+        )
     on_item (plan.Holds key stamp cause there stored) rest e q =
         (λ holds. calm _ n refl q.has, λ not. calm _ n (keeps_calm c) q.has)
     on_item (plan.Moment (plan.To_store key value)) rest e q = calm _ n
@@ -282,10 +332,10 @@ module _ {K V E : Type 0} where
     on_item (plan.Out removal key) rest e q =
         let c_calm : weigh of_turn c.plan ≡ 0 = omega (arith, ap (weigh of_turn) e, q.first) in (
           (λ more. calm _ n c_calm q.has),
-          (λ off none. calm _ n refl q.has),
-          (λ on none. calm _ n refl q.has),
-          (λ k old off some. calm _ n refl q.has),
-          λ k old on some. calm _ n refl q.has,
+          (λ off none. calm _ n (said_next (λ v. weigh of_turn (plan_left v.left) ≡ 0) c (λ q. plan.Idle ∷ q) removal (nothing_answer removal) refl refl) q.has),
+          (λ on none. calm _ n (said_next (λ v. weigh of_turn (plan_left v.left) ≡ 0) c (λ q. plan.Unlock false ∷ q) removal (nothing_answer removal) refl refl) q.has),
+          (λ k old off some. calm _ n (said_next (λ v. weigh of_turn (plan_left v.left) ≡ 0) c (λ q. plan.Post (Remove n old.stamp) ∷ q) removal (removed_answer removal old.value) refl refl) q.has),
+          λ k old on some. calm _ n (said_next (λ v. weigh of_turn (plan_left v.left) ≡ 0) c (λ q. plan.Notice key old (cause_handed removal) false ∷ plan.Unlock true ∷ plan.Post (Remove n old.stamp) ∷ q) removal (removed_answer removal old.value) refl refl) q.has,
         )
     on_item plan.Idle rest e q = calm _ n (goes_calm c rest q.first) q.has
     on_item (plan.Reply answer) rest e q = calm _ n refl q.has

@@ -22,7 +22,8 @@ use Rattle.moka_laws.proofs.Steady.{goings_rules, step_rules}
 use Rattle.moka_laws.proofs.StepCases.{OnStep, step_cases}
 use Rattle.moka_laws.proofs.Outcomes.{outcomes, on_desk}
 
-same_answer : {K V E : Type 0} (a b : Answer V E) → ◌≡◌ {A = Turn K V E} (turn.Answer a) (turn.Answer b) → a ≡ b
+same_answer : {K V E : Type 0} (a b : Answer K V E) → ◌≡◌ {A = Turn K V E} (turn.Answer a)
+    (turn.Answer b) → a ≡ b
 same_answer a b e = cc
 
 -- what is stored by key
@@ -50,7 +51,8 @@ module _ {K V E : Type 0} where
     Here : Before last last
     Then : (item : Item K V E) (rest : List (Item K V E)) → IsPosting item → Before last rest → Before last (item ∷ rest)
 
-  before_reply : (last : List (Item K V E)) (a : Answer V E) (p : List (Item K V E)) → p ≡ plan.Reply a ∷ [] → Before last p → last ≡ plan.Reply a ∷ []
+  before_reply : (last : List (Item K V E)) (a : Answer K V E) (p : List (Item K V E)) →
+      p ≡ plan.Reply a ∷ [] → Before last p → last ≡ plan.Reply a ∷ []
   before_reply last a p e Here = e
   before_reply last a p e (Then plan.Drain rest i b) = cc
   before_reply last a p e (Then (plan.Post write) rest i b) = cc
@@ -64,11 +66,12 @@ module _ {K V E : Type 0} where
   before_reply last a p e (Then plan.Heard rest i b) = cc
   before_reply last a p e (Then _ rest i b) = absurd i
 
-  module _ (Phase : Map K V → List (Item K V E) → Type 0) (Ends : Map K V → Answer V E → Type 0) where
+  module _ (Phase : Map K V → List (Item K V E) → Type 0)
+      (Ends : Map K V → Answer K V E → Type 0) where
     -- How a call goes on: in a phase, or with an end.
     record Goes (new : World K V E) (next : Next K V E) : Type 0 where
       going : next.turn ≡ turn.Going → (c : Call K V E) × (next.left ≡ Some c) × Phase new.table.stored c.plan
-      ends : (a : Answer V E) → next.turn ≡ turn.Answer a → Ends new.table.stored a
+      ends : (a : Answer K V E) → next.turn ≡ turn.Answer a → Ends new.table.stored a
 
     on : (w : World K V E) (c : Call K V E) (rest : List (Item K V E)) → Phase w.table.stored rest →
         Goes w (record { left = Some (record c { mode = mode.Mid; plan = rest }); turn = turn.Going })
@@ -77,10 +80,11 @@ module _ {K V E : Type 0} where
     parks : (w : World K V E) (c : Call K V E) → Goes w (waits c)
     parks w c = record { going = λ e. cc; ends = λ a e. cc }
 
-    ended : (w : World K V E) (a : Answer V E) → Ends w.table.stored a → Goes w (answers a)
+    ended : (w : World K V E) (a : Answer K V E) → Ends w.table.stored a → Goes w (answers a)
     ended w a h = record { going = λ e. cc; ends = λ b e. subst (Ends w.table.stored) (same_answer a b e) h }
 
-    goes_cases : (w : World K V E) (c : Call K V E) (rest : List (Item K V E)) → ((a : Answer V E) → rest ≡ plan.Reply a ∷ [] → Ends w.table.stored a) →
+    goes_cases : (w : World K V E) (c : Call K V E) (rest : List (Item K V E)) →
+        ((a : Answer K V E) → rest ≡ plan.Reply a ∷ [] → Ends w.table.stored a) →
         Phase w.table.stored rest → Goes w (goes c rest)
     goes_cases w c (plan.Reply a ∷ []) h p = ended w a (h a refl)
     goes_cases w c (plan.Reply a ∷ x ∷ rest) h p = on w c (plan.Reply a ∷ x ∷ rest) p
@@ -89,7 +93,8 @@ module _ {K V E : Type 0} where
 
     -- while the plan takes up and posts writes it stays before its last part, and nothing is stored
     module _ (eq : K → K → Bool) (w : World K V E) (n : ℕ) (c : Call K V E) (last : List (Item K V E))
-        (phase : (p : List (Item K V E)) → Before last p → Phase w.table.stored p) (end : (a : Answer V E) → last ≡ plan.Reply a ∷ [] → Ends w.table.stored a) where
+        (phase : (p : List (Item K V E)) → Before last p → Phase w.table.stored p)
+        (end : (a : Answer K V E) → last ≡ plan.Reply a ∷ [] → Ends w.table.stored a) where
       follows : (d : DeskPart K V E) (rest : List (Item K V E)) → Before last rest → Goes (on_desk eq w d) (goes c rest)
       follows d rest b = goes_cases (on_desk eq w d) c rest (λ a e. end a (before_reply last a rest e b)) (phase rest b)
 
@@ -128,10 +133,13 @@ module _ {K V E : Type 0} where
       In s = (c : Call K V E) × (s.calls n ≡ Some c) × Phase s.world.table.stored c.plan
 
       -- each step leaves it in the phase, or ends it
-      one_step : (s t : State K V E) (r : Turn K V E) → In s → Step eq s n r t → (r ≡ turn.Going → In t) × ((a : Answer V E) → r ≡ turn.Answer a → Ends t.world.table.stored a)
+      one_step : (s t : State K V E) (r : Turn K V E) → In s → Step eq s n r t →
+          (r ≡ turn.Going → In t) × ((a : Answer K V E) → r ≡ turn.Answer a →
+          Ends t.world.table.stored a)
       one_step s t r i step =
           let is : i.0 ≡ step.call = some_same (sym i.1 ∙ step.live) in
-          step_cases eq Goes (λ v r. (r ≡ turn.Going → In v) × ((a : Answer V E) → r ≡ turn.Answer a → Ends v.world.table.stored a)) s t n r step
+          step_cases eq Goes (λ v r. (r ≡ turn.Going → In v) × ((a : Answer K V E) →
+          r ≡ turn.Answer a → Ends v.world.table.stored a)) s t n r step
           (steps s.world step.call (subst (λ (d : Call K V E). Phase s.world.table.stored d.plan) is i.2))
           (λ w next g. ((λ e. let d = g.going e in (d.0, put_here s.calls n next.left ∙ d.1, d.2)), g.ends))
 
@@ -140,7 +148,8 @@ module _ {K V E : Type 0} where
       more_steps zero s t i going = subst In (sym going) i
       more_steps (suc k) s t i going = (one_step going.0 t turn.Going (more_steps k s going.0 i going.1) going.2).0 refl
 
-      in_end : (s t : State K V E) (a : Answer V E) → In s → AnswersAlone eq s n a t → Ends t.world.table.stored a
+      in_end : (s t : State K V E) (a : Answer K V E) → In s → AnswersAlone eq s n a t →
+          Ends t.world.table.stored a
       in_end s t a i alone = (one_step alone.mid t (turn.Answer a) (more_steps alone.going s alone.mid i alone.goes) alone.last).1 a refl
 
 module _ {K V : Type 0} where
@@ -160,7 +169,7 @@ module _ {K V E : Type 0} (eq : K → K → Bool) (key q : K) (value : V) (same 
     Writing : (moment : ℕ) → Inserts stored (plan.Write key value moment ∷ plan.Reply answer.Done ∷ [])
     Late : (p : List (Item K V E)) → Has q value stored → Before (plan.Reply answer.Done ∷ []) p → Inserts stored p
 
-  abbrev Inserted : Map K V → Answer V E → Type 0
+  abbrev Inserted : Map K V → Answer K V E → Type 0
   Inserted stored a = Has q value stored
 
   inserts : (n : ℕ) (w : World K V E) (c : Call K V E) (p : List (Item K V E)) → c.plan ≡ p → Inserts w.table.stored p → OnStep eq (Goes Inserts Inserted) w n c p
@@ -198,7 +207,7 @@ module _ {K V E : Type 0} (eq : K → K → Bool) (key q : K) (value : V) (same 
     Seeking : (p : List (Item K V E)) → Has q value stored → Before (plan.Get plan.To_answer q ∷ []) p → Looks stored p
     Judging : (k : K) (seen : Stored V) → seen.value ≡ value → Looks stored (plan.Judge plan.To_answer k seen ∷ [])
 
-  abbrev Finds : Map K V → Answer V E → Type 0
+  abbrev Finds : Map K V → Answer K V E → Type 0
   Finds stored a = a ≡ answer.Found (Some value)
 
   looks : (n : ℕ) (w : World K V E) (c : Call K V E) (p : List (Item K V E)) → c.plan ≡ p → Looks w.table.stored p → OnStep eq (Goes Looks Finds) w n c p
@@ -215,7 +224,8 @@ module _ {K V E : Type 0} (eq : K → K → Bool) (key q : K) (value : V) (same 
 
   -- ---- both
 
-  found : (s t u : State K V E) (n : ℕ) (a : Answer V E) → is_disabled s.world.desk.rules ≡ false →
+  found : (s t u : State K V E) (n : ℕ) (a : Answer K V E) →
+      is_disabled s.world.desk.rules ≡ false →
       s.calls n ≡ Some (fresh_call s.world.desk.rules (start.Insert key value)) →
       AnswersAlone eq s n answer.Done t →
       AnswersAlone eq (started t (start.Get q)) (t.world.desk.last + 1) a u → a ≡ answer.Found (Some value)

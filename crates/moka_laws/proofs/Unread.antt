@@ -6,7 +6,7 @@ use Rattle.std.specs.Option.{option_map_or}
 use Rattle.moka_hist.specs.Finite.{put_at}
 use Rattle.moka_hist.specs.State.{State, World, Call, DeskPart}
 use Rattle.moka_hist.specs.Plan.{Item}
-use Rattle.moka_hist.specs.Visits.{claimed, is_reader_of, is_unlocked_for, locked_by, makes, readers_without, settled_as, settled_with, settled_without, settlement_for}
+use Rattle.moka_hist.specs.Visits.{claimed_alone, claimed, is_reader_of, is_unlocked_for, locked_by, makes, readers_without, settled_as, settled_with, settled_without, settlement_for}
 use Rattle.moka_hist.specs.Step.{Access, On_table, On_desk, Gets, access_of}
 use Rattle.moka_hist.specs.Dropping.{left, owed_by}
 use Rattle.moka_hist.specs.declared.accesses.Got.{Got}
@@ -23,7 +23,8 @@ use Rattle.moka_laws.proofs.Sums.{sum_to, sum_has, sum_zero, sum_suc}
 use Rattle.moka_laws.proofs.Kept.{IsKept, in_reached}
 use Rattle.moka_laws.proofs.Weights.{weigh}
 use Rattle.moka_laws.proofs.Owning.{plan_left}
-use Rattle.moka_laws.proofs.Plans.{IsTail, Answering, Settling, IsDrained, Looking, Putting, IsPosted, Draining, Ended, Locking, IsPlan, Posted, Drained, Posting, Hearing, Noticing, Listening, Unlocking, Turning, Applying, Ending, Judging, Owning, Giving, Reading, Asking, Telling, Writing, Removing, Locking_out, Choosing, Finding, Chosen, Taking, Freeing, Idling}
+use Rattle.moka_laws.proofs.Outcomes.{computes_of}
+use Rattle.moka_laws.proofs.Plans.{Asking_op, Owning_key, Owning_alone, Reading_key, Telling_op, IsTail, Answering, Settling, IsDrained, Looking, Putting, IsPosted, Draining, Ended, Locking, IsPlan, Posted, Drained, Posting, Hearing, Noticing, Listening, Unlocking, Turning, Applying, Ending, Judging, Owning, Giving, Reading, Asking, Telling, Writing, Removing, Locking_out, Choosing, Finding, Chosen, Taking, Freeing, Idling}
 use Rattle.moka_laws.proofs.Reading.{joins, reader_joins}
 use Rattle.moka_laws.proofs.Roles.{Fits, awaited, owners}
 use Rattle.moka_laws.proofs.Safe.{IsWell, well_kept, in_well}
@@ -81,6 +82,11 @@ module _ {K V E : Type 0} where
 
   visit_awaited : (eq : K → K → Bool) (d : DeskPart K V E) (made : Visit K V E) → Awaited d → Awaited (makes eq d made)
   visit_awaited eq d (visit.WaitOrOwn call key kind) a = claimed_awaited eq d call _ _ a
+  visit_awaited eq d (visit.OwnAlone call key) a = by (d.owners (computes_of key))
+    where
+      by : (o : Option ℕ) → Awaited (claimed_alone eq d call (computes_of key) o)
+      by None = a
+      by (Some owner) = a
   visit_awaited eq d (visit.ReadSettled call) a = by (is_some (settlement_for d call)) refl
     where
       by : (b : Bool) → is_some (settlement_for d call) ≡ b → Awaited (makes eq d (visit.ReadSettled call))
@@ -120,6 +126,7 @@ module _ {K V E : Type 0} where
   pub drained_role : (p : List (Item K V E)) → IsDrained p → awaited p ≡ None
   drained_role p (Looking aim key l) = refl
   drained_role p (Owning sought) = refl
+  drained_role p (Asking_op compute pair) = refl
   drained_role p (Giving a) = refl
   drained_role p (Removing removal key) = refl
   drained_role p (Locking_out removal key) = refl
@@ -145,12 +152,16 @@ module _ {K V E : Type 0} where
   plan_role p (Judging aim key stored l) = inr refl
   plan_role p (Asking load) = inr refl
   plan_role p (Telling load) = inr refl
+  plan_role p (Owning_key compute) = inr refl
+  plan_role p (Owning_alone key) = inr refl
+  plan_role p (Reading_key compute) = inl refl
+  plan_role p (Telling_op compute pair) = inr refl
   plan_role p (Choosing key stamp cause) = inr refl
   plan_role p (Finding key stamp cause) = inr refl
   plan_role p (Chosen key stamp cause there stored) = inr refl
   plan_role p (Taking removal key) = inr refl
-  plan_role p (Freeing a) = inr refl
-  plan_role p (Idling a) = inr refl
+  plan_role p (Freeing rest t) = inr (tail_role rest t)
+  plan_role p (Idling rest t) = inr (tail_role rest t)
   plan_role p (Writing key value moment rest t) = inr (tail_role rest t)
 
   role_alone : (o : Option (Load K)) (j : Option ℕ) (p : List (Item K V E)) → Fits o j p → OneRole p → is_some o ≡ true → is_some j ≡ false

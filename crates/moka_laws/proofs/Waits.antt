@@ -9,6 +9,8 @@ use Rattle.moka_hist.specs.Next.{Next, goes, waits}
 use Rattle.moka_hist.specs.Looking.{hits, misses, keeps, finds_pair}
 use Rattle.moka_hist.specs.Loading.{after_read, after_told, after_abort, retries}
 use Rattle.moka_hist.specs.Missing.{IsMissing}
+use Rattle.moka_hist.specs.Step.{takes_of}
+use Rattle.moka_hist.specs.Telling.{does_take}
 use Rattle.moka_hist.specs.declared.records.Mode.TheVariants as mode
 use Rattle.moka_hist.specs.declared.records.Stored.{Stored}
 use Rattle.moka_hist.specs.declared.loads.Load.{Load}
@@ -21,12 +23,15 @@ use Rattle.moka_hist.specs.declared.visits.Found.TheVariants as found
 use Rattle.moka_hist.specs.declared.accesses.Turn.TheVariants as turn
 use Rattle.moka_laws.specs.Waiting.{WaitsByCause, WaitsFor}
 use Rattle.moka_laws.proofs.Counting.{none_some}
-use Rattle.moka_laws.proofs.Rules.{put_plans, loaded_plans, kept_next, chosen_next}
+use Rattle.moka_laws.proofs.Rules.{put_plans, loaded_plans, kept_next, chosen_next, told_op_next_by, IsLoad, IsComputes}
 use Rattle.moka_laws.proofs.Plans.{IsLook, IsTail, Answering, IsDrained, Looking, IsPosted, Draining, Ended, IsPlan, Posted, Drained, Judging, calls_known}
 use Rattle.moka_laws.proofs.StepCases.{OnStep, step_cases}
 use Rattle.moka_laws.proofs.Outcomes.{Outcomes, outcomes}
-use Rattle.moka_laws.proofs.Answering.{IsGiven, HasAnswers, answering, settlement_ready}
-use Rattle.moka_laws.proofs.Asking.{AsksWhole, ask_open, ask_closed, in_asking, whole}
+use Rattle.moka_laws.proofs.Answering.{HasAnswers, answering, settlement_ready}
+use Rattle.moka_laws.proofs.TakesFit.{AllTake, ToldFits, in_taking, load_takes_no_op, compute_loses_none}
+use Rattle.moka_laws.proofs.Asking.{AsksWhole, ask_open, ask_closed, op_open, op_closed, in_asking, whole}
+use Rattle.moka_hist.specs.declared.loads.Compute.{Compute}
+use Rattle.moka_hist.specs.Computing.{after_told_op, after_read_key}
 
 not_none : {A : Type 0} {a : A} (o : Option A) → o ≡ Some a → ¬ IsNone o
 not_none None e = λ h. none_some e
@@ -48,8 +53,10 @@ module _ {K V E : Type 0} where
 
   misses_on : (c : Call K V E) (aim : Aim K V) → GoesOn (misses c aim)
   misses_on c plan.To_answer = λ e. cc
+  misses_on c (plan.To_report key) = λ e. cc
   misses_on c (plan.To_load sought) = λ e. cc
   misses_on c (plan.To_own sought) = λ e. cc
+  misses_on c (plan.To_compute compute) = λ e. cc
   misses_on c (plan.To_insert key value) =
       let after : List (Item K V E) = plan.Reply (reply.Loaded value true) ∷ [] in
       put_plans (λ p. GoesOn (goes c p)) c.rules key value after
@@ -60,18 +67,23 @@ module _ {K V E : Type 0} where
   finds_on : (c : Call K V E) (aim : Aim K V) (k : K) (stored : Stored V) →
       GoesOn (finds_pair c aim k stored)
   finds_on c plan.To_answer k stored = λ e. cc
+  finds_on c (plan.To_report key) k stored = λ e. cc
   finds_on c (plan.To_load sought) k stored = λ e. cc
   finds_on c (plan.To_insert under new) k stored = λ e. cc
   finds_on c (plan.To_own sought) k stored = λ e. cc
+  finds_on c (plan.To_compute compute) k stored = λ e. cc
   finds_on c (plan.To_evict key stamp cause) k stored =
       chosen_next GoesOn c key stamp cause k stored (λ off e. cc) (λ on e. cc) (λ e. cc)
 
-  hits_on : (c : Call K V E) (aim : Aim K V) (value : V) → IsLook aim → GoesOn (hits c aim value)
-  hits_on c plan.To_answer value l = λ e. cc
-  hits_on c (plan.To_load sought) value l = λ e. cc
-  hits_on c (plan.To_insert under new) value l = λ e. cc
-  hits_on c (plan.To_own sought) value l = λ e. cc
-  hits_on c (plan.To_evict key stamp cause) value l = absurd l
+  hits_on : (c : Call K V E) (aim : Aim K V) (there : K) (value : V) → IsLook aim →
+      GoesOn (hits c aim there value)
+  hits_on c plan.To_answer there value l = λ e. cc
+  hits_on c (plan.To_report key) there value l = λ e. cc
+  hits_on c (plan.To_load sought) there value l = λ e. cc
+  hits_on c (plan.To_insert under new) there value l = λ e. cc
+  hits_on c (plan.To_own sought) there value l = λ e. cc
+  hits_on c (plan.To_compute compute) there value l = λ e. cc
+  hits_on c (plan.To_evict key stamp cause) there value l = absurd l
 
   read_on : (c : Call K V E) (sought : Sought K) (with : Settled V E) → Some with ≢ Some settled.NotYet →
       GoesOn (after_read c sought (found.ReadSettled with))
@@ -85,18 +97,41 @@ module _ {K V E : Type 0} where
       by true e = rw e (λ e. cc)
       by false e = rw e (λ e. cc)
 
-  tells_on : (c : Call K V E) (load : Load K) (given : Told V E) → IsGiven (Some given) →
+  read_key_on : (c : Call K V E) (compute : Compute K) (with : Settled V E) →
+      Some with ≢ Some settled.NotYet → GoesOn (after_read_key c compute (found.ReadSettled with))
+  read_key_on c compute settled.NotYet h = absurd (h refl)
+  read_key_on c compute (settled.Ready value) h = λ e. cc
+  read_key_on c compute (settled.Err error) h = λ e. cc
+  read_key_on c compute settled.Nothing h = λ e. cc
+  read_key_on c compute settled.Aborted h = λ e. cc
+
+  tells_on : (c : Call K V E) (load : Load K) (given : Told V E) → IsLoad load.kind →
+      does_take (takes_of load.kind) given ≡ true →
       GoesOn (after_told c load (found.TakeTold (Some given)))
-  tells_on c load (answer.Value value) is =
+  tells_on c load (answer.Value value) one is =
       let after : List (Item K V E) = told_on value in
       loaded_plans (λ p. GoesOn (goes c p)) c.rules load value (goes_on c after)
       (goes_on c (plan.Drain ∷ plan.Moment (plan.To_store load.key value) ∷ after))
       (goes_on c (plan.Drain ∷ plan.Lock load.key ∷ plan.Moment (plan.To_store load.key value)
       ∷ after))
-  tells_on c load answer.Nothing is = λ e. cc
-  tells_on c load (answer.Err error) is = λ e. cc
-  tells_on c load answer.Done is = absurd is
-  tells_on c load answer.Off is = absurd is
+  tells_on c load answer.Nothing one is = λ e. cc
+  tells_on c load (answer.Err error) one is = λ e. cc
+  tells_on c load answer.Done one is = absurd (false≢true is)
+  tells_on c load (answer.Op op) one is = absurd (load_takes_no_op load.kind one is)
+  tells_on c load answer.Off one is = absurd (false≢true is)
+
+  tells_on_op : (c : Call K V E) (compute : Compute K) (pair : Option (K × V)) (given : Told V E) →
+      IsComputes compute.takes → does_take compute.takes given ≡ true →
+      GoesOn (after_told_op c compute pair (found.TakeTold (Some given)))
+  tells_on_op c compute pair given one is = told_op_next_by GoesOn c compute pair given
+      (λ e. cc)
+      (λ error f e. cc)
+      (λ value off e. cc)
+      (λ value able off e. cc)
+      (λ value able on e. cc)
+      (λ off e. cc)
+      (λ on e. cc)
+      (λ lost. absurd (compute_loses_none compute.takes given one is lost))
 
   -- what the plan judges first, if anything, may be seen
   abbrev Judges : List (Item K V E) → Type 0
@@ -136,73 +171,99 @@ module _ {K V E : Type 0} where
 
   module _ (eq : K → K → Bool) (w : World K V E) (n : ℕ) (c : Call K V E) (has : HasAnswers w.desk) (asked : AsksWhole w.desk n c.plan) where
     on_item : (item : Item K V E) (rest : List (Item K V E)) → c.plan ≡ item ∷ rest →
-        Judges (item ∷ rest) →
+        AllTake (w.desk.asks n) (w.desk.told n) (item ∷ rest) → Judges (item ∷ rest) →
         Outcomes eq (Waits w c (IsMissing w.desk n item)) w n c item rest
-    on_item plan.Drain rest p l = (
+    on_item plan.Drain rest p t l = (
       λ e. never w c (λ q. q) (goes_on c rest),
       λ x xs e. never w c (λ q. q) (λ e. cc),
       λ x number xs e. never w c (λ q. q) (λ e. cc),
     )
-    on_item (plan.Ended number) rest p l =
+    on_item (plan.Ended number) rest p t l =
         (λ e. never w c (λ q. false≢true (sym e ∙ q)) (goes_on c rest), λ e. always w c e)
-    on_item plan.Heard rest p l =
+    on_item plan.Heard rest p t l =
         (λ e. never w c (λ q. false≢true (sym e ∙ q)) (goes_on c rest), λ e. always w c e)
-    on_item (plan.Lock key) rest p l =
+    on_item (plan.Lock key) rest p t l =
         (λ e. never w c (λ q. false≢true (sym q ∙ e)) (goes_on c rest), λ e. always w c e)
-    on_item (plan.Unlock wrote) rest p l = never w c (λ q. q) (goes_on c rest)
-    on_item (plan.Notice key old cause upsert) rest p l =
+    on_item (plan.Unlock wrote) rest p t l = never w c (λ q. q) (goes_on c rest)
+    on_item (plan.Notice key old cause upsert) rest p t l =
         (λ e. never w c (λ q. q) (goes_on c rest), λ e. never w c (λ q. q) (λ e. cc))
-    on_item (plan.Post write) rest p l =
+    on_item (plan.Post write) rest p t l =
         (λ e. never w c (λ q. q) (goes_on c rest), λ e. never w c (λ q. q) (λ e. cc))
-    on_item plan.Turn rest p l =
+    on_item plan.Turn rest p t l =
         (λ e. never w c (λ q. false≢true (sym q ∙ e)) (goes_on c rest), λ e. always w c e)
-    on_item plan.Apply rest p l =
+    on_item plan.Apply rest p t l =
         (λ e. never w c (λ q. q) (goes_on c rest), λ x xs e. never w c (λ q. q) (λ e. cc))
-    on_item plan.End rest p l = never w c (λ q. q) (goes_on c rest)
-    on_item (plan.Get aim key) rest p l = (
+    on_item plan.End rest p t l = never w c (λ q. q) (goes_on c rest)
+    on_item (plan.Get aim key) rest p t l = (
       (λ more. never w c (λ q. q) (λ e. cc)),
       (λ none. never w c (λ q. q) (misses_on c aim)),
       λ k stored some. never w c (λ q. q) (finds_on c aim k stored),
     )
-    on_item (plan.Judge aim key stored) rest p l = (
-      (λ seen. never w c (λ q. q) (hits_on c aim stored.value l)),
+    on_item (plan.Judge aim key stored) rest p t l = (
+      (λ seen. never w c (λ q. q) (hits_on c aim key stored.value l)),
       λ unseen. never w c (λ q. q) (misses_on c aim),
     )
-    on_item (plan.Own sought) rest p l = (
+    on_item (plan.Own sought) rest p t l = (
       (λ able e. never w c (λ q. q) (λ e. cc)),
       (λ not e. never w c (λ q. q) (λ e. cc)),
       λ owner e. never w c (λ q. q) (λ e. cc),
     )
-    on_item (plan.Read sought) rest p l = (
+    on_item (plan.Own_key compute) rest p t l = (
+      ((λ able e. never w c (λ q. q) (λ e. cc)), λ not e. never w c (λ q. q) (λ e. cc)),
+      λ owner e. never w c (λ q. q) (λ e. cc),
+    )
+    on_item (plan.Own_alone key) rest p t l = (
+      ((λ able e. never w c (λ q. q) (λ e. cc)), λ not e. never w c (λ q. q) (λ e. cc)),
+      λ owner e. (
+        (λ able. never w c (λ q. q) (λ e. cc)),
+        λ not. never w c (λ q. q)
+            (λ e. cc),
+      ),
+    )
+    on_item (plan.Read sought) rest p t l = (
       λ e. always w c (ap is_some e),
       λ with e. never w c (not_none _ e) (read_on c sought with (settlement_ready w.desk n with has e)),
     )
-    on_item (plan.Settle with) rest p l = never w c (λ q. q) (goes_on c rest)
-    on_item (plan.Ask load) rest p l = never w c (λ q. q) (λ e. cc)
-    on_item (plan.Told load) rest p l = (
+    on_item (plan.Read_key compute) rest p t l = (
+      λ e. always w c (ap is_some e),
+      λ with e. never w c (not_none _ e)
+          (read_key_on c compute with (settlement_ready w.desk n with has e)),
+    )
+    on_item (plan.Settle with) rest p t l = never w c (λ q. q) (goes_on c rest)
+    on_item (plan.Ask load) rest p t l = never w c (λ q. q) (λ e. cc)
+    on_item (plan.Ask_op compute pair) rest p t l = never w c (λ q. q) (λ e. cc)
+    on_item (plan.Told load) rest p t l = (
       λ e. always w c (ask_open w.desk n load rest (subst (AsksWhole w.desk n) p asked) (ap is_some e)),
       λ given e. never w c (ask_closed w.desk n load rest (subst (AsksWhole w.desk n) p asked)
-          (ap is_some e)) (tells_on c load given (subst IsGiven e (has.told n))),
+          (ap is_some e))
+          (tells_on c load given t.0.0 (subst (ToldFits (takes_of load.kind)) e t.0.2)),
     )
-    on_item (plan.Holds key stamp cause there stored) rest p l =
+    on_item (plan.Told_op compute pair) rest p t l = (
+      λ e. always w c (op_open w.desk n compute pair rest (subst (AsksWhole w.desk n) p asked)
+          (ap is_some e)),
+      λ given e. never w c (op_closed w.desk n compute pair rest (subst (AsksWhole w.desk n) p asked)
+          (ap is_some e))
+          (tells_on_op c compute pair given t.0.0 (subst (ToldFits compute.takes) e t.0.2)),
+    )
+    on_item (plan.Holds key stamp cause there stored) rest p t l =
         ((λ e. never w c (λ q. q) (λ f. cc)), λ e. never w c (λ q. q) (keeps_on c))
-    on_item (plan.Moment (plan.To_store key value)) rest p l = never w c (λ q. q) (λ e. cc)
-    on_item (plan.Moment (plan.To_take_out removal key)) rest p l = never w c (λ q. q) (λ e. cc)
-    on_item (plan.Write key value moment) rest p l = (
+    on_item (plan.Moment (plan.To_store key value)) rest p t l = never w c (λ q. q) (λ e. cc)
+    on_item (plan.Moment (plan.To_take_out removal key)) rest p t l = never w c (λ q. q) (λ e. cc)
+    on_item (plan.Write key value moment) rest p t l = (
       λ more. never w c (λ q. q) (λ e. cc),
       λ off old. never w c (λ q. q) (λ e. cc),
       λ on. never w c (λ q. q) (λ e. cc),
       λ k old on some. never w c (λ q. q) (λ e. cc),
     )
-    on_item (plan.Out removal key) rest p l = (
+    on_item (plan.Out removal key) rest p t l = (
       (λ more. never w c (λ q. q) (λ e. cc)),
       (λ off none. never w c (λ q. q) (λ e. cc)),
       (λ on none. never w c (λ q. q) (λ e. cc)),
       (λ k old off some. never w c (λ q. q) (λ e. cc)),
       λ k old on some. never w c (λ q. q) (λ e. cc),
     )
-    on_item plan.Idle rest p l = never w c (λ q. q) (goes_on c rest)
-    on_item (plan.Reply answer) rest p l = never w c (λ q. q) (λ e. cc)
+    on_item plan.Idle rest p t l = never w c (λ q. q) (goes_on c rest)
+    on_item (plan.Reply answer) rest p t l = never w c (λ q. q) (λ e. cc)
 
 module _ {K V E : Type 0} (eq : K → K → Bool) where
   -- a call that a look-up gives is the one that another gives
@@ -216,7 +277,7 @@ module _ {K V E : Type 0} (eq : K → K → Bool) where
       subst (λ p. OnStep eq M s.world n c p) (sym e)
       (outcomes eq M s.world n c item rest
       (on_item eq s.world n c (answering eq s h).desk (whole s (in_asking eq s h) n c live)
-      item rest e
+      item rest e (subst (AllTake _ _) e ((in_taking eq s h).take n c live))
       (subst Judges e (plan_judges c.plan (calls_known eq s h n c live).plan)))) in
       step_cases eq M (λ v r. WaitsFor s n c item r v) s t n reply step
       (subst (λ v. OnStep eq M s.world n v v.plan) (one_call c step.call live step.live) on_plan)

@@ -22,7 +22,8 @@ use Rattle.moka_hist.specs.declared.tables.TableAnswer.{TableAnswer}
 use Rattle.moka_hist.specs.declared.tables.TableOp.{TableOp}
 use Rattle.moka_hist.specs.declared.tables.TableOp.TheVariants as op
 use Rattle.moka_hist.specs.declared.tables.TableTurn.TheVariants as table
-use Rattle.moka_bound.specs.Ahead.{growth, ahead, judge_steps, steps_of, work_in}
+use Rattle.moka_bound.specs.Ahead.{growth, ahead, judge_steps, read_key_steps, steps_of, work_in}
+use Rattle.moka_hist.specs.Visits.{settlement_for}
 use Rattle.moka_bound.specs.Falling.{Shortens}
 use Rattle.moka_bound.proofs.Falls.{going_falls}
 use Rattle.moka_bound.proofs.More.{post_worst}
@@ -30,65 +31,93 @@ use Rattle.moka_bound.proofs.Size.{access_size}
 use Rattle.moka_laws.specs.Bounded.{LogsHaveRoom, StepsAreBounded, StepEventsAreBounded}
 use Rattle.moka_laws.proofs.Counting.{none_some, put_here, same_number}
 use Rattle.moka_laws.proofs.Kept.{IsKept, in_reached}
-use Rattle.moka_laws.proofs.Plans.{IsTail, Answering, Settling, IsDrained, Looking, Owning, Giving, Putting, Removing, Locking_out, IsPosted, Draining, Ended, Locking, IsPlan, Posted, Drained, Posting, Hearing, Noticing, Listening, Unlocking, Turning, Applying, Ending, Judging, Reading, Asking, Telling, Writing, Choosing, Finding, Chosen, Taking, Freeing, Idling, calls_known}
+use Rattle.moka_laws.proofs.Plans.{IsTail, Answering, Settling, IsDrained, Looking, Owning, Giving, Putting, Removing, Locking_out, IsPosted, Draining, Ended, Locking, IsPlan, Posted, Drained, Posting, Hearing, Noticing, Listening, Unlocking, Turning, Applying, Ending, Judging, Reading, Asking, Telling, Writing, Choosing, Finding, Chosen, Taking, Freeing, Idling, Asking_op, Owning_key, Owning_alone, Reading_key, Telling_op, calls_known}
 use Rattle.moka_laws.proofs.Reached.{step_reached, steps_reached}
+use Rattle.moka_laws.proofs.Safe.{in_well, may_step}
 
 -- ---- what a plan takes at most
 
 judge_few : {K V : Type 0} (owed most aborts : ℕ) (aim : Aim K V) →
     judge_steps owed most aborts aim ≤ 8 * owed + most + 406
 judge_few owed most aborts plan.To_answer = omega arith
+judge_few owed most aborts (plan.To_report key) = omega arith
 judge_few owed most aborts (plan.To_load sought) = omega arith
 judge_few owed most aborts (plan.To_own sought) = omega arith
+judge_few owed most aborts (plan.To_compute compute) = omega arith
 judge_few owed most aborts (plan.To_insert key value) = omega arith
 judge_few owed most aborts (plan.To_evict key stamp cause) = omega arith
 
+-- to begin anew once an owner has ended, or to wait on
+read_key_few : (ended : Bool) (owed most : ℕ) → read_key_steps ended owed most ≤ 8 * owed + most + 6
+read_key_few true owed most = omega arith
+read_key_few false owed most = omega arith
+
 module _ {K V E : Type 0} (owed most aborts left : ℕ) (within : left ≤ most) where
-  tail_steps : (room : Bool) (l : ℕ) (p : List (Item K V E)) → IsTail p → steps_of owed most aborts room l p ≤ 2
-  tail_steps room l p (Answering a) = omega arith
-  tail_steps room l p (Settling with a) = omega arith
+  tail_steps : (room : Bool) (l : ℕ) (ended : Bool) (p : List (Item K V E)) → IsTail p →
+      steps_of owed most aborts room l ended p ≤ 2
+  tail_steps room l ended p (Answering a) = omega arith
+  tail_steps room l ended p (Settling with a) = omega arith
 
   -- a put's tail, after which a key more may be stored
-  put_steps : (m l : ℕ) (p : List (Item K V E)) → IsTail p → steps_of owed m aborts false l p ≤ 2
+  put_steps : (m l : ℕ) (p : List (Item K V E)) → IsTail p →
+      steps_of owed m aborts false l true p ≤ 2
   put_steps m l p (Answering a) = omega arith
   put_steps m l p (Settling with a) = omega arith
 
-  drained_steps : (room : Bool) (l : ℕ) (p : List (Item K V E)) → l ≤ most → IsDrained p → steps_of owed most aborts room l p ≤ 8 * owed + 2 * most + 408
-  drained_steps room l p h (Looking aim key look) = omega (arith, h, judge_few owed most aborts aim)
-  drained_steps room l p h (Owning sought) = omega (arith, h)
-  drained_steps room l p h (Giving a) = omega arith
-  drained_steps room l p h (Removing removal key) = omega (arith, h)
-  drained_steps room l p h (Locking_out removal key) = omega (arith, h)
-  drained_steps room l p h (Putting key value rest t) = omega (arith, put_steps (most + growth) (most + growth) rest t)
-  drained_steps room l p h (Locking key value rest t) = omega (arith, put_steps (most + growth) (most + growth) rest t)
+  drained_steps : (room : Bool) (l : ℕ) (ended : Bool) (p : List (Item K V E)) → l ≤ most →
+      IsDrained p → steps_of owed most aborts room l ended p ≤ 8 * owed + 2 * most + 408
+  drained_steps room l ended p h (Looking aim key look) =
+      omega (arith, h, judge_few owed most aborts aim)
+  drained_steps room l ended p h (Owning sought) = omega (arith, h)
+  drained_steps room l ended p h (Asking_op compute pair) = omega arith
+  drained_steps room l ended p h (Giving a) = omega arith
+  drained_steps room l ended p h (Removing removal key) = omega (arith, h)
+  drained_steps room l ended p h (Locking_out removal key) = omega (arith, h)
+  drained_steps room l ended p h (Putting key value rest t) =
+      omega (arith, put_steps (most + growth) (most + growth) rest t)
+  drained_steps room l ended p h (Locking key value rest t) =
+      omega (arith, put_steps (most + growth) (most + growth) rest t)
 
-  posted_steps : (room : Bool) (l : ℕ) (p : List (Item K V E)) → IsPosted p → steps_of owed most aborts room l p ≤ 16 * owed + 2 * most + 409
-  posted_steps room l p (Draining rest d) = omega (arith, drained_steps false most rest (omega arith) d)
-  posted_steps room l p (Ended rest t) = omega (arith, tail_steps room l rest t)
+  posted_steps : (room : Bool) (l : ℕ) (ended : Bool) (p : List (Item K V E)) → IsPosted p →
+      steps_of owed most aborts room l ended p ≤ 16 * owed + 2 * most + 409
+  posted_steps room l ended p (Draining rest d) =
+      omega (arith, drained_steps false most true rest (omega arith) d)
+  posted_steps room l ended p (Ended rest t) = omega (arith, tail_steps room l ended rest t)
 
-  few_steps : (room : Bool) (p : List (Item K V E)) → IsPlan p → steps_of owed most aborts room left p ≤ 16 * owed + 2 * most + 416
-  few_steps room p (Posted rest d) = omega (arith, posted_steps room left rest d)
-  few_steps room p (Drained rest d) = omega (arith, drained_steps room left rest within d)
-  few_steps room p (Posting x rest d) = omega (arith, post_worst room, posted_steps false most rest d)
-  few_steps room p (Hearing number x rest d) = omega (arith, posted_steps false most rest d)
-  few_steps room p (Noticing key old cause upsert x rest t) =
-      omega (arith, tail_steps false most rest t)
-  few_steps room p (Listening x rest t) = omega (arith, tail_steps false most rest t)
-  few_steps room p (Unlocking x rest t) = omega (arith, tail_steps false most rest t)
-  few_steps room p (Turning x rest d) = omega (arith, posted_steps false most rest d)
-  few_steps room p (Applying x rest d) = omega (arith, posted_steps false most rest d)
-  few_steps room p (Ending x rest d) = omega (arith, post_worst room, posted_steps false most rest d)
-  few_steps room p (Judging aim key stored look) = omega (arith, judge_few owed most aborts aim)
-  few_steps room p (Reading sought) = omega arith
-  few_steps room p (Asking load) = omega arith
-  few_steps room p (Telling load) = omega arith
-  few_steps room p (Writing key value moment rest t) = omega (arith, within, put_steps (most + growth) (most + growth) rest t)
-  few_steps room p (Choosing key stamp cause) = omega arith
-  few_steps room p (Finding key stamp cause) = omega (arith, within)
-  few_steps room p (Chosen key stamp cause there stored) = omega arith
-  few_steps room p (Taking removal key) = omega (arith, within)
-  few_steps room p (Freeing a) = omega arith
-  few_steps room p (Idling a) = omega arith
+  few_steps : (room ended : Bool) (p : List (Item K V E)) → IsPlan p →
+      steps_of owed most aborts room left ended p ≤ 16 * owed + 2 * most + 416
+  few_steps room ended p (Posted rest d) = omega (arith, posted_steps room left ended rest d)
+  few_steps room ended p (Drained rest d) =
+      omega (arith, drained_steps room left ended rest within d)
+  few_steps room ended p (Posting x rest d) =
+      omega (arith, post_worst room, posted_steps false most true rest d)
+  few_steps room ended p (Hearing number x rest d) =
+      omega (arith, posted_steps false most true rest d)
+  few_steps room ended p (Noticing key old cause upsert x rest t) =
+      omega (arith, tail_steps false most true rest t)
+  few_steps room ended p (Listening x rest t) = omega (arith, tail_steps false most true rest t)
+  few_steps room ended p (Unlocking x rest t) = omega (arith, tail_steps false most true rest t)
+  few_steps room ended p (Turning x rest d) = omega (arith, posted_steps false most true rest d)
+  few_steps room ended p (Applying x rest d) = omega (arith, posted_steps false most true rest d)
+  few_steps room ended p (Ending x rest d) =
+      omega (arith, post_worst room, posted_steps false most true rest d)
+  few_steps room ended p (Judging aim key stored look) =
+      omega (arith, judge_few owed most aborts aim)
+  few_steps room ended p (Reading sought) = omega arith
+  few_steps room ended p (Asking load) = omega arith
+  few_steps room ended p (Telling load) = omega arith
+  few_steps room ended p (Owning_key compute) = omega arith
+  few_steps room ended p (Owning_alone key) = omega arith
+  few_steps room ended p (Reading_key compute) = omega (arith, read_key_few ended owed most)
+  few_steps room ended p (Telling_op compute pair) = omega arith
+  few_steps room ended p (Writing key value moment rest t) =
+      omega (arith, within, put_steps (most + growth) (most + growth) rest t)
+  few_steps room ended p (Choosing key stamp cause) = omega arith
+  few_steps room ended p (Finding key stamp cause) = omega (arith, within)
+  few_steps room ended p (Chosen key stamp cause there stored) = omega arith
+  few_steps room ended p (Taking removal key) = omega (arith, within)
+  few_steps room ended p (Freeing rest t) = omega (arith, tail_steps false most true rest t)
+  few_steps room ended p (Idling rest t) = omega (arith, tail_steps false most true rest t)
 
 -- ---- what each access does to it
 
@@ -271,8 +300,10 @@ module _ {K V E : Type 0} (eq : K → K → Bool) where
   step_falls s t n c h live st =
       let is : c ≡ st.call = same_call c st.call (sym live ∙ st.live) in
       let f = going_falls eq n st.call s.world st.world st.given (work_in n s.world) (work_in n st.world)
-      (calls_known eq s h n st.call st.live).young (logs_have_room s h) st.gets
-      (record { owed = refl; logged = refl; size = refl }) (record { owed = refl; logged = refl; size = refl })
+      (calls_known eq s h n st.call st.live).young (logs_have_room s h)
+      (may_step eq s (in_well eq s h) n st.call st.live) st.gets
+      (record { owed = refl; logged = refl; size = refl; ended = refl })
+      (record { owed = refl; logged = refl; size = refl; ended = refl })
       (shortens_in n s.world st.world (access_of n st.call) st.given st.gets (in_reached eq KeysWerePeak peak_kept s h)) (sym st.turns) in (
         f.0,
         ap (λ (v : State K V E). v.calls n) st.after ∙ put_here s.calls n (next_of n st.call st.given).left ∙ ap (λ v. v.left) f.1,
@@ -283,7 +314,8 @@ module _ {K V E : Type 0} (eq : K → K → Bool) where
   ahead_bounded s n c h live =
       let most = most_undecided s.world.table in
       let few = few_steps (length s.world.desk.owed) most c.aborts (most - times_of s.world.stay n) (omega arith)
-      (nat_lt (length s.world.desk.log) s.world.desk.size) c.plan (calls_known eq s h n c live).plan in
+      (nat_lt (length s.world.desk.log) s.world.desk.size)
+      (is_some (settlement_for s.world.desk n)) c.plan (calls_known eq s h n c live).plan in
       omega (arith, few)
 
   going_falls_by : (k : ℕ) (s t : State K V E) (n : ℕ) (c : Call K V E) → IsReached eq s → s.calls n ≡ Some c → Goings eq Any k s n t →

@@ -11,7 +11,7 @@ use Rattle.moka_hist.specs.declared.replies.Answer.TheVariants as answer
 
 -- The call makes steps, one after the other, by the last of which it answers.
 pub record AnswersAlone {K V E : Type 0} (eq : K → K → Bool) (s : State K V E) (n : ℕ)
-    (a : Answer V E) (t : State K V E) : Type 0 where
+    (a : Answer K V E) (t : State K V E) : Type 0 where
   pub going : ℕ
   pub mid : State K V E
   pub goes : Goings eq Any going s n mid
@@ -21,7 +21,7 @@ pub record AnswersAlone {K V E : Type 0} (eq : K → K → Bool) (s : State K V 
 -- step between, and the cache is not disabled
 abbrev pub InsertThenGet : (K V E : Type 0) → (K → K → Bool) → Type 0
 InsertThenGet K V E eq =
-    (s t u : State K V E) (n : ℕ) (key q : K) (value : V) (a : Answer V E) →
+    (s t u : State K V E) (n : ℕ) (key q : K) (value : V) (a : Answer K V E) →
     IsReached eq s → is_disabled s.world.desk.rules ≡ false → s.calls n ≡ Some
     (fresh_call s.world.desk.rules (start.Insert key value)) →
     AnswersAlone eq s n answer.Done t →

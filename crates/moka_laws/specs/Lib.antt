@@ -14,3 +14,4 @@ pub mod Readers
 pub mod Answered
 pub mod Alone
 pub mod Removals
+pub mod Computes

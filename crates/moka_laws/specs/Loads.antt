@@ -16,6 +16,8 @@ use Rattle.moka_hist.specs.declared.events.Start.{Start}
 use Rattle.moka_hist.specs.declared.events.Start.TheVariants as start
 use Rattle.moka_hist.specs.declared.events.Told.{Told}
 use Rattle.moka_hist.specs.declared.events.Told.TheVariants as told
+use Rattle.moka_hist.specs.declared.loads.Kind.{Kind}
+use Rattle.moka_hist.specs.declared.loads.Kind.TheVariants as kind
 use Rattle.moka_hist.specs.declared.loads.Load.{Load}
 use Rattle.moka_hist.specs.declared.loads.Sought.{Sought}
 use Rattle.moka_hist.specs.declared.records.Stored.{Stored}
@@ -25,11 +27,12 @@ use Rattle.moka_hist.specs.declared.replies.Answer.TheVariants as answer
 use Rattle.moka_hist.specs.declared.replies.Reply.TheVariants as reply
 use Rattle.moka_hist.specs.declared.visits.Settled.{Settled}
 use Rattle.moka_hist.specs.declared.visits.Settled.TheVariants as settled
+use Rattle.moka_laws.specs.Missing.{waits_for}
 use Rattle.moka_laws.specs.Starting.{Leads, Way, WasStarted}
 
 -- what is answered where an owner ended its load so: the value, the error, or that there is none;
 -- the value as `fresh` by the owner whose own initializer gave it
-abbrev pub said_of : {V E : Type 0} → Settled V E → Bool → Option (Answer V E)
+abbrev pub said_of : {K V E : Type 0} → Settled V E → Bool → Option (Answer K V E)
 said_of settled.NotYet fresh = None
 said_of (settled.Ready value) fresh = Some (answer.Loaded value fresh)
 said_of (settled.Err error) fresh = Some (answer.InitErr error)
@@ -39,18 +42,39 @@ said_of settled.Aborted fresh = None
 -- the reply answers what a load came to that ended so
 pub record Says {K V E : Type 0} (with : Settled V E) (reply : Turn K V E) : Type 0 where
   pub fresh : Bool
-  pub answer : Answer V E
+  pub answer : Answer K V E
   pub said : said_of with fresh ≡ Some answer
   pub answers : reply ≡ turn.Answer answer
 
--- an owner answers what it settles, with the step by which it does: it ends its load with a value,
--- with an error, or with nothing
+-- the answer is what a compute did, or the error that it was told
+abbrev pub is_computed : {K V E : Type 0} → Answer K V E → Bool
+is_computed (answer.Computed done) = true
+is_computed (answer.ComputeErr error) = true
+is_computed _ = false
+
+-- the reply answers as a compute does that ended so: for those that wait, with nothing
+pub record SaysComputed {K V E : Type 0} (with : Settled V E) (reply : Turn K V E) : Type 0 where
+  pub answer : Answer K V E
+  pub ended : with ≡ settled.Nothing
+  pub computed : is_computed answer ≡ true
+  pub answers : reply ≡ turn.Answer answer
+
+-- the reply answers as the owner of a load of this kind does, or of a compute, that ended so
+abbrev pub SaysAs : {K V E : Type 0} → Kind → Settled V E → Turn K V E → Type 0
+SaysAs kind.GetWith with reply = Says with reply
+SaysAs kind.Optional with reply = Says with reply
+SaysAs kind.Try with reply = Says with reply
+SaysAs kind.Compute with reply = SaysComputed with reply
+
+-- the owner of a load answers what it settles, with the step by which it does: it ends that with a
+-- value, with an error, or with nothing; and the owner of a compute ends it with nothing, and
+-- answers what it did
 abbrev pub OwnersAnswerSettled : (K V E : Type 0) → (K → K → Bool) → Type 0
 OwnersAnswerSettled K V E eq =
-    (s t : State K V E) (n : ℕ) (c : Call K V E) (with : Settled V E) (rest : List (Item K V E))
-    (reply : Turn K V E) →
-    IsReached eq s → s.calls n ≡ Some c → c.plan ≡ plan.Settle with ∷ rest → Step eq s n reply t →
-    Says with reply
+    (s t : State K V E) (n : ℕ) (c : Call K V E) (load : Load K) (with : Settled V E)
+    (rest : List (Item K V E)) (reply : Turn K V E) →
+    IsReached eq s → s.calls n ≡ Some c → s.world.desk.owning n ≡ Some load →
+    c.plan ≡ plan.Settle with ∷ rest → Step eq s n reply t → SaysAs load.kind with reply
 
 -- ---- what an answer comes from
 
@@ -120,13 +144,14 @@ pub record CameBy {K V E : Type 0} (eq : K → K → Bool) (s : State K V E) (n 
   pub left : after.calls n ≡ Some c
   pub led : Leads eq after s
 
--- in every reached state a call that is to end its own load with nothing or an error came to that
--- by the step that took it as the answer to its own ask
+-- in every reached state a call that is to end its own load with nothing or an error, and to answer
+-- that, came to that by the step that took it as the answer to its own ask
 abbrev pub OwnEndsAreTold : (K V E : Type 0) → (K → K → Bool) → Type 0
 OwnEndsAreTold K V E eq =
-    (s : State K V E) (n : ℕ) (c : Call K V E) (with : Settled V E) (said : Answer V E)
+    (s : State K V E) (n : ℕ) (c : Call K V E) (with : Settled V E) (said : Answer K V E)
     (given : Told V E) →
-    IsReached eq s → s.calls n ≡ Some c → told_as with ≡ Some given → c.plan ≡ end_load with said →
+    IsReached eq s → s.calls n ≡ Some c → told_as with ≡ Some given →
+    said_of with false ≡ Some said → c.plan ≡ end_load with said →
     CameBy eq s n c (λ u b. TakesTold u n b given)
 
 module _ {K V E : Type 0} where
@@ -210,17 +235,18 @@ TestsAreTwo K V E eq =
 
 -- ---- what fits a kind
 
--- how an owner ended that a call reads on a reached state is how an owner of the load's kind may
--- end: of a `get_with` neither with nothing nor with an error, of an `optional` with no error, and
--- of a `try` not with nothing
+-- how an owner ended that a call reads on a reached state is how an owner of what the call waits
+-- for may end: of a `get_with` neither with nothing nor with an error, of an `optional` with no
+-- error, of a `try` not with nothing, and of a compute neither with a value nor with an error
 abbrev pub SettlementsFit : (K V E : Type 0) → (K → K → Bool) → Type 0
 SettlementsFit K V E eq =
-    (s : State K V E) (n : ℕ) (c : Call K V E) (with : Settled V E) →
-    IsReached eq s → s.calls n ≡ Some c → (r : Reads s n c with) →
-    may_end r.sought.load.kind with ≡ true
+    (s : State K V E) (n : ℕ) (c : Call K V E) (item : Item K V E) (rest : List (Item K V E))
+    (load : Load K) (with : Settled V E) →
+    IsReached eq s → s.calls n ≡ Some c → c.plan ≡ item ∷ rest → waits_for item ≡ Some load →
+    settlement_for s.world.desk n ≡ Some with → may_end load.kind with ≡ true
 
 -- a call that was started for this may answer so
-abbrev pub may_answer : {K V E : Type 0} → Start K V → Answer V E → Bool
+abbrev pub may_answer : {K V E : Type 0} → Start K V → Answer K V E → Bool
 may_answer (start.Get key) (answer.Found value) = true
 may_answer (start.Insert key value) answer.Done = true
 may_answer (start.GetWith key replace) (answer.Loaded value fresh) = true
@@ -232,6 +258,12 @@ may_answer (start.Try key) (answer.Loaded value fresh) = true
 may_answer (start.Try key) (answer.InitErr error) = true
 may_answer (start.Try key) answer.RetriesExhausted = true
 may_answer (start.OrInsert key own) (answer.Loaded value fresh) = true
+may_answer (start.Compute key) (answer.Computed done) = true
+may_answer (start.TryCompute key) (answer.Computed done) = true
+may_answer (start.TryCompute key) (answer.ComputeErr error) = true
+may_answer (start.ComputeAlone key) (answer.Computed done) = true
+may_answer (start.ComputeAlone key) (answer.ComputeErr error) = true
+may_answer (start.Upsert key) (answer.Computed done) = true
 may_answer (start.Invalidate key) answer.Done = true
 may_answer (start.Remove key) (answer.Found value) = true
 may_answer (start.Evict key stamp cause) answer.Evicted = true
@@ -239,8 +271,8 @@ may_answer (start.Evict key stamp cause) answer.Kept = true
 may_answer _ _ = false
 
 -- a call answers as what it was started for may: a `get_with` neither nothing nor an error, an
--- `optional` no error, a `try` not nothing
+-- `optional` no error, a `try` not nothing, and no compute gives up
 abbrev pub AnswersFit : (K V E : Type 0) → (K → K → Bool) → Type 0
 AnswersFit K V E eq =
-    (s t : State K V E) (start : Start K V) (n : ℕ) (a : Answer V E) → WasStarted eq start n s →
+    (s t : State K V E) (start : Start K V) (n : ℕ) (a : Answer K V E) → WasStarted eq start n s →
     Step eq s n (turn.Answer a) t → may_answer start a ≡ true

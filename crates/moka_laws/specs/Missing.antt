@@ -1,5 +1,5 @@
 -- What a call may have to wait for can still come.
-use Rattle.std.specs.Prelude.{◌≡◌, ◌↔◌, ◌⊎◌, ℕ, Bool, true, List, ◌∷◌, Some, IsSome}
+use Rattle.std.specs.Prelude.{◌≡◌, ◌↔◌, ◌⊎◌, ℕ, Bool, true, List, ◌∷◌, Option, Some, None, IsSome}
 use Rattle.moka_hist.specs.Finite.{load_eq}
 use Rattle.moka_hist.specs.State.{Call, State}
 use Rattle.moka_hist.specs.Plan.{Item}
@@ -9,8 +9,8 @@ use Rattle.moka_hist.specs.Missing.{IsMissing}
 use Rattle.moka_hist.specs.Notices.{HoldsLock}
 use Rattle.moka_hist.specs.Telling.{is_asked}
 use Rattle.moka_hist.specs.declared.events.Told.TheVariants as told
+use Rattle.moka_hist.specs.declared.loads.Kind.TheVariants as kind
 use Rattle.moka_hist.specs.declared.loads.Load.{Load}
-use Rattle.moka_hist.specs.declared.loads.Sought.{Sought}
 use Rattle.moka_hist.specs.declared.records.Mode.TheVariants as mode
 
 module _ {K V E : Type 0} where
@@ -43,6 +43,12 @@ module _ {K V E : Type 0} where
     pub joined : s.world.desk.joined n ≡ Some owner
     pub served : OwnsAlike eq s owner load ⊎ IsSome (s.world.desk.settled owner)
 
+  -- the load whose owner the item waits for
+  abbrev pub waits_for : Item K V E → Option (Load K)
+  waits_for (plan.Read sought) = Some sought.load
+  waits_for (plan.Read_key compute) = Some (record { key = compute.key; kind = kind.Compute })
+  waits_for _ = None
+
   -- What the item may miss can still come: from the call that has the turn, which applies the log;
   -- from the owner, which owns an equal load; from the call that holds the key's lock, which is
   -- live and frees it; as the answer to the own ask, which is open; or as the listener's answer to
@@ -52,6 +58,10 @@ module _ {K V E : Type 0} where
   CanCome eq s n (plan.Read sought) =
       (owner : ℕ) × (s.world.desk.joined n ≡ Some owner) × OwnsAlike eq s owner sought.load
   CanCome eq s n (plan.Told load) = IsSome (s.world.desk.asks n)
+  CanCome eq s n (plan.Read_key compute) =
+      (owner : ℕ) × (s.world.desk.joined n ≡ Some owner) ×
+      OwnsAlike eq s owner (record { key = compute.key; kind = kind.Compute })
+  CanCome eq s n (plan.Told_op compute found) = IsSome (s.world.desk.asks n)
   CanCome eq s n (plan.Lock key) =
       (holder : ℕ) × (s.world.desk.locks key ≡ Some holder) × HoldsLock s holder
   CanCome eq s n plan.Heard = is_asked s.world.desk n told.Done ≡ true
@@ -63,12 +73,13 @@ abbrev pub TurnIsHeld : (K V E : Type 0) → (K → K → Bool) → Type 0
 TurnIsHeld K V E eq =
     (s : State K V E) (n : ℕ) → IsReached eq s → (s.world.desk.turn ≡ Some n) ↔ AppliesLog s n
 
--- in every reached state each call that waits for the owner of a load has one
+-- in every reached state each call that waits for the owner of a load or of a compute has one
 abbrev pub WaitersHaveOwners : (K V E : Type 0) → (K → K → Bool) → Type 0
 WaitersHaveOwners K V E eq =
-    (s : State K V E) (n : ℕ) (c : Call K V E) (sought : Sought K) (rest : List (Item K V E)) →
-    IsReached eq s → s.calls n ≡ Some c → c.plan ≡ plan.Read sought ∷ rest →
-    HasOwner eq s n sought.load
+    (s : State K V E) (n : ℕ) (c : Call K V E) (item : Item K V E) (rest : List (Item K V E))
+    (load : Load K) →
+    IsReached eq s → s.calls n ≡ Some c → c.plan ≡ item ∷ rest → waits_for item ≡ Some load →
+    HasOwner eq s n load
 
 -- in every reached state what a live call misses can still come
 abbrev pub MissingCanCome : (K V E : Type 0) → (K → K → Bool) → Type 0

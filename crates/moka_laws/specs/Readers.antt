@@ -1,5 +1,5 @@
 -- Those that wait for an owner, and what is kept for them.
-use Rattle.std.specs.Prelude.{◌≡◌, ℕ, zero, suc, ◌+◌, ◌≤◌, Bool, false, cond, List, ◌∷◌, Some, IsSome}
+use Rattle.std.specs.Prelude.{◌≡◌, ℕ, zero, suc, ◌+◌, ◌≤◌, Bool, false, cond, List, [], ◌∷◌, Some, IsSome}
 use Rattle.moka_hist.specs.State.{Call, State}
 use Rattle.moka_hist.specs.Plan.{Item}
 use Rattle.moka_hist.specs.Plan as plan
@@ -10,6 +10,7 @@ use Rattle.moka_hist.specs.Run.{Run, IsReached}
 use Rattle.moka_hist.specs.declared.accesses.Turn.{Turn}
 use Rattle.moka_hist.specs.declared.accesses.Turn.TheVariants as turn
 use Rattle.moka_hist.specs.declared.events.Event.{Event}
+use Rattle.moka_hist.specs.declared.loads.Sought.{Sought}
 use Rattle.moka_hist.specs.declared.replies.Answer.{Answer}
 use Rattle.moka_hist.specs.declared.replies.Reply.{Reply}
 use Rattle.moka_hist.specs.declared.visits.Settled.{Settled}
@@ -49,12 +50,20 @@ pub record Settles {K V E : Type 0} (eq : K → K → Bool) (s : State K V E) (o
   pub turn : Turn K V E
   pub step : Step eq s owner turn t
 
--- a call that waits for an owner as that ends its load with a value, an error or nothing answers
--- that with its next step, whatever other calls do before: a value as not fresh
+-- the live call waits for this owner of a load, which is no compute
+pub record WaitsForLoad {K V E : Type 0} (s : State K V E) (n owner : ℕ) : Type 0 where
+  pub call : Call K V E
+  pub live : s.calls n ≡ Some call
+  pub sought : Sought K
+  pub reading : call.plan ≡ plan.Read sought ∷ []
+  pub joined : s.world.desk.joined n ≡ Some owner
+
+-- a call that waits for the owner of a load as that ends it with a value, an error or nothing
+-- answers that with its next step, whatever other calls do before: a value as not fresh
 abbrev pub WaitersAnswerSettled : (K V E : Type 0) → (K → K → Bool) → Type 0
 WaitersAnswerSettled K V E eq =
     (s t u v : State K V E) (es : List (Event K V E)) (rs : List (Reply K V E)) (owner n : ℕ)
-    (with : Settled V E) (said : Answer V E) (reply : Turn K V E) →
+    (with : Settled V E) (said : Answer K V E) (reply : Turn K V E) →
     IsReached eq s → s.world.desk.joined n ≡ Some owner → Settles eq s owner with t →
     said_of with false ≡ Some said → Run eq (IsLawful eq) t es rs u →
-    u.world.desk.joined n ≡ Some owner → Step eq u n reply v → reply ≡ turn.Answer said
+    WaitsForLoad u n owner → Step eq u n reply v → reply ≡ turn.Answer said

@@ -70,13 +70,17 @@ PlacesComeBack K V E eq = (s : State K V E) (n : ℕ) → IsReached eq s → Pla
 -- ---- what a removal answers
 
 -- what a call is started to take out, and from under which key
-abbrev pub removal_of : {K V : Type 0} → Start K V → Option (Removal × K)
+abbrev pub removal_of : {K V : Type 0} → Start K V → Option (Removal K × K)
 removal_of (start.Get key) = None
 removal_of (start.Insert key value) = None
 removal_of (start.GetWith key replace) = None
 removal_of (start.Optional key) = None
 removal_of (start.Try key) = None
 removal_of (start.OrInsert key value) = None
+removal_of (start.Compute key) = None
+removal_of (start.TryCompute key) = None
+removal_of (start.ComputeAlone key) = None
+removal_of (start.Upsert key) = None
 removal_of (start.Invalidate key) = Some (plan.To_invalidate, key)
 removal_of (start.Remove key) = Some (plan.To_remove, key)
 removal_of (start.Evict key stamp cause) = Some (plan.To_evict_chosen stamp cause, key)
@@ -102,7 +106,7 @@ pub record TookOut {K V E : Type 0} (eq : K → K → Bool) (start : Start K V) 
 -- The call has taken out the pair that was asked for: its answer is of that, its removal is
 -- committed and logged, and no record of that stamp is stored.
 pub record SaysTaken {K V E : Type 0} (eq : K → K → Bool) (start : Start K V) (s : State K V E)
-    (n : ℕ) (removal : Removal) (key : K) (a : Answer V E) : Type 0 where
+    (n : ℕ) (removal : Removal K) (key : K) (a : Answer K V E) : Type 0 where
   pub pair : K × Stored V
   pub took : TookOut eq start n key pair s
   pub asked : IsAsked (stamp_asked removal) pair.1.stamp
@@ -112,8 +116,8 @@ pub record SaysTaken {K V E : Type 0} (eq : K → K → Bool) (start : Start K V
   pub gone : IsGone s pair.1.stamp
 
 -- the call has taken nothing out, which is its answer
-pub record SaysNothing {K V E : Type 0} (s : State K V E) (n : ℕ) (removal : Removal)
-    (a : Answer V E) : Type 0 where
+pub record SaysNothing {K V E : Type 0} (s : State K V E) (n : ℕ) (removal : Removal K)
+    (a : Answer K V E) : Type 0 where
   pub answer : a ≡ nothing_answer removal
   pub uncommitted : Contains s.world.table.committed n → ⊥
 
@@ -121,7 +125,8 @@ pub record SaysNothing {K V E : Type 0} (s : State K V E) (n : ℕ) (removal : R
 -- the record that it took out; or it has committed none, and answers so
 abbrev pub RemovalsAnswer : (K V E : Type 0) → (K → K → Bool) → Type 0
 RemovalsAnswer K V E eq =
-    (s t : State K V E) (start : Start K V) (removal : Removal) (key : K) (n : ℕ) (a : Answer V E) →
+    (s t : State K V E) (start : Start K V) (removal : Removal K) (key : K) (n : ℕ)
+    (a : Answer K V E) →
     removal_of start ≡ Some (removal, key) → WasStarted eq start n s →
     Step eq s n (turn.Answer a) t →
     SaysTaken eq start t n removal key a ⊎ SaysNothing t n removal a

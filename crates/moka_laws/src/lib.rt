@@ -7,6 +7,7 @@
 mod alone;
 mod answered;
 mod bounded;
+mod computes;
 mod held;
 mod lawful;
 mod listening;
@@ -23,6 +24,11 @@ mod waiting;
 pub use alone::insert_then_get;
 pub use answered::{answered_is_posted, posted_stays, stored_is_committed};
 pub use bounded::{logs_have_room, step_events_are_bounded, steps_are_bounded};
+pub use computes::{
+    acting_computes_own, alone_waits_for_nobody, asks_carry_found, computes_answer_told,
+    computes_are_one, nops_answer_asked, nops_change_nothing, one_compute_acts,
+    owned_until_settled, waits_are_apart,
+};
 pub use held::{calls_may_leave, held_are_known};
 pub use lawful::{
     event_is_lawful, lawful_run_goes_on, reached_is_lawful, run_is_lawful, steps_are_lawful,

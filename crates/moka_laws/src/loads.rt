@@ -2,8 +2,9 @@
 
 ghost use Rattle.moka_laws.specs.Loads.{AbortsAreCounted, AnswersFit, ErrorByCause, ExhaustedAtLast, NothingByCause, OpenedByOwners, OwnEndsAreTold, OwnersAnswerSettled, SettlementsFit, TestsAreTwo};
 
-/// Cites the law that an owner answers what it settles, with the step by which it ends its load: a
-/// value, an error or nothing.
+/// Cites the law that the owner of a load answers what it settles, with the step by which it ends
+/// that: a value, an error or nothing; and the owner of a compute ends it with nothing, and answers
+/// what it did.
 pub fn owners_answer_settled<K: Eq, V, E>()
     ensures answers { OwnersAnswerSettled K V E K.eq }
 {}
@@ -27,7 +28,7 @@ pub fn exhausted_at_last<K: Eq, V, E>()
 {}
 
 /// Cites the law that in every reached state a call that is to end its own load with nothing or an
-/// error came to that by the step that took it as the answer to its own ask.
+/// error, and to answer that, came to that by the step that took it as the answer to its own ask.
 pub fn own_ends_are_told<K: Eq, V, E>()
     ensures told { OwnEndsAreTold K V E K.eq }
 {}
@@ -50,14 +51,14 @@ pub fn tests_are_two<K: Eq, V, E>()
 {}
 
 /// Cites the law that on a reached state what a call reads of how its owner ended is how an owner
-/// of that kind of load may end: of a `get_with` neither nothing nor an error, of an `optional` no
-/// error, and of a `try` not nothing.
+/// of that kind may end: of a `get_with` neither nothing nor an error, of an `optional` no error,
+/// of a `try` not nothing, and of a compute neither a value nor an error.
 pub fn settlements_fit<K: Eq, V, E>()
     ensures fits { SettlementsFit K V E K.eq }
 {}
 
 /// Cites the law that a call answers as what it was started for may: a `get_with` neither nothing
-/// nor an error, an `optional` no error, a `try` not nothing.
+/// nor an error, an `optional` no error, a `try` not nothing, and no compute gives up.
 pub fn answers_fit<K: Eq, V, E>()
     ensures fits { AnswersFit K V E K.eq }
 {}

@@ -8,8 +8,8 @@ pub fn turn_is_held<K: Eq, V, E>()
     ensures held { TurnIsHeld K V E K.eq }
 {}
 
-/// Cites the law that in every reached state a call that waits for the owner of a load has one: a
-/// live call that owns an equal load, or one whose end is there to be read.
+/// Cites the law that in every reached state a call that waits for the owner of a load or of a
+/// compute has one: a live call that owns an equal one, or one whose end is there to be read.
 pub fn waiters_have_owners<K: Eq, V, E>()
     ensures served { WaitersHaveOwners K V E K.eq }
 {}

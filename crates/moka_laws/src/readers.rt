@@ -14,8 +14,8 @@ pub fn nothing_unread_is_kept<K: Eq, V, E>()
     ensures kept { NothingUnreadIsKept K V E K.eq }
 {}
 
-/// Cites the law that a waiter answers what its owner settled: a call that waits for an owner as
-/// that ends its load with a value, an error or nothing, and still waits for it after any events,
+/// Cites the law that a waiter answers what its owner settled: a call that waits for the owner of a
+/// load as that ends it with a value, an error or nothing, and still waits for it after any events,
 /// answers that with its next step; a value as not fresh.
 pub fn waiters_answer_settled<K: Eq, V, E>()
     ensures answers { WaitersAnswerSettled K V E K.eq }

@@ -8,8 +8,9 @@ use Rattle.moka_hist.specs.Finite.{put_at}
 use Rattle.moka_hist.specs.State.{DeskPart, World}
 use Rattle.moka_hist.specs.Step.{Access, May}
 use Rattle.moka_hist.specs.Step as step
-use Rattle.moka_hist.specs.Visits.{finds, makes, judged, claimed, is_unlocked_for, locked_by, settlement_for, readers_without, settled_without}
+use Rattle.moka_hist.specs.Visits.{finds, makes, judged, claimed, claimed_alone, is_unlocked_for, locked_by, settlement_for, readers_without, settled_without}
 use Rattle.moka_hist.specs.declared.tables.TableOp.{TableOp}
+use Rattle.moka_hist.specs.declared.loads.Kind.TheVariants as kind
 use Rattle.moka_hist.specs.declared.visits.Visit.{Visit}
 use Rattle.moka_hist.specs.declared.visits.Visit.TheVariants as visit
 use Rattle.moka_hist.specs.declared.visits.Found.{Found}
@@ -87,6 +88,11 @@ module _ {K V E : Type 0} where
       by : (o : Option ℕ) → (claimed eq w n (record { key = key; kind = kind }) o).last ≡ w.last
       by None = refl
       by (Some owner) = refl
+  last_same eq w (visit.OwnAlone n key) = by (w.owners (record { key = key; kind = kind.Compute }))
+    where
+      by : (o : Option ℕ) → (claimed_alone eq w n (record { key = key; kind = kind.Compute }) o).last ≡ w.last
+      by None = refl
+      by (Some owner) = refl
   last_same eq w (visit.ReadSettled n) = by (is_some (settlement_for w n))
     where
       by : (b : Bool) → (cond b (record w { joined = put_at w.joined n None; readers = readers_without w n; settled = settled_without w n }) w).last ≡ w.last
@@ -104,6 +110,11 @@ module _ {K V E : Type 0} where
   tests_same eq w (visit.WaitOrOwn n key kind) = by (w.owners (record { key = key; kind = kind }))
     where
       by : (o : Option ℕ) → (claimed eq w n (record { key = key; kind = kind }) o).tests ≡ w.tests
+      by None = refl
+      by (Some owner) = refl
+  tests_same eq w (visit.OwnAlone n key) = by (w.owners (record { key = key; kind = kind.Compute }))
+    where
+      by : (o : Option ℕ) → (claimed_alone eq w n (record { key = key; kind = kind.Compute }) o).tests ≡ w.tests
       by None = refl
       by (Some owner) = refl
   tests_same eq w (visit.ReadSettled n) = by (is_some (settlement_for w n))

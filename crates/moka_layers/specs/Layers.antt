@@ -15,7 +15,7 @@ use Rattle.moka_bound.specs.Ahead.{Work}
 use Rattle.moka_table.specs.Map.{most_steps}
 use Rattle.moka_table.specs.declared.table.Table as Table
 use Rattle.moka_desk.specs.StandsFor as desk
-use Rattle.moka_desk.specs.Sizes.{owed_in, logged_in, room_in}
+use Rattle.moka_desk.specs.Sizes.{owed_in, logged_in, room_in, has_ended}
 use Rattle.moka_init.specs.Grounds.{Account, MayWant, nothing_told}
 use Rattle.moka_layers.specs.declared.layers.Layers.{Layers}
 
@@ -78,6 +78,7 @@ module _ {K V E T C Q : Type 0} {same : PartialEq.Ghosts K} {hash : Hash.Ghosts 
     size = room_in layers.desk;
     left = left_in t layers.table layers.begun;
     most = most_on t layers.table;
+    ended = has_ended layers.desk layers.call;
   }
 
   -- what the layers tell of themselves; the accesses that were made they don't tell

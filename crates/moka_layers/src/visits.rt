@@ -54,6 +54,7 @@ pub(crate) fn make_visit<
             Ok(holds(desk, stored.stamp, stored.modified, cause))
         }
         Visit::WaitOrOwn { call, key, kind } => wait_or_own(desk, call, Load { key, kind }),
+        Visit::OwnAlone { call, key } => own_alone(desk, call, key),
         Visit::ReadSettled { call } => read_settled(desk, call),
         Visit::Settle { call, with } => Ok(settle(desk, call, with)),
         Visit::OpenAsk { call, takes } => open_ask(desk, call, takes),
@@ -146,6 +147,21 @@ fn wait_or_own<K: Eq + Hash + Clone + Drop, V: Clone + Drop, E: Clone + Drop>(
 {
     let claim = desk.wait_or_own(call, load)?;
     Ok(Found::WaitOrOwn(claim))
+}
+
+fn own_alone<K: Eq + Hash + Clone + Drop, V: Clone + Drop, E: Clone + Drop>(
+    desk: &mut Desk<K, V, E>,
+    call: u64,
+    key: K,
+) -> Result<Found<V, E>, AllocError>
+    requires keys { IsExact K.is_clone }
+    requires can { Can K.eq desk.old (Visit.OwnAlone call key) }
+    ensures ok { IfOk result (λ found.
+        VisitIs K.eq desk.old (Visit.OwnAlone call key) found desk.new) }
+    ensures err { OnErr result (DeskStays K.eq desk.old desk.new) }
+{
+    let owned = desk.owned(call, key)?;
+    Ok(Found::OwnAlone(owned))
 }
 
 fn read_settled<K: Eq + Hash + Clone + Drop, V: Clone + Drop, E: Clone + Drop>(

@@ -1,6 +1,6 @@
 //! What the program tells about itself.
 
-const VERSION: &str = "moka 0.1.0\n";
+const VERSION: &str = "wudzghela 0.1.0\n";
 
 const HELP: &str = "\
 usage: moka play < SCHEDULE > REPORT
@@ -24,6 +24,11 @@ and each other line is an event:
   start optional KEY         a call looks the key up, and loads its value, or finds that it has none
   start try KEY              a call looks the key up, and loads its value, or fails with an error
   start or_insert KEY VALUE  a call looks the key up, and stores the value where there is none
+  start compute KEY          a call asks what is to be done with what the key has, and does it;
+                             one of a key at a time
+  start try_compute KEY      the same, and it may be told an error
+  start compute_alone KEY    the same, but beside another that goes it only answers what is there
+  start upsert KEY           a call asks for the key's next value, and stores it
   start invalidate KEY       a call takes the key's record out
   start remove KEY           a call takes the key's record out, and answers its value
   start evict KEY STAMP CAUSE
@@ -31,9 +36,13 @@ and each other line is an event:
                              and has to leave for this cause: Expired, Explicit, Replaced or Size
   step CALL                  the call makes one step
   poll CALL                  the call makes steps until it waits, asks or answers
-  tell CALL value VALUE      the open ask of the call is told the value of its load
+  tell CALL value VALUE      the open ask of the call is told the value of its load or upsert
   tell CALL nothing          the open ask of an optional is told that there is none
-  tell CALL error ERROR      the open ask of a try is told why it fails
+  tell CALL error ERROR      the open ask of a try, a try_compute or a compute_alone is told why it
+                             fails
+  tell CALL nop              the open ask of a compute is told to leave what is there
+  tell CALL put VALUE        the same ask is told to store the value
+  tell CALL remove           the same ask is told to take the record out
   tell CALL done             the open notice of this number ends: the listener has heard
   tell CALL off              the same, and the listener hears of no further record
   drop CALL                  the call is dropped where it stands

@@ -42,6 +42,8 @@ module _ {K V E : Type 0} where
   copies_need w (step.On_desk (visit.Judge replace key stored)) copies = tt
   copies_need w (step.On_desk (visit.Holds key stored cause)) copies = tt
   copies_need w (step.On_desk (visit.WaitOrOwn n key kind)) copies = tt
+  copies_need w (step.On_desk (visit.OwnAlone n key)) copies = tt
+  copies_need w (step.On_desk (visit.OpenAsk n takes)) copies = tt
   copies_need w (step.On_desk (visit.Settle n with)) copies = copies
   copies_need w (step.On_desk _) copies = absurd copies
 

@@ -23,6 +23,8 @@ module _ {K V E T : Type 0} {same : PartialEq.Ghosts K} {hash : Hash.Ghosts K} (
       record { world = record { table = h.world.table; desk = k; tests = h.world.tests; stay = h.world.stay }; calls = h.calls; each = h.each; used = h.used }
   told_stands m d s n (answer.Err error) h k =
       record { world = record { table = h.world.table; desk = k; tests = h.world.tests; stay = h.world.stay }; calls = h.calls; each = h.each; used = h.used }
+  told_stands m d s n (answer.Op op) h k =
+      record { world = record { table = h.world.table; desk = k; tests = h.world.tests; stay = h.world.stay }; calls = h.calls; each = h.each; used = h.used }
   told_stands m d s n answer.Done h k =
       record { world = record { table = h.world.table; desk = k; tests = h.world.tests; stay = h.world.stay }; calls = h.calls; each = h.each; used = h.used }
   told_stands m d s n answer.Off h k =

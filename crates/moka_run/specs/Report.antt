@@ -32,13 +32,13 @@ module _ {K V E : Type 0} where
     pub lists : Lists nat_eq calls live
     pub are : numbers ≡ filter_map held_number calls
 
-  -- the writes of the state, with their places: held by one of these calls, owed, logged, applied
+  -- the writes of the state, with their places: applied, logged, owed, held by one of these calls
   abbrev pub all_places : List (ℕ × Call K V E) → State K V E → List (ℕ × Place)
   all_places calls s =
-      at_place place.Held (filter_map held_number calls)
-      ++ at_place place.Owed (map (λ o. number_of o.write) s.world.desk.owed)
+      at_place place.Applied (map number_of s.world.desk.applied)
       ++ at_place place.Logged (map number_of s.world.desk.log)
-      ++ at_place place.Applied (map number_of s.world.desk.applied)
+      ++ at_place place.Owed (map (λ o. number_of o.write) s.world.desk.owed)
+      ++ at_place place.Held (filter_map held_number calls)
 
   -- the list has each write of the state, once for each place where it stands, ascending by number
   pub record ArePlaces (places : List (ℕ × Place)) (s : State K V E) : Type 0 where

@@ -8,6 +8,8 @@ use Rattle.moka_hist.specs.Run.{Run}
 use Rattle.moka_hist.specs.Step.{access_of}
 use Rattle.moka_hist.specs.declared.events.Event.{Event}
 use Rattle.moka_hist.specs.declared.events.Event.TheVariants as event
+use Rattle.moka_hist.specs.declared.events.Op.{Op}
+use Rattle.moka_hist.specs.declared.events.Op.TheVariants as op
 use Rattle.moka_hist.specs.declared.events.Told.{Told}
 use Rattle.moka_hist.specs.declared.events.Told.TheVariants as told
 use Rattle.moka_hist.specs.declared.replies.Reply.{Reply}
@@ -16,12 +18,19 @@ use Rattle.moka_init.specs.Grounds.{NeedsMemory}
 use Rattle.moka_run.specs.Machine.{MachineIs, Begins}
 use Rattle.moka_run.specs.declared.machine.Machine.{Machine}
 
+-- memory may be wanting to tell a compute this: a value is copied
+abbrev pub OpNeedsMemory : {V : Type 0} → Op V → Type 0
+OpNeedsMemory op.Nop = ⊥
+OpNeedsMemory (op.Put value) = Unit {0}
+OpNeedsMemory op.Remove = ⊥
+
 module _ {V E : Type 0} where
   -- memory may be wanting to tell this: a value or an error is copied
   abbrev pub ToldNeedsMemory : Told V E → Type 0
   ToldNeedsMemory (told.Value value) = Unit {0}
   ToldNeedsMemory told.Nothing = ⊥
   ToldNeedsMemory (told.Err error) = Unit {0}
+  ToldNeedsMemory (told.Op op) = OpNeedsMemory op
   ToldNeedsMemory told.Done = ⊥
   ToldNeedsMemory told.Off = ⊥
 

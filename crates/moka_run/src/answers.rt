@@ -3,12 +3,18 @@ ghost use Rattle.std.specs.Prelude.{◌≡◌, ◌<◌, ◌≤◌, ℕ, length, 
 ghost use Rattle.std.specs.Ordering.{nat_cmp};
 ghost use Rattle.std.specs.String.{string_bytes};
 ghost use Rattle.moka_text.specs.ScheduleText.{IsFirstBad, Says, rules_of};
+ghost use Rattle.moka_hist.specs.State.{State};
+ghost use Rattle.moka_hist.specs.Run.{IsReached};
+ghost use Rattle.moka_run.specs.Machine.{IsValid, MachineIs};
+ghost use Rattle.moka_run.specs.NumberTest.{number_tests};
 ghost use Rattle.moka_run.specs.Playing.{IsReport, ReportsRun, RunsFresh};
+ghost use Rattle.moka_run.specs.Running.{Answers};
 
+use crate::lists::{list_all, report_of};
 use crate::machine::Machine;
 use crate::number_tests::NumberTests;
-use crate::report::Report;
-use crate::run;
+use crate::report::{ReplyList, Report};
+use crate::runs::run_events;
 use moka_hist::{Event, Rules, Stored};
 use moka_table::EntryList;
 use moka_text::{Schedule, ScheduleError, read_schedule, write_report};
@@ -24,28 +30,26 @@ fn sorted(entries: EntryList<u32, u32>) -> Vec<(u32, Stored<u32>)>
     pairs
 }
 
-/// Runs the events on a fresh cache, and answers what is to be reported.
-fn run_fresh(
+/// Runs the events on the machine, and answers the replies. The events are given up then.
+fn replies_to(
     alloc: Global,
-    rules: Rules,
-    log: usize,
-    events: &[Event<u32, u32, u32>],
-) -> Result<Report<u32, u32, u32>, AllocError>
-    requires rules { rules ≡ rules_of rules.max_capacity rules.listener }
-    requires least { 1 ≤ log }
-    requires most { log ≤ 65536 }
-    ensures { IfOk result (λ report. RunsFresh rules log events.now report) }
+    machine: &mut Machine<u32, u32, u32, NumberTests>,
+    events: Vec<Event<u32, u32, u32>>,
+) -> Result<ReplyList<u32, u32, u32>, AllocError>
+    requires { IsValid nat_eq number_tests machine.old }
+    ensures { IfOk result (λ replies. (s : State ℕ ℕ ℕ)
+        → MachineIs nat_eq number_tests machine.old s → IsReached nat_eq s
+        → Answers nat_eq number_tests events.items replies machine.new s) }
 {
-    moka_laws::reached_by_lawful_run::<u32, u32, u32>();
-    let mut machine = Machine::build(alloc, rules, log, NumberTests)?;
-    match run(alloc, &mut machine, events) {
-        Ok(report) => Ok(report),
+    match run_events(alloc, machine, &events) {
+        Ok(replies) => Ok(ReplyList::from_vec(replies)),
         Err(_) => Err(AllocError),
     }
 }
 
-/// The same, of events that are given up then.
-fn run_given(
+/// Runs the events on a fresh cache, and answers what is to be reported. The events are given up
+/// before the lists of the report are made.
+fn run_fresh(
     alloc: Global,
     rules: Rules,
     log: usize,
@@ -56,11 +60,16 @@ fn run_given(
     requires most { log ≤ 65536 }
     ensures { IfOk result (λ report. RunsFresh rules log events.items report) }
 {
-    run_fresh(alloc, rules, log, &events)
+    moka_laws::reached_by_lawful_run::<u32, u32, u32>();
+    let mut machine = Machine::build(alloc, rules, log, NumberTests)?;
+    let replies = replies_to(alloc, &mut machine, events)?;
+    let lists = list_all(alloc, &machine)?;
+    Ok(report_of(replies, lists))
 }
 
 /// Runs the events on a fresh cache of these rules with a log of this many writes, and answers the
-/// report's text. The events are given up before that is made.
+/// report's text. The events are given up before the report's lists are made, and the cache before
+/// its text.
 fn report_on(
     alloc: Global,
     rules: Rules,
@@ -73,7 +82,7 @@ fn report_on(
     ensures { IfOk result (λ text. ReportsRun rules log events.items (string_bytes text)) }
 {
     moka_laws::stored_under_own_keys::<u32, u32, u32>();
-    let report = run_given(alloc, rules, log, events)?;
+    let report = run_fresh(alloc, rules, log, events)?;
     let Report {
         replies,
         entries,

@@ -5,8 +5,6 @@
 
 mod answers;
 mod calls;
-#[cfg(test)]
-mod counting;
 mod laws;
 mod lists;
 mod machine;

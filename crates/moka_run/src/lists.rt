@@ -8,28 +8,18 @@ ghost use Rattle.moka_run.specs.Machine.{MachineIs};
 ghost use Rattle.moka_run.specs.Report.{at_place, all_places, ArePlaces, Reports};
 
 use crate::machine::Machine;
-use crate::report::{NoticeList, PlaceList};
+use crate::report::{NoticeList, PlaceList, ReplyList, Report};
 use moka_hist::{Owed, Place, Tests, Write};
 use moka_table::{EntryList, Table};
 use std::alloc::{AllocError, Global};
 use std::collections::VecDeque;
 use std::hash::Hash;
 
-/// The number of the call that made the write.
-pub(crate) fn number_of(write: Write) -> u64
-    ensures { result ≡ number_of write }
-{
-    match write {
-        Write::Upsert { number, .. } => number,
-        Write::Remove { number, .. } => number,
-    }
-}
-
 /// The number of the call that made the owed write.
 pub(crate) fn number_owed(owed: Owed) -> u64
     ensures { result ≡ number_of owed.write }
 {
-    number_of(owed.write)
+    owed.write.number()
 }
 
 /// Appends the numbers, each with the place.
@@ -56,7 +46,7 @@ fn push_writes(
         ≡ places.old.items ++ at_place place (map number_of writes.now)) }
 {
     for write in writes {
-        places.push((number_of(*write), place))?;
+        places.push((write.number(), place))?;
     }
     Ok(())
 }
@@ -82,7 +72,7 @@ fn push_queue(
         ≡ places.old.items ++ at_place place (map number_of writes.now.items)) }
 {
     for write in writes {
-        places.push((number_of(*write), place))?;
+        places.push((write.number(), place))?;
     }
     Ok(())
 }
@@ -113,7 +103,8 @@ impl<K: Eq + Hash + Clone + Drop, V: Clone + Drop, E: Clone + Drop, T: Tests<K, 
         Ok(PlaceList::from_vec(places))
     }
 
-    /// The same places in another order: held, owed, logged, applied.
+    /// The same places in another order, which is mostly that of the numbers: applied, logged,
+    /// owed, held.
     fn unsorted(&self, alloc: Global) -> Result<Vec<(u64, Place)>, AllocError>
         ensures { IfOk result (λ places. (s : State K V E) → MachineIs K.eq T.Tests self.now s
             → (calls : List (ℕ × Call K V E)) × Lists nat_eq calls s.calls
@@ -121,10 +112,10 @@ impl<K: Eq + Hash + Clone + Drop, V: Clone + Drop, E: Clone + Drop, T: Tests<K, 
     {
         let held = self.calls.held(alloc)?;
         let mut places = Vec::new(alloc);
-        push_numbers(&mut places, &held, Place::Held)?;
-        push_owed(&mut places, self.layers.desk.owed())?;
-        push_queue(&mut places, self.layers.desk.logged(), Place::Logged)?;
         push_writes(&mut places, self.layers.desk.applied(), Place::Applied)?;
+        push_queue(&mut places, self.layers.desk.logged(), Place::Logged)?;
+        push_owed(&mut places, self.layers.desk.owed())?;
+        push_numbers(&mut places, &held, Place::Held)?;
         Ok(places)
     }
 }
@@ -154,4 +145,29 @@ pub(crate) fn list_all<
         places: machine.places(alloc)?,
         notices: machine.notices(alloc)?,
     })
+}
+
+/// The report of these replies and lists.
+pub(crate) fn report_of<K, V, E>(
+    replies: ReplyList<K, V, E>,
+    lists: ReportLists<K, V>,
+) -> Report<K, V, E>
+    ensures { result ≡ record {
+      replies = replies;
+      entries = lists.entries;
+      places = lists.places;
+      notices = lists.notices;
+    } }
+{
+    let ReportLists {
+        entries,
+        places,
+        notices,
+    } = lists;
+    Report {
+        replies,
+        entries,
+        places,
+        notices,
+    }
 }

@@ -7,6 +7,9 @@ ghost use Rattle.moka_hist.specs.Run.{IsReached};
 ghost use Rattle.moka_laws.specs.Alone.{InsertThenGet};
 ghost use Rattle.moka_laws.specs.Answered.{AnsweredIsPosted, PostedStays, StoredIsCommitted};
 ghost use Rattle.moka_laws.specs.Bounded.{StepEventsAreBounded, StepsAreBounded};
+ghost use Rattle.moka_laws.specs.Computes.{ActingComputesOwn, AloneWaitsForNobody, AsksCarryFound};
+ghost use Rattle.moka_laws.specs.Computes.{ComputesAnswerTold, ComputesAreOne, NopsAnswerAsked};
+ghost use Rattle.moka_laws.specs.Computes.{NopsChangeNothing, OneComputeActs, OwnedUntilSettled, WaitsAreApart};
 ghost use Rattle.moka_laws.specs.Listening.{AsksAreOne, ReachedLocksAreHeld, ReachedNoticesAreInOrder};
 ghost use Rattle.moka_laws.specs.Loads.{AbortsAreCounted, AnswersFit, ErrorByCause, ExhaustedAtLast, NothingByCause};
 ghost use Rattle.moka_laws.specs.Loads.{OpenedByOwners, OwnEndsAreTold, OwnersAnswerSettled};
@@ -21,7 +24,7 @@ ghost use Rattle.moka_run.specs.Machine.{MachineIs, IsValid};
 ghost use Rattle.moka_run.specs.Running.{Answers, StopsAt};
 ghost use Rattle.moka_run.specs.Report.{Reports};
 
-use crate::lists::list_all;
+use crate::lists::{list_all, report_of};
 use crate::machine::Machine;
 use crate::report::{Memory, ReplyList, Report};
 use moka_hist::{Event, Reply, Tests};
@@ -42,14 +45,19 @@ use std::hash::Hash;
 /// made.
 ///
 /// Of every state that a run reaches its last clauses say what a caller of the cache may count on:
-/// a step waits by its cause; a call that answers has its write logged or applied, for good; a
-/// waiter answers what its owner settled, and an owner what it settles; an initializer is opened by
-/// the owner of its load alone, which unless the cache is disabled has just looked in vain;
-/// nothing, an error, and that the call gave up are answered exactly by their causes, and only
-/// where they fit what was started; a call asks its replace test at most twice; and an insert and
-/// then a get, with no step of others between, give the value. A removal answers the record that it
-/// took out, which then is stored no longer, or that it took none; a chosen record is kept by
-/// cause; a cache of capacity 0 stores nothing; and only a live call has places of a write.
+/// a step waits by its cause; a call that answers has its write logged or applied, for good; one
+/// that waits for a load's owner answers what that settled, and a load's owner what it settles; an
+/// initializer is opened by the owner of its load alone, which unless the cache is disabled has
+/// just looked in vain; nothing, an error, and that the call gave up are answered exactly by their
+/// causes, and only where they fit what was started; a call asks its replace test at most twice;
+/// and an insert and then a get, with no step of others between, give the value. Of the computes of
+/// a key one goes at a time: from its owning until it settles no other asks, puts or takes out. It
+/// asks with the pair that its own look found as the owner, or with none; told nop or an error it
+/// changes no record; and it answers by what it was told, never what another settled. One that
+/// computes alone waits for no owner, and neither a compute nor a load for an owner of the other. A
+/// removal answers the record that it took out, which then is stored no longer, or that it took
+/// none; a chosen record is kept by cause; a cache of capacity 0 stores nothing; and only a live
+/// call has places of a write.
 pub fn run<K: Eq + Hash + Clone + Drop, V: Clone + Drop, E: Clone + Drop, T: Tests<K, V> + Drop>(
     alloc: Global,
     cache: &mut Machine<K, V, E, T>,
@@ -95,6 +103,17 @@ pub fn run<K: Eq + Hash + Clone + Drop, V: Clone + Drop, E: Clone + Drop, T: Tes
     ensures aborts { AbortsAreCounted K V E K.eq }
     ensures asked { TestsAreTwo K V E K.eq }
     ensures ways { RunsAreWays K V E K.eq }
+    // of computes
+    ensures one { ComputesAreOne K V E K.eq }
+    ensures acting { ActingComputesOwn K V E K.eq }
+    ensures meanwhile { OneComputeActs K V E K.eq }
+    ensures owned { OwnedUntilSettled K V E K.eq }
+    ensures apart { WaitsAreApart K V E K.eq }
+    ensures alone { AloneWaitsForNobody K V E K.eq }
+    ensures found { AsksCarryFound K V E K.eq }
+    ensures unchanged { NopsChangeNothing K V E K.eq }
+    ensures nops { NopsAnswerAsked K V E K.eq }
+    ensures told { ComputesAnswerTold K V E K.eq }
     // of what calls take out, and of places
     ensures removals { RemovalsAnswer K V E K.eq }
     ensures removed { RemoveAnswersTaken K V E K.eq }
@@ -129,6 +148,16 @@ pub fn run<K: Eq + Hash + Clone + Drop, V: Clone + Drop, E: Clone + Drop, T: Tes
     moka_laws::aborts_are_counted::<K, V, E>();
     moka_laws::tests_are_two::<K, V, E>();
     moka_laws::runs_are_ways::<K, V, E>();
+    moka_laws::computes_are_one::<K, V, E>();
+    moka_laws::acting_computes_own::<K, V, E>();
+    moka_laws::one_compute_acts::<K, V, E>();
+    moka_laws::owned_until_settled::<K, V, E>();
+    moka_laws::waits_are_apart::<K, V, E>();
+    moka_laws::alone_waits_for_nobody::<K, V, E>();
+    moka_laws::asks_carry_found::<K, V, E>();
+    moka_laws::nops_change_nothing::<K, V, E>();
+    moka_laws::nops_answer_asked::<K, V, E>();
+    moka_laws::computes_answer_told::<K, V, E>();
     moka_laws::removals_answer::<K, V, E>();
     moka_laws::remove_answers_taken::<K, V, E>();
     moka_laws::evicted_is_out::<K, V, E>();
@@ -140,12 +169,7 @@ pub fn run<K: Eq + Hash + Clone + Drop, V: Clone + Drop, E: Clone + Drop, T: Tes
     let replies = run_events(alloc, cache, events)?;
     let replies = ReplyList::from_vec(replies);
     match list_all(alloc, cache) {
-        Ok(lists) => Ok(Report {
-            replies,
-            entries: lists.entries,
-            places: lists.places,
-            notices: lists.notices,
-        }),
+        Ok(lists) => Ok(report_of(replies, lists)),
         Err(_) => Err(Memory {
             done: events.len() as u64,
             steps: 0,
@@ -155,7 +179,12 @@ pub fn run<K: Eq + Hash + Clone + Drop, V: Clone + Drop, E: Clone + Drop, T: Tes
 }
 
 /// The replies to the events, in order.
-fn run_events<K: Eq + Hash + Clone + Drop, V: Clone + Drop, E: Clone + Drop, T: Tests<K, V> + Drop>(
+pub(crate) fn run_events<
+    K: Eq + Hash + Clone + Drop,
+    V: Clone + Drop,
+    E: Clone + Drop,
+    T: Tests<K, V> + Drop,
+>(
     alloc: Global,
     cache: &mut Machine<K, V, E, T>,
     events: &[Event<K, V, E>],

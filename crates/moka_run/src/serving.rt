@@ -2,11 +2,11 @@
 ghost use Rattle.std.specs.Prelude.{◌≡◌, ◌<◌, ℕ, Some, None, IsSome, IfOk, IfErr, is_ok, false, OnOk, OnErr, MatchResult, if◌then◌else◌};
 ghost use Rattle.std.specs.HashMap.{spare};
 ghost use Rattle.moka_hist.specs.Finite.{IsExact};
-ghost use Rattle.moka_run.specs.Running.{ToldNeedsMemory};
+ghost use Rattle.moka_run.specs.Running.{OpNeedsMemory, ToldNeedsMemory};
 
 use crate::calls::Running;
 use crate::machine::Machine;
-use moka_hist::{Mode, Refusal, Reply, Start, Tests, Told};
+use moka_hist::{Mode, Op, Refusal, Reply, Start, Tests, Told};
 use moka_init::{Flow, Unfinished};
 use std::alloc::AllocError;
 use std::hash::Hash;
@@ -200,6 +200,22 @@ fn cloned_start<K: Clone + Drop, V: Clone + Drop>(
             let value = value.clone()?;
             Ok(Start::OrInsert { key, value })
         }
+        Start::Compute { key } => {
+            let key = key.clone()?;
+            Ok(Start::Compute { key })
+        }
+        Start::TryCompute { key } => {
+            let key = key.clone()?;
+            Ok(Start::TryCompute { key })
+        }
+        Start::ComputeAlone { key } => {
+            let key = key.clone()?;
+            Ok(Start::ComputeAlone { key })
+        }
+        Start::Upsert { key } => {
+            let key = key.clone()?;
+            Ok(Start::Upsert { key })
+        }
         Start::Invalidate { key } => {
             let key = key.clone()?;
             Ok(Start::Invalidate { key })
@@ -237,8 +253,27 @@ fn cloned_told<V: Clone + Drop, E: Clone + Drop>(
             let error = error.clone()?;
             Ok(Told::Err(error))
         }
+        Told::Op(op) => {
+            let op = cloned_op(op)?;
+            Ok(Told::Op(op))
+        }
         Told::Done => Ok(Told::Done),
         Told::Off => Ok(Told::Off),
+    }
+}
+
+fn cloned_op<V: Clone + Drop>(op: &Op<V>) -> Result<Op<V>, AllocError>
+    requires { IsExact V.is_clone }
+    ensures same { IfOk result (λ same. same ≡ op.now) }
+    ensures err { OnErr result (OpNeedsMemory op.now) }
+{
+    match op {
+        Op::Nop => Ok(Op::Nop),
+        Op::Put(value) => {
+            let value = value.clone()?;
+            Ok(Op::Put(value))
+        }
+        Op::Remove => Ok(Op::Remove),
     }
 }
 

@@ -4,7 +4,7 @@ ghost use Rattle.moka_hist.specs.Finite.{IsExact, put_at};
 
 use crate::calls::Running;
 use crate::machine::Machine;
-use moka_hist::{Refusal, Reply, Tests, Turn};
+use moka_hist::{Answer, Refusal, Reply, Tests, Turn};
 use moka_init::{Flow, Unfinished, poll, step};
 use std::alloc::AllocError;
 use std::hash::Hash;
@@ -73,9 +73,10 @@ impl<K: Eq + Hash + Clone + Drop, V: Clone + Drop, E: Clone + Drop, T: Tests<K, 
         }
     }
 
-    // Takes a live call out, with the table operation that it has begun.
+    /// Takes a live call out, with the table operation that it has begun. Until it is put back, or
+    /// its place given up, the machine is the ground of this call alone.
     #[inline(always)]
-    pub(crate) fn take_out(&mut self, call: u64) -> Option<Flow<K, V, E>>
+    pub fn take_out(&mut self, call: u64) -> Option<Flow<K, V, E>>
         ensures none { IfNone result ((s : State K V E) → MachineIs K.eq T.Tests self.old s
             → (s.calls call ≡ None)) }
         ensures same { IfNone result (KeepsState K.eq T.Tests self.old self.new) }
@@ -102,9 +103,9 @@ impl<K: Eq + Hash + Clone + Drop, V: Clone + Drop, E: Clone + Drop, T: Tests<K, 
         flow
     }
 
-    // Puts the call back that was taken out.
+    /// Puts the call back that was taken out.
     #[inline(always)]
-    pub(crate) fn put_in(&mut self, call: u64, flow: Flow<K, V, E>)
+    pub fn put_in(&mut self, call: u64, flow: Flow<K, V, E>)
         requires place { HasPlace self.old.calls call }
         ensures { (others : ℕ → Option (Call K V E)) (w : World K V E)
             → Without K.eq T.Tests self.old call others w → IsOut K.eq self.old flow
@@ -128,9 +129,9 @@ impl<K: Eq + Hash + Clone + Drop, V: Clone + Drop, E: Clone + Drop, T: Tests<K, 
         self.calls.forget(call);
     }
 
-    // The call after a step: it is put back, or has ended.
+    /// The call that was taken out has made a step: it is put back, or has ended.
     #[inline(always)]
-    pub(crate) fn after_step(
+    pub fn after_step(
         &mut self,
         call: u64,
         flow: Flow<K, V, E>,
@@ -145,23 +146,49 @@ impl<K: Eq + Hash + Clone + Drop, V: Clone + Drop, E: Clone + Drop, T: Tests<K, 
             (record { world = w; calls = put_at others call (left_in turn flow) }) }
     {
         match turn {
-            Turn::Answer(answer) => {
-                self.end(call);
-                Reply::Answer(answer)
-            }
-            Turn::Going => {
-                self.put_in(call, flow);
-                Reply::Going
-            }
-            Turn::Wait => {
-                self.put_in(call, flow);
-                Reply::Wait
-            }
-            Turn::Ask(ask) => {
-                self.put_in(call, flow);
-                Reply::Ask(ask)
-            }
+            Turn::Answer(answer) => self.end_with(call, flow, answer),
+            Turn::Going => self.put_in_with(call, flow, Reply::Going),
+            Turn::Wait => self.put_in_with(call, flow, Reply::Wait),
+            Turn::Ask(ask) => self.put_in_with(call, flow, Reply::Ask(ask)),
         }
+    }
+
+    // The call that was taken out has answered this, and gives its place up.
+    #[inline(always)]
+    fn end_with(
+        &mut self,
+        call: u64,
+        flow: Flow<K, V, E>,
+        answer: Answer<K, V, E>,
+    ) -> Reply<K, V, E>
+        ensures reply { result ≡ Reply.Answer answer }
+        ensures stands { (others : ℕ → Option (Call K V E)) (w : World K V E)
+            → Without K.eq T.Tests self.old call others w
+            → MachineIs K.eq T.Tests self.new
+            (record { world = w; calls = put_at others call None }) }
+    {
+        drop(flow);
+        self.end(call);
+        Reply::Answer(answer)
+    }
+
+    // Puts the call back that was taken out, and replies this.
+    #[inline(always)]
+    fn put_in_with(
+        &mut self,
+        call: u64,
+        flow: Flow<K, V, E>,
+        reply: Reply<K, V, E>,
+    ) -> Reply<K, V, E>
+        requires place { HasPlace self.old.calls call }
+        ensures reply { result ≡ reply }
+        ensures stands { (others : ℕ → Option (Call K V E)) (w : World K V E)
+            → Without K.eq T.Tests self.old call others w → IsOut K.eq self.old flow
+            → MachineIs K.eq T.Tests self.new
+            (record { world = w; calls = put_at others call (Some (call_of flow)) }) }
+    {
+        self.put_in(call, flow);
+        reply
     }
 
     // Makes a step of the call that was taken out, and puts it back unless it has ended.

@@ -15,6 +15,7 @@ use Rattle.std.proofs.lemmas.Option.{none-some, cond_some}
 use Rattle.std.proofs.lemmas.Str.Parse.{digit_from_value}
 use Rattle.moka_hist.specs.declared.events.Start.{Start}
 use Rattle.moka_hist.specs.declared.events.Start.TheVariants as start
+use Rattle.moka_hist.specs.declared.events.Op.TheVariants as op
 use Rattle.moka_hist.specs.declared.events.Told.{Told}
 use Rattle.moka_hist.specs.declared.events.Told.TheVariants as told
 use Rattle.moka_hist.specs.declared.events.Event.{Event}
@@ -142,6 +143,10 @@ start_read (start.GetWith key replace) h = rw (load_read key replace h.0 h.1) re
 start_read (start.Optional key) h = rw (key_some key h) refl
 start_read (start.Try key) h = rw (key_some key h) refl
 start_read (start.OrInsert key value) h = rw (pair_read key value h.0 h.1) refl
+start_read (start.Compute key) h = rw (key_some key h) refl
+start_read (start.TryCompute key) h = rw (key_some key h) refl
+start_read (start.ComputeAlone key) h = rw (key_some key h) refl
+start_read (start.Upsert key) h = rw (key_some key h) refl
 start_read (start.Invalidate key) h = rw (key_some key h) refl
 start_read (start.Remove key) h = rw (key_some key h) refl
 start_read (start.Evict key stamp cause) h = rw (evict_read key stamp cause h.0 h.1) refl
@@ -151,6 +156,9 @@ unfolding told_alone told_of
 told_read (told.Value value) h = rw (key_some value h) refl
 told_read told.Nothing h = refl
 told_read (told.Err error) h = rw (key_some error h) refl
+told_read (told.Op op.Nop) h = refl
+told_read (told.Op (op.Put value)) h = rw (key_some value h) refl
+told_read (told.Op op.Remove) h = refl
 told_read told.Done h = refl
 told_read told.Off h = refl
 
@@ -263,17 +271,23 @@ start_is bytes =
     (chosen P (bytes_eq word (codes "optional")) _ _ (number_after (2 ^ 32) P start.Optional (codes "optional") bytes (omega arith) (λ n e h. (e, h)))
     (chosen P (bytes_eq word (codes "try")) _ _ (number_after (2 ^ 32) P start.Try (codes "try") bytes (omega arith) (λ n e h. (e, h)))
     (chosen P (bytes_eq word (codes "or_insert")) _ _ (after_word (λ p. decimal p.0 ++ 32 ∷ decimal p.1) (λ p. (p.0 < 2 ^ 32) × (p.1 < 2 ^ 32)) P (λ p. start.OrInsert p.0 p.1) (codes "or_insert") bytes (pair_of (after_byte 32 bytes)) (λ p h. some_spaced (decimal p.0) (decimal p.1)) (pair_is (after_byte 32 bytes)) (λ p e h. (e, h)))
+    (chosen P (bytes_eq word (codes "compute")) _ _ (number_after (2 ^ 32) P start.Compute (codes "compute") bytes (omega arith) (λ n e h. (e, h)))
+    (chosen P (bytes_eq word (codes "try_compute")) _ _ (number_after (2 ^ 32) P start.TryCompute (codes "try_compute") bytes (omega arith) (λ n e h. (e, h)))
+    (chosen P (bytes_eq word (codes "compute_alone")) _ _ (number_after (2 ^ 32) P start.ComputeAlone (codes "compute_alone") bytes (omega arith) (λ n e h. (e, h)))
+    (chosen P (bytes_eq word (codes "upsert")) _ _ (number_after (2 ^ 32) P start.Upsert (codes "upsert") bytes (omega arith) (λ n e h. (e, h)))
     (chosen P (bytes_eq word (codes "invalidate")) _ _ (number_after (2 ^ 32) P start.Invalidate (codes "invalidate") bytes (omega arith) (λ n e h. (e, h)))
     (chosen P (bytes_eq word (codes "remove")) _ _ (number_after (2 ^ 32) P start.Remove (codes "remove") bytes (omega arith) (λ n e h. (e, h)))
-    (chosen P (bytes_eq word (codes "evict")) _ _ (after_word (λ t. decimal t.0 ++ 32 ∷ chosen_words t.1.0 t.1.1) (λ t. (t.0 < 2 ^ 32) × (t.1.0 < 2 ^ 64)) P (λ t. start.Evict t.0 t.1.0 t.1.1) (codes "evict") bytes (evict_of (after_byte 32 bytes)) (λ t h. some_spaced (decimal t.0) (chosen_words t.1.0 t.1.1)) (evict_is (after_byte 32 bytes)) (λ t e h. (e, h))) tt))))))))
+    (chosen P (bytes_eq word (codes "evict")) _ _ (after_word (λ t. decimal t.0 ++ 32 ∷ chosen_words t.1.0 t.1.1) (λ t. (t.0 < 2 ^ 32) × (t.1.0 < 2 ^ 64)) P (λ t. start.Evict t.0 t.1.0 t.1.1) (codes "evict") bytes (evict_of (after_byte 32 bytes)) (λ t h. some_spaced (decimal t.0) (chosen_words t.1.0 t.1.1)) (evict_is (after_byte 32 bytes)) (λ t e h. (e, h))) tt))))))))))))
 
 alone_is : (bytes : List ℕ) → IfSome (told_alone bytes) (λ t. (bytes ≡ told_words t) × ToldFits t)
 unfolding told_alone
 alone_is bytes =
     let P : Told ℕ ℕ → Type 0 = λ t. (bytes ≡ told_words t) × ToldFits t in
     chosen P (bytes_eq bytes (codes "nothing")) _ _ (λ h. ((bytes_eq-Decides bytes (codes "nothing")).0 h, tt))
+    (chosen P (bytes_eq bytes (codes "nop")) _ _ (λ h. ((bytes_eq-Decides bytes (codes "nop")).0 h, tt))
+    (chosen P (bytes_eq bytes (codes "remove")) _ _ (λ h. ((bytes_eq-Decides bytes (codes "remove")).0 h, tt))
     (chosen P (bytes_eq bytes (codes "done")) _ _ (λ h. ((bytes_eq-Decides bytes (codes "done")).0 h, tt))
-    (chosen P (bytes_eq bytes (codes "off")) _ _ (λ h. ((bytes_eq-Decides bytes (codes "off")).0 h, tt)) tt))
+    (chosen P (bytes_eq bytes (codes "off")) _ _ (λ h. ((bytes_eq-Decides bytes (codes "off")).0 h, tt)) tt))))
 
 told_is : (bytes : List ℕ) → IfSome (told_of bytes) (λ t. (bytes ≡ told_words t) × ToldFits t)
 unfolding told_of
@@ -281,12 +295,16 @@ told_is bytes =
     let P : Told ℕ ℕ → Type 0 = λ t. (bytes ≡ told_words t) × ToldFits t in
     let word : List ℕ = before_byte 32 bytes in
     chosen P (bytes_eq word (codes "value")) _ _ (number_after (2 ^ 32) P told.Value (codes "value") bytes (omega arith) (λ n e h. (e, h)))
-    (chosen P (bytes_eq word (codes "error")) _ _ (number_after (2 ^ 32) P told.Err (codes "error") bytes (omega arith) (λ n e h. (e, h))) (alone_is bytes))
+    (chosen P (bytes_eq word (codes "error")) _ _ (number_after (2 ^ 32) P told.Err (codes "error") bytes (omega arith) (λ n e h. (e, h)))
+    (chosen P (bytes_eq word (codes "put")) _ _ (number_after (2 ^ 32) P (λ n. told.Op (op.Put n)) (codes "put") bytes (omega arith) (λ n e h. (e, h))) (alone_is bytes)))
 
 some_words : (t : Told ℕ ℕ) → 0 < length (told_words t)
 some_words (told.Value value) = omega arith
 some_words told.Nothing = omega arith
 some_words (told.Err error) = omega arith
+some_words (told.Op op.Nop) = omega arith
+some_words (told.Op (op.Put value)) = omega arith
+some_words (told.Op op.Remove) = omega arith
 some_words told.Done = omega arith
 some_words told.Off = omega arith
 
@@ -297,6 +315,10 @@ some_start (start.GetWith key replace) = omega arith
 some_start (start.Optional key) = omega arith
 some_start (start.Try key) = omega arith
 some_start (start.OrInsert key value) = omega arith
+some_start (start.Compute key) = omega arith
+some_start (start.TryCompute key) = omega arith
+some_start (start.ComputeAlone key) = omega arith
+some_start (start.Upsert key) = omega arith
 some_start (start.Invalidate key) = omega arith
 some_start (start.Remove key) = omega arith
 some_start (start.Evict key stamp cause) = omega arith

@@ -1,5 +1,7 @@
 -- The text of a report.
 use Rattle.std.specs.Prelude.{ℕ, true, false, List, [], ◌∷◌, ◌++◌, Some, None, flat_map, codes, decimal}
+use Rattle.moka_hist.specs.declared.entries.CompResult.{CompResult}
+use Rattle.moka_hist.specs.declared.entries.CompResult.TheVariants as done
 use Rattle.moka_hist.specs.declared.replies.Ask.{Ask}
 use Rattle.moka_hist.specs.declared.replies.Ask.TheVariants as ask
 use Rattle.moka_hist.specs.declared.replies.Answer.{Answer}
@@ -21,7 +23,15 @@ use Rattle.moka_text.specs.Words.{cause_word}
 abbrev pub ended : List ℕ → List ℕ
 ended words = words ++ 10 ∷ []
 
-abbrev pub answer_words : Answer ℕ ℕ → List ℕ
+-- what a compute has done
+abbrev pub done_words : CompResult ℕ ℕ → List ℕ
+done_words (done.Inserted entry) = codes "inserted " ++ decimal entry.value
+done_words (done.ReplacedWith entry) = codes "replaced " ++ decimal entry.value
+done_words (done.Removed entry) = codes "removed " ++ decimal entry.value
+done_words (done.Unchanged entry) = codes "unchanged " ++ decimal entry.value
+done_words (done.StillNone key) = codes "stillnone"
+
+abbrev pub answer_words : Answer ℕ ℕ ℕ → List ℕ
 answer_words answer.Done = codes "done"
 answer_words (answer.Found (Some value)) = codes "some " ++ decimal value
 answer_words (answer.Found None) = codes "none"
@@ -29,6 +39,8 @@ answer_words (answer.Loaded value true) = codes "value " ++ decimal value ++ cod
 answer_words (answer.Loaded value false) = codes "value " ++ decimal value
 answer_words answer.Nothing = codes "nothing"
 answer_words (answer.InitErr error) = codes "error " ++ decimal error
+answer_words (answer.Computed done) = done_words done
+answer_words (answer.ComputeErr error) = codes "error " ++ decimal error
 answer_words answer.RetriesExhausted = codes "exhausted"
 answer_words answer.Evicted = codes "evicted"
 answer_words answer.Kept = codes "kept"
@@ -46,6 +58,9 @@ left_words key value cause = decimal key ++ 32 ∷ decimal value ++ 32 ∷ cause
 
 abbrev pub ask_words : Ask ℕ ℕ → List ℕ
 ask_words ask.Init = codes "init"
+ask_words (ask.Compute None) = codes "compute none"
+ask_words (ask.Compute (Some pair)) =
+    codes "compute " ++ decimal pair.0 ++ 32 ∷ decimal pair.1
 ask_words (ask.Listener key value cause) = codes "listener " ++ left_words key value cause
 
 -- the words of a reply

@@ -3,6 +3,7 @@ use Rattle.std.specs.Prelude.{◌≡◌, ℕ, suc, ◌<◌, ◌&&◌, Bool, true
 use Rattle.std.specs.Option.{option_map, option_and_then}
 use Rattle.moka_hist.specs.declared.events.Start.{Start}
 use Rattle.moka_hist.specs.declared.events.Start.TheVariants as start
+use Rattle.moka_hist.specs.declared.events.Op.TheVariants as op
 use Rattle.moka_hist.specs.declared.events.Told.{Told}
 use Rattle.moka_hist.specs.declared.events.Told.TheVariants as told
 use Rattle.moka_hist.specs.declared.events.Event.{Event}
@@ -74,6 +75,10 @@ start_by word rest =
     else if bytes_eq word (codes "try") then option_map start.Try (key_in rest)
     else if bytes_eq word (codes "or_insert") then
     option_map (λ p. start.OrInsert p.0 p.1) (pair_of rest)
+    else if bytes_eq word (codes "compute") then option_map start.Compute (key_in rest)
+    else if bytes_eq word (codes "try_compute") then option_map start.TryCompute (key_in rest)
+    else if bytes_eq word (codes "compute_alone") then option_map start.ComputeAlone (key_in rest)
+    else if bytes_eq word (codes "upsert") then option_map start.Upsert (key_in rest)
     else if bytes_eq word (codes "invalidate") then option_map start.Invalidate (key_in rest)
     else if bytes_eq word (codes "remove") then option_map start.Remove (key_in rest)
     else if bytes_eq word (codes "evict") then
@@ -87,6 +92,8 @@ start_of bytes = start_by (before_byte 32 bytes) (after_byte 32 bytes)
 unfoldable pub told_alone : List ℕ → Option (Told ℕ ℕ)
 told_alone bytes =
     if bytes_eq bytes (codes "nothing") then Some told.Nothing
+    else if bytes_eq bytes (codes "nop") then Some (told.Op op.Nop)
+    else if bytes_eq bytes (codes "remove") then Some (told.Op op.Remove)
     else if bytes_eq bytes (codes "done") then Some told.Done
     else if bytes_eq bytes (codes "off") then Some told.Off
     else None
@@ -98,6 +105,8 @@ told_of bytes =
     option_map told.Value (key_in (after_byte 32 bytes))
     else if bytes_eq (before_byte 32 bytes) (codes "error") then
     option_map told.Err (key_in (after_byte 32 bytes))
+    else if bytes_eq (before_byte 32 bytes) (codes "put") then
+    option_map (λ value. told.Op (op.Put value)) (key_in (after_byte 32 bytes))
     else told_alone bytes
 
 -- a call, and after a space what it is told

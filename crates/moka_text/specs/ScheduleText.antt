@@ -4,6 +4,7 @@ use Rattle.std.specs.Option.{option_map, unwrap_or}
 use Rattle.std.specs.List.{AllByRecursion, onto_first}
 use Rattle.moka_hist.specs.declared.events.Start.{Start}
 use Rattle.moka_hist.specs.declared.events.Start.TheVariants as start
+use Rattle.moka_hist.specs.declared.events.Op.TheVariants as op
 use Rattle.moka_hist.specs.declared.events.Told.{Told}
 use Rattle.moka_hist.specs.declared.events.Told.TheVariants as told
 use Rattle.moka_hist.specs.declared.events.Event.{Event}
@@ -29,6 +30,10 @@ start_words (start.GetWith key replace) = codes "get_with " ++ (decimal key ++ r
 start_words (start.Optional key) = codes "optional " ++ decimal key
 start_words (start.Try key) = codes "try " ++ decimal key
 start_words (start.OrInsert key value) = codes "or_insert " ++ (decimal key ++ 32 ∷ decimal value)
+start_words (start.Compute key) = codes "compute " ++ decimal key
+start_words (start.TryCompute key) = codes "try_compute " ++ decimal key
+start_words (start.ComputeAlone key) = codes "compute_alone " ++ decimal key
+start_words (start.Upsert key) = codes "upsert " ++ decimal key
 start_words (start.Invalidate key) = codes "invalidate " ++ decimal key
 start_words (start.Remove key) = codes "remove " ++ decimal key
 start_words (start.Evict key stamp cause) =
@@ -39,6 +44,9 @@ abbrev pub told_words : Told ℕ ℕ → List ℕ
 told_words (told.Value value) = codes "value " ++ decimal value
 told_words told.Nothing = codes "nothing"
 told_words (told.Err error) = codes "error " ++ decimal error
+told_words (told.Op op.Nop) = codes "nop"
+told_words (told.Op (op.Put value)) = codes "put " ++ decimal value
+told_words (told.Op op.Remove) = codes "remove"
 told_words told.Done = codes "done"
 told_words told.Off = codes "off"
 
@@ -59,6 +67,10 @@ StartFits (start.GetWith key replace) = (key < 2 ^ 32) × IfSome replace (λ tes
 StartFits (start.Optional key) = key < 2 ^ 32
 StartFits (start.Try key) = key < 2 ^ 32
 StartFits (start.OrInsert key value) = (key < 2 ^ 32) × (value < 2 ^ 32)
+StartFits (start.Compute key) = key < 2 ^ 32
+StartFits (start.TryCompute key) = key < 2 ^ 32
+StartFits (start.ComputeAlone key) = key < 2 ^ 32
+StartFits (start.Upsert key) = key < 2 ^ 32
 StartFits (start.Invalidate key) = key < 2 ^ 32
 StartFits (start.Remove key) = key < 2 ^ 32
 StartFits (start.Evict key stamp cause) = (key < 2 ^ 32) × (stamp < 2 ^ 64)
@@ -68,6 +80,9 @@ abbrev pub ToldFits : Told ℕ ℕ → Type 0
 ToldFits (told.Value value) = value < 2 ^ 32
 ToldFits told.Nothing = Unit {0}
 ToldFits (told.Err error) = error < 2 ^ 32
+ToldFits (told.Op op.Nop) = Unit {0}
+ToldFits (told.Op (op.Put value)) = value < 2 ^ 32
+ToldFits (told.Op op.Remove) = Unit {0}
 ToldFits told.Done = Unit {0}
 ToldFits told.Off = Unit {0}
 

@@ -18,7 +18,7 @@ ghost use Rattle.moka_text.specs.ScheduleReading.{
 };
 
 use crate::words::{after, call_in, cut, key_in};
-use moka_hist::{Cause, Event, Start, Told};
+use moka_hist::{Cause, Event, Op, Start, Told};
 
 /// A key and a value, with one space between them.
 #[tactic(auto, unfolding(crate::specs::ScheduleReading::pair_of))]
@@ -103,6 +103,10 @@ fn start_by(word: &[u8], rest: &[u8]) -> Option<Start<u32, u32>>
         b"optional" => key_in(rest).map(|key| Start::Optional { key }),
         b"try" => key_in(rest).map(|key| Start::Try { key }),
         b"or_insert" => pair_of(rest).map(|(key, value)| Start::OrInsert { key, value }),
+        b"compute" => key_in(rest).map(|key| Start::Compute { key }),
+        b"try_compute" => key_in(rest).map(|key| Start::TryCompute { key }),
+        b"compute_alone" => key_in(rest).map(|key| Start::ComputeAlone { key }),
+        b"upsert" => key_in(rest).map(|key| Start::Upsert { key }),
         b"invalidate" => key_in(rest).map(|key| Start::Invalidate { key }),
         b"remove" => key_in(rest).map(|key| Start::Remove { key }),
         b"evict" => evict_of(rest).map(|(key, (stamp, cause))| Start::Evict { key, stamp, cause }),
@@ -125,6 +129,8 @@ fn told_alone(bytes: &[u8]) -> Option<Told<u32, u32>>
 {
     match bytes {
         b"nothing" => Some(Told::Nothing),
+        b"nop" => Some(Told::Op(Op::Nop)),
+        b"remove" => Some(Told::Op(Op::Remove)),
         b"done" => Some(Told::Done),
         b"off" => Some(Told::Off),
         _ => None,
@@ -140,6 +146,7 @@ fn told_of(bytes: &[u8]) -> Option<Told<u32, u32>>
     match word {
         b"value" => key_in(rest).map(Told::Value),
         b"error" => key_in(rest).map(Told::Err),
+        b"put" => key_in(rest).map(|value| Told::Op(Op::Put(value))),
         _ => told_alone(bytes),
     }
 }

@@ -15,10 +15,13 @@ ghost use Rattle.moka_text.specs.ReportText.{
 };
 
 use itoa::Buffer;
-use moka_hist::{Answer, Ask, Cause, Notice, NoticeState, Place, Refusal, Reply, Stored};
+use moka_hist::{
+    Answer, Ask, Cause, CompResult, Notice, NoticeState, Place, Refusal, Reply, Stored,
+};
 use std::alloc::{AllocError, Global};
 
 /// Appends a number in decimal. It takes fewer instructions than `write!`.
+#[inline(always)]
 fn push_number(text: &mut String, number: u64) -> Result<(), AllocError>
     ensures { OnOk result (string_bytes text.new ≡ string_bytes text.old ++ decimal number) }
 {
@@ -27,6 +30,7 @@ fn push_number(text: &mut String, number: u64) -> Result<(), AllocError>
 }
 
 /// Appends a line of these words and a number.
+#[inline(always)]
 fn push_line(text: &mut String, words: &str, number: u64) -> Result<(), AllocError>
     ensures { OnOk result (string_bytes text.new
         ≡ string_bytes text.old ++ ended (words.now ++ decimal number)) }
@@ -61,8 +65,26 @@ fn push_loaded(text: &mut String, value: u32, fresh: bool) -> Result<(), AllocEr
     }
 }
 
+/// Appends the line of what a compute has done.
+fn push_done(text: &mut String, done: &CompResult<u32, u32>) -> Result<(), AllocError>
+    ensures { OnOk result (string_bytes text.new
+        ≡ string_bytes text.old ++ reply_line (Reply.Answer (Answer.Computed done.now))) }
+{
+    match done {
+        CompResult::Inserted(entry) => push_line(text, "answer inserted ", u64::from(entry.value)),
+        CompResult::ReplacedWith(entry) => {
+            push_line(text, "answer replaced ", u64::from(entry.value))
+        }
+        CompResult::Removed(entry) => push_line(text, "answer removed ", u64::from(entry.value)),
+        CompResult::Unchanged(entry) => {
+            push_line(text, "answer unchanged ", u64::from(entry.value))
+        }
+        CompResult::StillNone(_) => text.push_str("answer stillnone\n"),
+    }
+}
+
 /// Appends the line of an answer.
-fn push_answer(text: &mut String, answer: &Answer<u32, u32>) -> Result<(), AllocError>
+fn push_answer(text: &mut String, answer: &Answer<u32, u32, u32>) -> Result<(), AllocError>
     ensures { OnOk result (string_bytes text.new
         ≡ string_bytes text.old ++ reply_line (Reply.Answer answer.now)) }
 {
@@ -72,6 +94,8 @@ fn push_answer(text: &mut String, answer: &Answer<u32, u32>) -> Result<(), Alloc
         Answer::Loaded { value, fresh } => push_loaded(text, *value, *fresh),
         Answer::Nothing => text.push_str("answer nothing\n"),
         Answer::InitErr(error) => push_line(text, "answer error ", u64::from(*error)),
+        Answer::Computed(done) => push_done(text, done),
+        Answer::ComputeErr(error) => push_line(text, "answer error ", u64::from(*error)),
         Answer::RetriesExhausted => text.push_str("answer exhausted\n"),
         Answer::Evicted => text.push_str("answer evicted\n"),
         Answer::Kept => text.push_str("answer kept\n"),
@@ -136,6 +160,21 @@ fn state_word(state: NoticeState) -> &'static str
     }
 }
 
+/// Appends the line of a compute's ask, with the pair that the key has.
+fn push_asked(text: &mut String, found: &Option<(u32, u32)>) -> Result<(), AllocError>
+    ensures { OnOk result (string_bytes text.new
+        ≡ string_bytes text.old ++ reply_line (Reply.Ask (Ask.Compute found.now))) }
+{
+    match found {
+        Some((key, value)) => {
+            text.push_str("ask compute ")?;
+            push_pair(text, *key, *value)?;
+            text.push_str("\n")
+        }
+        None => text.push_str("ask compute none\n"),
+    }
+}
+
 /// Appends the line of an ask.
 fn push_ask(text: &mut String, ask: &Ask<u32, u32>) -> Result<(), AllocError>
     ensures { OnOk result (string_bytes text.new
@@ -143,6 +182,7 @@ fn push_ask(text: &mut String, ask: &Ask<u32, u32>) -> Result<(), AllocError>
 {
     match ask {
         Ask::Init => text.push_str("ask init\n"),
+        Ask::Compute(found) => push_asked(text, found),
         Ask::Listener { key, value, cause } => {
             text.push_str("ask listener ")?;
             push_left(text, *key, *value, *cause)?;
@@ -254,6 +294,16 @@ fn push_notices(text: &mut String, notices: &[Notice<u32, u32>]) -> Result<(), A
     Ok(())
 }
 
+/// For how many bytes room is made before a report of so many lines is written: about as many as
+/// these take, since a text that grows is copied. Where they take more it grows.
+fn room_for(replies: usize, entries: usize, places: usize, notices: usize) -> usize {
+    replies
+        .saturating_mul(20)
+        .saturating_add(entries.saturating_mul(50))
+        .saturating_add(places.saturating_mul(30))
+        .saturating_add(notices.saturating_mul(60))
+}
+
 /// Writes a report: a line for each reply, then for each stored record, which stands beside its
 /// key, then for each committed write, by its number, then for each notice. Each list keeps its
 /// order.
@@ -267,7 +317,8 @@ pub fn write_report(
     ensures { IfOk result (λ text. string_bytes text
         ≡ report_text replies.now entries.now places.now notices.now) }
 {
-    let mut text = String::new(alloc);
+    let room = room_for(replies.len(), entries.len(), places.len(), notices.len());
+    let mut text = String::with_capacity(alloc, room)?;
     push_replies(&mut text, replies)?;
     push_entries(&mut text, entries)?;
     push_writes(&mut text, places)?;

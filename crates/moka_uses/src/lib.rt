@@ -3,6 +3,8 @@
 #![tactic(auto)]
 
 mod callers;
+#[cfg(test)]
+mod equal_keys;
 mod reading;
 mod shared;
 #[cfg(test)]

@@ -14,7 +14,7 @@ use std::alloc::{AllocError, Global};
 use std::hash::Hash;
 
 /// No rule is set.
-const RULES: Rules = Rules {
+pub(crate) const RULES: Rules = Rules {
     max_capacity: None,
     time_to_live: None,
     time_to_idle: None,
@@ -23,7 +23,7 @@ const RULES: Rules = Rules {
 };
 
 /// How many writes the cache's log has room for.
-const LOG: usize = 8;
+pub(crate) const LOG: usize = 8;
 
 /// Tests of records, of which none holds.
 #[derive(Clone, Copy, PartialEq, Eq, Debug)]
@@ -40,7 +40,7 @@ impl<K, V> Tests<K, V> for NoTests {
 }
 
 /// Runs the events, and tells want of memory alone.
-fn run_all<K: Eq + Hash + Clone + Drop, V: Clone + Drop>(
+pub(crate) fn run_all<K: Eq + Hash + Clone + Drop, V: Clone + Drop>(
     alloc: Global,
     cache: &mut Machine<K, V, u16, NoTests>,
     events: &[Event<K, V, u16>],
@@ -59,6 +59,28 @@ fn run_all<K: Eq + Hash + Clone + Drop, V: Clone + Drop>(
     }
 }
 
+/// A copy of the value that the answer found.
+fn found_by<K, V: Clone>(answer: &Answer<K, V, u16>) -> Result<Option<V>, AllocError>
+    requires exact { IsExact V.is_clone }
+    ensures { IfOk result (λ found. found ≡ found_in (Reply.Answer answer.now)) }
+{
+    match answer {
+        Answer::Found(Some(value)) => Ok(Some(value.clone()?)),
+        _ => Ok(None),
+    }
+}
+
+/// A copy of the value that the reply says was found.
+fn found_by_reply<K, V: Clone>(reply: &Reply<K, V, u16>) -> Result<Option<V>, AllocError>
+    requires exact { IsExact V.is_clone }
+    ensures { IfOk result (λ found. found ≡ found_in reply.now) }
+{
+    match reply {
+        Reply::Answer(answer) => found_by(answer),
+        _ => Ok(None),
+    }
+}
+
 /// A copy of the value that the last of two replies found.
 fn found<K, V: Clone>(replies: &[Reply<K, V, u16>]) -> Result<Option<V>, AllocError>
     requires exact { IsExact V.is_clone }
@@ -66,10 +88,7 @@ fn found<K, V: Clone>(replies: &[Reply<K, V, u16>]) -> Result<Option<V>, AllocEr
     ensures { IfOk result (λ found. (call : Reply K V ℕ) × (last : Reply K V ℕ)
         × (replies.now ≡ call ∷ last ∷ []) × (found ≡ found_in last)) }
 {
-    match replies {
-        [_, Reply::Answer(Answer::Found(Some(value)))] => Ok(Some(value.clone()?)),
-        _ => Ok(None),
-    }
+    found_by_reply(&replies[1])
 }
 
 /// The events that store the value under the key, by call 1.

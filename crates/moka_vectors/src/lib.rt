@@ -2,6 +2,8 @@
 //! crates with the other tests play so too.
 #![tactic(auto)]
 
+#[cfg(test)]
+mod computes;
 mod in_memory;
 #[cfg(test)]
 mod listener;

@@ -1,6 +1,7 @@
 -- A step makes the flow's access, and goes on with what it gave.
 use Rattle.std.proofs.Common.{◌≡◌, Some, sym, subst, ◌∙◌}
 use Rattle.moka_hist.specs.Step.{Access}
+use Rattle.moka_bound.specs.Falling.{Counts}
 use Rattle.moka_init.specs.Forms.{HasForm}
 use Rattle.moka_init.specs.Grounds.{wanted, access_at}
 use Rattle.moka_init.proofs.Begun.{still_on}
@@ -64,8 +65,10 @@ returns-clause-nears g c = λ going w h may has_log.
     let gets = rw c.requires.on.call at r.1 in
     let next = c.take.ensures.next ∙ next_still c.args.flow.now c.want.new.self c.in_ok-given.given
     c.in_ok-want.ensures.still in
-    let was = g.met.G.Ground.counts c.args.ground.now w h in
+    let was = subst (λ n. Counts n w (g.G.Ground.account c.args.ground.now).work) c.requires.on.call
+    (g.met.G.Ground.counts c.args.ground.now w h) in
+    let is = subst (λ n. Counts n r.0 (g.G.Ground.account c.access.new.self).work)
+    (told.call ∙ c.requires.on.call) (g.met.G.Ground.counts c.access.new.self r.0 r.2) in
     near g.K.PartialEq.eq c.args.flow.now c.take.new.self c.take.result w r.0 c.in_ok-given.given
     (g.G.Ground.account c.args.ground.now).work (g.G.Ground.account c.access.new.self).work
-    (rw was.size has_log) gets next going was
-    (g.met.G.Ground.counts c.access.new.self r.0 r.2) told.shortens
+    (rw was.size has_log) may gets next going was is told.shortens

@@ -1,17 +1,22 @@
 -- The run begins with a fresh cache, which no event has to reach.
-use Rattle.std.proofs.Common.{ℕ, [], nat_eq, refl}
+use Rattle.std.proofs.Common.{ℕ, [], nat_eq, refl, sym, subst}
 use Rattle.moka_hist.specs.State.{fresh}
 use Rattle.moka_hist.specs.Run.{IsReached}
 use Rattle.moka_run.specs.NumberTest.{number_test}
+use Rattle.moka_run.specs.Playing.{RunsFresh}
+use Rattle.moka_run.specs.declared.report.Report.{Report}
 use Rattle.moka_run.proofs.answers.run_fresh.Goals as goal
 
-pub returns-in-Ok : goal.returns-in-Ok
-returns-in-Ok c =
-    let reached : IsReached nat_eq (fresh ℕ ℕ ℕ c.args.rules c.args.log number_test) = record { rules = c.args.rules; size = c.args.log; tests = number_test; has_log = c.requires.least; events = []; replies = []; run = refl } in
-    let ran = c.in-Ok.ensures.run (fresh ℕ ℕ ℕ c.args.rules c.args.log number_test) c.in_ok-machine.ensures.fresh reached in
-    record {
-      final = ran.0.final;
-      run = ran.0.run;
-      reports = ran.1;
-      reached = c.reached_by_lawful_run.ensures.reached (fresh ℕ ℕ ℕ c.args.rules c.args.log number_test) ran.0.final _ _ reached ran.0.run;
-    }
+pub returns : goal.returns
+returns c =
+    let rules = c.args.rules in
+    let first = fresh ℕ ℕ ℕ rules c.args.log number_test in
+    let reached : IsReached nat_eq first = record { rules = rules; size = c.args.log; tests = number_test; has_log = c.requires.least; events = []; replies = []; run = refl } in
+    let ran = c.in_ok-replies.ensures first c.in_ok-machine.ensures.fresh reached in
+    subst (λ (r : Report ℕ ℕ ℕ). RunsFresh rules c.args.log c.args.events.items r) (sym c.report_of.ensures)
+    (record {
+      final = ran.final;
+      run = ran.run;
+      reports = c.in_ok-lists.ensures ran.final ran.stands;
+      reached = c.reached_by_lawful_run.ensures.reached first ran.final _ _ reached ran.run;
+    })

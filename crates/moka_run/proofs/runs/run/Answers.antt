@@ -7,21 +7,25 @@ use Rattle.moka_hist.specs.Run.{Run}
 use Rattle.moka_hist.specs.declared.events.Event.{Event}
 use Rattle.moka_hist.specs.declared.replies.Reply.{Reply}
 use Rattle.moka_run.specs.declared.report.Memory.{Memory}
-use Rattle.moka_run.specs.Running.{MayStopIn}
+use Rattle.moka_run.specs.declared.report.Report.{Report}
+use Rattle.moka_run.specs.Report.{Reports}
+use Rattle.moka_run.specs.Running.{Answers, MayStopIn}
 use Rattle.moka_run.proofs.Stopping.{stops_between}
 use Rattle.moka_run.proofs.runs.run.Goals as goal
 
 pub returns-in-Ok-clause-run : goal.returns-in-Ok-clause-run
 returns-in-Ok-clause-run g c = λ s h reached.
     let a = c.in_ok-replies.ensures.run s h reached in
-    let same : c.in_ok-replies.replies.items ≡ c.from_vec-replies.result = sym c.from_vec-replies.ensures in (
-      record {
-        final = a.final;
-        run = subst (λ (rs : List (Reply g.row.K.Denot g.row.V.Denot g.row.E.Denot)). Run g.K.PartialEq.eq (IsLawful g.K.PartialEq.eq) s c.args.events.now rs a.final) same a.run;
-        stands = a.stands;
-      },
-      c.in-Ok.ensures a.final a.stands,
-    )
+    let same : c.in_ok-replies.replies.items ≡ c.from_vec-replies.result = sym c.from_vec-replies.ensures in
+    let answers : Answers g.K.PartialEq.eq g.T.Tests c.args.events.now c.from_vec-replies.result c.run_events.new.cache s =
+    record {
+      final = a.final;
+      run = subst (λ (rs : List (Reply g.row.K.Denot g.row.V.Denot g.row.E.Denot)). Run g.K.PartialEq.eq (IsLawful g.K.PartialEq.eq) s c.args.events.now rs a.final) same a.run;
+      stands = a.stands;
+    } in
+    subst (λ (r : Report g.row.K.Denot g.row.V.Denot g.row.E.Denot).
+    (b : Answers g.K.PartialEq.eq g.T.Tests c.args.events.now r.replies c.run_events.new.cache s) × Reports g.K.PartialEq.eq r.entries r.places r.notices b.final)
+    (sym c.report_of.ensures) (answers, c.in-Ok.ensures a.final a.stands)
 
 pub returns-in-Err-clause-memory : goal.returns-in-Err-clause-memory
 returns-in-Err-clause-memory g c = λ s h reached.

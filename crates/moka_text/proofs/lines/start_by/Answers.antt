@@ -39,3 +39,27 @@ unfolding start_by
 returns-in-111 c =
     let word : c.args.word.now ≡ codes "or_insert" = text_from_reads _ (codes "or_insert") (omega arith) (omega arith, (omega arith, (omega arith, (omega arith, (omega arith, (omega arith, (omega arith, (omega arith, (omega arith, tt))))))))) in
     rw word (search rules)
+
+pub returns-in-compute : goal.returns-in-compute
+unfolding start_by
+returns-in-compute c =
+    let word : c.args.word.now ≡ codes "compute" = text_from_reads _ (codes "compute") (omega arith) (omega arith, (omega arith, (omega arith, (omega arith, (omega arith, (omega arith, (omega arith, tt))))))) in
+    rw word (search rules)
+
+pub returns-in-116 : goal.returns-in-116
+unfolding start_by
+returns-in-116 c =
+    let word : c.args.word.now ≡ codes "try_compute" = text_from_reads _ (codes "try_compute") (omega arith) (omega arith, (omega arith, (omega arith, (omega arith, (omega arith, (omega arith, (omega arith, (omega arith, (omega arith, (omega arith, (omega arith, tt))))))))))) in
+    rw word (search rules)
+
+pub returns-in-99 : goal.returns-in-99
+unfolding start_by
+returns-in-99 c =
+    let word : c.args.word.now ≡ codes "compute_alone" = text_from_reads _ (codes "compute_alone") (omega arith) (omega arith, (omega arith, (omega arith, (omega arith, (omega arith, (omega arith, (omega arith, (omega arith, (omega arith, (omega arith, (omega arith, (omega arith, (omega arith, tt))))))))))))) in
+    rw word (search rules)
+
+pub returns-in-upsert : goal.returns-in-upsert
+unfolding start_by
+returns-in-upsert c =
+    let word : c.args.word.now ≡ codes "upsert" = text_from_reads _ (codes "upsert") (omega arith) (omega arith, (omega arith, (omega arith, (omega arith, (omega arith, (omega arith, tt)))))) in
+    rw word (search rules)

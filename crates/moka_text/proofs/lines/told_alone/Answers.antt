@@ -9,3 +9,9 @@ unfolding told_alone
 returns-in-nothing c =
     let word : c.args.bytes.now ≡ codes "nothing" = text_from_reads _ (codes "nothing") (omega arith) (omega arith, (omega arith, (omega arith, (omega arith, (omega arith, (omega arith, (omega arith, tt))))))) in
     rw word (search rules)
+
+pub returns-in-remove : goal.returns-in-remove
+unfolding told_alone
+returns-in-remove c =
+    let word : c.args.bytes.now ≡ codes "remove" = text_from_reads _ (codes "remove") (omega arith) (omega arith, (omega arith, (omega arith, (omega arith, (omega arith, (omega arith, tt)))))) in
+    rw word (search rules)

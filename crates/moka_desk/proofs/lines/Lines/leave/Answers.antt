@@ -2,7 +2,7 @@ use Rattle.std.proofs.Common.{◌≡◌, ℕ, cond, Some, None, sym, ap, ◌∙�
 use Rattle.std.specs.HashMap.{get}
 use Rattle.moka_sync.specs.Waiting.{waits, without}
 use Rattle.moka_desk.specs.Lines.{line_at, is_at}
-use Rattle.moka_desk.proofs.Listed.{off, off_none, left_placed}
+use Rattle.moka_desk.proofs.Listed.{off, off_none, left_placed, nobody_placed}
 use Rattle.moka_desk.proofs.Woken.{out_left, out_absent}
 use Rattle.moka_desk.proofs.lines.Lines.leave.Goals as goal
 
@@ -47,3 +47,8 @@ returns-in_default-clause-back c = λ k.
     let none : get nat_eq s.places c.args.call ≡ None =
     sym c.get.ensures.value ∙ sym c.copied.ensures ∙ c.in_default.is in
     out_absent (line_at s.lists) (get nat_eq s.places) c.args.call none k
+
+pub returns-then-is_empty-clause-off : goal.returns-then-is_empty-clause-off
+returns-then-is_empty-clause-off c = λ n.
+    let s = c.args.self.now in
+    off_none (line_at s.lists) (get nat_eq s.places) s.placed c.args.call (nobody_placed s.places (c.is_empty.ensures.0 c.if-is_empty.true) c.args.call) n

@@ -1,8 +1,9 @@
-use Rattle.std.proofs.Common.{◌∙◌, ap}
+use Rattle.std.proofs.Common.{◌∙◌, ap, nat_eq}
+use Rattle.std.specs.HashMap.{get}
 use Rattle.moka_hist.specs.Finite.{times}
 use Rattle.moka_desk.specs.Held.{owed_numbers}
 use Rattle.moka_desk.specs.Writes.{write_part}
-use Rattle.moka_desk.proofs.Allowed.{not_owed}
+use Rattle.moka_desk.proofs.Allowed.{not_owed, has_no_place}
 use Rattle.moka_desk.proofs.Outcomes.{on_err}
 use Rattle.moka_desk.proofs.state.Desk.stamp_moment.Goals as goal
 
@@ -10,7 +11,10 @@ pub stamp-requires : goal.stamp-requires
 stamp-requires g c =
     let w = c.requires.0 in
     let h = c.requires.1 in
-    ap (λ owed. times c.args.call (owed_numbers owed)) h.writes.owed ∙ not_owed w.owed w.log w.applied c.args.call c.requires.2.1.stands
+    let unused = c.requires.2.1 in
+    let writes = c.args.self.now.writes in
+    has_no_place (get nat_eq writes.held.places) w.holding h.writes.holding writes.owed.items writes.nobody_holds_owed c.args.call
+    (ap (λ owed. times c.args.call (owed_numbers owed)) h.writes.owed ∙ not_owed w.owed w.log w.applied c.args.call unused.stands) unused.held
 
 pub returns-in_err-stamp-clause-err : goal.returns-in_err-stamp-clause-err
 returns-in_err-stamp-clause-err g c = on_err c.from_residual.result (λ w h. record {

@@ -15,4 +15,4 @@ invariant_of-self-clause-nobody_holds_owed c = λ n.
     let s = c.args.self.now in
     rw c.push_back_reserved.ensures.items
     (counted_more (get nat_eq s.held.places) (get nat_eq c.hand_over.new.self.places) s.owed.items c.args.owed c.args.call s.nobody_holds_owed c.requires
-    (λ m. c.hand_over.ensures.holds m ∙ ap (λ k. cond (k == m) (Some (record { holder = None; pending = None })) (get nat_eq s.held.places m)) c.number_of.ensures) n)
+    (λ m. c.hand_over.ensures.holds m ∙ ap (λ k. cond (k == m) (Some (record { holder = None; pending = None })) (get nat_eq s.held.places m)) c.number.ensures) n)

@@ -1,6 +1,0 @@
-use Rattle.std.proofs.Common.{false}
-use Rattle.moka_desk.proofs.Outcomes.{if_ok_then}
-use Rattle.moka_desk.proofs.tests.new_desk.Goals as goal
-
-pub returns : goal.returns
-returns c = if_ok_then c.new.result c.new.ensures (λ desk stands. stands (λ test key value. false))

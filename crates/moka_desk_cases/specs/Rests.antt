@@ -1,0 +1,36 @@
+-- A desk between the visits of these tests.
+use Rattle.std.specs.Prelude.{ℕ, false, List, [], None, nat_eq}
+use Rattle.std.specs.declared.cmp.PartialEq as PartialEq
+use Rattle.std.specs.declared.hash.Hash as Hash
+use Rattle.moka_hist.specs.State.{DeskPart, fresh_desk}
+use Rattle.moka_hist.specs.declared.rules.Rules.{Rules}
+use Rattle.moka_hist.specs.declared.writes.Write.{Write}
+use Rattle.moka_desk.specs.StandsFor.{StandsFor}
+use Rattle.moka_desk.specs.declared.state.Desk.{Desk}
+
+-- the state by these rules, with a log of four writes, where nothing has happened
+abbrev pub untouched : Rules → DeskPart ℕ ℕ ℕ
+untouched rules = fresh_desk ℕ ℕ ℕ rules 4 (λ test key value. false)
+
+-- the state where nobody holds a write or has the turn, nothing is owed or logged in a log of four,
+-- and these writes were applied
+abbrev pub resting : DeskPart ℕ ℕ ℕ → List Write → DeskPart ℕ ℕ ℕ
+resting w writes = record w {
+  holding = λ _. None;
+  owed = [];
+  log = [];
+  applied = writes;
+  turn = None;
+  size = 4;
+}
+
+-- the desk stands for such a state
+abbrev pub Rests : {same : PartialEq.Ghosts ℕ} {hash : Hash.Ghosts ℕ} → Desk ℕ ℕ ℕ same hash →
+    List Write → Type 0
+Rests desk writes = (w : DeskPart ℕ ℕ ℕ) × StandsFor nat_eq desk (resting w writes)
+
+-- the desk stands for a state where nobody holds a write
+abbrev pub NobodyHolds : {same : PartialEq.Ghosts ℕ} {hash : Hash.Ghosts ℕ} →
+    Desk ℕ ℕ ℕ same hash → Type 0
+NobodyHolds desk =
+    (w : DeskPart ℕ ℕ ℕ) × StandsFor nat_eq desk (record w { holding = λ _. None })

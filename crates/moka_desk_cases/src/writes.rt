@@ -1,0 +1,98 @@
+//! Moments, call numbers, and the count of the records that stand.
+
+ghost use Rattle.std.specs.Prelude.{◌≡◌, ◌==◌, false, List, ◌∷◌, [], ◌++◌, map, OnOk};
+ghost use Rattle.moka_hist.specs.Finite.{times};
+ghost use Rattle.moka_hist.specs.Visits.{number_of};
+ghost use Rattle.moka_hist.specs.declared.writes.Write.{Write as write_of};
+ghost use Rattle.moka_desk_cases.specs.Rests.{Rests};
+
+use crate::desks::{new_desk, rules_with};
+use moka_desk::Desk;
+use moka_hist::Write;
+use std::alloc::{AllocError, Global};
+use std::test::Fail;
+
+#[test]
+fn call_numbers_end_with_the_greatest(rt: HostRuntime) -> Result<(), Fail> {
+    let mut desk: Desk<u32, u32, u32> = Desk::starting_after(
+        rt.alloc(),
+        rules_with(None),
+        1,
+        u64::MAX - 1,
+    )?;
+    assert_eq!(rt; desk.enter(), Some(u64::MAX));
+    assert_eq!(rt; desk.enter(), None);
+    Ok(())
+}
+
+#[test]
+fn a_moment_is_taken(rt: HostRuntime) -> Result<(), Fail> {
+    let mut desk = new_desk(rt.alloc(), rules_with(None))?;
+    assert_eq!(rt; desk.stamp_moment(1)?, 0);
+    assert!(rt; desk.at(7));
+    assert!(rt; !desk.at(6));
+    assert!(rt; desk.judge(false, 1, 3)?);
+    assert!(rt; !desk.judge(true, 1, 3)?);
+    Ok(())
+}
+
+#[test]
+fn a_key_is_locked(rt: HostRuntime) -> Result<(), Fail> {
+    let mut desk = new_desk(rt.alloc(), rules_with(None))?;
+    assert!(rt; desk.lock_key(1, &5)?);
+    Ok(())
+}
+
+/// What is published once the write was posted by its call and applied.
+fn published_after(desk: &mut Desk<u32, u32, u32>, write: Write) -> Result<u64, AllocError>
+    requires { (writes : List write_of) × Rests desk.old writes
+        × (times (number_of write) (map number_of writes) ≡ 0) }
+    ensures { OnOk result ((writes : List write_of) → Rests desk.old writes
+        → times (number_of write) (map number_of writes) ≡ 0
+        → Rests desk.new (writes ++ write ∷ [])) }
+{
+    let call = write.number();
+    let _ = desk.stamp_moment(call)?;
+    let _ = desk.post_write(call, write);
+    let _ = desk.take_turn(call)?;
+    let _ = desk.apply_one(call);
+    let _ = desk.end_turn(call);
+    Ok(desk.published())
+}
+
+/// What is published after each of the writes, of calls of their own.
+fn published_after_each(
+    alloc: Global,
+    first: Write,
+    second: Write,
+    third: Write,
+) -> Result<[u64; 3], AllocError>
+    requires second { (number_of second == number_of first) ≡ false }
+    requires third { (number_of third == number_of first) ≡ false }
+    requires third_too { (number_of third == number_of second) ≡ false }
+{
+    let mut desk = new_desk(alloc, rules_with(None))?;
+    let after_first = published_after(&mut desk, first)?;
+    let after_second = published_after(&mut desk, second)?;
+    let after_third = published_after(&mut desk, third)?;
+    Ok([after_first, after_second, after_third])
+}
+
+#[test]
+fn a_removed_record_is_counted_in_either_order(rt: HostRuntime) -> Result<(), Fail> {
+    let alloc = rt.alloc();
+    let made = Write::Upsert {
+        number: 1,
+        old: None,
+    };
+    let gone = Write::Remove { number: 2, old: 1 };
+    let other = Write::Upsert {
+        number: 3,
+        old: None,
+    };
+    assert_eq!(rt; published_after_each(alloc, made, gone, other)?, [1, 0, 1]);
+    assert_eq!(rt; published_after_each(alloc, gone, made, other)?, [0, 0, 1]);
+    assert_eq!(rt; published_after_each(alloc, other, made, gone)?, [1, 2, 1]);
+    assert_eq!(rt; published_after_each(alloc, gone, other, made)?, [0, 1, 1]);
+    Ok(())
+}

@@ -1,0 +1,2 @@
+pub mod EmptyCache
+pub mod Fitting

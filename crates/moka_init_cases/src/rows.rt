@@ -1,0 +1,104 @@
+//! Calls written out access by access: what each access is, what it gives, and the turn then.
+
+ghost use Rattle.std.specs.Bool.{OnTrue};
+ghost use Rattle.moka_init.specs.Forms.{IsFoundBy};
+ghost use Rattle.moka_init_cases.specs.Fitting.{FitsWant};
+
+use crate::names::{turn_name, want_name};
+use moka_hist::{Found, Got, Rules, Start, Turn, Visit, Want};
+use moka_init::Flow;
+use std::process::Abort;
+use std::test::Fail;
+
+// An access, what it gives, and the turn then.
+pub(crate) type Row = (&'static str, Got<u32, u32, u32>, &'static str);
+
+// Whether the answer is of the form that belongs to what was wanted.
+fn does_fit(want: &Want<u32, u32, u32>, given: &Got<u32, u32, u32>) -> bool
+    ensures { OnTrue result (FitsWant want.now given.now) }
+{
+    match want {
+        Want::Begin(_) => matches!(given, Got::Table(_)),
+        Want::Table => matches!(given, Got::Table(_)),
+        Want::Desk(visit) => match given {
+            Got::Table(_) => false,
+            Got::Desk(found) => is_found_by(visit, found),
+        },
+    }
+}
+
+fn is_found_by(visit: &Visit<u32, u32, u32>, found: &Found<u32, u32>) -> bool
+    ensures { OnTrue result (IsFoundBy visit.now found.now) }
+{
+    match visit {
+        Visit::Clock { .. } => matches!(found, Found::Clock(_)),
+        Visit::TakeOwed { .. } => matches!(found, Found::TakeOwed(_)),
+        Visit::NoticeEnded { .. } => matches!(found, Found::NoticeEnded(_)),
+        Visit::LockKey { .. } => matches!(found, Found::LockKey(_)),
+        Visit::UnlockKey { .. } => matches!(found, Found::UnlockKey),
+        Visit::OpenNotice { .. } => matches!(found, Found::OpenNotice(_)),
+        Visit::StampMoment { .. } => matches!(found, Found::StampMoment(_)),
+        Visit::Judge { .. } => matches!(found, Found::Judge(_)),
+        Visit::Holds { .. } => matches!(found, Found::Holds(_)),
+        Visit::WaitOrOwn { .. } => matches!(found, Found::WaitOrOwn(_)),
+        Visit::OwnAlone { .. } => matches!(found, Found::OwnAlone(_)),
+        Visit::ReadSettled { .. } => matches!(found, Found::ReadSettled(_)),
+        Visit::Settle { .. } => matches!(found, Found::Settle),
+        Visit::OpenAsk { .. } => matches!(found, Found::OpenAsk),
+        Visit::TakeTold { .. } => matches!(found, Found::TakeTold(_)),
+        Visit::PostWrite { .. } => matches!(found, Found::PostWrite(_)),
+        Visit::TakeTurn { .. } => matches!(found, Found::TakeTurn(_)),
+        Visit::ApplyOne { .. } => matches!(found, Found::ApplyOne(_)),
+        Visit::EndTurn { .. } => matches!(found, Found::EndTurn),
+    }
+}
+
+// One step of the flow: the access that it wants, and what that gives.
+pub(crate) fn stepped(
+    rt: &impl Abort,
+    flow: &mut Flow<u32, u32, u32>,
+    access: &'static str,
+    given: Got<u32, u32, u32>,
+) -> Result<Turn<u32, u32, u32>, Fail> {
+    let live = !flow.has_answered();
+    assert!(rt; live, "before {access}");
+    let want = flow.want()?;
+    assert_eq!(rt; want_name(&want), access);
+    let fits = does_fit(&want, &given);
+    assert!(rt; fits, "at {access}");
+    let left = flow.take(given);
+    Ok(left)
+}
+
+// The same, and the turn then.
+pub(crate) fn goes(rt: &impl Abort, flow: &mut Flow<u32, u32, u32>, row: Row) -> Result<(), Fail> {
+    let (access, given, turn) = row;
+    let left = stepped(rt, flow, access, given)?;
+    assert_eq!(rt; turn_name(&left), turn, "after {access}");
+    Ok(())
+}
+
+// One row after the other.
+pub(crate) fn plays(
+    rt: &impl Abort,
+    flow: &mut Flow<u32, u32, u32>,
+    rows: Vec<Row>,
+) -> Result<(), Fail> {
+    for row in rows {
+        goes(rt, flow, row)?;
+    }
+    Ok(())
+}
+
+// The rows of a fresh call, of the number 7.
+pub(crate) fn runs(
+    rt: &impl Abort,
+    start: Start<u32, u32>,
+    rules: Rules,
+    rows: Vec<Row>,
+) -> Result<(), Fail> {
+    let mut flow = Flow::new(start, 7, rules);
+    let played = plays(rt, &mut flow, rows);
+    drop(flow);
+    played
+}

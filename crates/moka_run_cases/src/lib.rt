@@ -1,0 +1,5 @@
+//! Worked cases of the schedule machine: what no clause of it says.
+#![tactic(auto)]
+
+#[cfg(test)]
+mod counting;
