@@ -2,7 +2,7 @@ pub mod Standing
 pub mod SameLoads
 pub mod Waiting
 pub mod Outcomes
-pub mod Holdings
+pub mod WhoHolds
 pub mod Owing
 pub mod Keys
 pub mod Noticed
@@ -11,3 +11,5 @@ pub mod Parts
 pub mod Listed
 pub mod Misses
 pub mod Woken
+pub mod Needing
+pub mod Tested

@@ -1,115 +1,147 @@
--- How many writes are owed, and that each has its place.
-use Rattle.std.proofs.Common.{◌≡◌, ℕ, ◌+◌, ◌≤◌, ◌<◌, ◌==◌, nat_eq, Bool, true, false, cond, List, [], ◌∷◌, ◌++◌, length, map, Option, Some, None, IsSome, is_some, refl, sym, ap, ◌∙◌, subst, arith}
-use Rattle.std.specs.Map.{lookup}
+-- How often numbers stand among what is owed, logged and applied.
+use Rattle.std.proofs.Common.{◌≡◌, ◌≢◌, ℕ, ◌+◌, ◌≤◌, ◌==◌, Bool, true, false, not, cond, ◌||◌, nat_lt, List, [], ◌∷◌, ◌++◌, map, Option, Some, None, is_some, refl, sym, ap, ◌∙◌, arith}
 use Rattle.std.proofs.lemmas.List.{map-append}
 use Rattle.std.proofs.lemmas.Bool.{eqb-true, eqb-false}
+use Rattle.std.proofs.lemmas.Bool.Decides.{nat_tests}
 use Rattle.moka_hist.specs.Finite.{times}
 use Rattle.moka_hist.specs.Visits.{number_of}
+use Rattle.moka_hist.specs.Conditions.{held_number}
+use Rattle.moka_hist.specs.declared.writes.Holding.{Holding}
 use Rattle.moka_hist.specs.declared.writes.Owed.{Owed}
-use Rattle.moka_sync.specs.Waiting.{without}
-use Rattle.moka_sync.proofs.Stands.{times-append, times-without, length-without}
-use Rattle.moka_desk.specs.Held.{is_holder, owed_at, owed_numbers}
-use Rattle.moka_desk.specs.declared.held.HeldPlace.{HeldPlace}
+use Rattle.moka_hist.specs.declared.writes.Write.{Write}
+use Rattle.moka_sync.proofs.Stands.{times-append}
+use Rattle.moka_desk.proofs.WhoHolds.{same_number}
+use Rattle.moka_desk.specs.Held.{holds_number, is_holder, owed_at, owed_numbers}
 
--- numbers that each have an entry, and stand once each, are no more than the entries
-pub fits : {X : Type 0} (xs : List ℕ) (es : List (ℕ × X)) → ((x : ℕ) → times x xs ≤ 1) → ((x : ℕ) → 0 < times x xs → IsSome (lookup (nat_eq x) es)) → length xs ≤ length es
-fits [] [] once found = omega arith
-fits (x ∷ xs) [] once found = absurd (none (found x (first (x == x) refl))) where
-  first : (b : Bool) → (x == x) ≡ b → 0 < cond b (times x xs + 1) (times x xs)
-  first true e = omega arith
-  first false e = absurd (eqb-false x x e refl)
-
-  none : false ≡ true → ⊥
-  none e = cc
-fits {X} xs ((k, v) ∷ es) once found =
-    let fewer = fits (without k xs) es (λ x. rw (times-without k x xs) (most x (k == x) (once x))) (λ x some. rest x (k == x) refl (rw (times-without k x xs) at some) (found x)) in
-    let split = length-without k xs in
-    let one = once k in
-    omega arith
-  where
-    most : (x : ℕ) (b : Bool) → times x xs ≤ 1 → cond b 0 (times x xs) ≤ 1
-    most x true h = omega arith
-    most x false h = h
-
-    other : (x : ℕ) (b : Bool) → (x == k) ≡ b → (k == x) ≡ false → is_some (cond b (Some v) (lookup (nat_eq x) es)) ≡ true → IsSome (lookup (nat_eq x) es)
-    other x true e f h = absurd (eqb-false k x f (sym (eqb-true x k e)))
-    other x false e f h = h
-
-    rest : (x : ℕ) (b : Bool) → (k == x) ≡ b → 0 < cond b 0 (times x xs) → (0 < times x xs → IsSome (lookup (nat_eq x) ((k, v) ∷ es))) → IsSome (lookup (nat_eq x) es)
-    rest x true e h f = absurd (omega arith)
-    rest x false e h f = other x (x == k) refl e (f h)
+-- how often a number stands in two lists together
+pub times_of_both : (n : ℕ) (xs ys : List Write) → times n (map number_of (xs ++ ys)) ≡ times n (map number_of xs) + times n (map number_of ys)
+times_of_both n xs ys = ap (times n) (map-append number_of xs ys) ∙ times-append n (map number_of xs) (map number_of ys)
 
 -- one more is owed
 pub numbers_more : (owed : List Owed) (o : Owed) → owed_numbers (owed ++ o ∷ []) ≡ owed_numbers owed ++ number_of o.write ∷ []
 numbers_more owed o = ap (map number_of) (map-append (λ x. x.write) owed (o ∷ [])) ∙ map-append number_of (map (λ x. x.write) owed) (o.write ∷ [])
 
--- nothing is owed of a place that a call has
-pub held_not_owed : (place : Option HeldPlace) (call : ℕ) → is_holder place call ≡ true → owed_at place ≡ 0
-held_not_owed None call e = refl
-held_not_owed (Some p) call e = by p.holder e where
-  by : (h : Option ℕ) → is_holder (Some (record { holder = h; pending = p.pending })) call ≡ true → owed_at (Some (record { holder = h; pending = p.pending })) ≡ 0
-  by None e = absurd (no e) where
-    no : false ≡ true → ⊥
-    no e = cc
-  by (Some n) e = refl
+one : (n x : ℕ) → times n (x ∷ []) ≡ cond (n == x) 1 0
+one n x = by (n == x) where
+  by : (b : Bool) → cond b (0 + 1) 0 ≡ cond b 1 0
+  by true = refl
+  by false = refl
 
--- a place of which something is owed is there
-owed_is_there : (place : Option HeldPlace) → 0 < owed_at place → IsSome place
-owed_is_there None h = absurd (omega arith)
-owed_is_there (Some p) h = refl
+pub owed_then : (n : ℕ) (owed : List Owed) (o : Owed) → times n (owed_numbers (owed ++ o ∷ [])) ≡ times n (owed_numbers owed) + cond (n == number_of o.write) 1 0
+owed_then n owed o =
+    ap (times n) (numbers_more owed o) ∙ times-append n (owed_numbers owed) (number_of o.write ∷ []) ∙ ap (λ k. times n (owed_numbers owed) + k) (one n (number_of o.write))
 
-at_most_one : (place : Option HeldPlace) → owed_at place ≤ 1
+-- the oldest is owed no more
+pub owed_before : (n : ℕ) (o : Owed) (rest : List Owed) → times n (owed_numbers (o ∷ rest)) ≡ times n (owed_numbers rest) + cond (n == number_of o.write) 1 0
+owed_before n o rest = by (n == number_of o.write) where
+  by : (b : Bool) → cond b (times n (owed_numbers rest) + 1) (times n (owed_numbers rest)) ≡ times n (owed_numbers rest) + cond b 1 0
+  by true = refl
+  by false = omega arith
+
+at_most_one : (place : Option (Option ℕ)) → owed_at place ≤ 1
 at_most_one None = omega arith
-at_most_one (Some p) = by (is_some p.holder) where
+at_most_one (Some p) = by (is_some p) where
   by : (b : Bool) → cond b 0 1 ≤ 1
   by true = omega arith
   by false = omega arith
 
-held_is_there : (place : Option HeldPlace) (call : ℕ) → is_holder place call ≡ true → IsSome place
-held_is_there None call e = e
-held_is_there (Some p) call e = refl
+-- what is owed is so once
+pub owed_once : (o : Owed) (rest : List Owed) (place : Option (Option ℕ)) → times (number_of o.write) (owed_numbers (o ∷ rest)) ≡ owed_at place → owed_at place ≡ 1
+owed_once o rest place e = by (number_of o.write == number_of o.write) refl (owed_before (number_of o.write) o rest) where
+  by : (b : Bool) → (number_of o.write == number_of o.write) ≡ b →
+      times (number_of o.write) (owed_numbers (o ∷ rest)) ≡ times (number_of o.write) (owed_numbers rest) + cond b 1 0 → owed_at place ≡ 1
+  by true h f = let most = at_most_one place in omega (arith, e, f)
+  by false h f = absurd (eqb-false _ _ h refl)
 
-module _ (es : List (ℕ × HeldPlace)) (owed : List Owed) (counted : (n : ℕ) → times n (owed_numbers owed) ≡ owed_at (lookup (nat_eq n) es)) where
-  -- a held write and those that are owed have places of their own
-  pub one_more_fits : (number call : ℕ) → is_holder (lookup (nat_eq number) es) call ≡ true → length owed + 1 ≤ length es
-  one_more_fits number call is = subst (λ n. n + 1 ≤ length es) (lengths owed) (omega (arith, whole)) where
-    lengths : (xs : List Owed) → length (owed_numbers xs) ≡ length xs
-    lengths [] = refl
-    lengths (x ∷ xs) = omega (arith, lengths xs)
+-- the numbers that were posted, once one more write is, and once the oldest is applied
+pub posted_then : (log applied : List Write) (w : Write) (n : ℕ) →
+    nat_lt 0 (times n (map number_of ((log ++ w ∷ []) ++ applied))) ≡ (nat_lt 0 (times n (map number_of (log ++ applied))) || (number_of w == n))
+posted_then log applied w n =
+    let all = times_of_both n (log ++ w ∷ []) applied in
+    let front = times_of_both n log (w ∷ []) in
+    let old = times_of_both n log applied in
+    let last = one n (number_of w) in
+    by (number_of w == n) refl (n == number_of w) refl all front old last
+  where
+    by : (a : Bool) → (number_of w == n) ≡ a → (b : Bool) → (n == number_of w) ≡ b →
+        times n (map number_of ((log ++ w ∷ []) ++ applied)) ≡ times n (map number_of (log ++ w ∷ [])) + times n (map number_of applied) →
+        times n (map number_of (log ++ w ∷ [])) ≡ times n (map number_of log) + times n (number_of w ∷ []) →
+        times n (map number_of (log ++ applied)) ≡ times n (map number_of log) + times n (map number_of applied) →
+        times n (number_of w ∷ []) ≡ cond b 1 0 →
+        nat_lt 0 (times n (map number_of ((log ++ w ∷ []) ++ applied))) ≡ (nat_lt 0 (times n (map number_of (log ++ applied))) || a)
+    by true e true f all front old last = grind (arith, nat_tests)
+    by true e false f all front old last = absurd (eqb-false _ _ f (sym (eqb-true _ _ e)))
+    by false e true f all front old last = absurd (eqb-false _ _ e (sym (eqb-true _ _ f)))
+    by false e false f all front old last = grind (arith, nat_tests)
 
-    none_here : times number (owed_numbers owed) ≡ 0
-    none_here = counted number ∙ held_not_owed (lookup (nat_eq number) es) call is
+pub posted_still : (w : Write) (log applied : List Write) (n : ℕ) → times n (map number_of (log ++ (applied ++ w ∷ []))) ≡ times n (map number_of (w ∷ (log ++ applied)))
+posted_still w log applied n =
+    let all = times_of_both n log (applied ++ w ∷ []) in
+    let end = times_of_both n applied (w ∷ []) in
+    let old = times_of_both n (w ∷ []) (log ++ applied) in
+    let rest = times_of_both n log applied in
+    omega (arith, all, end, old, rest)
 
-    most : (x : ℕ) (b : Bool) → (x == number) ≡ b → cond b (times x (owed_numbers owed) + 1) (times x (owed_numbers owed)) ≤ 1
-    most x true e = let zero : times x (owed_numbers owed) ≡ 0 = ap (λ n. times n (owed_numbers owed)) (eqb-true x number e) ∙ none_here in omega arith
-    most x false e = subst (λ n. n ≤ 1) (sym (counted x)) (at_most_one (lookup (nat_eq x) es))
+-- the front of the log was posted
+pub first_posted : (w : Write) (log : List Write) → nat_lt 0 (times (number_of w) (map number_of (w ∷ log))) ≡ true
+first_posted w log = ap (λ b. nat_lt 0 (cond b (times (number_of w) (map number_of log) + 1) (times (number_of w) (map number_of log)))) (same_number (number_of w)) ∙ over (times (number_of w) (map number_of log)) where
+  over : (m : ℕ) → nat_lt 0 (m + 1) ≡ true
+  over m = grind (arith, nat_tests)
 
-    there : (x : ℕ) (b : Bool) → (x == number) ≡ b → 0 < cond b (times x (owed_numbers owed) + 1) (times x (owed_numbers owed)) → IsSome (lookup (nat_eq x) es)
-    there x true e h = subst (λ n. IsSome (lookup (nat_eq n) es)) (sym (eqb-true x number e)) (held_is_there (lookup (nat_eq number) es) call is)
-    there x false e h = owed_is_there (lookup (nat_eq x) es) (subst (λ n. 0 < n) (counted x) h)
+-- a number that isn't posted stands in neither list
+pub none_posted : (m : ℕ) (posted : Bool) → posted ≡ nat_lt 0 m → not posted ≡ true → m ≡ 0
+none_posted m true e f = absurd (no f) where
+  no : false ≡ true → ⊥
+  no e = cc
+none_posted m false e f = grind (arith, nat_tests)
 
-    whole : length (number ∷ owed_numbers owed) ≤ length es
-    whole = fits (number ∷ owed_numbers owed) es (λ x. most x (x == number) refl) (λ x h. there x (x == number) refl h)
+pub as_posted : (m : ℕ) (posted : Bool) → posted ≡ nat_lt 0 m → m ≡ 0 → not posted ≡ true
+as_posted m posted e none = ap not (e ∙ ap (nat_lt 0) none)
 
--- a write that a call held is owed from then on
-pub counted_more : (place_of new : ℕ → Option HeldPlace) (owed : List Owed) (o : Owed) (call : ℕ) → ((n : ℕ) → times n (owed_numbers owed) ≡ owed_at (place_of n)) →
-    is_holder (place_of (number_of o.write)) call ≡ true → ((n : ℕ) → new n ≡ cond (number_of o.write == n) (Some (record { holder = None; pending = None })) (place_of n)) →
-    (n : ℕ) → times n (owed_numbers (owed ++ o ∷ [])) ≡ owed_at (new n)
-counted_more place_of new owed o call counted is new_is n =
-    ap (times n) (numbers_more owed o) ∙ times-append n (owed_numbers owed) (number_of o.write ∷ []) ∙ by (number_of o.write == n) refl (n == number_of o.write) refl ∙ ap owed_at (sym (new_is n)) where
-      by : (a : Bool) → (number_of o.write == n) ≡ a → (b : Bool) → (n == number_of o.write) ≡ b →
-          times n (owed_numbers owed) + cond b 1 0 ≡ owed_at (cond a (Some (record { holder = None; pending = None })) (place_of n))
-      by true e true f =
-          let none : times n (owed_numbers owed) ≡ 0 = ap (λ m. times m (owed_numbers owed)) (sym (eqb-true _ _ e)) ∙ counted (number_of o.write) ∙ held_not_owed (place_of (number_of o.write)) call is in
-          omega arith
-      by true e false f = absurd (eqb-false _ _ f (sym (eqb-true _ _ e)))
-      by false e true f = absurd (eqb-false _ _ e (sym (eqb-true _ _ f)))
-      by false e false f = omega (arith, counted n)
+-- ---- which numbers are unused
 
--- a write whose place is given up was not owed
-pub counted_fewer : (place_of new : ℕ → Option HeldPlace) (owed : List Owed) (number call : ℕ) → ((n : ℕ) → times n (owed_numbers owed) ≡ owed_at (place_of n)) →
-    is_holder (place_of number) call ≡ true → ((n : ℕ) → new n ≡ cond (number == n) None (place_of n)) → (n : ℕ) → times n (owed_numbers owed) ≡ owed_at (new n)
-counted_fewer place_of new owed number call counted is new_is n = by (number == n) refl ∙ ap owed_at (sym (new_is n)) where
-  by : (a : Bool) → (number == n) ≡ a → times n (owed_numbers owed) ≡ owed_at (cond a None (place_of n))
-  by true e = ap (λ m. times m (owed_numbers owed)) (sym (eqb-true _ _ e)) ∙ counted number ∙ held_not_owed (place_of number) call is
-  by false e = counted n
+module _ (holders : ℕ → Option (Option ℕ)) (held : ℕ → Option Holding) (agree : (number n : ℕ) → is_holder (holders number) n ≡ holds_number n number (held n))
+    (owed : List Owed) (log applied : List Write) (counted : (n : ℕ) → times n (owed_numbers owed) ≡ owed_at (holders n)) (number : ℕ) where
+  whole : times number (map number_of (map (λ o. o.write) owed ++ log ++ applied)) ≡ times number (owed_numbers owed) + times number (map number_of (log ++ applied))
+  whole =
+      let all = times_of_both number (map (λ o. o.write) owed ++ log) applied in
+      let front = times_of_both number (map (λ o. o.write) owed) log in
+      let back = times_of_both number log applied in
+      omega (arith, all, front, back)
+
+  -- of no place nothing is owed or held
+  pub stands_nowhere : holders number ≡ None → times number (map number_of (log ++ applied)) ≡ 0 → times number (map number_of (map (λ o. o.write) owed ++ log ++ applied)) ≡ 0
+  stands_nowhere none posted = let w = whole in let c = counted number ∙ ap owed_at none in omega (arith, w, c, posted)
+
+  pub held_by_none : holders number ≡ None → (n : ℕ) (h : Holding) → held n ≡ Some h → held_number n h ≢ number
+  held_by_none none n h is e = by (held_number n h == number) refl where
+    no : true ≡ false → ⊥
+    no e = cc
+
+    same : (held_number n h == number) ≡ false
+    same = sym (ap (holds_number n number) is) ∙ sym (agree number n) ∙ ap (λ p. is_holder p n) none
+
+    by : (b : Bool) → (held_number n h == number) ≡ b → ⊥
+    by true f = no (sym f ∙ same)
+    by false f = eqb-false _ _ f e
+
+  -- what nobody holds and is not owed has no place
+  pub has_no_place : times number (map number_of (map (λ o. o.write) owed ++ log ++ applied)) ≡ 0 → ((n : ℕ) (h : Holding) → held n ≡ Some h → held_number n h ≢ number) →
+      is_some (holders number) ≡ false
+  has_no_place none alone = by (holders number) refl where
+    by : (o : Option (Option ℕ)) → holders number ≡ o → is_some o ≡ false
+    by None e = refl
+    by (Some None) e = let w = whole in let c = counted number ∙ ap owed_at e in absurd (omega (arith, w, c, none))
+    by (Some (Some n)) e = absurd (holder n (held n) refl (sym (agree number n) ∙ ap (λ p. is_holder p n) e ∙ itself (n == n) refl)) where
+      itself : (b : Bool) → (n == n) ≡ b → b ≡ true
+      itself true f = refl
+      itself false f = absurd (eqb-false n n f refl)
+
+      holder : (n : ℕ) (o : Option Holding) → held n ≡ o → holds_number n number o ≡ true → ⊥
+      holder n None is f = no f where
+        no : false ≡ true → ⊥
+        no e = cc
+      holder n (Some h) is f = alone n h is (eqb-true _ _ f)
+
+  pub not_posted : times number (map number_of (map (λ o. o.write) owed ++ log ++ applied)) ≡ 0 → times number (map number_of (log ++ applied)) ≡ 0
+  not_posted none = let w = whole in omega (arith, w, none)

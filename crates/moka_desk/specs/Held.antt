@@ -1,35 +1,47 @@
--- What the kept places of writes say of each call.
-use Rattle.std.specs.Prelude.{◌≡◌, ℕ, ◌==◌, Bool, false, cond, List, map, Option, Some, None, is_some, IsSomeAnd}
-use Rattle.std.specs.Option.{option_map_or}
-use Rattle.moka_hist.specs.Visits.{number_of, moment_of}
+-- What is kept of the writes that are held or owed.
+use Rattle.std.specs.Prelude.{ℕ, ◌+◌, ◌==◌, Bool, false, not, cond, List, length, map, Option, is_some, nat_eq, vec_capacity}
+use Rattle.std.specs.Option.{option_map, option_map_or}
+use Rattle.std.specs.List.{filter}
+use Rattle.std.specs.Map.{lookup}
+use Rattle.std.specs.HashMap.{get, hash_map_len}
+use Rattle.moka_hist.specs.Visits.{number_of, without_moment}
 use Rattle.moka_hist.specs.Conditions.{held_number}
 use Rattle.moka_hist.specs.declared.writes.Holding.{Holding}
 use Rattle.moka_hist.specs.declared.writes.Owed.{Owed}
-use Rattle.moka_desk.specs.declared.held.HeldPlace.{HeldPlace}
+use Rattle.moka_desk.specs.Notices.{either}
+use Rattle.moka_desk.specs.declared.holdings.Holdings.{Holdings}
 
--- this call has the place
-abbrev pub is_holder : Option HeldPlace → ℕ → Bool
-is_holder place call =
-    option_map_or (λ p. option_map_or (λ holder. holder == call) p.holder false) place false
+-- what is held but by this call
+abbrev pub others_of : ℕ → List (ℕ × Holding) → List (ℕ × Holding)
+others_of call held = filter (λ h. not (h.0 == call)) held
 
--- how often the write of this place is owed: once where nobody holds it
-abbrev pub owed_at : Option HeldPlace → ℕ
-owed_at place = option_map_or (λ p. cond (is_some p.holder) 0 1) place 0
+-- what the call holds: what the map has of it, or else the rest
+abbrev pub held_by : Holdings → ℕ → Option Holding
+held_by holdings n = either (get nat_eq holdings.by_call n) (lookup (nat_eq n) holdings.rest.items)
 
--- the place once the write of the call is decided
-abbrev pub decided_place : ℕ → Option HeldPlace → Option HeldPlace
-decided_place call place =
-    cond (is_holder place call) (Some (record { holder = Some call; pending = None })) place
+-- how many calls hold something, and how many may without memory
+abbrev pub held_count : Holdings → ℕ
+held_count holdings = hash_map_len holdings.by_call + length holdings.rest.items
+
+abbrev pub holding_room : Holdings → ℕ
+holding_room holdings = vec_capacity holdings.rest
+
+-- what the call holds once its write is decided
+abbrev pub decided_holding : Option Holding → Option Holding
+decided_holding held = option_map without_moment held
+
+-- this call is the one that holds the write
+abbrev pub is_holder : Option (Option ℕ) → ℕ → Bool
+is_holder place call = option_map_or (λ p. option_map_or (λ holder. holder == call) p false) place false
+
+-- what the call holds is the write of this number, or its place
+abbrev pub holds_number : ℕ → ℕ → Option Holding → Bool
+holds_number call number held = option_map_or (λ h. held_number call h == number) held false
+
+-- how often the write is owed: once where nobody holds it
+abbrev pub owed_at : Option (Option ℕ) → ℕ
+owed_at place = option_map_or (λ p. cond (is_some p) 0 1) place 0
 
 -- the numbers of the owed writes
 abbrev pub owed_numbers : List Owed → List ℕ
 owed_numbers owed = map number_of (map (λ o. o.write) owed)
-
--- A call holds a write exactly where that write's place says so; the pending moment stands there.
-pub record HoldingsAre (place_of : ℕ → Option HeldPlace) (holding : ℕ → Option Holding)
-    : Type 0 where
-  pub held : (n : ℕ) (h : Holding) → holding n ≡ Some h →
-      place_of (held_number n h) ≡ Some (record { holder = Some n; pending = moment_of h })
-  pub known : (number n : ℕ) (pending : Option ℕ) →
-      place_of number ≡ Some (record { holder = Some n; pending = pending }) →
-      IsSomeAnd (holding n) (λ h. held_number n h ≡ number)

@@ -1,10 +1,10 @@
-pub mod Held
 pub mod Fallen
 pub mod Writes
 pub mod Readers
 pub mod Loads
 pub mod Locks
 pub mod Notices
+pub mod Held
 pub mod Lines
 pub mod Asks
 pub mod StandsFor
@@ -14,3 +14,4 @@ pub mod Waits
 pub mod ListedMiss
 pub mod Woken
 pub mod WakeList
+pub mod Meets

@@ -1,11 +1,13 @@
 -- What the kept writes stand for.
-use Rattle.std.specs.Prelude.{◌≡◌, ℕ, List, Option, nat_eq}
-use Rattle.std.specs.HashMap.{get}
+use Rattle.std.specs.Prelude.{◌≡◌, ◌≢◌, ℕ, List, ◌++◌, map, Option, Some}
+use Rattle.moka_hist.specs.Conditions.{held_number}
+use Rattle.moka_hist.specs.Finite.{times}
 use Rattle.moka_hist.specs.State.{DeskPart}
 use Rattle.moka_hist.specs.declared.writes.Holding.{Holding}
 use Rattle.moka_hist.specs.declared.writes.Owed.{Owed}
+use Rattle.moka_hist.specs.Visits.{number_of}
 use Rattle.moka_hist.specs.declared.writes.Write.{Write}
-use Rattle.moka_desk.specs.Held.{HoldingsAre}
+use Rattle.moka_desk.specs.Held.{held_by}
 use Rattle.moka_desk.specs.declared.writes.Writes.{Writes}
 
 -- What the desk's part says of writes.
@@ -23,7 +25,7 @@ write_part w =
 
 -- Each call holds what is kept of it, and the lists are those that are kept.
 pub record WritesAre (writes : Writes) (p : WritePart) : Type 0 where
-  pub holding : HoldingsAre (get nat_eq writes.held.places) p.holding
+  pub holding : (n : ℕ) → held_by writes.held.holdings n ≡ p.holding n
   pub owed : writes.owed.items ≡ p.owed
   pub log : writes.log.items ≡ p.log
   pub applied : writes.applied.writes.items ≡ p.applied
@@ -37,3 +39,8 @@ WritesBecome old change new = (p : WritePart) → WritesAre old p → WritesAre 
 abbrev pub WritesBecomeIf : Writes → (WritePart → Type 0) → (WritePart → WritePart) → Writes →
     Type 0
 WritesBecomeIf old P change new = (p : WritePart) → WritesAre old p → P p → WritesAre new (change p)
+
+-- no write of the number is owed, logged, applied or held
+pub record IsUnusedIn (p : WritePart) (number : ℕ) : Type 0 where
+  pub stands : times number (map number_of (map (λ o. o.write) p.owed ++ p.log ++ p.applied)) ≡ 0
+  pub held : (n : ℕ) (h : Holding) → p.holding n ≡ Some h → held_number n h ≢ number

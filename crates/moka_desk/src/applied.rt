@@ -1,10 +1,10 @@
 //! The writes that maintenance has applied, and how many records they left standing.
 
-ghost use Rattle.std.specs.Prelude.{◌≡◌, ℕ, ◌+◌, ◌-◌, ◌≤◌, ◌<◌, ◌==◌, ◌^◌, ◌||◌, false, cond, [], ◌∷◌, ◌++◌, unwrap_or, nat_eq, OnOk, OnErr, vec_len, vec_capacity};
+ghost use Rattle.std.specs.Prelude.{◌≡◌, ℕ, ◌+◌, ◌-◌, ◌≤◌, ◌<◌, ◌==◌, ◌^◌, ◌||◌, false, cond, None, Some, IsSome, is_some, [], ◌∷◌, ◌++◌, unwrap_or, nat_eq, OnOk, OnErr, vec_len, vec_capacity};
 ghost use Rattle.std.specs.Option.{option_map_or};
 ghost use Rattle.std.specs.HashMap.{get, spare};
 ghost use Rattle.std.specs.HashSet as hash_set;
-ghost use Rattle.moka_hist.specs.Visits.{is_replaced, standing as standing_of};
+ghost use Rattle.moka_hist.specs.Visits.{is_replaced, number_of, standing as standing_of};
 ghost use Rattle.moka_hist.specs.declared.writes.Write.TheVariants as write_of;
 ghost use Rattle.moka_desk.specs.Fallen.{count_of, fallen};
 
@@ -13,11 +13,12 @@ use std::alloc::{AllocError, Global};
 use std::collections::{HashMap, HashSet};
 
 /// The applied writes, oldest first, with the count of the records that they left standing, kept
-/// as they come. Each place that was reserved takes one more write without memory.
+/// as they come; and under the number of each write that was posted how many records those that are
+/// applied made. Each place that was reserved takes one more write without memory.
 #[derive(Drop)]
 pub(crate) struct Applied {
     pub(crate) writes: Vec<Write>,
-    made: HashMap<u64, u64>,
+    pub(crate) made: HashMap<u64, u64>,
     replaced: HashSet<u64>,
     standing: u64,
     pub(crate) room: usize,
@@ -25,7 +26,6 @@ pub(crate) struct Applied {
     ghost marked: { (n : ℕ) → hash_set.contains nat_eq replaced n ≡ is_replaced writes.items n },
     ghost left: { standing ≡ standing_of writes.items },
     ghost room_for_writes: { vec_len writes + room ≤ vec_capacity writes },
-    ghost room_for_counts: { room ≤ spare made },
     ghost room_for_marks: { room ≤ hash_set.spare replaced },
 }
 
@@ -33,6 +33,7 @@ impl Applied {
     /// Nothing was applied, and no place is reserved.
     pub(crate) fn new(alloc: Global) -> Self
         ensures items { result.writes.items ≡ [] }
+        ensures made { (n : ℕ) → get nat_eq result.made n ≡ None }
         ensures room { result.room ≡ 0 }
     {
         Applied {
@@ -52,9 +53,19 @@ impl Applied {
         self.standing
     }
 
+    /// Whether a write of this number was posted.
+    pub(crate) fn is_posted(&self, number: u64) -> bool
+        ensures { result ≡ is_some (get nat_eq self.now.made number) }
+    {
+        self.made.contains_key(&number)
+    }
+
     /// Reserves a place for one more write. For want of memory no place is added.
     pub(crate) fn reserve(&mut self) -> Result<(), AllocError>
         ensures items { self.new.writes.items ≡ self.old.writes.items }
+        ensures made { (n : ℕ) → get nat_eq self.new.made n ≡ get nat_eq self.old.made n }
+        ensures more { spare self.old.made ≤ spare self.new.made }
+        ensures spare { OnOk result (self.new.room ≤ spare self.new.made) }
         ensures ok { OnOk result (self.new.room ≡ self.old.room + 1) }
         ensures err { OnErr result (self.new.room ≡ self.old.room) }
     {
@@ -70,15 +81,32 @@ impl Applied {
     pub(crate) fn give_up(&mut self)
         requires { 0 < self.old.room }
         ensures items { self.new.writes.items ≡ self.old.writes.items }
+        ensures made { self.new.made ≡ self.old.made }
         ensures room { self.new.room + 1 ≡ self.old.room }
     {
         self.room -= 1;
     }
 
-    /// Applies a write, in a place that was reserved.
+    /// A write of this number was posted, and is applied later. There is room for its count.
+    pub(crate) fn expect(&mut self, number: u64)
+        requires { 0 < spare self.old.made }
+        ensures items { self.new.writes.items ≡ self.old.writes.items }
+        ensures made { (n : ℕ) → is_some (get nat_eq self.new.made n)
+            ≡ (is_some (get nat_eq self.old.made n) || (number == n)) }
+        ensures spare { spare self.old.made ≤ spare self.new.made + 1 }
+        ensures room { self.new.room ≡ self.old.room }
+    {
+        enlist(&mut self.made, number);
+    }
+
+    /// Applies a write that was posted, in a place that was reserved.
     pub(crate) fn push(&mut self, write: Write)
-        requires { 0 < self.old.room }
+        requires room { 0 < self.old.room }
+        requires posted { IsSome (get nat_eq self.old.made (number_of write)) }
         ensures items { self.new.writes.items ≡ self.old.writes.items ++ write ∷ [] }
+        ensures made { (n : ℕ) → is_some (get nat_eq self.new.made n)
+            ≡ is_some (get nat_eq self.old.made n) }
+        ensures spare { spare self.new.made ≡ spare self.old.made }
         ensures room { self.new.room + 1 ≡ self.old.room }
     {
         match write {
@@ -88,9 +116,13 @@ impl Applied {
     }
 
     fn push_upsert(&mut self, number: u64, old: Option<u64>)
-        requires { 0 < self.old.room }
+        requires room { 0 < self.old.room }
+        requires posted { IsSome (get nat_eq self.old.made number) }
         ensures items { self.new.writes.items ≡ self.old.writes.items ++
             write_of.Upsert number old ∷ [] }
+        ensures made { (n : ℕ) → is_some (get nat_eq self.new.made n)
+            ≡ is_some (get nat_eq self.old.made n) }
+        ensures spare { spare self.new.made ≡ spare self.old.made }
         ensures room { self.new.room + 1 ≡ self.old.room }
     {
         let fallen = self.fallen_by(old);
@@ -106,6 +138,7 @@ impl Applied {
         requires { 0 < self.old.room }
         ensures items { self.new.writes.items ≡ self.old.writes.items ++
             write_of.Remove number old ∷ [] }
+        ensures made { self.new.made ≡ self.old.made }
         ensures room { self.new.room + 1 ≡ self.old.room }
     {
         let fallen = self.fallen_by(Some(old));
@@ -149,18 +182,48 @@ fn made_by(made: &HashMap<u64, u64>, number: u64) -> u64
     made.get(&number).copied().unwrap_or(0)
 }
 
-// Counts one more record of the number, in a place that was reserved.
+// Counts no record of the number yet, in a place that was reserved, where it has no count.
+fn enlist(made: &mut HashMap<u64, u64>, number: u64)
+    requires { 0 < spare made.old }
+    ensures counted { (n : ℕ) →
+        unwrap_or (get nat_eq made.new n) 0 ≡ unwrap_or (get nat_eq made.old n) 0 }
+    ensures known { (n : ℕ) → is_some (get nat_eq made.new n)
+        ≡ (is_some (get nat_eq made.old n) || (number == n)) }
+    ensures spare { spare made.old ≤ spare made.new + 1 }
+{
+    match made.insert(number, 0) {
+        Ok(None) => {}
+        Ok(Some(records)) => write_count(made, number, records),
+        Err(_) => unreachable!(),
+    }
+}
+
+// Writes the count of a number that has one.
+fn write_count(made: &mut HashMap<u64, u64>, number: u64, records: u64)
+    requires { IsSome (get nat_eq made.old number) }
+    ensures updates { (n : ℕ) →
+        get nat_eq made.new n ≡ cond (number == n) (Some records) (get nat_eq made.old n) }
+    ensures spare { spare made.new ≡ spare made.old }
+{
+    match made.get_mut(&number) {
+        Some(count) => *count = records,
+        None => unreachable!(),
+    }
+}
+
+// Counts one more record of the number, which has a count.
 fn count(made: &mut HashMap<u64, u64>, number: u64)
-    requires room { 0 < spare made.old }
+    requires posted { IsSome (get nat_eq made.old number) }
     requires fits { unwrap_or (get nat_eq made.old number) 0 + 1 < 2 ^ 64 }
     ensures counted { (n : ℕ) →
         unwrap_or (get nat_eq made.new n) 0 ≡ unwrap_or (get nat_eq made.old n) 0 + cond
         (number == n) 1 0 }
-    ensures spare { spare made.old ≤ spare made.new + 1 }
+    ensures known { (n : ℕ) → is_some (get nat_eq made.new n)
+        ≡ is_some (get nat_eq made.old n) }
+    ensures spare { spare made.new ≡ spare made.old }
 {
-    let before = made_by(made, number);
-    match made.insert(number, before + 1) {
-        Ok(_) => {}
-        Err(_) => unreachable!(),
+    match made.get_mut(&number) {
+        Some(records) => *records += 1,
+        None => unreachable!(),
     }
 }

@@ -1,111 +1,153 @@
-//! The places of writes, by the numbers of the calls that made them.
+//! The writes that are held or owed, by the numbers of the calls that made them.
 
-ghost use Rattle.std.specs.Prelude.{◌≡◌, ℕ, ◌+◌, ◌≤◌, ◌<◌, ◌==◌, cond, Option, Some, None, IsSome, is_some, nat_eq, OnOk, if◌then◌else◌};
+ghost use Rattle.std.specs.Prelude.{◌≡◌, ℕ, ◌+◌, ◌≤◌, ◌<◌, ◌==◌, true, cond, Option, Some, None, is_some, nat_eq, OnOk, if◌then◌else◌};
 ghost use Rattle.std.specs.HashMap.{get, spare, hash_map_len};
-ghost use Rattle.moka_desk.specs.Held.{decided_place, is_holder};
+ghost use Rattle.moka_hist.specs.Visits.{number_of as written_by};
+ghost use Rattle.moka_desk.specs.Held.{decided_holding, held_by, held_count, holding_room, holds_number, is_holder, owed_at};
 
+use crate::holdings::Holdings;
 use crate::maps::{put, replace};
+use moka_hist::{Holding, Write};
 use std::alloc::{AllocError, Global};
 use std::collections::HashMap;
 
-/// The place of a write from its moment until it is posted: the call that holds it, or nobody where
-/// it is owed; and the moment that was taken for it, in nanoseconds, as long as it isn't decided.
-#[derive(Clone, Copy, PartialEq, Eq, Debug)]
-pub(crate) struct HeldPlace {
-    pub(crate) holder: Option<u64>,
-    pub(crate) pending: Option<u64>,
-}
-
-/// The places of the writes that are held or owed, each under the number of the call that made the
-/// write. Who holds a write changes in its place, so that no call takes memory to take one up or to
-/// leave one.
+/// What each call holds; and under the number of each write that is held or owed the call that
+/// holds it, or nobody where it is owed. Who holds a write changes in its place, so that no call
+/// takes memory to take one up or to leave one.
 #[derive(Drop)]
 pub(crate) struct Held {
-    pub(crate) places: HashMap<u64, HeldPlace>,
+    pub(crate) holders: HashMap<u64, Option<u64>>,
+    pub(crate) holdings: Holdings,
+    ghost agree: { (number n : ℕ) → is_holder (get nat_eq holders number) n
+        ≡ holds_number n number (held_by holdings n) },
 }
 
 impl Held {
-    /// No write has a place.
+    ghost use Rattle.moka_hist.specs.declared.writes.Holding.TheVariants as holding;
+
+    /// Nothing is held or owed.
     pub(crate) fn new(alloc: Global) -> Self
-        ensures none { (n : ℕ) → get nat_eq result.places n ≡ None }
-        ensures count { hash_map_len result.places ≡ 0 }
+        ensures none { (n : ℕ) → held_by result.holdings n ≡ None }
+        ensures owed { (n : ℕ) → owed_at (get nat_eq result.holders n) ≡ 0 }
+        ensures places { hash_map_len result.holders ≡ 0 }
+        ensures count { held_count result.holdings ≡ 0 }
+        ensures room { holding_room result.holdings ≡ 0 }
     {
         Held {
-            places: HashMap::new(alloc),
+            holders: HashMap::new(alloc),
+            holdings: Holdings::new(alloc),
         }
     }
 
-    /// Makes room for one more place.
-    pub(crate) fn reserve(&mut self) -> Result<(), AllocError>
-        ensures same { (n : ℕ) → get nat_eq self.new.places n ≡ get nat_eq self.old.places n }
-        ensures count { hash_map_len self.new.places ≡ hash_map_len self.old.places }
-        ensures room { OnOk result (0 < spare self.new.places) }
+    /// What the call holds.
+    pub(crate) fn get(&self, call: u64) -> Option<Holding>
+        ensures { result ≡ held_by self.now.holdings call }
     {
-        self.places.reserve(1)
+        self.holdings.get(call)
     }
 
-    /// Gives the call the place of its own write, with the moment. There is room for it.
+    /// Whether a write of this number is held or owed.
+    pub(crate) fn contains(&self, number: u64) -> bool
+        ensures { result ≡ is_some (get nat_eq self.now.holders number) }
+    {
+        self.holders.contains_key(&number)
+    }
+
+    /// Makes room for so many writes that are held, and for one more that is held or owed.
+    pub(crate) fn reserve(&mut self, room: usize) -> Result<(), AllocError>
+        ensures same { (n : ℕ) → held_by self.new.holdings n ≡ held_by self.old.holdings n }
+        ensures holders { (n : ℕ) → get nat_eq self.new.holders n ≡ get nat_eq self.old.holders n }
+        ensures places { hash_map_len self.new.holders ≡ hash_map_len self.old.holders }
+        ensures count { held_count self.new.holdings ≡ held_count self.old.holdings }
+        ensures kept { holding_room self.old.holdings ≤ holding_room self.new.holdings }
+        ensures room { OnOk result ((room ≤ holding_room self.new.holdings)
+            × (0 < spare self.new.holders)) }
+    {
+        self.holders.reserve(1)?;
+        self.holdings.reserve(room)
+    }
+
+    /// Gives the call, which holds nothing, the place of its own write, with the moment. There is
+    /// room for it, and no write of its number is held or owed.
     pub(crate) fn stamp(&mut self, call: u64, moment: u64)
-        requires { 0 < spare self.old.places }
-        ensures holds { (n : ℕ) → get nat_eq self.new.places n ≡ cond (call == n)
-            (Some (record { holder = Some call; pending = Some moment }))
-            (get nat_eq self.old.places n) }
-        ensures count { hash_map_len self.new.places ≡ hash_map_len self.old.places +
-            (if is_some (get nat_eq self.old.places call) then 0 else 1) }
+        requires place { 0 < spare self.old.holders }
+        requires room { held_count self.old.holdings < holding_room self.old.holdings }
+        requires unused { get nat_eq self.old.holders call ≡ None }
+        requires free { held_by self.old.holdings call ≡ None }
+        ensures holds { (n : ℕ) → held_by self.new.holdings n
+            ≡ cond (call == n) (Some (holding.Own (Some moment))) (held_by self.old.holdings n) }
+        ensures owed { (n : ℕ) → owed_at (get nat_eq self.new.holders n)
+            ≡ owed_at (get nat_eq self.old.holders n) }
+        ensures places { hash_map_len self.new.holders ≡ hash_map_len self.old.holders + 1 }
+        ensures count { held_count self.new.holdings ≤ held_count self.old.holdings + 1 }
+        ensures kept { holding_room self.new.holdings ≡ holding_room self.old.holdings }
     {
-        let place = HeldPlace {
-            holder: Some(call),
-            pending: Some(moment),
-        };
-        put(&mut self.places, call, place);
+        put(&mut self.holders, call, Some(call));
+        self.holdings.put(
+            call,
+            Holding::Own {
+                pending: Some(moment),
+            },
+        );
     }
 
-    /// Hands the write of this number, which has a place, to the holder, or to nobody.
-    pub(crate) fn hand_over(&mut self, number: u64, holder: Option<u64>)
-        requires { IsSome (get nat_eq self.old.places number) }
-        ensures holds { (n : ℕ) → get nat_eq self.new.places n ≡ cond (number == n)
-            (Some (record { holder = holder; pending = None })) (get nat_eq self.old.places n) }
-        ensures count { hash_map_len self.new.places ≡ hash_map_len self.old.places }
+    /// Gives the call, which holds nothing, a write that is owed. There is room for it.
+    pub(crate) fn take_up(&mut self, call: u64, write: Write)
+        requires room { held_count self.old.holdings < holding_room self.old.holdings }
+        requires owed { owed_at (get nat_eq self.old.holders (written_by write)) ≡ 1 }
+        requires free { held_by self.old.holdings call ≡ None }
+        ensures holds { (n : ℕ) → held_by self.new.holdings n
+            ≡ cond (call == n) (Some (holding.TookUp write)) (held_by self.old.holdings n) }
+        ensures owed { (n : ℕ) → owed_at (get nat_eq self.new.holders n)
+            + cond (n == written_by write) 1 0 ≡ owed_at (get nat_eq self.old.holders n) }
+        ensures places { hash_map_len self.new.holders ≡ hash_map_len self.old.holders }
+        ensures count { held_count self.new.holdings ≤ held_count self.old.holdings + 1 }
+        ensures kept { holding_room self.new.holdings ≡ holding_room self.old.holdings }
     {
-        let place = HeldPlace {
-            holder,
-            pending: None,
-        };
-        replace(&mut self.places, number, place);
+        replace(&mut self.holders, write.number(), Some(call));
+        self.holdings.put(call, Holding::TookUp { write });
     }
 
-    /// Ends the pending moment of the call, if it holds the write of its own number.
+    /// The call leaves the write of this number, which it holds: it is owed from then on.
+    pub(crate) fn leave(&mut self, call: u64, number: u64)
+        requires { holds_number call number (held_by self.old.holdings call) ≡ true }
+        ensures holds { (n : ℕ) → held_by self.new.holdings n
+            ≡ cond (call == n) None (held_by self.old.holdings n) }
+        ensures owed { (n : ℕ) → owed_at (get nat_eq self.new.holders n)
+            ≡ owed_at (get nat_eq self.old.holders n) + cond (n == number) 1 0 }
+        ensures places { hash_map_len self.new.holders ≡ hash_map_len self.old.holders }
+        ensures count { held_count self.new.holdings + 1 ≤ held_count self.old.holdings }
+        ensures kept { holding_room self.new.holdings ≡ holding_room self.old.holdings }
+    {
+        replace(&mut self.holders, number, None);
+        self.holdings.remove(call);
+    }
+
+    /// The call gives up the write of this number, which it holds: it is neither held nor owed.
+    pub(crate) fn clear(&mut self, call: u64, number: u64)
+        requires { holds_number call number (held_by self.old.holdings call) ≡ true }
+        ensures holds { (n : ℕ) → held_by self.new.holdings n
+            ≡ cond (call == n) None (held_by self.old.holdings n) }
+        ensures owed { (n : ℕ) → owed_at (get nat_eq self.new.holders n)
+            ≡ owed_at (get nat_eq self.old.holders n) }
+        ensures places { hash_map_len self.new.holders + 1 ≡ hash_map_len self.old.holders }
+        ensures count { held_count self.new.holdings + 1 ≤ held_count self.old.holdings }
+        ensures kept { holding_room self.new.holdings ≡ holding_room self.old.holdings }
+    {
+        let _ = self.holders.remove(&number);
+        self.holdings.remove(call);
+    }
+
+    /// Ends the pending moment of the call, if it has one.
     pub(crate) fn decide(&mut self, call: u64)
-        ensures holds { (n : ℕ) → get nat_eq self.new.places n ≡ cond (call == n)
-            (decided_place call (get nat_eq self.old.places call)) (get nat_eq self.old.places n) }
-        ensures count { hash_map_len self.new.places ≡ hash_map_len self.old.places }
+        requires { held_count self.old.holdings ≤ holding_room self.old.holdings }
+        ensures holds { (n : ℕ) → held_by self.new.holdings n
+            ≡ cond (call == n) (decided_holding (held_by self.old.holdings call))
+            (held_by self.old.holdings n) }
+        ensures holders { self.new.holders ≡ self.old.holders }
+        ensures count { held_count self.new.holdings ≤ held_count self.old.holdings }
+        ensures kept { holding_room self.new.holdings ≡ holding_room self.old.holdings }
     {
-        if self.is_held_by(call, call) {
-            self.hand_over(call, Some(call));
-        }
-    }
-
-    /// Gives the place of the write of this number up.
-    pub(crate) fn clear(&mut self, number: u64)
-        ensures holds { (n : ℕ) → get nat_eq self.new.places n
-            ≡ cond (number == n) None (get nat_eq self.old.places n) }
-        ensures count { hash_map_len self.new.places
-            + (if is_some (get nat_eq self.old.places number) then 1 else 0) ≡
-            hash_map_len self.old.places }
-    {
-        let _ = self.places.remove(&number);
-    }
-
-    /// Whether the call holds the write of this number.
-    pub(crate) fn is_held_by(&self, number: u64, call: u64) -> bool
-        ensures { result ≡ is_holder (get nat_eq self.now.places number) call }
-    {
-        if self.places.is_empty() {
-            return false;
-        }
-        match self.places.get(&number) {
-            Some(place) => place.holder == Some(call),
-            None => false,
-        }
+        self.holdings.decide(call);
     }
 }

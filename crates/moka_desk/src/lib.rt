@@ -3,7 +3,9 @@
 
 mod applied;
 mod asks;
+mod conditions;
 mod held;
+mod holdings;
 mod lines;
 mod listening;
 mod loading;

@@ -1,15 +1,16 @@
 //! The writes that were committed, in the places where the desk keeps them.
 
-ghost use Rattle.std.specs.Prelude.{◌≡◌, ℕ, ◌+◌, ◌≤◌, ◌<◌, ◌≢◌, true, None, Some, nat_lt, cond, [], ◌∷◌, ◌++◌, length, take, drop, false, IsNone, IfSome, option_to_list, nat_eq, OnOk, OnErr, IfOk};
-ghost use Rattle.std.specs.HashMap.{get, hash_map_len};
+ghost use Rattle.std.specs.Prelude.{◌≡◌, ℕ, ◌+◌, ◌≤◌, true, None, Some, nat_lt, cond, [], ◌∷◌, ◌++◌, length, map, take, drop, false, IsNone, IfSome, option_to_list, nat_eq, OnOk, OnErr, IfOk, IsTrue, is_some, ◌↔◌};
+ghost use Rattle.std.specs.HashMap.{get, hash_map_len, spare};
 ghost use Rattle.std.specs.Option.{option_map};
 ghost use Rattle.std.specs.VecDeque.{deque_capacity};
 ghost use Rattle.moka_hist.specs.Finite.{times};
-ghost use Rattle.moka_desk.specs.Held.{owed_at, owed_numbers};
+ghost use Rattle.moka_hist.specs.Visits.{number_of as written_by};
+ghost use Rattle.moka_desk.specs.Held.{held_by, held_count, holding_room, holds_number, owed_at, owed_numbers};
 
 use crate::applied::Applied;
 use crate::held::Held;
-use moka_hist::{Owed, Write};
+use moka_hist::{Holding, Owed, Write};
 use std::alloc::{AllocError, Global};
 use std::collections::VecDeque;
 
@@ -26,18 +27,24 @@ pub(crate) struct Writes {
     ghost log_is_short: { length log.items ≤ size },
     ghost log_has_room: { size ≤ deque_capacity log },
     ghost owed_has_room: { applied.room ≤ deque_capacity owed },
-    ghost all_have_places: { hash_map_len held.places + length log.items ≡ applied.room },
-    ghost nobody_holds_owed: { (n : ℕ) → times n (owed_numbers owed.items) ≡ owed_at (get nat_eq held.places n) },
+    ghost held_has_room: { applied.room ≤ holding_room held.holdings },
+    ghost posted_has_room: { hash_map_len held.holders ≤ spare applied.made },
+    ghost few_hold: { held_count held.holdings + length owed.items ≤ hash_map_len held.holders },
+    ghost all_have_places: { hash_map_len held.holders + length log.items ≡ applied.room },
+    ghost posted_are: { (n : ℕ) → is_some (get nat_eq applied.made n)
+        ≡ nat_lt 0 (times n (map written_by (log.items ++ applied.writes.items))) },
+    ghost nobody_holds_owed: { (n : ℕ) → times n (owed_numbers owed.items)
+        ≡ owed_at (get nat_eq held.holders n) },
 }
 
 impl Writes {
     ghost use Rattle.moka_hist.specs.Finite.{put_at};
-    ghost use Rattle.moka_hist.specs.Conditions.{held_number, IsPlaceOf, MayLeaveWith};
+    ghost use Rattle.moka_hist.specs.Conditions.{MayLeaveWith};
     ghost use Rattle.moka_hist.specs.Visits.{first_of, holding_with, number_of, once_freed, without_moment};
     ghost use Rattle.moka_hist.specs.declared.writes.Holding.{Holding};
     ghost use Rattle.moka_hist.specs.declared.writes.Holding.TheVariants as holding;
-    ghost use Rattle.moka_desk.specs.Held.{is_holder};
-    ghost use Rattle.moka_desk.specs.Writes.{WritePart, WritesAre, WritesBecome, WritesBecomeIf};
+    ghost use Rattle.moka_hist.specs.declared.writes.Write.{Write};
+    ghost use Rattle.moka_desk.specs.Writes.{IsUnusedIn, WritePart, WritesAre, WritesBecome, WritesBecomeIf};
 
     /// No write yet, and a log of this size.
     pub(crate) fn new(alloc: Global, size: usize) -> Result<Self, AllocError>
@@ -53,19 +60,35 @@ impl Writes {
         })
     }
 
+    /// What the call holds.
+    pub(crate) fn held_by(&self, call: u64) -> Option<Holding>
+        ensures { (p : WritePart) → WritesAre self.now p → result ≡ p.holding call }
+    {
+        self.held.get(call)
+    }
+
+    /// Whether no write of this number is held, owed, logged or applied.
+    pub(crate) fn is_unused(&self, number: u64) -> bool
+        ensures { (p : WritePart) → WritesAre self.now p → IsTrue result ↔ IsUnusedIn p number }
+    {
+        if self.held.contains(number) {
+            return false;
+        }
+        !self.applied.is_posted(number)
+    }
+
     /// Gives the call the places of a write of its own, with the moment: held, owed, logged where
-    /// the log has room, and applied. No write of its number has a place.
+    /// the log has room, and applied. It holds nothing, and no write of its number is held or owed.
     pub(crate) fn stamp(&mut self, call: u64, moment: u64) -> Result<(), AllocError>
-        requires { get nat_eq self.old.held.places call ≡ None }
-        ensures ok { OnOk result (WritesBecomeIf self.old
-            (λ p. IsNone (p.holding call)
-            × ((n : ℕ) (h : Holding) → p.holding n ≡ Some h → held_number n h ≢ call))
+        requires unused { get nat_eq self.old.held.holders call ≡ None }
+        requires free { held_by self.old.held.holdings call ≡ None }
+        ensures ok { OnOk result (WritesBecome self.old
             (λ p. record p { holding = put_at p.holding call (Some (holding.Own (Some moment))) })
             self.new) }
         ensures err { OnErr result (WritesBecome self.old (λ p. p) self.new) }
     {
         let room = self.applied.room.checked_add(1).ok_or(AllocError)?;
-        self.held.reserve()?;
+        self.held.reserve(room)?;
         self.owed.reserve(room)?;
         self.applied.reserve()?;
         self.held.stamp(call, moment);
@@ -98,23 +121,25 @@ impl Writes {
 
     /// Lets the call, which holds none, take the oldest owed write up.
     pub(crate) fn take_owed(&mut self, call: u64) -> Option<Owed>
+        requires free { held_by self.old.held.holdings call ≡ None }
         ensures first { result ≡ first_of self.old.owed.items }
-        ensures makes { WritesBecomeIf self.old (λ p. IsNone (p.holding call)) (λ p. record p {
+        ensures makes { WritesBecome self.old (λ p. record p {
           holding = holding_with p.holding call (option_map (λ o. o.write) (first_of p.owed));
           owed = drop 1 p.owed;
         }) self.new }
     {
         let owed = self.owed.pop_front()?;
-        self.held.hand_over(owed.write.number(), Some(call));
+        self.held.take_up(call, owed.write);
         Some(owed)
     }
 
     /// Appends the write, which the call holds, to the log, where that has room. A pending moment
     /// of the call ends in either case.
     pub(crate) fn post(&mut self, call: u64, write: Write) -> bool
-        requires { is_holder (get nat_eq self.old.held.places (number_of write)) call ≡ true }
+        requires { holds_number call (number_of write) (held_by self.old.held.holdings call)
+            ≡ true }
         ensures room { result ≡ nat_lt (length self.old.log.items) self.old.size }
-        ensures makes { WritesBecomeIf self.old (λ p. IsPlaceOf (p.holding call) call write) (λ p.
+        ensures makes { WritesBecome self.old (λ p.
             let room = nat_lt (length p.log) p.size in
             record p {
               holding = put_at p.holding call
@@ -126,9 +151,24 @@ impl Writes {
             self.held.decide(call);
             return false;
         }
-        self.held.clear(write.number());
-        self.log.push_back_reserved(write);
+        self.log_write(call, write);
         true
+    }
+
+    // Appends the write, which the call holds, to the log, which has room.
+    fn log_write(&mut self, call: u64, write: Write)
+        requires held { holds_number call (number_of write) (held_by self.old.held.holdings call)
+            ≡ true }
+        requires room { length self.old.log.items + 1 ≤ self.old.size }
+        ensures makes { WritesBecome self.old (λ p. record p {
+          holding = put_at p.holding call None;
+          log = p.log ++ write ∷ [];
+        }) self.new }
+    {
+        let number = write.number();
+        self.held.clear(call, number);
+        self.log.push_back_reserved(write);
+        self.applied.expect(number);
     }
 
     /// Applies the front of the log, and answers whether there was one.
@@ -147,8 +187,8 @@ impl Writes {
     /// A call leaves: the write that it held is owed from then on. Where it hands none in, the
     /// place that it has for one is given up.
     pub(crate) fn leave(&mut self, call: u64, held: Option<Owed>)
-        requires { IfSome held
-            (λ o. is_holder (get nat_eq self.old.held.places (number_of o.write)) call ≡ true) }
+        requires { IfSome held (λ o. holds_number call (number_of o.write)
+            (held_by self.old.held.holdings call) ≡ true) }
         ensures makes { WritesBecomeIf self.old
             (λ p. MayLeaveWith (p.holding call) call (option_map (λ o. o.write) held))
             (λ p. record p {
@@ -164,14 +204,14 @@ impl Writes {
 
     // The held write is owed from then on.
     fn leave_owed(&mut self, call: u64, owed: Owed)
-        requires { is_holder (get nat_eq self.old.held.places (number_of owed.write)) call ≡ true }
-        ensures { WritesBecomeIf self.old (λ p. IsPlaceOf (p.holding call) call owed.write)
-            (λ p. record p {
-              holding = put_at p.holding call None;
-              owed = p.owed ++ owed ∷ [];
-            }) self.new }
+        requires { holds_number call (number_of owed.write) (held_by self.old.held.holdings call)
+            ≡ true }
+        ensures { WritesBecome self.old (λ p. record p {
+          holding = put_at p.holding call None;
+          owed = p.owed ++ owed ∷ [];
+        }) self.new }
     {
-        self.held.hand_over(owed.write.number(), None);
+        self.held.leave(call, owed.write.number());
         self.owed.push_back_reserved(owed);
     }
 
@@ -180,9 +220,20 @@ impl Writes {
         ensures { WritesBecomeIf self.old (λ p. MayLeaveWith (p.holding call) call None)
             (λ p. record p { holding = put_at p.holding call None }) self.new }
     {
-        if self.held.is_held_by(call, call) {
-            self.held.clear(call);
-            self.applied.give_up();
+        match self.held.get(call) {
+            Some(Holding::Own { .. }) => self.give_place_up(call),
+            Some(Holding::TookUp { .. }) => {}
+            None => {}
         }
+    }
+
+    // Gives up the place of its own write, which the call holds.
+    fn give_place_up(&mut self, call: u64)
+        requires { holds_number call call (held_by self.old.held.holdings call) ≡ true }
+        ensures { WritesBecome self.old (λ p. record p { holding = put_at p.holding call None })
+            self.new }
+    {
+        self.held.clear(call, call);
+        self.applied.give_up();
     }
 }

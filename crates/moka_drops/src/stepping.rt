@@ -1,7 +1,7 @@
 //! Schedules driven by single steps come to what they come to by polls.
 ghost use Rattle.std.specs.Prelude.{nat_eq};
-ghost use Rattle.moka_run.specs.Machine.{IsValid};
-ghost use Rattle.moka_run.specs.NumberTest.{number_tests};
+ghost use Rattle.moka_machine.specs.Machine.{IsValid};
+ghost use Rattle.moka_machine.specs.NumberTest.{number_tests};
 
 use moka_hist::{Event, Notice, Place, Reply, Rules, Stored};
 use moka_run::{Machine, NumberTests, run};

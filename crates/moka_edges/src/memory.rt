@@ -3,8 +3,8 @@
 //!
 //! One allocation fails at most, so what the test takes beside the run is tried twice.
 ghost use Rattle.std.specs.Prelude.{nat_eq, IfOk};
-ghost use Rattle.moka_run.specs.Machine.{IsValid};
-ghost use Rattle.moka_run.specs.NumberTest.{number_tests};
+ghost use Rattle.moka_machine.specs.Machine.{IsValid};
+ghost use Rattle.moka_machine.specs.NumberTest.{number_tests};
 
 use moka_hist::{Event, Reply, Rules};
 use moka_run::{Machine, Memory, NumberTests, Report, run};

@@ -4,3 +4,4 @@ pub mod Forms
 pub mod Grounds
 pub mod Telling
 pub mod Steps
+pub mod Needs

@@ -3,6 +3,7 @@ ghost use Rattle.std.specs.Prelude.{◌≡◌, false, IfOk};
 ghost use Rattle.moka_hist.specs.Finite.{IsExact};
 ghost use Rattle.moka_hist.specs.Step.{access_for, On_desk};
 ghost use Rattle.moka_hist.specs.Plan as plan;
+ghost use Rattle.moka_hist.specs.Plan.{hearing};
 ghost use Rattle.moka_init.specs.PointPlan.{posting_plan, listening_plan};
 ghost use Rattle.moka_init.specs.FlowPlan.{opening, owed_in};
 
@@ -43,6 +44,23 @@ impl<K, V, E> Flow<K, V, E> {
         ensures { result ≡ (call_of self.now).mode }
     {
         self.mode
+    }
+
+    /// The number of the call.
+    pub fn number(&self) -> u64
+        ensures { result ≡ self.now.call }
+    {
+        self.call
+    }
+
+    /// The notice whose end the call awaits: its own, or that of an owed write that it took up.
+    pub fn notice(&self) -> Option<u64>
+        ensures { result ≡ hearing self.now.call (call_of self.now).plan }
+    {
+        match &self.point {
+            Point::Listening(listening) => self.notice_in_listening(listening),
+            _ => None,
+        }
     }
 
     /// Whether the call has answered: nothing is left for it to do.
@@ -97,6 +115,21 @@ impl<K, V, E> Flow<K, V, E> {
                 notice: Some(self.call),
             }),
             Listening::Unlock { write, .. } => Some(unheard(*write)),
+            Listening::Release(_) => None,
+        }
+    }
+
+    // The notice whose end a call awaits that is listening.
+    fn notice_in_listening(&self, listening: &Listening<K, V>) -> Option<u64>
+        ensures { result ≡ hearing {E = E} self.now.call (listening_plan listening.now) }
+    {
+        match listening {
+            Listening::Ended { notice, .. } => Some(*notice),
+            Listening::Lock(_) => None,
+            Listening::Notice { .. } => None,
+            Listening::Uncopied { .. } => None,
+            Listening::Heard { .. } => Some(self.call),
+            Listening::Unlock { .. } => None,
             Listening::Release(_) => None,
         }
     }

@@ -1,5 +1,8 @@
 //! Where a call stands: one variant for each item that can come first, with all that is still to
 //! do.
+//!
+//! These types are public for one reason: a crate whose states hold a `Flow` beside a borrow has to
+//! name all that lies in it. Nothing but a `Flow` makes or reads them.
 
 use moka_hist::{Answer, Cause, CompResult, Load, Sought, Stored, Write};
 

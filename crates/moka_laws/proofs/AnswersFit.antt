@@ -40,7 +40,6 @@ use Rattle.moka_laws.proofs.Following.{IsFollowed}
 use Rattle.moka_laws.proofs.KindsOfEnds.{settlements_fit}
 use Rattle.moka_laws.proofs.Owning.{plan_left}
 use Rattle.moka_laws.proofs.Reached.{event_reached, run_reached}
-use Rattle.moka_laws.proofs.Roles.{IsLast}
 use Rattle.moka_laws.proofs.Rules.{put_plans, loaded_plans, kept_next, chosen_next, read_key_next, told_op_next_by, IsLoad, IsComputes}
 use Rattle.moka_laws.proofs.Safe.{in_well}
 use Rattle.moka_laws.proofs.Starting.{begins_so, follow_start}
@@ -60,7 +59,7 @@ same_answer : {K V E : Type 0} (a b : Answer K V E) → ◌≡◌ {A = Turn K V 
 same_answer a b e = cc
 
 -- the kind of load that a call was started for
-abbrev kind_of : {K V : Type 0} → Start K V → Option Kind
+abbrev pub kind_of : {K V : Type 0} → Start K V → Option Kind
 kind_of (start.Get key) = None
 kind_of (start.Insert key value) = None
 kind_of (start.GetWith key replace) = Some kind.GetWith
@@ -129,20 +128,20 @@ told_error V kind.Compute error e = absurd (false≢true e)
 
 module _ {K V : Type 0} (E : Type 0) (begin : Start K V) where
   -- what a removal for this answers
-  abbrev SuitsRemoval : Removal K → Type 0
+  abbrev pub SuitsRemoval : Removal K → Type 0
   SuitsRemoval removal =
       ((value : V) → may_answer {E = E} begin (removed_answer removal value) ≡ true) ×
       (may_answer {E = E} begin (nothing_answer removal) ≡ true)
 
   -- a compute that asks so answers as the start may
-  abbrev SuitsCompute : Takes → Type 0
+  abbrev pub SuitsCompute : Takes → Type 0
   SuitsCompute takes =
       ((done : CompResult K V) → may_answer {E = E} begin (answer.Computed done) ≡ true) ×
       ((error : E) → takes_error takes ≡ true →
       may_answer begin (answer.ComputeErr error) ≡ true)
 
   -- a look for this goes on as the start may
-  abbrev SuitsAim : Aim K V → Type 0
+  abbrev pub SuitsAim : Aim K V → Type 0
   SuitsAim plan.To_answer = (value : Option V) → may_answer {E = E} begin (answer.Found value) ≡ true
   SuitsAim (plan.To_report key) =
       (done : CompResult K V) → may_answer {E = E} begin (answer.Computed done) ≡ true
@@ -155,11 +154,11 @@ module _ {K V : Type 0} (E : Type 0) (begin : Start K V) where
 
 module _ {K V E : Type 0} (begin : Start K V) where
   -- the call may answer so
-  abbrev May : Answer K V E → Type 0
+  abbrev pub May : Answer K V E → Type 0
   May a = may_answer begin a ≡ true
 
   -- the item answers as the start may
-  abbrev Suits : Item K V E → Type 0
+  abbrev pub Suits : Item K V E → Type 0
   Suits (plan.Get aim key) = SuitsAim E begin aim
   Suits (plan.Judge aim key stored) = SuitsAim E begin aim
   Suits (plan.Own sought) = kind_of begin ≡ Some sought.load.kind
@@ -177,14 +176,14 @@ module _ {K V E : Type 0} (begin : Start K V) where
   Suits (plan.Reply a) = May a
   Suits _ = Unit {0}
 
-  abbrev AllSuit : List (Item K V E) → Type 0
+  abbrev pub AllSuit : List (Item K V E) → Type 0
   AllSuit [] = Unit {0}
   AllSuit (item ∷ rest) = Suits item × AllSuit rest
 
   -- what a step has to show
-  record Leaves (next : Next K V E) : Type 0 where
-    suits : AllSuit (plan_left next.left)
-    now : (a : Answer K V E) → next.turn ≡ turn.Answer a → May a
+  pub record Leaves (next : Next K V E) : Type 0 where
+    pub suits : AllSuit (plan_left next.left)
+    pub now : (a : Answer K V E) → next.turn ≡ turn.Answer a → May a
 
   answers_so : (a : Answer K V E) (next : Next K V E) → next.left ≡ None →
       next.turn ≡ turn.Answer a → May a →
@@ -328,54 +327,65 @@ module _ {K V E : Type 0} (begin : Start K V) where
   said_suits (plan.To_evict_chosen stamp cause) a may = (may, tt)
   said_suits (plan.To_remove_as_told key) a may = (tt, (may, tt))
 
+  -- what a load reads of its owner, and what an owner is told, fits the call's plan
+  pub record ReadsFit (w : World K V E) (n : ℕ) (c : Call K V E) : Type 0 where
+    pub ends : (sought : Sought K) (with : Settled V E) (rest : List (Item K V E)) →
+        c.plan ≡ plan.Read sought ∷ rest → settlement_for w.desk n ≡ Some with →
+        may_end sought.load.kind with ≡ true
+    pub loads : (load : Load K) (given : Told V E) (rest : List (Item K V E)) →
+        c.plan ≡ plan.Told load ∷ rest → w.desk.told n ≡ Some given →
+        IsLoad load.kind × (does_take (takes_of load.kind) given ≡ true)
+    pub computes : (compute : Compute K) (pair : Option (K × V)) (given : Told V E)
+        (rest : List (Item K V E)) → c.plan ≡ plan.Told_op compute pair ∷ rest →
+        w.desk.told n ≡ Some given →
+        IsComputes compute.takes × (does_take compute.takes given ≡ true)
+
   module _ (eq : K → K → Bool) (w : World K V E) (n : ℕ) (c : Call K V E) (p : AllSuit c.plan)
-      (ends : (sought : Sought K) (with : Settled V E) → c.plan ≡ plan.Read sought ∷ [] →
-      settlement_for w.desk n ≡ Some with → may_end sought.load.kind with ≡ true) where
+      (reads : ReadsFit w n c) where
     abbrev After : World K V E → Next K V E → Type 0
     After new next = Leaves next
 
     parks : Leaves (waits c)
     parks = on _ (λ b e. cc) p
 
-    on_item : (item : Item K V E) (rest : List (Item K V E)) → c.plan ≡ item ∷ rest → IsLast (item ∷ rest) →
-        AllSuit (item ∷ rest) → AllTake (w.desk.asks n) (w.desk.told n) (item ∷ rest) →
+    on_item : (item : Item K V E) (rest : List (Item K V E)) → c.plan ≡ item ∷ rest → AllSuit (item ∷ rest) →
         Outcomes eq After w n c item rest
-    on_item plan.Drain rest e l q t = (
+    on_item plan.Drain rest e q = (
       λ f. goes_suits c rest q.1,
       λ x xs f. on _ (λ b g. cc) (tt, q),
       λ x number xs f. on _ (λ b g. cc) (tt, (tt, q)),
     )
-    on_item (plan.Ended number) rest e l q t = (λ f. goes_suits c rest q.1, λ f. parks)
-    on_item plan.Heard rest e l q t = (λ f. goes_suits c rest q.1, λ f. parks)
-    on_item (plan.Lock key) rest e l q t = (λ f. goes_suits c rest q.1, λ f. parks)
-    on_item (plan.Unlock wrote) rest e l q t = goes_suits c rest q.1
-    on_item (plan.Notice key old cause upsert) rest e l q t =
+    on_item (plan.Ended number) rest e q = (λ f. goes_suits c rest q.1, λ f. parks)
+    on_item plan.Heard rest e q = (λ f. goes_suits c rest q.1, λ f. parks)
+    on_item (plan.Lock key) rest e q = (λ f. goes_suits c rest q.1, λ f. parks)
+    on_item (plan.Unlock wrote) rest e q = goes_suits c rest q.1
+    on_item (plan.Notice key old cause upsert) rest e q =
         (λ f. goes_suits c rest q.1, λ f. on _ (λ b g. cc) (tt, q.1))
-    on_item (plan.Post write) rest e l q t =
+    on_item (plan.Post write) rest e q =
         (λ f. goes_suits c rest q.1, λ f. on _ (λ b g. cc) (tt, (tt, (tt, q))))
-    on_item plan.Turn rest e l q t = (λ f. goes_suits c rest q.1, λ f. parks)
-    on_item plan.Apply rest e l q t = (λ f. goes_suits c rest q.1, λ x xs f. on _ (λ b g. cc) q)
-    on_item plan.End rest e l q t = goes_suits c rest q.1
-    on_item (plan.Get aim key) rest e l q t = (
+    on_item plan.Turn rest e q = (λ f. goes_suits c rest q.1, λ f. parks)
+    on_item plan.Apply rest e q = (λ f. goes_suits c rest q.1, λ x xs f. on _ (λ b g. cc) q)
+    on_item plan.End rest e q = goes_suits c rest q.1
+    on_item (plan.Get aim key) rest e q = (
       (λ more. on _ (λ b g. cc) p),
       (λ none. misses_suit c aim q.0),
       λ k stored some. finds_suit c aim k stored q.0,
     )
-    on_item (plan.Judge aim key stored) rest e l q t =
+    on_item (plan.Judge aim key stored) rest e q =
         ((λ seen. hits_suit c aim key stored.value q.0 p), λ unseen. misses_suit c aim q.0)
-    on_item (plan.Own sought) rest e l q t = (
+    on_item (plan.Own sought) rest e q = (
       λ able none. on _ (λ b g. cc) (q.0, tt),
       λ disabled none. on _ (λ b g. cc) (q.0, tt),
       λ owner some. on _ (λ b g. cc) (q.0, tt),
     )
-    on_item (plan.Own_key compute) rest e l q t = (
+    on_item (plan.Own_key compute) rest e q = (
       (
         (λ able none. on _ (λ b g. cc) (tt, (q.0, tt))),
         λ disabled none. on _ (λ b g. cc) (tt, (q.0, tt)),
       ),
       λ owner some. on _ (λ b g. cc) (q.0, tt),
     )
-    on_item (plan.Own_alone key) rest e l q t = (
+    on_item (plan.Own_alone key) rest e q = (
       (
         (λ able none. on _ (λ b g. cc) (tt, (q.0, tt))),
         λ disabled none. on _ (λ b g. cc) (tt, (q.0, tt)),
@@ -385,37 +395,36 @@ module _ {K V E : Type 0} (begin : Start K V) where
         λ not. on _ (λ b g. cc) (tt, (q.0.0 _, tt)),
       ),
     )
-    on_item (plan.Read sought) rest e l q t = (
+    on_item (plan.Read sought) rest e q = (
       λ none. parks,
-      λ with some. read_suits c sought with q.0
-          (ends sought with (e ∙ ap (λ r. plan.Read sought ∷ r) l) some) p,
+      λ with some. read_suits c sought with q.0 (reads.ends sought with rest e some) p,
     )
-    on_item (plan.Read_key compute) rest e l q t =
+    on_item (plan.Read_key compute) rest e q =
         (λ none. parks, λ with some. read_key_suits c compute with q.0 p)
-    on_item (plan.Settle with) rest e l q t = goes_suits c rest q.1
-    on_item (plan.Ask load) rest e l q t = on _ (λ b g. cc) (q.0, tt)
-    on_item (plan.Ask_op compute pair) rest e l q t = on _ (λ b g. cc) (q.0, tt)
-    on_item (plan.Told load) rest e l q t = (
+    on_item (plan.Settle with) rest e q = goes_suits c rest q.1
+    on_item (plan.Ask load) rest e q = on _ (λ b g. cc) (q.0, tt)
+    on_item (plan.Ask_op compute pair) rest e q = on _ (λ b g. cc) (q.0, tt)
+    on_item (plan.Told load) rest e q = (
       λ none. parks,
-      λ given some. told_suits c load given q.0 t.0.0
-          (subst (ToldFits (takes_of load.kind)) some t.0.2),
+      λ given some. let fits = reads.loads load given rest e some in
+          told_suits c load given q.0 fits.0 fits.1,
     )
-    on_item (plan.Told_op compute pair) rest e l q t = (
+    on_item (plan.Told_op compute pair) rest e q = (
       λ none. parks,
-      λ given some. told_op_suits c compute pair given q.0 t.0.0
-          (subst (ToldFits compute.takes) some t.0.2),
+      λ given some. let fits = reads.computes compute pair given rest e some in
+          told_op_suits c compute pair given q.0 fits.0 fits.1,
     )
-    on_item (plan.Holds key stamp cause there stored) rest e l q t =
+    on_item (plan.Holds key stamp cause there stored) rest e q =
         (λ leaves. on _ (λ b g. cc) (q.0, tt), λ stays. keeps_suit c q.0.1)
-    on_item (plan.Moment (plan.To_store key value)) rest e l q t = on _ (λ b g. cc) (tt, q.1)
-    on_item (plan.Moment (plan.To_take_out removal key)) rest e l q t = on _ (λ b g. cc) q
-    on_item (plan.Write key value moment) rest e l q t = (
+    on_item (plan.Moment (plan.To_store key value)) rest e q = on _ (λ b g. cc) (tt, q.1)
+    on_item (plan.Moment (plan.To_take_out removal key)) rest e q = on _ (λ b g. cc) q
+    on_item (plan.Write key value moment) rest e q = (
       (λ more. on _ (λ b g. cc) p),
       (λ off old. on _ (λ b g. cc) (tt, q.1)),
       (λ is_on. on _ (λ b g. cc) (tt, (tt, q.1))),
       λ k old is_on some. on _ (λ b g. cc) (tt, (tt, (tt, q.1))),
     )
-    on_item (plan.Out removal key) rest e l q t = (
+    on_item (plan.Out removal key) rest e q = (
       (λ more. on _ (λ b g. cc) p),
       (λ off none. on _ (λ b g. cc) (tt, said_suits removal _ q.0.1)),
       (λ is_on none. on _ (λ b g. cc) (tt, said_suits removal _ q.0.1)),
@@ -423,13 +432,12 @@ module _ {K V E : Type 0} (begin : Start K V) where
       λ k old is_on some. on _ (λ b g. cc)
           (tt, (tt, (tt, said_suits removal _ (q.0.0 old.value)))),
     )
-    on_item plan.Idle rest e l q t = goes_suits c rest q.1
-    on_item (plan.Reply a) rest e l q t = answers_so a _ refl refl q.0
+    on_item plan.Idle rest e q = goes_suits c rest q.1
+    on_item (plan.Reply a) rest e q = answers_so a _ refl refl q.0
 
-    on_plan : (q : List (Item K V E)) → c.plan ≡ q → IsLast q → AllSuit q →
-        AllTake (w.desk.asks n) (w.desk.told n) q → OnStep eq After w n c q
-    on_plan [] e l q t = parks
-    on_plan (item ∷ rest) e l q t = outcomes eq After w n c item rest (on_item item rest e l q t)
+    pub on_plan : (q : List (Item K V E)) → c.plan ≡ q → AllSuit q → OnStep eq After w n c q
+    on_plan [] e q = parks
+    on_plan (item ∷ rest) e q = outcomes eq After w n c item rest (on_item item rest e q)
 
 -- ---- as a call is started
 
@@ -449,7 +457,7 @@ module _ {K V : Type 0} (E : Type 0) where
       by true = (tt, (tt, (s, tt)))
       by false = (tt, (s, tt))
 
-  fresh_suits : (rules : Rules) (begin : Start K V) → AllSuit {E = E} begin (plan_of rules begin)
+  pub fresh_suits : (rules : Rules) (begin : Start K V) → AllSuit {E = E} begin (plan_of rules begin)
   fresh_suits rules (start.Get key) = by (is_disabled rules)
     where
       by : (b : Bool) → AllSuit {V = V} {E = E} (start.Get key) (get_plan b key)
@@ -497,21 +505,34 @@ module _ {K V E : Type 0} (eq : K → K → Bool) (begin : Start K V) (n : ℕ) 
     born : n ≤ s.world.desk.last
     suits : (c : Call K V E) → s.calls n ≡ Some c → AllSuit begin c.plan
 
+  -- what it reads, and is told, fits its plan
+  reads_fit : (s : State K V E) → IsReached eq s → (c : Call K V E) → s.calls n ≡ Some c →
+      ReadsFit begin s.world n c
+  reads_fit s reached c live = record {
+    ends = λ sought with rest e some. settlements_fit eq s n c (plan.Read sought) rest sought.load with
+        reached live e refl some;
+    loads = λ load given rest e some.
+        let t = subst (AllTake (s.world.desk.asks n) (s.world.desk.told n)) e taking in
+        (t.0.0, subst (ToldFits (takes_of load.kind)) some t.0.2);
+    computes = λ compute pair given rest e some.
+        let t = subst (AllTake (s.world.desk.asks n) (s.world.desk.told n)) e taking in
+        (t.0.0, subst (ToldFits compute.takes) some t.0.2);
+  }
+    where
+      taking : AllTake (s.world.desk.asks n) (s.world.desk.told n) c.plan
+      taking = (in_well eq s reached).fitting.taking.take n c live
+
   -- what its own step leaves, and answers
   own_step : (s t : State K V E) (reply : Turn K V E) → IsSuiting s → Step eq s n reply t →
       ((c : Call K V E) → t.calls n ≡ Some c → AllSuit begin c.plan) ×
       ((a : Answer K V E) → reply ≡ turn.Answer a → May {E = E} begin a)
   own_step s t reply i step =
       let c : Call K V E = step.call in
-      let well = in_well eq s i.reached in
-      let last : IsLast c.plan = subst (λ v. IsLast (plan_left v)) step.live (well.served.fits n).last in
       step_cases eq (λ new next. Leaves begin next)
       (λ v r. ((c : Call K V E) → v.calls n ≡ Some c → AllSuit begin c.plan) ×
       ((a : Answer K V E) → r ≡ turn.Answer a → May {E = E} begin a)) s t n reply step
-      (on_plan begin eq s.world n c (i.suits c step.live)
-      (λ sought with e some.
-      settlements_fit eq s n c (plan.Read sought) [] sought.load with i.reached step.live e refl some)
-      c.plan refl last (i.suits c step.live) (well.fitting.taking.take n c step.live))
+      (on_plan begin eq s.world n c (i.suits c step.live) (reads_fit s i.reached c step.live)
+      c.plan refl (i.suits c step.live))
       (λ w next l. (
         λ d live. subst (λ v. AllSuit begin (plan_left v))
             (sym (put_here s.calls n next.left) ∙ live) l.suits,

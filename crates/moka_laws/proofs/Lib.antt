@@ -42,6 +42,7 @@ pub mod Since
 pub mod AlongRuns
 pub mod KindsOfEnds
 pub mod AnswersFit
+pub mod Shapely
 pub mod Undisturbed
 pub mod Storing
 pub mod Parting

@@ -45,7 +45,7 @@ module _ {K V E : Type 0} (eq : K → K → Bool) where
   by_access M w n c item rest (On_table op) (got.Desk f) new h m = absurd h
   by_access M w n c item rest (On_desk made) (got.Table turn) new h m = absurd h
 
-  by_plan : (M : World K V E → Next K V E → Type 0) (w : World K V E) (n : ℕ) (rules : Rules) (mode : Mode) (plan : List (Item K V E)) (aborts : ℕ)
+  pub by_plan : (M : World K V E → Next K V E → Type 0) (w : World K V E) (n : ℕ) (rules : Rules) (mode : Mode) (plan : List (Item K V E)) (aborts : ℕ)
       (given : Got K V E) (new : World K V E) →
       let c : Call K V E = record { rules = rules; mode = mode; plan = plan; aborts = aborts } in
       Gets eq n w (access_of n c) given new → OnStep M w n c plan → M new (next_of n c given)

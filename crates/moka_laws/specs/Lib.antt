@@ -10,6 +10,7 @@ pub mod Bounded
 pub mod Sound
 pub mod Listening
 pub mod Loads
+pub mod Shapes
 pub mod Readers
 pub mod Answered
 pub mod Alone

@@ -39,7 +39,8 @@ pub use listening::{
 };
 pub use loads::{
     aborts_are_counted, answers_fit, error_by_cause, exhausted_at_last, nothing_by_cause,
-    opened_by_owners, own_ends_are_told, owners_answer_settled, settlements_fit, tests_are_two,
+    opened_by_owners, own_ends_are_told, owners_answer_settled, settlements_fit, shapes_fit,
+    tests_are_two,
 };
 pub use missing::{missing_can_come, turn_is_held, waiters_have_owners};
 pub use moving::{calls_are_safe, move_is_step, moves_are_steps, polled_is_poll};

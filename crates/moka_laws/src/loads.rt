@@ -1,6 +1,7 @@
 //! What a load comes to: a value, an error, nothing, or that its call gave up.
 
 ghost use Rattle.moka_laws.specs.Loads.{AbortsAreCounted, AnswersFit, ErrorByCause, ExhaustedAtLast, NothingByCause, OpenedByOwners, OwnEndsAreTold, OwnersAnswerSettled, SettlementsFit, TestsAreTwo};
+ghost use Rattle.moka_laws.specs.Shapes.{ShapesFit};
 
 /// Cites the law that the owner of a load answers what it settles, with the step by which it ends
 /// that: a value, an error or nothing; and the owner of a compute ends it with nothing, and answers
@@ -61,4 +62,10 @@ pub fn settlements_fit<K: Eq, V, E>()
 /// nor an error, an `optional` no error, a `try` not nothing, and no compute gives up.
 pub fn answers_fit<K: Eq, V, E>()
     ensures fits { AnswersFit K V E K.eq }
+{}
+
+/// Cites the law that a call which asks nobody answers as what it was started for may, whatever worlds
+/// it meets: a get what it found, an insert and an invalidation that they are done, and so on.
+pub fn shapes_fit<K: Eq, V, E>()
+    ensures fits { ShapesFit K V E K.eq }
 {}

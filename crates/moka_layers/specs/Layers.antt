@@ -1,15 +1,17 @@
 -- What the layers of a cache stand for.
-use Rattle.std.specs.Prelude.{◌≡◌, ◌≢◌, ◌≤◌, ℕ, ◌+◌, Bool, Option, IfSome}
+use Rattle.std.specs.Prelude.{◌≡◌, ◌≢◌, ◌≤◌, ℕ, ◌+◌, Bool, List, Option, None, IfSome}
 use Rattle.std.specs.Prelude.{IsSome}
 use Rattle.std.specs.Option.{option_and_then, option_map_or}
 use Rattle.std.specs.declared.cmp.PartialEq as PartialEq
 use Rattle.std.specs.declared.hash.Hash as Hash
 use Rattle.moka_hist.specs.Bound.{times_of, most_undecided}
 use Rattle.moka_hist.specs.State.{Stay, TablePart, World}
-use Rattle.moka_hist.specs.Step.{Access, Gets, May}
+use Rattle.moka_hist.specs.Step.{Access, On_table, On_desk, Gets, May}
 use Rattle.moka_hist.specs.declared.record_tests.Tests as Tests
 use Rattle.moka_hist.specs.declared.tables.TableOp.{TableOp}
 use Rattle.moka_hist.specs.declared.accesses.Got.{Got}
+use Rattle.moka_hist.specs.declared.accesses.Got.TheVariants as got
+use Rattle.moka_hist.specs.declared.tables.TableTurn.TheVariants as table
 use Rattle.moka_hist.specs.declared.accesses.Want.{Want}
 use Rattle.moka_bound.specs.Ahead.{Work}
 use Rattle.moka_table.specs.Map.{most_steps}
@@ -17,6 +19,7 @@ use Rattle.moka_table.specs.declared.table.Table as Table
 use Rattle.moka_desk.specs.StandsFor as desk
 use Rattle.moka_desk.specs.Sizes.{owed_in, logged_in, room_in, has_ended}
 use Rattle.moka_init.specs.Grounds.{Account, MayWant, nothing_told}
+use Rattle.moka_layers.specs.Visiting.{handed_out}
 use Rattle.moka_layers.specs.declared.layers.Layers.{Layers}
 
 -- The table has the map, and as many keys. It never had more than the reference's, and its first
@@ -40,6 +43,11 @@ module _ {K V T C : Type 0} where
   -- for how many steps the operation that was begun may still stay undecided, or else the next one
   abbrev pub left_in : Table.Ghosts T K V C → T → Option C → ℕ
   left_in t table begun = option_map_or (λ c. t.left table c) begun (most_on t table)
+
+-- Each step of an operation on such tables decides it: a step that leaves one undecided brings it
+-- nearer to its end, and there none is nearer than another.
+abbrev pub AlwaysDecides : {K V T C : Type 0} → Table.Ghosts T K V C → Type 0
+AlwaysDecides {K} {V} {T} {C} t = (n : ℕ) × ((table : T) (call : C) → t.left table call ≡ n)
 
 -- What a call has begun on the table: it may go on with it, and does so for no longer than the
 -- reference allows.
@@ -112,6 +120,17 @@ module _ {K V E T C Q : Type 0} {same : PartialEq.Ghosts K} {hash : Hash.Ghosts 
       (w : World K V E) → GroundIs eq t q old w → May w access
       → (after : World K V E) × Gets eq old.call w access given after × GroundIs eq t q new after
       × OthersStay t old w new after
+
+  -- the access decided, where the table always does, and nothing is begun then
+  abbrev pub Decides : Table.Ghosts T K V C → Got K V E → Layers K V E T C Q same hash → Type 0
+  Decides t given new =
+      AlwaysDecides t → (given ≢ got.Table table.Going) × (new.begun ≡ None)
+
+  -- the calls that are handed out once the access was made: those of its visit
+  abbrev pub handed_for : Layers K V E T C Q same hash → Access K V E → Option (List ℕ)
+      → Option (List ℕ)
+  handed_for layers (On_table operation) before = before
+  handed_for layers (On_desk made) before = handed_out layers.desk made before
 
   -- the layers stand for what they stood for
   abbrev pub LayersStay : (K → K → Bool) → Table.Ghosts T K V C → Tests.Ghosts Q K V

@@ -1,5 +1,5 @@
 -- What a visit does to the desk.
-use Rattle.std.specs.Prelude.{◌≡◌, ℕ, Bool, false, not, Option}
+use Rattle.std.specs.Prelude.{◌≡◌, ℕ, Bool, false, not, List, Option, Some}
 use Rattle.std.specs.Option.{option_map_or}
 use Rattle.std.specs.declared.cmp.PartialEq as PartialEq
 use Rattle.std.specs.declared.hash.Hash as Hash
@@ -13,6 +13,7 @@ use Rattle.moka_hist.specs.declared.visits.Visit.TheVariants as visit
 use Rattle.moka_hist.specs.declared.visits.Found.{Found}
 use Rattle.moka_hist.specs.declared.visits.Found.TheVariants as found
 use Rattle.moka_desk.specs.StandsFor.{StandsFor}
+use Rattle.moka_desk.specs.Waits.{lock_line, settlement_line, turn_line}
 use Rattle.moka_desk.specs.declared.state.Desk.{Desk}
 use Rattle.moka_init.specs.Forms.{IsFoundBy}
 use Rattle.moka_init.specs.Grounds.{VisitNeedsMemory}
@@ -56,6 +57,14 @@ module _ {K V E : Type 0} {same : PartialEq.Ghosts K} {hash : Hash.Ghosts K} whe
       JudgeIs eq old (test_holds answers replace key stored.value) stored.stamp stored.modified f
       new
   VisitBy eq answers old made f new = VisitIs eq old made f new
+
+  -- the calls that are handed out once the visit was made: those that waited for what it ends or
+  -- frees; and what was handed out before, where it hands nobody out
+  abbrev pub handed_out : Desk K V E same hash → Visit K V E → Option (List ℕ) → Option (List ℕ)
+  handed_out desk (visit.Settle call with) before = Some (settlement_line desk call)
+  handed_out desk (visit.UnlockKey call wrote) before = Some (lock_line desk call)
+  handed_out desk (visit.EndTurn call) before = Some (turn_line desk call)
+  handed_out desk _ before = before
 
   -- the desk stands for what it stood for
   abbrev pub DeskStays : (K → K → Bool) → Desk K V E same hash → Desk K V E same hash → Type 0

@@ -8,6 +8,7 @@ use crate::visits::make_visit;
 use moka_desk::Desk;
 use moka_hist::{Got, TableOp, TableTurn, Tests, Visit, Want};
 use moka_init::{Alone, Ground};
+use moka_sync::CallList;
 use moka_table::Table;
 use std::alloc::AllocError;
 use std::hash::Hash;
@@ -38,7 +39,8 @@ impl<
     ghost use Rattle.moka_init.specs.Grounds.{Accesses, Lacks, OfWanted, VisitNeedsMemory};
     ghost use Rattle.moka_init.specs.Grounds.{NeedsMemory, still_begun};
     ghost use Rattle.moka_layers.specs.Layers.{GroundIs, Allows, Serves, LayersStay, account_of};
-    ghost use Rattle.moka_layers.specs.Layers.{most_on, operation_in};
+    ghost use Rattle.moka_layers.specs.Layers.{Decides, handed_for, most_on, operation_in};
+    ghost use Rattle.moka_layers.specs.Visiting.{handed_out};
 
     // Makes a step of the operation that was begun. It stays begun where it is undecided, or memory
     // was wanting.
@@ -59,6 +61,7 @@ impl<
         ensures err_account { OnErr result (account_of T.Table self.new
             ≡ account_of T.Table (record self.old { begun = Some call })) }
         ensures call { self.new.call ≡ self.old.call }
+        ensures decides { IfOk result (λ given. Decides T.Table given self.new) }
     {
         match self.table.step(&mut call) {
             Ok(TableTurn::Going) => {
@@ -90,6 +93,7 @@ impl<
         ensures err_account { OnErr result
             (account_of T.Table self.new ≡ account_of T.Table self.old) }
         ensures call { self.new.call ≡ self.old.call }
+        ensures decides { IfOk result (λ given. Decides T.Table given self.new) }
     {
         let call = self.table.begin(operation);
         match self.go_on(call) {
@@ -119,6 +123,7 @@ impl<
         ensures err_account { OnErr result
             (account_of T.Table self.new ≡ account_of T.Table self.old) }
         ensures call { self.new.call ≡ self.old.call }
+        ensures decides { IfOk result (λ given. Decides T.Table given self.new) }
     {
         match self.begun.take() {
             Some(call) => self.go_on(call),
@@ -127,7 +132,11 @@ impl<
     }
 
     // Makes a visit. A call that visits the desk has no operation begun.
-    fn visit(&mut self, visit: Visit<K, V, E>) -> Result<Got<K, V, E>, AllocError>
+    fn visit(
+        &mut self,
+        visit: Visit<K, V, E>,
+        woken: &mut Option<CallList>,
+    ) -> Result<Got<K, V, E>, AllocError>
         requires keys { IsExact K.is_clone }
         requires values { IsExact V.is_clone }
         requires errors { IsExact E.is_clone }
@@ -144,14 +153,18 @@ impl<
         ensures err_account { OnErr result
             (account_of T.Table self.new ≡ account_of T.Table self.old) }
         ensures call { self.new.call ≡ self.old.call }
+        ensures decides { IfOk result (λ given. Decides T.Table given self.new) }
+        ensures woken { IfOk result (λ given.
+            woken.new ≡ handed_out self.old.desk visit woken.old) }
     {
-        let found = make_visit(&mut self.desk, &self.tests, visit)?;
+        let found = make_visit(&mut self.desk, &self.tests, visit, woken)?;
         self.begun = None;
         Ok(Got::Desk(found))
     }
 
     /// Makes the wanted access. After want of memory the layers stand for what they stood for. What
-    /// other calls have begun they may still go on with, whatever is accessed.
+    /// other calls have begun they may still go on with, whatever is accessed. Where the table
+    /// always decides at once, as the plain one does, each access does.
     pub fn access(&mut self, want: Want<K, V, E>) -> Result<Got<K, V, E>, AllocError>
         requires keys { IsExact K.is_clone }
         requires values { IsExact V.is_clone }
@@ -164,6 +177,39 @@ impl<
             (λ access. Accesses (account_of T.Table self.old) access given
             (account_of T.Table self.new))) }
         ensures call { self.new.call ≡ self.old.call }
+        ensures decides { IfOk result (λ given. Decides T.Table given self.new) }
+        // Without memory.
+        ensures err { OnErr result (LayersStay K.eq T.Table Q.Tests self.old self.new) }
+        ensures err_account { OnErr result
+            (account_of T.Table self.new ≡ account_of T.Table self.old) }
+        ensures err_needs { OnErr result (OfWanted (account_of T.Table self.old) want
+            (Lacks (GroundIs K.eq T.Table Q.Tests self.old) NeedsMemory)) }
+    {
+        let mut woken = None;
+        self.access_waking(want, &mut woken)
+    }
+
+    /// The same. The calls that its visit hands out stand in `woken` then; where it hands nobody
+    /// out, that is as it was.
+    pub fn access_waking(
+        &mut self,
+        want: Want<K, V, E>,
+        woken: &mut Option<CallList>,
+    ) -> Result<Got<K, V, E>, AllocError>
+        requires keys { IsExact K.is_clone }
+        requires values { IsExact V.is_clone }
+        requires errors { IsExact E.is_clone }
+        requires allows { Allows K.eq T.Table Q.Tests self.old want }
+        // What it gives, and what is told then.
+        ensures serves { IfOk result (λ given. OfWanted (account_of T.Table self.old) want
+            (λ access. Serves K.eq T.Table Q.Tests self.old access given self.new)) }
+        ensures tells { IfOk result (λ given. OfWanted (account_of T.Table self.old) want
+            (λ access. Accesses (account_of T.Table self.old) access given
+            (account_of T.Table self.new))) }
+        ensures call { self.new.call ≡ self.old.call }
+        ensures decides { IfOk result (λ given. Decides T.Table given self.new) }
+        ensures woken { IfOk result (λ given. OfWanted (account_of T.Table self.old) want
+            (λ access. woken.new ≡ handed_for self.old access woken.old)) }
         // Without memory.
         ensures err { OnErr result (LayersStay K.eq T.Table Q.Tests self.old self.new) }
         ensures err_account { OnErr result
@@ -174,7 +220,7 @@ impl<
         match want {
             Want::Begin(operation) => self.begin(operation),
             Want::Table => self.resume(),
-            Want::Desk(visit) => self.visit(visit),
+            Want::Desk(visit) => self.visit(visit, woken),
         }
     }
 }

@@ -1,24 +1,31 @@
 //! The visits of the desk that flows make.
-ghost use Rattle.std.specs.Prelude.{◌≡◌, IfOk, OnErr};
+ghost use Rattle.std.specs.Prelude.{◌≡◌, Some, IfOk, OnErr};
 ghost use Rattle.moka_hist.specs.Finite.{IsExact};
 ghost use Rattle.moka_desk.specs.StandsFor.{Can};
+ghost use Rattle.moka_desk.specs.Waits.{lock_line, settlement_line, turn_line};
 ghost use Rattle.moka_init.specs.Forms.{IsFoundBy};
 ghost use Rattle.moka_layers.specs.Visiting.{HoldsIs, JudgeIs, DeskStays, VisitLacks, VisitIs};
-ghost use Rattle.moka_layers.specs.Visiting.{VisitBy, test_holds};
+ghost use Rattle.moka_layers.specs.Visiting.{VisitBy, handed_out, test_holds};
 
 use moka_desk::Desk;
 use moka_hist::{Cause, Found, Load, Settled, Stored, Takes, Tests, Visit};
+use moka_sync::CallList;
 use std::alloc::AllocError;
 use std::hash::Hash;
 
-/// Makes the visit. After want of memory the desk stands for what it stood for. Which calls it woke
-/// is let go: nobody polls them here.
+/// Makes the visit. After want of memory the desk stands for what it stood for. The calls that it
+/// hands out, where it is one that does, stand in `woken` then.
 pub(crate) fn make_visit<
     K: Eq + Hash + Clone + Drop,
     V: Clone + Drop,
     E: Clone + Drop,
     Q: Tests<K, V>,
->(desk: &mut Desk<K, V, E>, tests: &Q, visit: Visit<K, V, E>) -> Result<Found<V, E>, AllocError>
+>(
+    desk: &mut Desk<K, V, E>,
+    tests: &Q,
+    visit: Visit<K, V, E>,
+    woken: &mut Option<CallList>,
+) -> Result<Found<V, E>, AllocError>
     requires keys { IsExact K.is_clone }
     requires values { IsExact V.is_clone }
     requires errors { IsExact E.is_clone }
@@ -26,6 +33,7 @@ pub(crate) fn make_visit<
     ensures form { IfOk result (λ found. IsFoundBy visit found) }
     ensures ok { IfOk result (λ found.
         VisitBy K.eq (Q.answers tests.now) desk.old visit found desk.new) }
+    ensures woken { IfOk result (λ found. woken.new ≡ handed_out desk.old visit woken.old) }
     ensures err { OnErr result (DeskStays K.eq desk.old desk.new) }
     ensures err_needs { OnErr result (VisitLacks K.eq desk.old visit) }
 {
@@ -34,7 +42,7 @@ pub(crate) fn make_visit<
         Visit::TakeOwed { call } => Ok(Found::TakeOwed(desk.take_owed(call))),
         Visit::NoticeEnded { call, notice } => notice_ended(desk, call, notice),
         Visit::LockKey { call, key } => lock_key(desk, call, key),
-        Visit::UnlockKey { call, wrote } => Ok(unlock_key(desk, call, wrote)),
+        Visit::UnlockKey { call, wrote } => Ok(unlock_key(desk, call, wrote, woken)),
         Visit::OpenNotice {
             call,
             key,
@@ -56,13 +64,13 @@ pub(crate) fn make_visit<
         Visit::WaitOrOwn { call, key, kind } => wait_or_own(desk, call, Load { key, kind }),
         Visit::OwnAlone { call, key } => own_alone(desk, call, key),
         Visit::ReadSettled { call } => read_settled(desk, call),
-        Visit::Settle { call, with } => Ok(settle(desk, call, with)),
+        Visit::Settle { call, with } => Ok(settle(desk, call, with, woken)),
         Visit::OpenAsk { call, takes } => open_ask(desk, call, takes),
         Visit::TakeTold { call } => Ok(Found::TakeTold(desk.take_told(call))),
         Visit::PostWrite { call, write } => Ok(Found::PostWrite(desk.post_write(call, write))),
         Visit::TakeTurn { call } => take_turn(desk, call),
         Visit::ApplyOne { call } => Ok(Found::ApplyOne(desk.apply_one(call))),
-        Visit::EndTurn { call } => Ok(end_turn(desk, call)),
+        Visit::EndTurn { call } => Ok(end_turn(desk, call, woken)),
     }
 }
 
@@ -197,11 +205,13 @@ fn settle<K: Eq + Hash + Clone + Drop, V: Clone + Drop, E: Clone + Drop>(
     desk: &mut Desk<K, V, E>,
     call: u64,
     with: Settled<V, E>,
+    woken: &mut Option<CallList>,
 ) -> Found<V, E>
     requires { Can K.eq desk.old (Visit.Settle call with) }
-    ensures { VisitIs K.eq desk.old (Visit.Settle call with) result desk.new }
+    ensures visit { VisitIs K.eq desk.old (Visit.Settle call with) result desk.new }
+    ensures woken { woken.new ≡ Some (settlement_line desk.old call) }
 {
-    let _ = desk.settle(call, with);
+    *woken = Some(desk.settle(call, with));
     Found::Settle
 }
 
@@ -210,11 +220,13 @@ fn settle<K: Eq + Hash + Clone + Drop, V: Clone + Drop, E: Clone + Drop>(
 fn end_turn<K: Eq + Hash + Clone + Drop, V: Clone + Drop, E: Clone + Drop>(
     desk: &mut Desk<K, V, E>,
     call: u64,
+    woken: &mut Option<CallList>,
 ) -> Found<V, E>
     requires { Can K.eq desk.old (Visit.EndTurn call) }
-    ensures { VisitIs K.eq desk.old (Visit.EndTurn call) result desk.new }
+    ensures visit { VisitIs K.eq desk.old (Visit.EndTurn call) result desk.new }
+    ensures woken { woken.new ≡ Some (turn_line desk.old call) }
 {
-    let _ = desk.end_turn(call);
+    *woken = Some(desk.end_turn(call));
     Found::EndTurn
 }
 
@@ -257,11 +269,13 @@ fn unlock_key<K: Eq + Hash + Clone + Drop, V: Clone + Drop, E: Clone + Drop>(
     desk: &mut Desk<K, V, E>,
     call: u64,
     wrote: bool,
+    woken: &mut Option<CallList>,
 ) -> Found<V, E>
     requires { Can K.eq desk.old (Visit.UnlockKey call wrote) }
-    ensures { VisitIs K.eq desk.old (Visit.UnlockKey call wrote) result desk.new }
+    ensures visit { VisitIs K.eq desk.old (Visit.UnlockKey call wrote) result desk.new }
+    ensures woken { woken.new ≡ Some (lock_line desk.old call) }
 {
-    let _ = desk.unlock_key(call, wrote);
+    *woken = Some(desk.unlock_key(call, wrote));
     Found::UnlockKey
 }
 

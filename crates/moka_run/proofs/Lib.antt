@@ -1,16 +1,5 @@
-pub mod Places
-pub mod Running
-pub mod Leaving
-pub mod OtherCalls
-pub mod Stepping
-pub mod Happening
-pub mod LiveCalls
-pub mod ReportPlaces
 pub mod Stopping
-pub mod Needing
 pub mod ByKey
 pub mod OneWord
 pub mod Reported
 pub mod Due
-pub mod ReportNotices
-pub mod Telling

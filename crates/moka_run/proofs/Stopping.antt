@@ -10,9 +10,10 @@ use Rattle.moka_hist.specs.declared.events.Event.{Event}
 use Rattle.moka_hist.specs.declared.events.Event.TheVariants as event
 use Rattle.moka_hist.specs.declared.replies.Reply.{Reply}
 use Rattle.moka_hist.specs.declared.record_tests.Tests as Tests
-use Rattle.moka_run.specs.Machine.{Begins, MachineIs}
-use Rattle.moka_run.specs.Running.{StopsAt, MayStopIn}
-use Rattle.moka_run.specs.declared.machine.Machine.{Machine}
+use Rattle.moka_machine.specs.Machine.{Begins, MachineIs}
+use Rattle.moka_machine.specs.WantOfMemory.{MayStopIn}
+use Rattle.moka_run.specs.Running.{StopsAt}
+use Rattle.moka_machine.specs.declared.machine.Machine.{Machine}
 use Rattle.moka_run.specs.declared.report.Memory.{Memory}
 
 module _ {K V E : Type 0} (eq : K → K → Bool) where

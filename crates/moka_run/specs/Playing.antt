@@ -19,8 +19,9 @@ use Rattle.moka_hist.specs.declared.writes.Place.{Place}
 use Rattle.moka_table.specs.Map.{Pairs}
 use Rattle.moka_text.specs.ReportText.{report_text}
 use Rattle.moka_text.specs.ScheduleText.{Says, IsFirstBad}
-use Rattle.moka_run.specs.NumberTest.{number_test}
-use Rattle.moka_run.specs.Report.{AreNotices, ArePlaces, Reports}
+use Rattle.moka_machine.specs.NumberTest.{number_test}
+use Rattle.moka_machine.specs.Listed.{AreNotices, ArePlaces}
+use Rattle.moka_run.specs.Report.{Reports}
 use Rattle.moka_run.specs.declared.report.Report.{Report}
 use Rattle.moka_run.specs.declared.status.Status.{Status}
 use Rattle.moka_run.specs.declared.status.Status.TheVariants as status

@@ -5,17 +5,15 @@ ghost use Rattle.std.specs.String.{string_bytes};
 ghost use Rattle.moka_text.specs.ScheduleText.{IsFirstBad, Says, rules_of};
 ghost use Rattle.moka_hist.specs.State.{State};
 ghost use Rattle.moka_hist.specs.Run.{IsReached};
-ghost use Rattle.moka_run.specs.Machine.{IsValid, MachineIs};
-ghost use Rattle.moka_run.specs.NumberTest.{number_tests};
+ghost use Rattle.moka_machine.specs.Machine.{IsValid, MachineIs};
+ghost use Rattle.moka_machine.specs.NumberTest.{number_tests};
 ghost use Rattle.moka_run.specs.Playing.{IsReport, ReportsRun, RunsFresh};
 ghost use Rattle.moka_run.specs.Running.{Answers};
 
-use crate::lists::{list_all, report_of};
-use crate::machine::Machine;
-use crate::number_tests::NumberTests;
-use crate::report::{ReplyList, Report};
+use crate::report::{ReplyList, Report, list_all, report_of};
 use crate::runs::run_events;
 use moka_hist::{Event, Rules, Stored};
+use moka_machine::{Machine, NumberTests};
 use moka_table::EntryList;
 use moka_text::{Schedule, ScheduleError, read_schedule, write_report};
 use std::alloc::{AllocError, Global};
@@ -113,6 +111,7 @@ fn read_given(alloc: Global, bytes: Vec<u8>) -> Result<Schedule, ScheduleError>
 /// are read.
 ///
 /// `BadLine` comes with the first line that is not in the grammar, `Memory` where memory runs out.
+#[inline(always)]
 pub(crate) fn answer(alloc: Global, bytes: Vec<u8>) -> Result<String, ScheduleError>
     ensures answers { IfOk result (λ text. IsReport bytes.items (string_bytes text)) }
     ensures bad_line { (line : ℕ) → IsErrOf result (ScheduleError.BadLine line)

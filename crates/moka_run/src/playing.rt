@@ -46,6 +46,7 @@ fn schedule_status(e: ScheduleError) -> Status
 }
 
 /// Answers the schedule that the bytes say, on the sink.
+#[inline(always)]
 fn respond<Snk: Sink>(alloc: Global, bytes: Vec<u8>, sink: &mut Snk) -> Status
     ensures done { result ≡ Status.Done
         → WritesReport bytes.items (Snk.written sink.old) (Snk.written sink.new) }

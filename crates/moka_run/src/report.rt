@@ -1,16 +1,18 @@
 //! What `run` answers.
+ghost use Rattle.std.specs.Prelude.{◌≡◌, IfOk};
+ghost use Rattle.moka_hist.specs.Finite.{IsExact};
+ghost use Rattle.moka_hist.specs.State.{State};
+ghost use Rattle.moka_machine.specs.Machine.{MachineIs};
+ghost use Rattle.moka_run.specs.Report.{Reports};
 
-use moka_hist::{Listing, Notice, Place, Reply};
+use moka_hist::{Listing, Reply, Tests};
+use moka_machine::{Machine, NoticeList, PlaceList};
 use moka_table::EntryList;
+use std::alloc::{AllocError, Global};
+use std::hash::Hash;
 
 /// The replies of a run, one for each event, in order.
 pub type ReplyList<K, V, E> = Listing<Reply<K, V, E>>;
-
-/// The numbers of committed writes, each with the place where it stands.
-pub type PlaceList = Listing<(u64, Place)>;
-
-/// Notices to a listener.
-pub type NoticeList<K, V> = Listing<Notice<K, V>>;
 
 /// The replies of a whole run, and what stands after it: each stored pair once, in any order, and
 /// each committed write with its place and each notice, both ascending by number.
@@ -29,4 +31,56 @@ pub struct Memory<K, V, E> {
     pub done: u64,
     pub steps: u64,
     pub replies: ReplyList<K, V, E>,
+}
+
+/// The lists of a report on the machine's state.
+#[derive(Drop)]
+pub(crate) struct ReportLists<K, V> {
+    pub(crate) entries: EntryList<K, V>,
+    pub(crate) places: PlaceList,
+    pub(crate) notices: NoticeList<K, V>,
+}
+
+/// Makes the lists of a report on the machine's state.
+pub(crate) fn list_all<
+    K: Eq + Hash + Clone + Drop,
+    V: Clone + Drop,
+    E: Clone + Drop,
+    T: Tests<K, V> + Drop,
+>(alloc: Global, machine: &Machine<K, V, E, T>) -> Result<ReportLists<K, V>, AllocError>
+    requires keys { IsExact K.is_clone }
+    requires values { IsExact V.is_clone }
+    ensures { IfOk result (λ lists. (s : State K V E) → MachineIs K.eq T.Tests machine.now s
+        → Reports K.eq lists.entries lists.places lists.notices s) }
+{
+    Ok(ReportLists {
+        entries: machine.entries(alloc)?,
+        places: machine.places(alloc)?,
+        notices: machine.notices(alloc)?,
+    })
+}
+
+/// The report of these replies and lists.
+pub(crate) fn report_of<K, V, E>(
+    replies: ReplyList<K, V, E>,
+    lists: ReportLists<K, V>,
+) -> Report<K, V, E>
+    ensures { result ≡ record {
+      replies = replies;
+      entries = lists.entries;
+      places = lists.places;
+      notices = lists.notices;
+    } }
+{
+    let ReportLists {
+        entries,
+        places,
+        notices,
+    } = lists;
+    Report {
+        replies,
+        entries,
+        places,
+        notices,
+    }
 }

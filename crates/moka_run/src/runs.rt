@@ -20,14 +20,13 @@ ghost use Rattle.moka_laws.specs.Removals.{ChosenStands, DisabledStoresNothing, 
 ghost use Rattle.moka_laws.specs.Removals.{KeptByCause, PlacesComeBack, RemovalsAnswer};
 ghost use Rattle.moka_laws.specs.Removals.{RemoveAnswersTaken, StampsAreOne};
 ghost use Rattle.moka_laws.specs.Waiting.{WaitsByCause};
-ghost use Rattle.moka_run.specs.Machine.{MachineIs, IsValid};
+ghost use Rattle.moka_machine.specs.Machine.{MachineIs, IsValid};
 ghost use Rattle.moka_run.specs.Running.{Answers, StopsAt};
 ghost use Rattle.moka_run.specs.Report.{Reports};
 
-use crate::lists::{list_all, report_of};
-use crate::machine::Machine;
-use crate::report::{Memory, ReplyList, Report};
+use crate::report::{Memory, ReplyList, Report, list_all, report_of};
 use moka_hist::{Event, Reply, Tests};
+use moka_machine::Machine;
 use std::alloc::Global;
 use std::hash::Hash;
 

@@ -6,10 +6,10 @@ ghost use Rattle.moka_hist.specs.State.{State};
 ghost use Rattle.moka_hist.specs.Step.{May};
 ghost use Rattle.moka_hist.specs.Run.{IsReached};
 ghost use Rattle.moka_init.specs.Grounds.{access_at};
-ghost use Rattle.moka_run.specs.Calls.{HasPlace};
+ghost use Rattle.moka_machine.specs.Calls.{HasPlace};
 ghost use Rattle.moka_layers.specs.Counted.{counted};
-ghost use Rattle.moka_run.specs.NumberTest.{number_tests};
-ghost use Rattle.moka_run.specs.Machine.{IsOut, IsValid, TakenOut};
+ghost use Rattle.moka_machine.specs.NumberTest.{number_tests};
+ghost use Rattle.moka_machine.specs.Machine.{IsOut, IsValid, TakenOut};
 
 use moka_hist::{Event, Got, Refusal, Reply, Rules, Tests, Want};
 use moka_init::{Alone, Flow, Ground, step};
@@ -35,8 +35,8 @@ impl<K: Eq + Hash + Clone + Drop, V: Clone + Drop, E: Clone + Drop, T: Tests<K, 
     ghost use Rattle.moka_hist.specs.State.{World};
     ghost use Rattle.moka_init.specs.Grounds.{Accesses, Gives, Lacks, NeedsMemory, OfWanted};
     ghost use Rattle.moka_layers.specs.Layers.{account_of};
-    ghost use Rattle.moka_run.specs.Machine.{Reaches, Allows};
-    ghost use Rattle.moka_run.specs.TheTable.{the_table};
+    ghost use Rattle.moka_machine.specs.Machine.{Reaches, Allows};
+    ghost use Rattle.moka_machine.specs.TheTable.{the_table};
 
     ghost stands = { λ c w. Reaches K.eq T.Tests c.machine w };
 

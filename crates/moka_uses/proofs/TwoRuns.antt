@@ -8,9 +8,9 @@ use Rattle.moka_hist.specs.Run.{Run, IsReached}
 use Rattle.moka_hist.specs.declared.events.Event.{Event}
 use Rattle.moka_hist.specs.declared.replies.Reply.{Reply}
 use Rattle.moka_laws.specs.OwnKeys.{ReachedByLawfulRun}
-use Rattle.moka_run.specs.Machine.{MachineIs}
+use Rattle.moka_machine.specs.Machine.{MachineIs}
 use Rattle.moka_run.specs.Running.{Answers}
-use Rattle.moka_run.specs.declared.machine.Machine.{Machine}
+use Rattle.moka_machine.specs.declared.machine.Machine.{Machine}
 use Rattle.moka_uses.specs.ReadBack.{IsReadBack, found_in, log_size, no_rules, no_test, no_tests, looking, storing}
 use Rattle.moka_uses.specs.declared.reading.NoTests.{NoTests}
 

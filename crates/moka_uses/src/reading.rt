@@ -4,7 +4,7 @@ ghost use Rattle.moka_hist.specs.Finite.{IsExact};
 ghost use Rattle.moka_hist.specs.State.{State};
 ghost use Rattle.moka_hist.specs.Run.{IsReached};
 ghost use Rattle.moka_hist.specs.declared.replies.Reply.{Reply};
-ghost use Rattle.moka_run.specs.Machine.{MachineIs, IsValid};
+ghost use Rattle.moka_machine.specs.Machine.{MachineIs, IsValid};
 ghost use Rattle.moka_run.specs.Running.{Answers};
 ghost use Rattle.moka_uses.specs.ReadBack.{IsReadBack, found_in, looking, no_tests, storing};
 

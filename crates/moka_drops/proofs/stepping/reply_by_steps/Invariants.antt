@@ -1,7 +1,7 @@
 -- The machine stays valid from step to step.
 use Rattle.std.proofs.Common.{nat_eq}
-use Rattle.moka_run.specs.Machine.{IsValid}
-use Rattle.moka_run.specs.NumberTest.{number_tests}
+use Rattle.moka_machine.specs.Machine.{IsValid}
+use Rattle.moka_machine.specs.NumberTest.{number_tests}
 use Rattle.moka_drops.proofs.stepping.reply_by_steps.Given as goal
 
 abbrev pub invariant-loop-step : goal.invariant-loop-step

@@ -2,6 +2,6 @@
 use Rattle.std.proofs.Common.{refl}
 use Rattle.moka_layers.proofs.visits.unlock_key.Goals as goal
 
-pub returns : goal.returns
-returns g c =
+pub returns-clause-visit : goal.returns-clause-visit
+returns-clause-visit g c =
     record { form = refl; made = λ w h may. (refl, c.unlock_key.ensures.makes w h may) }

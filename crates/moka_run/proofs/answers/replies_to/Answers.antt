@@ -2,7 +2,7 @@
 use Rattle.std.proofs.Common.{ℕ, List, nat_eq, sym, subst}
 use Rattle.moka_hist.specs.declared.events.Event.{Event}
 use Rattle.moka_hist.specs.declared.replies.Reply.{Reply}
-use Rattle.moka_run.specs.NumberTest.{number_tests}
+use Rattle.moka_machine.specs.NumberTest.{number_tests}
 use Rattle.moka_run.specs.Running.{Answers}
 use Rattle.moka_run.proofs.answers.replies_to.Goals as goal
 

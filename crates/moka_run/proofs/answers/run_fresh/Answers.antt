@@ -2,7 +2,7 @@
 use Rattle.std.proofs.Common.{ℕ, [], nat_eq, refl, sym, subst}
 use Rattle.moka_hist.specs.State.{fresh}
 use Rattle.moka_hist.specs.Run.{IsReached}
-use Rattle.moka_run.specs.NumberTest.{number_test}
+use Rattle.moka_machine.specs.NumberTest.{number_test}
 use Rattle.moka_run.specs.Playing.{RunsFresh}
 use Rattle.moka_run.specs.declared.report.Report.{Report}
 use Rattle.moka_run.proofs.answers.run_fresh.Goals as goal

@@ -9,7 +9,8 @@ use Rattle.moka_hist.specs.declared.replies.Reply.{Reply}
 use Rattle.moka_run.specs.declared.report.Memory.{Memory}
 use Rattle.moka_run.specs.declared.report.Report.{Report}
 use Rattle.moka_run.specs.Report.{Reports}
-use Rattle.moka_run.specs.Running.{Answers, MayStopIn}
+use Rattle.moka_machine.specs.WantOfMemory.{MayStopIn}
+use Rattle.moka_run.specs.Running.{Answers}
 use Rattle.moka_run.proofs.Stopping.{stops_between}
 use Rattle.moka_run.proofs.runs.run.Goals as goal
 

@@ -4,7 +4,7 @@ use Rattle.std.specs.Vec.{vec_capacity}
 use Rattle.moka_hist.specs.State.{State}
 use Rattle.moka_hist.specs.Places.{IsLawful}
 use Rattle.moka_hist.specs.Run.{Run, IsReached}
-use Rattle.moka_run.specs.Machine.{MachineIs, IsValid}
+use Rattle.moka_machine.specs.Machine.{MachineIs, IsValid}
 use Rattle.moka_run.proofs.runs.run_events.Given as goal
 
 abbrev pub invariant-loop-event : goal.invariant-loop-event

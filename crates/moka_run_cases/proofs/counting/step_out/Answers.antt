@@ -6,8 +6,8 @@ use Rattle.moka_hist.specs.Finite.{put_at}
 use Rattle.moka_init.specs.FlowPlan.{call_of, next_in}
 use Rattle.moka_init.proofs.Going.{may_want}
 use Rattle.moka_laws.proofs.Outcomes.{put_same}
-use Rattle.moka_run.specs.Machine.{MachineIs}
-use Rattle.moka_run.proofs.Stepping.{still_without, still_out}
+use Rattle.moka_machine.specs.Machine.{MachineIs}
+use Rattle.moka_machine.proofs.Stepping.{still_without, still_out}
 use Rattle.moka_run_cases.proofs.counting.step_out.Goals as goal
 
 pub step-stepped-requires-clause-fits : goal.step-stepped-requires-clause-fits

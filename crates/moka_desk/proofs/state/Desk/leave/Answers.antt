@@ -1,10 +1,11 @@
-use Rattle.std.proofs.Common.{◌≡◌, ℕ, ◌==◌, ◌&&◌, ◌++◌, nat_lt, false, cond, List, Some, None, is_some, IsNone, refl, sym, ap, ◌∙◌, subst, option_to_list}
+use Rattle.std.proofs.Common.{◌≡◌, ℕ, ◌==◌, ◌&&◌, ◌++◌, nat_lt, false, cond, List, Some, None, is_some, IsNone, IfSome, true, refl, sym, ap, ◌∙◌, subst, option_to_list}
 use Rattle.moka_sync.specs.Waiting.{without}
 use Rattle.moka_hist.specs.Finite.{put_at}
 use Rattle.moka_hist.specs.Conditions.{MayLeaveWith}
-use Rattle.moka_hist.specs.Visits.{is_reader_of, settled_without}
+use Rattle.moka_hist.specs.Visits.{is_reader_of, number_of, settled_without}
 use Rattle.moka_hist.specs.declared.visits.Settled.TheVariants as settled
 use Rattle.moka_desk.specs.Asks.{ask_part}
+use Rattle.moka_desk.specs.Held.{holds_number}
 use Rattle.moka_desk.specs.Locks.{lock_part}
 use Rattle.moka_desk.specs.Writes.{write_part, WritesAre}
 use Rattle.moka_desk.specs.Waits.{lock_line, settlement_line}
@@ -16,8 +17,9 @@ pub leave-requires : goal.leave-requires
 leave-requires g c =
     let w = c.requires.0 in
     let h = c.requires.1 in
-    leaves_its_own _ w.holding h.writes.holding c.args.call c.still_heard-held.result
-    (subst (MayLeaveWith (w.holding c.args.call) c.args.call) (sym c.still_heard-held.ensures.same) c.requires.2)
+    subst (λ o. IfSome c.still_heard-held.result (λ x. holds_number c.args.call (number_of x.write) o ≡ true)) (sym (h.writes.holding c.args.call))
+    (leaves_its_own (w.holding c.args.call) c.args.call c.still_heard-held.result
+    (subst (MayLeaveWith (w.holding c.args.call) c.args.call) (sym c.still_heard-held.ensures.same) c.requires.2))
 
 pub returns-clause-makes : goal.returns-clause-makes
 returns-clause-makes g c = λ w h may.

@@ -1,20 +1,29 @@
-use Rattle.std.proofs.Common.{◌∙◌, ap, nat_eq}
+use Rattle.std.proofs.Common.{◌≡◌, ◌++◌, map, nat_eq, sym, ◌∙◌}
 use Rattle.std.specs.HashMap.{get}
 use Rattle.moka_hist.specs.Finite.{times}
-use Rattle.moka_desk.specs.Held.{owed_numbers}
+use Rattle.moka_hist.specs.Visits.{number_of}
+use Rattle.moka_hist.proofs.Owners.{is_none_of}
+use Rattle.moka_desk.specs.Held.{held_by}
 use Rattle.moka_desk.specs.Writes.{write_part}
-use Rattle.moka_desk.proofs.Allowed.{not_owed, has_no_place}
+use Rattle.moka_desk.proofs.Owing.{has_no_place}
 use Rattle.moka_desk.proofs.Outcomes.{on_err}
 use Rattle.moka_desk.proofs.state.Desk.stamp_moment.Goals as goal
 
-pub stamp-requires : goal.stamp-requires
-stamp-requires g c =
+pub stamp-requires-clause-unused : goal.stamp-requires-clause-unused
+stamp-requires-clause-unused g c =
+    let h = c.requires.1 in
+    let may = c.requires.2 in
+    let s = c.args.self.now.writes in
+    let call = c.args.call in
+    let nowhere : times call (map number_of (map (λ o. o.write) s.owed.items ++ s.log.items ++ s.applied.writes.items)) ≡ 0 = rw (h.writes.owed, h.writes.log, h.writes.applied) may.1.stands in
+    is_none_of _ (has_no_place (get nat_eq s.held.holders) (held_by s.held.holdings) s.held.agree s.owed.items s.log.items s.applied.writes.items s.nobody_holds_owed call nowhere
+    (λ n held is. may.1.held n held (sym (h.writes.holding n) ∙ is)))
+
+pub stamp-requires-clause-free : goal.stamp-requires-clause-free
+stamp-requires-clause-free g c =
     let w = c.requires.0 in
     let h = c.requires.1 in
-    let unused = c.requires.2.1 in
-    let writes = c.args.self.now.writes in
-    has_no_place (get nat_eq writes.held.places) w.holding h.writes.holding writes.owed.items writes.nobody_holds_owed c.args.call
-    (ap (λ owed. times c.args.call (owed_numbers owed)) h.writes.owed ∙ not_owed w.owed w.log w.applied c.args.call unused.stands) unused.held
+    h.writes.holding c.args.call ∙ is_none_of (w.holding c.args.call) c.requires.2.0
 
 pub returns-in_err-stamp-clause-err : goal.returns-in_err-stamp-clause-err
 returns-in_err-stamp-clause-err g c = on_err c.from_residual.result (λ w h. record {
@@ -39,7 +48,7 @@ returns-clause-makes g c = λ w h may. record {
   turn = h.turn;
   published = h.published;
   last = h.last;
-  writes = rw (← h.clock) (c.in_ok-stamp.ensures.ok (write_part w) h.writes (may.0, may.1.held));
+  writes = rw (← h.clock) (c.in_ok-stamp.ensures.ok (write_part w) h.writes);
   loads = h.loads;
   locks = h.locks;
   notices = h.notices;

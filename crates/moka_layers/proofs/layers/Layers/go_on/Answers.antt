@@ -1,5 +1,5 @@
 -- The table's step is the reference's, and the desk is as it was.
-use Rattle.std.proofs.Common.{subst}
+use Rattle.std.proofs.Common.{refl, subst, arith}
 use Rattle.moka_hist.specs.declared.tables.TableTurn.{TableTurn}
 use Rattle.moka_layers.proofs.TableSteps.{Stepped, going_serves, going_tells, decided_serves, decided_tells}
 use Rattle.moka_layers.proofs.layers.Layers.go_on.Goals as goal
@@ -39,3 +39,13 @@ returns-in-Ok-Decided-clause-tells g c = λ o is_o.
     let s = subst (λ (u : TableTurn g.row.K.Denot g.row.V.Denot). Stepped t g.K.PartialEq.eq o old c.args.call u c.step.new.self c.step.new.call) c.in-Ok-Decided.field-0-is
     (record { moves = e.moves o is_o; peak = e.peak; first = e.first; undecided = e.undecided; nears = e.nears; others = e.others; others_left = e.others_left; holds = g.met.T.Table.peak_holds old }) in
     decided_tells t g.Q.Tests g.K.PartialEq.eq o old c.step.new.self c.args.call c.step.new.call c.args.self.now.desk c.args.self.now.tests c.args.self.now.call c.in-Ok-Decided.answer s
+
+pub returns-in-Ok-Going-clause-decides : goal.returns-in-Ok-Going-clause-decides
+returns-in-Ok-Going-clause-decides g c = λ always.
+    let less = c.in-Ok-Going.ensures.nears c.in-Ok-Going.field-0-is in
+    let before = always.1 c.args.self.now.table c.args.call in
+    let after = always.1 c.step.new.self c.step.new.call in
+    absurd (omega (arith, less, before, after))
+
+pub returns-in-Ok-Decided-clause-decides : goal.returns-in-Ok-Decided-clause-decides
+returns-in-Ok-Decided-clause-decides g c = λ always. ((λ e. (cc)), refl)

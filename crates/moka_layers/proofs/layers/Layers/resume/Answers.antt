@@ -3,10 +3,19 @@ use Rattle.std.proofs.Common.{◌≡◌, Some, sym, ap, subst, ◌∙◌}
 use Rattle.std.proofs.lemmas.Result.{IfOk-weaker, on_err_weaker}
 use Rattle.moka_hist.specs.Step.{On_table}
 use Rattle.moka_init.specs.Grounds.{Accesses}
-use Rattle.moka_layers.specs.Layers.{LayersStay, account_of, operation_in}
+use Rattle.moka_layers.specs.Layers.{LayersStay, Serves, account_of, operation_in}
 use Rattle.moka_layers.specs.declared.layers.Layers.{Layers}
 use Rattle.moka_layers.proofs.Wanted.{with_begun}
 use Rattle.moka_layers.proofs.layers.Layers.resume.Goals as goal
+
+pub returns-clause-serves : goal.returns-clause-serves
+returns-clause-serves g c =
+    let t = g.T.Table in
+    let begun : c.args.self.now.begun ≡ Some c.in-Some.call = sym c.take.ensures.value ∙ c.in-Some.is in
+    IfOk-weaker c.go_on.result _ _ (λ given serves o is_o.
+    subst (λ (l : Layers g.row.K.Denot g.row.V.Denot g.row.E.Denot g.row.T.Denot g.row.C.Denot g.row.Q.Denot g.K.PartialEq g.K.Hash). Serves g.K.PartialEq.eq t g.Q.Tests l (On_table o) given c.go_on.new.self)
+    (with_begun t g.Q.Tests g.K.PartialEq.eq c.args.self.now c.in-Some.call begun) (serves o (ap (operation_in t) (sym begun) ∙ is_o)))
+    c.go_on.ensures.serves
 
 pub returns-clause-tells : goal.returns-clause-tells
 returns-clause-tells g c =

@@ -1,0 +1,69 @@
+-- A visit may be made where what it needs is met.
+use Rattle.std.proofs.Common.{◌≡◌, ◌≢◌, ℕ, true, false, ◌||◌, Option, Some, None, is_some, IsSome, IsNone, refl, sym, subst}
+use Rattle.std.specs.Prelude.{◌↔◌, IsSomeAnd}
+use Rattle.moka_hist.specs.Conditions.{HasUnsettled, HoldsNoWrite, HoldsWrite, IsUnused, MayVisit, may_end}
+use Rattle.moka_needs.specs.Needs.{IsOfCall, ending_of, need_of}
+use Rattle.moka_hist.specs.State.{DeskPart}
+use Rattle.moka_hist.specs.declared.loads.Kind.{Kind}
+use Rattle.moka_hist.specs.declared.loads.Kind.TheVariants as kind
+use Rattle.moka_hist.specs.declared.loads.Load.{Load}
+use Rattle.moka_hist.specs.declared.visits.Settled.{Settled}
+use Rattle.moka_hist.specs.declared.visits.Settled.TheVariants as settled
+use Rattle.moka_hist.specs.declared.visits.Visit.{Visit}
+use Rattle.moka_hist.specs.declared.visits.Visit.TheVariants as visit
+use Rattle.moka_desk.specs.Meets.{Meets, may_end_so}
+
+along : {A : Type 0} (P : A → Type 0) (a b : A) → a ≡ b → P b ↔ P a
+along P a b e = (subst P (sym e), subst P e)
+
+same_end : {V E : Type 0} (k : Kind) (s : Settled V E) → may_end k s ≡ may_end_so k (ending_of s)
+same_end kind.GetWith settled.NotYet = refl
+same_end kind.GetWith (settled.Ready value) = refl
+same_end kind.GetWith (settled.Err error) = refl
+same_end kind.GetWith settled.Nothing = refl
+same_end kind.GetWith settled.Aborted = refl
+same_end kind.Optional settled.NotYet = refl
+same_end kind.Optional (settled.Ready value) = refl
+same_end kind.Optional (settled.Err error) = refl
+same_end kind.Optional settled.Nothing = refl
+same_end kind.Optional settled.Aborted = refl
+same_end kind.Try settled.NotYet = refl
+same_end kind.Try (settled.Ready value) = refl
+same_end kind.Try (settled.Err error) = refl
+same_end kind.Try settled.Nothing = refl
+same_end kind.Try settled.Aborted = refl
+same_end kind.Compute settled.NotYet = refl
+same_end kind.Compute (settled.Ready value) = refl
+same_end kind.Compute (settled.Err error) = refl
+same_end kind.Compute settled.Nothing = refl
+same_end kind.Compute settled.Aborted = refl
+
+module _ {K V E : Type 0} where
+  ends : (o : Option (Load K)) (s : Settled V E) → IsSomeAnd o (λ load. may_end_so load.kind (ending_of s) ≡ true) ↔ IsSomeAnd o (λ load. may_end load.kind s ≡ true)
+  ends None s = ((λ h. h), (λ h. h))
+  ends (Some load) s = along (λ b. b ≡ true) _ _ (same_end load.kind s)
+
+  pub meets_is_may : (w : DeskPart K V E) (call : ℕ) (made : Visit K V E) → IsOfCall call made → Meets w call (need_of made) ↔ MayVisit w made
+  meets_is_may w call (visit.Clock n) is = along (λ m. HoldsNoWrite w m) n call is
+  meets_is_may w call (visit.TakeOwed n) is = along (λ m. IsNone (w.holding m)) n call is
+  meets_is_may w call (visit.NoticeEnded n number) is = ((λ h. h), (λ h. h))
+  meets_is_may w call (visit.LockKey n key) is = along (λ m. IsNone (w.locked m)) n call is
+  meets_is_may w call (visit.UnlockKey n wrote) is = along (λ m. IsSome (w.locked m) × (wrote ≡ false → HoldsNoWrite w m)) n call is
+  meets_is_may w call (visit.OpenNotice n key value stamp modified cause upsert) is = along (λ m. IsNone (w.notices m)) n call is
+  meets_is_may w call (visit.StampMoment n) is = along (λ m. IsNone (w.holding m) × IsUnused w m) n call is
+  meets_is_may w call (visit.Judge replace key stored) is = ((λ h. h), (λ h. h))
+  meets_is_may w call (visit.Holds key stored cause) is = ((λ h. h), (λ h. h))
+  meets_is_may w call (visit.WaitOrOwn n key kind) is =
+      along (λ m. IsNone (w.owning m) × IsNone (w.joined m) × HasUnsettled w (record { key = key; kind = kind })) n call is
+  meets_is_may w call (visit.OwnAlone n key) is = along (λ m. IsNone (w.owning m) × IsNone (w.joined m)) n call is
+  meets_is_may w call (visit.ReadSettled n) is = along (λ m. IsSome (w.joined m)) n call is
+  meets_is_may w call (visit.Settle n with) is =
+      let back = along (λ m. IsSomeAnd (w.owning m) (λ load. may_end load.kind with ≡ true)) n call is in
+      let end = ends (w.owning call) with in
+      ((λ h. back.0 (end.0 h)), (λ h. end.1 (back.1 h)))
+  meets_is_may w call (visit.OpenAsk n takes) is = along (λ m. IsNone (w.asks m) × IsNone (w.told m)) n call is
+  meets_is_may w call (visit.TakeTold n) is = along (λ m. (is_some (w.asks m) || is_some (w.told m)) ≡ true) n call is
+  meets_is_may w call (visit.PostWrite n write) is = along (λ m. HoldsWrite w m write) n call is
+  meets_is_may w call (visit.TakeTurn n) is = along (λ m. w.turn ≢ Some m) n call is
+  meets_is_may w call (visit.ApplyOne n) is = along (λ m. w.turn ≡ Some m) n call is
+  meets_is_may w call (visit.EndTurn n) is = along (λ m. w.turn ≡ Some m) n call is

@@ -1,0 +1,133 @@
+//! What each call holds of writes, by the call.
+
+ghost use Rattle.std.specs.Prelude.{◌≡◌, ℕ, ◌+◌, ◌≤◌, ◌<◌, ◌==◌, true, cond, length, Option, Some, None, is_some, nat_eq, vec_capacity, OnOk, if◌then◌else◌};
+ghost use Rattle.std.specs.Map.{lookup};
+ghost use Rattle.std.specs.HashMap.{get, hash_map_len};
+ghost use Rattle.moka_desk.specs.Held.{held_by, held_count, holding_room, decided_holding, others_of};
+
+use moka_hist::Holding;
+use std::alloc::{AllocError, Global};
+use std::collections::HashMap;
+
+/// The place of a write of its own that a call holds, or the write that it took up. A call takes a
+/// write up without memory: where the map has none for it, it stands among the rest, which has room
+/// for each.
+#[derive(Drop)]
+pub(crate) struct Holdings {
+    pub(crate) by_call: HashMap<u64, Holding>,
+    pub(crate) rest: Vec<(u64, Holding)>,
+}
+
+impl Holdings {
+    /// No call holds anything.
+    pub(crate) fn new(alloc: Global) -> Self
+        ensures none { (n : ℕ) → held_by result n ≡ None }
+        ensures count { held_count result ≡ 0 }
+        ensures room { holding_room result ≡ 0 }
+    {
+        Holdings {
+            by_call: HashMap::new(alloc),
+            rest: Vec::new(alloc),
+        }
+    }
+
+    /// What the call holds.
+    pub(crate) fn get(&self, call: u64) -> Option<Holding>
+        ensures { result ≡ held_by self.now call }
+    {
+        match self.by_call.get(&call).copied() {
+            Some(holding) => Some(holding),
+            None => find_in(&self.rest, call),
+        }
+    }
+
+    /// Makes room for so many calls that hold something.
+    pub(crate) fn reserve(&mut self, room: usize) -> Result<(), AllocError>
+        ensures same { (n : ℕ) → held_by self.new n ≡ held_by self.old n }
+        ensures count { held_count self.new ≡ held_count self.old }
+        ensures kept { holding_room self.old ≤ holding_room self.new }
+        ensures room { OnOk result (room ≤ holding_room self.new) }
+    {
+        self.rest.reserve(room)
+    }
+
+    /// The call, which holds nothing, holds this from then on. There is room for it.
+    #[inline(always)]
+    pub(crate) fn put(&mut self, call: u64, holding: Holding)
+        requires room { held_count self.old < holding_room self.old }
+        requires free { held_by self.old call ≡ None }
+        ensures holds { (n : ℕ) →
+            held_by self.new n ≡ cond (call == n) (Some holding) (held_by self.old n) }
+        ensures count { held_count self.new ≤ held_count self.old + 1 }
+        ensures room { holding_room self.new ≡ holding_room self.old }
+    {
+        match self.by_call.insert(call, holding) {
+            Ok(_) => {}
+            Err(_) => self.rest.push_reserved((call, holding)),
+        }
+    }
+
+    /// The call, which holds something, holds this from then on, and nothing else.
+    pub(crate) fn replace(&mut self, call: u64, holding: Holding)
+        requires few { held_count self.old ≤ holding_room self.old }
+        requires held { is_some (held_by self.old call) ≡ true }
+        ensures holds { (n : ℕ) →
+            held_by self.new n ≡ cond (call == n) (Some holding) (held_by self.old n) }
+        ensures count { held_count self.new ≤ held_count self.old }
+        ensures room { holding_room self.new ≡ holding_room self.old }
+    {
+        self.remove(call);
+        self.put(call, holding);
+    }
+
+    /// The call holds nothing from then on.
+    #[inline(always)]
+    pub(crate) fn remove(&mut self, call: u64)
+        ensures holds { (n : ℕ) →
+            held_by self.new n ≡ cond (call == n) None (held_by self.old n) }
+        ensures count { held_count self.new + (if is_some (held_by self.old call) then 1 else 0)
+            ≤ held_count self.old }
+        ensures room { holding_room self.new ≡ holding_room self.old }
+    {
+        let _ = self.by_call.remove(&call);
+        remove_from(&mut self.rest, call);
+    }
+
+    /// The moment that is pending with what the call holds is so no longer.
+    pub(crate) fn decide(&mut self, call: u64)
+        requires { held_count self.old ≤ holding_room self.old }
+        ensures holds { (n : ℕ) → held_by self.new n
+            ≡ cond (call == n) (decided_holding (held_by self.old call)) (held_by self.old n) }
+        ensures count { held_count self.new ≤ held_count self.old }
+        ensures room { holding_room self.new ≡ holding_room self.old }
+    {
+        match self.get(call) {
+            Some(Holding::Own { .. }) => self.replace(call, Holding::Own { pending: None }),
+            Some(Holding::TookUp { .. }) => {}
+            None => {}
+        }
+    }
+}
+
+// What this call holds, where it is among these.
+fn find_in(rest: &[(u64, Holding)], call: u64) -> Option<Holding>
+    ensures { result ≡ lookup (nat_eq call) rest.now }
+{
+    for held in rest {
+        if call == held.0 {
+            return Some(held.1);
+        }
+    }
+    None
+}
+
+// Takes out what this call holds among these.
+fn remove_from(rest: &mut Vec<(u64, Holding)>, call: u64)
+    ensures others { rest.new.items ≡ others_of call rest.old.items }
+    ensures room { vec_capacity rest.new ≡ vec_capacity rest.old }
+{
+    if rest.is_empty() {
+        return;
+    }
+    rest.retain(|held| held.0 != call);
+}

@@ -1,0 +1,148 @@
+//! What the next visit of a flow needs of the desk.
+ghost use Rattle.std.specs.Prelude.{◌≡◌, Some, IfOk};
+ghost use Rattle.moka_hist.specs.Finite.{IsExact};
+ghost use Rattle.moka_init.specs.Grounds.{access_at, access_from};
+ghost use Rattle.moka_init.specs.Needs.{need_at};
+ghost use Rattle.moka_init.specs.PointPlan.{settled_of, posting_plan, looking_plan, loading_plan};
+ghost use Rattle.moka_init.specs.PointPlan.{computing_plan, writing_plan, removing_plan};
+ghost use Rattle.moka_init.specs.PointPlan.{listening_plan};
+ghost use Rattle.moka_needs.specs.Needs.{ending_of};
+
+use crate::flow::Flow;
+use crate::points::{
+    Computing, Ending as Ends, Listening, Loading, Looking, Point, Posting, Removing, Writing,
+};
+use moka_hist::{Kind, Load};
+use moka_needs::{Ending, Need};
+use std::alloc::AllocError;
+
+impl<K: Clone + Drop, V, E> Flow<K, V, E> {
+    /// What the flow's next visit needs of the desk. None where its next access is one of the
+    /// table, which needs nothing of it. Where a load is to be claimed its key is cloned.
+    pub fn need(&self) -> Result<Option<Need<K>>, AllocError>
+        requires { IsExact K.is_clone }
+        ensures { IfOk result (λ need. need ≡ need_at (access_at self.now)) }
+    {
+        match &self.point {
+            Point::Posting(posting) => Ok(Some(self.posting_need(posting))),
+            Point::Looking(looking) => Ok(self.looking_need(looking)),
+            Point::Loading(loading) => self.loading_need(loading),
+            Point::Computing(computing) => self.computing_need(computing),
+            Point::Writing(writing) => Ok(self.writing_need(writing)),
+            Point::Removing(removing) => Ok(self.removing_need(removing)),
+            Point::Listening(listening) => Ok(Some(self.listening_need(listening))),
+            Point::Answering(_) => Ok(Some(Need::Clock)),
+            Point::Spent => Ok(Some(Need::Clock)),
+        }
+    }
+
+    fn posting_need(&self, posting: &Posting<K, V>) -> Need<K>
+        ensures { Some result ≡ need_at (access_from self.now (posting_plan posting.now)) }
+    {
+        match posting {
+            Posting::Drain(_) => Need::TakeOwed,
+            Posting::Post { write, .. } => Need::PostWrite { write: *write },
+            Posting::Turn { .. } => Need::TakeTurn,
+            Posting::Apply { .. } => Need::ApplyOne,
+            Posting::End { .. } => Need::EndTurn,
+        }
+    }
+
+    fn looking_need(&self, looking: &Looking<K, V>) -> Option<Need<K>>
+        ensures { result ≡ need_at (access_from self.now (looking_plan looking.now)) }
+    {
+        match looking {
+            Looking::Get(_) => None,
+            Looking::Judge { .. } => Some(Need::Judge),
+        }
+    }
+
+    fn loading_need(&self, loading: &Loading<K, V, E>) -> Result<Option<Need<K>>, AllocError>
+        requires { IsExact K.is_clone }
+        ensures { IfOk result (λ need.
+            need ≡ need_at (access_from self.now (loading_plan loading.now))) }
+    {
+        match loading {
+            Loading::Own(sought) => claims(&sought.load.key, sought.load.kind),
+            Loading::Read(_) => Ok(Some(Need::ReadSettled)),
+            Loading::Settle(ends) => Ok(Some(Need::Settle { with: end_of(ends) })),
+            Loading::Ask(_) => Ok(Some(Need::OpenAsk)),
+            Loading::Told(_) => Ok(Some(Need::TakeTold)),
+        }
+    }
+
+    fn computing_need(&self, computing: &Computing<K, V, E>) -> Result<Option<Need<K>>, AllocError>
+        requires { IsExact K.is_clone }
+        ensures { IfOk result (λ need.
+            need ≡ need_at (access_from self.now (computing_plan computing.now))) }
+    {
+        match computing {
+            Computing::Own(compute) => claims(&compute.key, Kind::Compute),
+            Computing::OwnAlone(_) => Ok(Some(Need::OwnAlone)),
+            Computing::Read(_) => Ok(Some(Need::ReadSettled)),
+            Computing::Ask { .. } => Ok(Some(Need::OpenAsk)),
+            Computing::Told { .. } => Ok(Some(Need::TakeTold)),
+            Computing::Settle(_) => Ok(Some(Need::Settle {
+                with: Ending::Nothing,
+            })),
+        }
+    }
+
+    fn writing_need(&self, writing: &Writing<K, V>) -> Option<Need<K>>
+        ensures { result ≡ need_at (access_from self.now (writing_plan writing.now)) }
+    {
+        match writing {
+            Writing::Moment(_) => Some(Need::StampMoment),
+            Writing::Write { .. } => None,
+        }
+    }
+
+    fn removing_need(&self, removing: &Removing<K, V>) -> Option<Need<K>>
+        ensures { result ≡ need_at (access_from self.now (removing_plan removing.now)) }
+    {
+        match removing {
+            Removing::Find(_) => None,
+            Removing::Holds { .. } => Some(Need::Holds),
+            Removing::Moment(_) => Some(Need::StampMoment),
+            Removing::Out(_) => None,
+            Removing::Idle(_) => Some(Need::Clock),
+        }
+    }
+
+    fn listening_need(&self, listening: &Listening<K, V>) -> Need<K>
+        ensures { Some result ≡ need_at (access_from self.now (listening_plan listening.now)) }
+    {
+        match listening {
+            Listening::Ended { .. } => Need::NoticeEnded,
+            Listening::Lock(_) => Need::LockKey,
+            Listening::Notice { .. } => Need::OpenNotice,
+            Listening::Uncopied { .. } => Need::OpenNotice,
+            Listening::Heard { .. } => Need::NoticeEnded,
+            Listening::Unlock { .. } => Need::UnlockKey { wrote: true },
+            Listening::Release(_) => Need::UnlockKey { wrote: false },
+        }
+    }
+}
+
+// To claim this load.
+fn claims<K: Clone + Drop>(key: &K, kind: Kind) -> Result<Option<Need<K>>, AllocError>
+    requires { IsExact K.is_clone }
+    ensures { IfOk result (λ need.
+        need ≡ Some (Need.WaitOrOwn (record { key = key.now; kind = kind }))) }
+{
+    let key = key.clone()?;
+    Ok(Some(Need::WaitOrOwn {
+        load: Load { key, kind },
+    }))
+}
+
+// How the owner ends, but for the value and the error.
+fn end_of<V, E>(ends: &Ends<V, E>) -> Ending
+    ensures { result ≡ ending_of (settled_of ends.now) }
+{
+    match ends {
+        Ends::Ready { .. } => Ending::Ready,
+        Ends::Err(_) => Ending::Err,
+        Ends::Nothing => Ending::Nothing,
+    }
+}

@@ -1,0 +1,11 @@
+pub mod Places
+pub mod Running
+pub mod Leaving
+pub mod OtherCalls
+pub mod Stepping
+pub mod Happening
+pub mod LiveCalls
+pub mod ListedPlaces
+pub mod ListedNotices
+pub mod Needing
+pub mod Telling

@@ -1,0 +1,32 @@
+-- A machine that was just built stands for the fresh state, which is reached.
+use Rattle.std.proofs.Common.{◌≡◌, Option, Some, None, [], refl, sym, ap, subst, ◌∙◌, arith}
+use Rattle.std.specs.Option.{option_map}
+use Rattle.moka_hist.specs.State.{fresh}
+use Rattle.moka_machine.specs.Calls.{IsUsed, runs_in}
+use Rattle.moka_machine.specs.Machine.{call_in}
+use Rattle.moka_machine.specs.declared.calls.Running.{Running}
+use Rattle.moka_machine.proofs.machine.Machine.build.Goals as goal
+
+pub returns-clause-fresh : goal.returns-clause-fresh
+returns-clause-fresh g c =
+    let empty = c.new-2.ensures.empty in
+    let none = empty.peak in
+    record {
+      world = record {
+        table = record { map = empty.map; keys = empty.count; peak = omega (arith, none); first = empty.first };
+        desk = c.in_ok-desk.ensures (g.T.Tests.answers c.args.tests);
+        tests = refl;
+        stay = omega arith;
+      };
+      calls = λ n. ap (λ p. option_map call_in (runs_in p)) (c.new-3.ensures n);
+      each = λ n r e. let f : None ≡ Some r = sym (ap runs_in (c.new-3.ensures n)) ∙ e in absurd (cc);
+      used = λ n. subst (λ (p : Option (Option (Running g.row.K.Denot g.row.V.Denot g.row.E.Denot))). IsUsed p) (sym (c.new-3.ensures n)) (λ e. e);
+    }
+
+pub returns-clause-valid : goal.returns-clause-valid
+returns-clause-valid g c =
+    record {
+      state = fresh g.row.K.Denot g.row.V.Denot g.row.E.Denot c.args.rules c.args.log (g.T.Tests.answers c.args.tests);
+      stands = returns-clause-fresh g c;
+      reached = record { rules = c.args.rules; size = c.args.log; tests = g.T.Tests.answers c.args.tests; has_log = c.requires.least; events = []; replies = []; run = refl };
+    }

@@ -1,0 +1,6 @@
+pub mod Calls
+pub mod TheTable
+pub mod Machine
+pub mod Listed
+pub mod NumberTest
+pub mod WantOfMemory

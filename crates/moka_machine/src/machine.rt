@@ -1,0 +1,101 @@
+//! The machine: a table, a desk and the live calls.
+ghost use Rattle.std.specs.Prelude.{◌≡◌, ◌≤◌, IfOk, IfErr, OnErr};
+ghost use Rattle.moka_hist.specs.Finite.{IsExact};
+
+use crate::calls::Calls;
+use crate::serving::unpolled;
+use moka_desk::Desk;
+use moka_engine::Policy;
+use moka_hist::{Event, Reply, Rules, Tests};
+use moka_init::Unfinished;
+use moka_layers::Layers;
+use moka_table::{PlainCall, PlainTable};
+use std::alloc::{AllocError, Global};
+use std::hash::Hash;
+
+/// The table of a machine, and an operation that was begun on it.
+pub(crate) type TheTable<K, V> = PlainTable<K, V>;
+
+pub(crate) type TheCall<K, V> = PlainCall<K, V>;
+
+/// A cache on one thread whose calls are driven event by event.
+///
+/// What `run` asks of keys and values is that a clone equals its original, as contracts see the
+/// two. It holds of numbers, `bool`, `char`, `&'static str`, the `ByteStr` and `Bytes` of the crate
+/// `bytes`, and of arrays, tuples, `Option`s and derived structs and enums of these; keys have
+/// equality and hash too. It doesn't of `String`, `Vec<u8>`, `Box<T>` and `Arc<T>`: of a `String`
+/// make a `ByteStr` (`ByteStr::from_string`), of a `Vec<u8>` a `Bytes`, and for an `Arc<T>` take
+/// the `Shared<T>` of `moka_uses`, whose callers show each.
+#[derive(Drop)]
+pub struct Machine<K: Eq + Hash, V, E, T> {
+    pub(crate) layers: Layers<K, V, E, TheTable<K, V>, TheCall<K, V>, T>,
+    pub(crate) calls: Calls<K, V, E>,
+}
+
+impl<K: Eq + Hash + Clone + Drop, V: Clone + Drop, E: Clone + Drop, T: Tests<K, V> + Drop> Machine<
+    K,
+    V,
+    E,
+    T,
+> {
+    ghost use Rattle.moka_hist.specs.State.{State, fresh};
+    ghost use Rattle.moka_text.specs.ScheduleText.{rules_of};
+    ghost use Rattle.moka_machine.specs.Machine.{MachineIs, IsValid, Serves, Stops};
+    ghost use Rattle.moka_machine.specs.WantOfMemory.{MayStopIn};
+
+    /// A fresh cache of these rules, of which none is set but that a capacity and a listener may
+    /// be, with a log of this many writes: 1 to 65536. One of capacity 0 is disabled: it stores
+    /// nothing. Its calls ask these tests.
+    pub fn build(alloc: Global, rules: Rules, log: usize, tests: T) -> Result<Self, AllocError>
+        requires rules { rules ≡ rules_of rules.max_capacity rules.listener }
+        requires least { 1 ≤ log }
+        requires most { log ≤ 65536 }
+        ensures fresh { IfOk result (λ m. MachineIs K.eq T.Tests m
+            (fresh K V E rules log (T.answers tests))) }
+        ensures valid { IfOk result (λ m. IsValid K.eq T.Tests m) }
+    {
+        let desk = Desk::new(alloc, rules, log)?;
+        Ok(Machine {
+            layers: Layers {
+                table: TheTable::new(alloc),
+                desk,
+                call: 0,
+                begun: None,
+                tests,
+            },
+            calls: Calls::new(alloc),
+        })
+    }
+
+    /// Tells the rules that the cache was built with.
+    pub fn policy(&self) -> Policy
+        ensures { (s : State K V E) → MachineIs K.eq T.Tests self.now s
+            → result.rules ≡ s.world.desk.rules }
+    {
+        Policy {
+            rules: self.layers.desk.rules(),
+        }
+    }
+
+    /// Carries one event out, or refuses it. Want of memory tells how many steps of a poll were
+    /// made; of any other event nothing was done then.
+    pub fn serve(&mut self, event: &Event<K, V, E>) -> Result<Reply<K, V, E>, Unfinished>
+        requires keys { IsExact K.is_clone }
+        requires values { IsExact V.is_clone }
+        requires errors { IsExact E.is_clone }
+        requires valid { IsValid K.eq T.Tests self.old }
+        ensures serves { IfOk result (λ r. Serves K.eq T.Tests self.old event.now r self.new) }
+        ensures stops { IfErr result (λ u. Stops K.eq T.Tests self.old event.now u.steps self.new) }
+        ensures needs { OnErr result ((s : State K V E) → MachineIs K.eq T.Tests self.new s
+            → MayStopIn s event.now) }
+    {
+        match event {
+            Event::At { moment } => Ok(self.at(*moment)),
+            Event::Start { start } => unpolled(self.start(start)),
+            Event::Step { call } => unpolled(self.step(*call)),
+            Event::Poll { call } => self.poll(*call),
+            Event::Tell { call, answer } => unpolled(self.tell(*call, answer)),
+            Event::Drop { call } => Ok(self.drop_call(*call)),
+        }
+    }
+}

@@ -1,0 +1,290 @@
+//! The events of a schedule, one at a time.
+ghost use Rattle.std.specs.Prelude.{◌≡◌, ◌<◌, ℕ, Some, None, IsSome, IfOk, IfErr, is_ok, false, OnOk, OnErr, MatchResult, if◌then◌else◌};
+ghost use Rattle.std.specs.HashMap.{spare};
+ghost use Rattle.moka_hist.specs.Finite.{IsExact};
+ghost use Rattle.moka_machine.specs.WantOfMemory.{OpNeedsMemory, ToldNeedsMemory};
+
+use crate::calls::Running;
+use crate::machine::Machine;
+use moka_hist::{Mode, Op, Refusal, Reply, Start, Tests, Told};
+use moka_init::{Flow, Unfinished};
+use std::alloc::AllocError;
+use std::hash::Hash;
+
+impl<K: Eq + Hash + Clone + Drop, V: Clone + Drop, E: Clone + Drop, T: Tests<K, V> + Drop> Machine<
+    K,
+    V,
+    E,
+    T,
+> {
+    ghost use Rattle.moka_hist.specs.declared.events.Event.{Event};
+    ghost use Rattle.moka_hist.specs.Dropping.{dropped};
+    ghost use Rattle.moka_laws.specs.Held.{MayAllLeave};
+    ghost use Rattle.moka_hist.specs.Run.{Drops};
+    ghost use Rattle.moka_hist.specs.State.{DeskPart, State};
+    ghost use Rattle.moka_hist.specs.Telling.{is_asked, told};
+    ghost use Rattle.moka_desk.specs.StandsFor.{StandsFor as DeskStandsFor, Becomes as DeskBecomes};
+    ghost use Rattle.moka_init.specs.FlowPlan.{call_of};
+    ghost use Rattle.moka_machine.specs.Calls.{HasPlace};
+    ghost use Rattle.moka_machine.specs.Machine.{MachineIs, TakenOut, IsOut, IsValid};
+    ghost use Rattle.moka_machine.specs.Machine.{Serves, KeepsState};
+
+    /// Moves the clock on. It takes no memory.
+    pub(crate) fn at(&mut self, moment: u64) -> Reply<K, V, E>
+        ensures { Serves K.eq T.Tests self.old (Event.At moment) result self.new }
+    {
+        if self.layers.desk.at(moment) {
+            Reply::At
+        } else {
+            Reply::Refused(Refusal::ClockBack)
+        }
+    }
+
+    /// Starts a call under the next number.
+    pub(crate) fn start(&mut self, start: &Start<K, V>) -> Result<Reply<K, V, E>, AllocError>
+        requires keys { IsExact K.is_clone }
+        requires values { IsExact V.is_clone }
+        requires errors { IsExact E.is_clone }
+        ensures serves { IfOk result (λ r.
+            Serves K.eq T.Tests self.old (Event.Start start.now) r self.new) }
+        ensures err { OnErr result (KeepsState K.eq T.Tests self.old self.new) }
+    {
+        let start = cloned_start(start)?;
+        self.make_room()?;
+        Ok(self.enter(start))
+    }
+
+    // Makes room for one more call.
+    fn make_room(&mut self) -> Result<(), AllocError>
+        ensures room { OnOk result (0 < spare self.new.calls.places) }
+        ensures same { KeepsState K.eq T.Tests self.old self.new }
+    {
+        self.calls.reserve()
+    }
+
+    // Starts a call. There is room for it, so it takes no memory.
+    fn enter(&mut self, start: Start<K, V>) -> Reply<K, V, E>
+        requires { 0 < spare self.old.calls.places }
+        ensures { Serves K.eq T.Tests self.old (Event.Start start) result self.new }
+    {
+        match self.layers.desk.enter() {
+            None => Reply::Refused(Refusal::CallsSpent),
+            Some(call) => {
+                let flow = Flow::new(start, call, self.layers.desk.rules());
+                self.calls.add(call, Running { flow, begun: None });
+                Reply::Call(call)
+            }
+        }
+    }
+
+    /// Answers the open ask of a call, or of the listener by the number of its notice. Who waited
+    /// for it is let go: nobody polls calls here but events.
+    pub(crate) fn tell(
+        &mut self,
+        call: u64,
+        answer: &Told<V, E>,
+    ) -> Result<Reply<K, V, E>, AllocError>
+        requires values { IsExact V.is_clone }
+        requires errors { IsExact E.is_clone }
+        ensures serves { IfOk result (λ r.
+            Serves K.eq T.Tests self.old (Event.Tell call answer.now) r self.new) }
+        ensures err { OnErr result (KeepsState K.eq T.Tests self.old self.new) }
+        ensures err_needs { OnErr result (ToldNeedsMemory answer.now) }
+    {
+        let answer = cloned_told(answer)?;
+        if self.tell_desk(call, answer) {
+            Ok(Reply::Told)
+        } else {
+            Ok(Reply::Refused(Refusal::NotAsked))
+        }
+    }
+
+    // Tells the desk the answer. Answers whether an ask was open that takes it.
+    fn tell_desk(&mut self, call: u64, answer: Told<V, E>) -> bool
+        ensures finds { (w : DeskPart K V E) → DeskStandsFor K.eq self.old.layers.desk w
+            → result ≡ is_asked w call answer }
+        ensures makes { DeskBecomes K.eq self.old.layers.desk
+            (λ w. if result then told w call answer else w) self.new.layers.desk }
+        ensures rest { self.new ≡ record self.old {
+          layers = record self.old.layers { desk = self.new.layers.desk };
+        } }
+    {
+        self.layers.desk.tell(call, answer).is_some()
+    }
+
+    /// Drops a call where it stands, unless it is between two steps. It takes no memory.
+    pub(crate) fn drop_call(&mut self, call: u64) -> Reply<K, V, E>
+        requires { IsValid K.eq T.Tests self.old }
+        ensures { Serves K.eq T.Tests self.old (Event.Drop call) result self.new }
+    {
+        moka_laws::calls_may_leave::<K, V, E>();
+        match self.take_out(call) {
+            None => Reply::Refused(Refusal::UnknownCall),
+            Some(flow) => self.drop_out(call, flow),
+        }
+    }
+
+    // Drops the call that was taken out, or puts it back.
+    #[inline(always)]
+    fn drop_out(&mut self, call: u64, flow: Flow<K, V, E>) -> Reply<K, V, E>
+        requires place { HasPlace self.old.calls call }
+        requires is { IsOut K.eq self.old flow }
+        requires taken { (s : State K V E) × TakenOut K.eq T.Tests self.old call flow s
+            × MayAllLeave s }
+        ensures { (s : State K V E) → TakenOut K.eq T.Tests self.old call flow s → MayAllLeave s
+            → (t : State K V E) × Drops s call (call_of flow) flow.mode result t
+            × MachineIs K.eq T.Tests self.new t }
+    {
+        match flow.mode() {
+            Mode::Mid => {
+                self.put_in(call, flow);
+                Reply::Refused(Refusal::NotParked)
+            }
+            Mode::Fresh => self.leave(call, flow),
+            Mode::Parked => self.leave(call, flow),
+        }
+    }
+
+    // Drops the call that was taken out: what it holds is left to others.
+    fn leave(&mut self, call: u64, flow: Flow<K, V, E>) -> Reply<K, V, E>
+        requires is { IsOut K.eq self.old flow }
+        requires taken { (s : State K V E) × TakenOut K.eq T.Tests self.old call flow s
+            × MayAllLeave s }
+        ensures reply { result ≡ Reply.Dropped }
+        ensures leaves { (s : State K V E) → TakenOut K.eq T.Tests self.old call flow s
+            → MayAllLeave s
+            → MachineIs K.eq T.Tests self.new (dropped s call (call_of flow)) }
+    {
+        let held = flow.held();
+        drop(flow);
+        let _ = self.layers.desk.leave(call, held);
+        self.end(call);
+        Reply::Dropped
+    }
+}
+
+fn cloned_start<K: Clone + Drop, V: Clone + Drop>(
+    start: &Start<K, V>,
+) -> Result<Start<K, V>, AllocError>
+    requires keys { IsExact K.is_clone }
+    requires values { IsExact V.is_clone }
+    ensures { IfOk result (λ same. same ≡ start.now) }
+{
+    match start {
+        Start::Get { key } => {
+            let key = key.clone()?;
+            Ok(Start::Get { key })
+        }
+        Start::Insert { key, value } => {
+            let key = key.clone()?;
+            let value = value.clone()?;
+            Ok(Start::Insert { key, value })
+        }
+        Start::GetWith { key, replace } => {
+            let key = key.clone()?;
+            Ok(Start::GetWith {
+                key,
+                replace: *replace,
+            })
+        }
+        Start::Optional { key } => {
+            let key = key.clone()?;
+            Ok(Start::Optional { key })
+        }
+        Start::Try { key } => {
+            let key = key.clone()?;
+            Ok(Start::Try { key })
+        }
+        Start::OrInsert { key, value } => {
+            let key = key.clone()?;
+            let value = value.clone()?;
+            Ok(Start::OrInsert { key, value })
+        }
+        Start::Compute { key } => {
+            let key = key.clone()?;
+            Ok(Start::Compute { key })
+        }
+        Start::TryCompute { key } => {
+            let key = key.clone()?;
+            Ok(Start::TryCompute { key })
+        }
+        Start::ComputeAlone { key } => {
+            let key = key.clone()?;
+            Ok(Start::ComputeAlone { key })
+        }
+        Start::Upsert { key } => {
+            let key = key.clone()?;
+            Ok(Start::Upsert { key })
+        }
+        Start::Invalidate { key } => {
+            let key = key.clone()?;
+            Ok(Start::Invalidate { key })
+        }
+        Start::Remove { key } => {
+            let key = key.clone()?;
+            Ok(Start::Remove { key })
+        }
+        Start::Evict { key, stamp, cause } => {
+            let key = key.clone()?;
+            Ok(Start::Evict {
+                key,
+                stamp: *stamp,
+                cause: *cause,
+            })
+        }
+    }
+}
+
+fn cloned_told<V: Clone + Drop, E: Clone + Drop>(
+    answer: &Told<V, E>,
+) -> Result<Told<V, E>, AllocError>
+    requires values { IsExact V.is_clone }
+    requires errors { IsExact E.is_clone }
+    ensures same { IfOk result (λ same. same ≡ answer.now) }
+    ensures err { OnErr result (ToldNeedsMemory answer.now) }
+{
+    match answer {
+        Told::Value(value) => {
+            let value = value.clone()?;
+            Ok(Told::Value(value))
+        }
+        Told::Nothing => Ok(Told::Nothing),
+        Told::Err(error) => {
+            let error = error.clone()?;
+            Ok(Told::Err(error))
+        }
+        Told::Op(op) => {
+            let op = cloned_op(op)?;
+            Ok(Told::Op(op))
+        }
+        Told::Done => Ok(Told::Done),
+        Told::Off => Ok(Told::Off),
+    }
+}
+
+fn cloned_op<V: Clone + Drop>(op: &Op<V>) -> Result<Op<V>, AllocError>
+    requires { IsExact V.is_clone }
+    ensures same { IfOk result (λ same. same ≡ op.now) }
+    ensures err { OnErr result (OpNeedsMemory op.now) }
+{
+    match op {
+        Op::Nop => Ok(Op::Nop),
+        Op::Put(value) => {
+            let value = value.clone()?;
+            Ok(Op::Put(value))
+        }
+        Op::Remove => Ok(Op::Remove),
+    }
+}
+
+// An event that isn't a poll makes no steps.
+pub(crate) fn unpolled<K, V, E>(
+    reply: Result<Reply<K, V, E>, AllocError>,
+) -> Result<Reply<K, V, E>, Unfinished>
+    ensures { MatchResult result (λ r. reply ≡ Ok r) (λ u. (u.steps ≡ 0) × (is_ok reply ≡ false)) }
+{
+    match reply {
+        Ok(reply) => Ok(reply),
+        Err(_) => Err(Unfinished { steps: 0 }),
+    }
+}

@@ -1,0 +1,6 @@
+//! What visits need of the desk.
+#![tactic(auto)]
+
+mod needs;
+
+pub use needs::{Ending, Need};

@@ -1,6 +1,0 @@
--- The call's place is given up.
-use Rattle.moka_run.proofs.Running.{gone_out}
-use Rattle.moka_run.proofs.machine.Machine.end.Goals as goal
-
-pub returns-clause-stands : goal.returns-clause-stands
-returns-clause-stands g c = λ others w h. gone_out g.K.PartialEq.eq g.T.Tests c.args.self.now c.args.call c.forget.new.self others w c.forget.ensures h
