@@ -1,22 +1,48 @@
 //! Calls that list the keys of a segment, alone and while operations run.
 
-ghost use Rattle.std.specs.Prelude.{◌≡◌, IfOk, None};
+ghost use Rattle.std.specs.Prelude.{◌≡◌, IfOk, OnOk, None};
 ghost use Rattle.moka_hist.specs.Finite.{IsExact};
 ghost use Rattle.moka_calls.specs.Standing.{IsGoing};
-ghost use Rattle.moka_buckets.specs.Views.{fits_keys_in};
+ghost use Rattle.moka_buckets.specs.Views.{fits_in, fits_keys_in};
 
 use crate::hashers::BuildZero;
-use moka_buckets::{BucketTable, KeysCall};
-use moka_hist::{Stored, TableOp, TableTurn};
+use moka_buckets::{BucketCall, BucketTable, KeysCall};
+use moka_hist::{Stored, TableAnswer, TableOp, TableTurn};
 use moka_table::Table;
 use std::alloc::AllocError;
 use std::hash::{BuildHasher, Hash};
 use std::test::Fail;
 
-type Zero = BucketTable<u64, u64, BuildZero>;
+/// Keys of one hash, all in the first segment.
+pub(crate) type Zero = BucketTable<u64, u64, BuildZero>;
 
-// Runs the operation to its end, beside the call.
-fn run<K: Eq + Hash + Clone + Drop, V: Clone + Drop, S: BuildHasher + Drop>(
+/// Makes the steps of the operation that are left, beside the call. Gives its answer; None where it
+/// doesn't end.
+pub(crate) fn finish<K: Eq + Hash + Clone + Drop, V: Clone + Drop, S: BuildHasher + Drop>(
+    table: &mut BucketTable<K, V, S>,
+    call: &KeysCall,
+    other: &mut BucketCall<K, V>,
+) -> Result<Option<TableAnswer<K, V>>, AllocError>
+    requires keys { IsExact K.is_clone }
+    requires values { IsExact V.is_clone }
+    requires listing { fits_keys_in S.BuildHasher S.Hasher.Hasher K.eq K.hash_input
+        table.old call.now }
+    requires fits { fits_in S.BuildHasher S.Hasher.Hasher K.eq K.hash_input
+        table.old other.old }
+    ensures listing { fits_keys_in S.BuildHasher S.Hasher.Hasher K.eq K.hash_input
+        table.new call.now }
+{
+    for _ in 0..10_000u32 {
+        match table.step(other)? {
+            TableTurn::Going => {}
+            TableTurn::Decided(answer) => return Ok(Some(answer)),
+        }
+    }
+    Ok(None)
+}
+
+/// Runs the operation to its end, beside the call.
+pub(crate) fn run<K: Eq + Hash + Clone + Drop, V: Clone + Drop, S: BuildHasher + Drop>(
     table: &mut BucketTable<K, V, S>,
     call: &KeysCall,
     operation: TableOp<K, V>,
@@ -29,16 +55,13 @@ fn run<K: Eq + Hash + Clone + Drop, V: Clone + Drop, S: BuildHasher + Drop>(
         table.new call.now }
 {
     let mut other = table.begin(operation);
-    for _ in 0..10_000u32 {
-        match table.step(&mut other)? {
-            TableTurn::Going => {}
-            TableTurn::Decided(_) => return Ok(()),
-        }
+    match finish(table, call, &mut other)? {
+        Some(_) => Ok(()),
+        None => Err(AllocError),
     }
-    Err(AllocError)
 }
 
-fn insert(key: u64) -> TableOp<u64, u64> {
+pub(crate) fn insert(key: u64) -> TableOp<u64, u64> {
     TableOp::InsertOrModify {
         key,
         stored: Stored {
@@ -49,8 +72,8 @@ fn insert(key: u64) -> TableOp<u64, u64> {
     }
 }
 
-// Makes at most so many steps of the call; tells by how many it decided.
-fn list<K: Eq + Hash + Clone + Drop, V: Clone + Drop, S: BuildHasher + Drop>(
+/// Makes at most so many steps of the call; tells by how many it decided.
+pub(crate) fn list<K: Eq + Hash + Clone + Drop, V: Clone + Drop, S: BuildHasher + Drop>(
     table: &mut BucketTable<K, V, S>,
     call: &mut KeysCall,
     most: u32,
@@ -90,9 +113,6 @@ fn list_on<K: Eq + Hash + Clone + Drop, V: Clone + Drop, S: BuildHasher + Drop>(
 #[test]
 fn keys_are_listed_in_129_steps(rt: HostRuntime) -> Result<(), Fail> {
     let mut table: Zero = BucketTable::with_segments(rt.alloc(), 1, 0, BuildZero {})?;
-    if table.segments() == 0 {
-        return Ok(());
-    }
     let mut none = table.begin_keys(0);
     assert!(rt; table.keys(&none)?.is_none());
     assert_eq!(rt; list(&mut table, &mut none, 1_000)?, Some(1));
@@ -107,14 +127,28 @@ fn keys_are_listed_in_129_steps(rt: HostRuntime) -> Result<(), Fail> {
     Ok(())
 }
 
+#[test]
+fn a_segment_that_is_not_there_has_no_keys(rt: HostRuntime) -> Result<(), Fail> {
+    let mut table: Zero = BucketTable::with_segments(rt.alloc(), 4, 1, BuildZero {})?;
+    for segment in [4usize, 5, usize::MAX] {
+        let mut call = table.begin_keys(segment);
+        run(&mut table, &call, insert(7))?;
+        assert!(rt; table.keys(&call)?.is_none());
+        assert_eq!(rt;
+            list(&mut table, &mut call, 1_000)?,
+            Some(1),
+            "segment {segment}"
+        );
+        assert_eq!(rt; table.keys(&call)?.map(|keys| keys.len()), Some(0));
+    }
+    Ok(())
+}
+
 // An array of two words grows while its keys are listed: the list begins again in the new one.
 #[test]
 fn keys_that_stay_are_listed_while_the_array_grows(rt: HostRuntime) -> Result<(), Fail> {
     for steps in 0..8u32 {
         let mut table: Zero = BucketTable::with_segments(rt.alloc(), 1, 1, BuildZero {})?;
-        if table.segments() == 0 {
-            return Ok(());
-        }
         let mut call = table.begin_keys(0);
         run(&mut table, &call, insert(1))?;
         let early = list(&mut table, &mut call, steps)?;

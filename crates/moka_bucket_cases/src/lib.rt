@@ -8,7 +8,11 @@ mod hashers;
 #[cfg(test)]
 mod keys;
 #[cfg(test)]
+mod listing;
+#[cfg(test)]
 mod orders;
+#[cfg(test)]
+mod pace;
 #[cfg(test)]
 mod plain;
 mod slow;

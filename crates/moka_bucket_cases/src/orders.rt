@@ -1,6 +1,7 @@
 //! Two operations in each order of all their steps, beside std's map.
 
 use crate::hashers::BuildZero;
+use crate::pace::{Pace, most_steps};
 use crate::together::{Map, answers};
 use moka_buckets::BucketTable;
 use moka_hist::{Stored, TableOp, TableTurn};
@@ -16,7 +17,17 @@ struct Beginning {
     present: u64,
 }
 
-// An operation of each kind under each of three keys.
+// The first array has one word, with key 0 in it.
+const ONE_KEY: Beginning = Beginning {
+    one_word: true,
+    present: 1,
+};
+
+// No pair has as many orders.
+const MOST_ORDERS: u32 = 2_000_000;
+
+// An operation of each kind under each of three keys; the last kind is a removal of the stamp with
+// which these keys were stored at first.
 fn operation(number: u64) -> TableOp<u64, u64> {
     let key = number % 3;
     let stored = Stored {
@@ -28,13 +39,18 @@ fn operation(number: u64) -> TableOp<u64, u64> {
         0 => TableOp::Get { key },
         1 => TableOp::InsertIfAbsent { key, stored },
         2 => TableOp::RemoveIf { key, stamp: None },
-        _ => TableOp::InsertOrModify { key, stored },
+        3 => TableOp::InsertOrModify { key, stored },
+        _ => TableOp::RemoveIf {
+            key,
+            stamp: Some(key.wrapping_add(9)),
+        },
     }
 }
 
 // The steps of the two operations in this order: its bits, from the highest, tell whose each step
 // is. Once one has decided the other goes on alone. Gives the last bit that was read; None where an
-// answer or a count isn't the map's, or where 64 bits were too few.
+// answer or a count isn't the map's, where one makes too many steps in a row, or where 64 bits were
+// too few.
 fn play<C: Drop, T: Table<u64, u64, Call = C> + Drop>(
     table: &mut T,
     map: &mut Map,
@@ -43,8 +59,12 @@ fn play<C: Drop, T: Table<u64, u64, Call = C> + Drop>(
 ) -> Result<Option<u64>, AllocError> {
     let mut first = table.begin(operation(numbers.0));
     let mut second = table.begin(operation(numbers.1));
+    let mut pace = Pace::new(map.len());
     for turn in 0..64u32 {
         let bit = (1u64 << 63) >> turn;
+        if !pace.is_kept(order & bit == 0, map.len()) {
+            return Ok(None);
+        }
         if order & bit == 0 {
             if let TableTurn::Decided(answer) = table.step(&mut first)? {
                 let right = answers(map, &operation(numbers.0), &answer)?
@@ -64,7 +84,8 @@ fn play<C: Drop, T: Table<u64, u64, Call = C> + Drop>(
     Ok(None)
 }
 
-// Makes the steps that are left. Tells whether answer and count are the map's.
+// Makes the steps that are left, no more than an operation may make alone. Tells whether answer and
+// count are the map's.
 fn finish<C: Drop, T: Table<u64, u64, Call = C> + Drop>(
     table: &mut T,
     map: &mut Map,
@@ -73,7 +94,7 @@ fn finish<C: Drop, T: Table<u64, u64, Call = C> + Drop>(
 ) -> Result<bool, AllocError>
     requires { T.fits table.old call.old }
 {
-    for _ in 0..1_000u32 {
+    for _ in 0..most_steps(128, map.len()) {
         if let TableTurn::Decided(answer) = table.step(call)? {
             return Ok(answers(map, &operation, &answer)? && table.len() == map.len());
         }
@@ -149,7 +170,7 @@ fn orders(
     Ok(None)
 }
 
-// No array grows here. Where one does a pair has 130,760 orders and more.
+// No array grows here.
 #[test]
 fn two_operations_in_each_order_to_their_ends(rt: HostRuntime) -> Result<(), Fail> {
     for (one_word, present, all) in [(true, 0u64, 906u32), (false, 0, 906), (false, 1, 2_218)] {
@@ -167,5 +188,44 @@ fn two_operations_in_each_order_to_their_ends(rt: HostRuntime) -> Result<(), Fai
         }
         assert_eq!(rt; total, all, "{present} keys, one word: {one_word}");
     }
+    Ok(())
+}
+
+// An array of one word with a key: each update makes it grow.
+#[test]
+fn a_look_beside_an_update_that_grows_the_array(rt: HostRuntime) -> Result<(), Fail> {
+    let cases = [
+        ("get 0 beside remove 0", (0u64, 6u64), 130_760u32),
+        ("get 0 beside insert 1", (0, 10), 255_742),
+    ];
+    for (name, numbers, all) in cases {
+        let count = orders(rt.alloc(), ONE_KEY, numbers, MOST_ORDERS)?;
+        assert_eq!(rt; count, Some(all), "{name}");
+    }
+    Ok(())
+}
+
+#[test]
+fn an_insert_if_absent_beside_an_insert_that_grows_the_array(rt: HostRuntime) -> Result<(), Fail> {
+    let count = orders(rt.alloc(), ONE_KEY, (3, 10), MOST_ORDERS)?;
+    assert_eq!(rt; count, Some(491_246), "insert 0 if absent beside insert 1");
+    Ok(())
+}
+
+#[test]
+fn an_insert_beside_an_insert_that_grows_the_array(rt: HostRuntime) -> Result<(), Fail> {
+    let count = orders(rt.alloc(), ONE_KEY, (9, 10), MOST_ORDERS)?;
+    assert_eq!(rt; count, Some(1_043_970), "insert 0 beside insert 1");
+    Ok(())
+}
+
+#[test]
+fn a_removal_beside_an_insert_that_grows_the_array(rt: HostRuntime) -> Result<(), Fail> {
+    let count = orders(rt.alloc(), ONE_KEY, (12, 9), MOST_ORDERS)?;
+    assert_eq!(rt;
+        count,
+        Some(552_724),
+        "remove 0 of its stamp beside insert 0"
+    );
     Ok(())
 }

@@ -4,6 +4,7 @@ ghost use Rattle.std.specs.Prelude.{◌≡◌, ◌<◌, IfOk, OnOk, length};
 ghost use Rattle.std.specs.List.{All};
 
 use crate::hashers::BuildZero;
+use crate::pace::most_steps;
 use moka_buckets::BucketTable;
 use moka_hist::{Stored, TableAnswer, TableOp, TableTurn};
 use moka_table::Table;
@@ -25,8 +26,9 @@ struct Running<C> {
     seed: u64,
 }
 
-// Makes so many steps, of as many operations in a random order; each that has decided is followed by
-// another one. Gives the first step after which answer or count isn't the map's.
+// Makes so many turns, each of one operation at random: one step mostly, and in one turn of 32 as many
+// as it needs to decide, if it may make so many alone. One that has decided is followed by another.
+// Gives the first turn after which answer or count isn't the map's, or one has not decided.
 fn run_at_random<C: Drop, T: Table<u64, u64, Call = C> + Drop>(
     table: &mut T,
     calls: &mut Vec<Running<C>>,
@@ -37,16 +39,20 @@ fn run_at_random<C: Drop, T: Table<u64, u64, Call = C> + Drop>(
     requires { All (λ one. T.fits table.old one.call) calls.old.items }
 {
     let mut seed = 1;
+    let mut peak = map.len();
     for turn in 0..turns {
         if calls.is_empty() {
             return Ok(None);
         }
         seed = after(seed);
         let place = (seed >> 40) as usize % calls.len();
-        let done = go_at(table, calls, place, seed, keys)?;
-        if !are_alike(map, done)? || table.len() != map.len() {
+        let alone = (seed >> 52) % 32 == 0;
+        let most = if alone { most_steps(128, peak) } else { 1 };
+        let done = run_on(table, calls, place, seed, keys, most)?;
+        if alone && done.is_none() || !are_alike(map, done)? || table.len() != map.len() {
             return Ok(Some(turn));
         }
+        peak = peak.max(map.len());
     }
     Ok(None)
 }
@@ -67,6 +73,28 @@ fn begin_all<C: Drop, T: Table<u64, u64, Call = C> + Drop>(
     Ok(calls)
 }
 
+// Makes at most so many steps of the operation in this place, until it has decided.
+fn run_on<C: Drop, T: Table<u64, u64, Call = C> + Drop>(
+    table: &mut T,
+    calls: &mut Vec<Running<C>>,
+    place: usize,
+    next: u64,
+    keys: u64,
+    most: u64,
+) -> Result<Option<Done>, AllocError>
+    requires within { place < length calls.old.items }
+    requires fit { All (λ one. T.fits table.old one.call) calls.old.items }
+    ensures fit { OnOk result (All (λ one. T.fits table.new one.call) calls.new.items) }
+{
+    for _ in 0..most {
+        let done = go_at(table, calls, place, next, keys)?;
+        if done.is_some() {
+            return Ok(done);
+        }
+    }
+    Ok(None)
+}
+
 // Makes one step of the operation in this place.
 fn go_at<C: Drop, T: Table<u64, u64, Call = C> + Drop>(
     table: &mut T,
@@ -78,6 +106,7 @@ fn go_at<C: Drop, T: Table<u64, u64, Call = C> + Drop>(
     requires within { place < length calls.old.items }
     requires fit { All (λ one. T.fits table.old one.call) calls.old.items }
     ensures fit { OnOk result (All (λ one. T.fits table.new one.call) calls.new.items) }
+    ensures long { length calls.new.items ≡ length calls.old.items }
 {
     go(table, &mut calls[place], next, keys)
 }

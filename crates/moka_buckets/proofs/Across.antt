@@ -1,5 +1,5 @@
 -- What a step of a call that lists keys does to the whole table.
-use Rattle.std.proofs.Common.{◌≡◌, ◌≢◌, ◌⊎◌, ℕ, ◌<◌, Bool, true, false, List, length, Option, Some, None, IsSome, Result, Ok, Err, IfOk, OnErr, inl, inr, refl, sym, ap, subst, ◌∙◌, arith, set}
+use Rattle.std.proofs.Common.{◌≡◌, ◌≢◌, ◌⊎◌, ◌↔◌, ℕ, ◌<◌, Bool, true, false, List, length, Option, Some, None, IsSome, Result, Ok, Err, IfOk, OnErr, inl, inr, refl, sym, ap, subst, ◌∙◌, arith, set}
 use Rattle.std.proofs.lemmas.Bool.{cases_eq, false≢true}
 use Rattle.std.proofs.lemmas.Option.{slice_get_within}
 use Rattle.std.proofs.Math.ListN.{length-set}
@@ -19,10 +19,11 @@ use Rattle.moka_buckets.specs.Tables.{map_of, left_in, IsWell}
 use Rattle.moka_buckets.specs.Steps.{FitsCall}
 use Rattle.moka_buckets.specs.Walks.{is_ended, Falls, Covers, Lead, WalksOn}
 use Rattle.moka_buckets.specs.Parts.{memory_at, keys_at, peak_at, map_at, map_over, segment_of, IsPart, AreParts, FitsParts}
-use Rattle.moka_buckets.specs.Keys.{Leads, FitsKeys, ListsIt, CoversIt, WalksOver, left_keys}
+use Rattle.moka_buckets.specs.Keys.{Leads, FitsKeys, FitsThere, ListsIt, CoversIt, WalksOver, left_keys}
 use Rattle.moka_buckets.proofs.Placed.{get-set-same, get-set-other}
 use Rattle.moka_buckets.proofs.Spread.{keys_set}
 use Rattle.moka_buckets.proofs.Led.{has_key, later_same, runs_last, walks_last, covers_last}
+use Rattle.moka_buckets.proofs.Elsewhere.{lists_as, never_there, walks_at}
 
 one_item : {A : Type 0} {x y : A} → Some x ≡ Some y → x ≡ y
 one_item d = cc
@@ -144,8 +145,8 @@ module _ {K V : Type 0} (eq : K → K → Bool) (laws : IsEquivalence eq) (hash 
             c.operation c.node c.table g.runs;
       })
 
-  others_keys : (c : KeysCall) → FitsKeys eq hash parts c → FitsKeys eq hash (set parts i new) c
-  others_keys c f = elim (cases_eq c.segment i) [
+  others_there : (c : KeysCall) → FitsThere eq hash parts c → FitsThere eq hash (set parts i new) c
+  others_there c f = elim (cases_eq c.segment i) [
     | inl d ↦ record {
       part = new;
       there = ap (slice_get (set parts i new)) d ∙ now;
@@ -156,25 +157,38 @@ module _ {K V : Type 0} (eq : K → K → Bool) (laws : IsEquivalence eq) (hash 
     | inr d ↦ record { part = f.part; there = get-set-other parts i c.segment new d ∙ f.there; walks = f.walks }
   ]
 
+  others_keys : (c : KeysCall) → FitsKeys eq hash parts c → FitsKeys eq hash (set parts i new) c
+  others_keys c (inl f) = inl (others_there c f)
+  others_keys c (inr f) = inr (record { absent = let a = f.absent in let l = long in omega (arith, a, l); empty = f.empty })
+
+  others_list : (c : KeysCall) (key : K) → FitsKeys eq hash parts c → ListsIt (set parts i new) c key ↔ ListsIt parts c key
+  others_list c key f = lists_as eq hash parts i p new there c key (λ d x n e. ap (λ xs. key_in xs n) nodes)
+
   others_cover : (c : KeysCall) (key : K) → FitsKeys eq hash parts c → segment_of (length parts) (hash key) ≡ c.segment → IsSome (map_over eq hash parts key) →
       CoversIt eq parts c key → CoversIt eq (set parts i new) c key
-  others_cover c key f at has covered = λ q e. elim (cases_eq c.segment i) [
-    | inl d ↦ mine d q (sym (ap (slice_get (set parts i new)) d ∙ now) ∙ e)
-    | inr d ↦ covered q (sym (get-set-other parts i c.segment new d) ∙ e)
+  others_cover c key f at has (q, e, covered) = elim (cases_eq c.segment i) [
+    | inl d ↦ (new, ap (slice_get (set parts i new)) d ∙ now, mine (ap (slice_get parts) d ∙ there))
+    | inr d ↦ (q, get-set-other parts i c.segment new d ∙ e, covered)
   ]
     where
-      mine : c.segment ≡ i → (q : Part K V) → Some new ≡ Some q → Covers eq (memory_at q) q.nodes.items key c.table
-      mine d q e =
-          let here : slice_get parts c.segment ≡ Some p = ap (slice_get parts) d ∙ there in
+      mine : slice_get parts c.segment ≡ Some p → Covers eq (memory_at new) new.nodes.items key c.table
+      mine here =
           let was : IsSome (map_at eq p key) = subst IsSome (ap (λ o. option_map_or (λ x. map_at eq x key) o None) (ap (slice_get parts) at ∙ here)) has in
-          subst (λ y. Covers eq (memory_at y) y.nodes.items key c.table) (one_item e)
-          (subst (λ xs. Covers eq (memory_at new) xs key c.table) (sym nodes)
+          subst (λ xs. Covers eq (memory_at new) xs key c.table) (sym nodes)
           (covers_last eq laws hash respects p.nodes.items (memory_at p) (memory_at new) (well.each i p there).well.sound stays.later stays.still_well.sound key
           (λ keys agrees. has_key eq laws hash respects p.nodes.items (memory_at p) key was keys agrees) c.table
-          (subst (λ x. WalksOn eq hash (memory_at x) x.nodes.items c.table) (one_item (sym f.there ∙ here)) f.walks) (covered p here)))
+          (walks_at eq hash parts c p here f) (subst (λ x. Covers eq (memory_at x) x.nodes.items key c.table) (one_item (sym e ∙ here)) covered))
 
   after_there : slice_get (set parts i new) after.segment ≡ Some new
   after_there = ap (slice_get (set parts i new)) segment ∙ now
+
+  -- how many steps it has left
+  left_after : left_keys first (set parts i new) after ≡ left_in first (peak_at p) (memory_at new) after.table
+  left_after = ap (λ o. option_map_or (λ x. left_in first (peak_at x) (memory_at x) after.table) o 0) after_there
+      ∙ ap (λ k. left_in first k (memory_at new) after.table) same_peak
+
+  left_before : left_keys first parts before ≡ left_in first (peak_at p) (memory_at p) before.table
+  left_before = ap (λ o. option_map_or (λ x. left_in first (peak_at x) (memory_at x) before.table) o 0) there
 
   -- this step's own
   nears : IfOk gives (λ done. done ≡ false → left_keys first (set parts i new) after < left_keys first parts before)
@@ -190,12 +204,21 @@ module _ {K V : Type 0} (eq : K → K → Bool) (laws : IsEquivalence eq) (hash 
       by (Err x) l e = tt
       by (Ok done) l e = λ is.
           let less = at_end before.table after.table (sym e ∙ is) l.falls in
-          let a : left_keys first (set parts i new) after ≡ left_in first (peak_at p) (memory_at new) after.table =
-          ap (λ o. option_map_or (λ x. left_in first (peak_at x) (memory_at x) after.table) o 0) after_there
-          ∙ ap (λ k. left_in first k (memory_at new) after.table) same_peak in
-          let b : left_keys first parts before ≡ left_in first (peak_at p) (memory_at p) before.table =
-          ap (λ o. option_map_or (λ x. left_in first (peak_at x) (memory_at x) before.table) o 0) there in
+          let a = left_after in
+          let b = left_before in
           omega (arith, a, b, less)
+
+  err : OnErr gives (after ≡ before) → OnErr gives ((after ≡ before) × (left_keys first (set parts i new) after ≡ left_keys first parts before))
+  err = by gives leads.err
+    where
+      by : (r : Result Bool AllocError) → OnErr r ((memory_at new ≡ memory_at p) × (after.table ≡ before.table)) → OnErr r (after ≡ before) →
+          OnErr r ((after ≡ before) × (left_keys first (set parts i new) after ≡ left_keys first parts before))
+      by (Ok done) e same = tt
+      by (Err x) (memory, table) same = (
+        same,
+        left_after ∙ (ap (λ m. left_in first (peak_at p) m after.table) memory
+            ∙ (ap (λ s. left_in first (peak_at p) (memory_at p) s) table ∙ sym left_before)),
+      )
 
   lists : IfOk gives (λ done. (key : K) → ListsIt (set parts i new) after key → ListsIt parts before key ⊎ IsSome (map_over eq hash parts key))
   lists = by gives leads.lead
@@ -222,10 +245,13 @@ module _ {K V : Type 0} (eq : K → K → Bool) (laws : IsEquivalence eq) (hash 
           IfOk r (λ done. (key : K) → segment_of (length parts) (hash key) ≡ before.segment
           → IsSome (map_over eq hash parts key) → CoversIt eq parts before key → CoversIt eq (set parts i new) after key)
       by (Err x) l = tt
-      by (Ok done) l = λ key d has was q at.
-          let here : IsSome (map_at eq p key) = subst IsSome (ap (λ o. option_map_or (λ x. map_at eq x key) o None) (ap (slice_get parts) d ∙ there)) has in
-          subst (λ y. Covers eq (memory_at y) y.nodes.items key after.table) (one_item (sym after_there ∙ at))
-          (subst (λ xs. Covers eq (memory_at new) xs key after.table) (sym nodes) (l.covers key here (was p there)))
+      by (Ok done) l = λ key d has (q, at, was).
+          let here : IsSome (map_at eq p key) = subst IsSome (ap (λ o. option_map_or (λ x. map_at eq x key) o None) (ap (slice_get parts) d ∙ there)) has in (
+            new,
+            after_there,
+            subst (λ xs. Covers eq (memory_at new) xs key after.table) (sym nodes)
+                (l.covers key here (subst (λ y. Covers eq (memory_at y) y.nodes.items key before.table) (one_item (sym at ∙ there)) was)),
+          )
 
   pub walks_over : (same : OnErr gives (after ≡ before)) → WalksOver eq hash first parts most len before gives (set parts i new) after
   walks_over same = record {
@@ -233,12 +259,13 @@ module _ {K V : Type 0} (eq : K → K → Bool) (laws : IsEquivalence eq) (hash 
     well = parts_well;
     long = long;
     map = map_same;
-    fits = record { part = new; there = after_there; walks = subst (λ xs. WalksOn eq hash (memory_at new) xs after.table) (sym nodes) stays.still_fits };
+    fits = inl (record { part = new; there = after_there; walks = subst (λ xs. WalksOn eq hash (memory_at new) xs after.table) (sym nodes) stays.still_fits });
+    absent = λ past. absurd (never_there parts i past p there);
     ended = leads.ended;
     nears = nears;
     lists = lists;
     covers = covers;
     others = others;
-    keys = record { fits = others_keys; covers = others_cover };
-    err = same;
+    keys = record { fits = others_keys; lists = others_list; covers = others_cover };
+    err = err same;
   }

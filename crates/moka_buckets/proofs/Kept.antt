@@ -1,7 +1,8 @@
 -- Calls that list keys, while operations make their steps.
-use Rattle.std.proofs.Common.{◌≡◌, ℕ, max, Bool, true, false, List, length, Option, Some, None, IsSome, Result, inl, inr, refl, sym, ap, subst, ◌∙◌, arith, set}
+use Rattle.std.proofs.Common.{◌≡◌, ℕ, max, Bool, true, false, List, length, Option, Some, None, IsSome, Result, ◌↔◌, inl, inr, refl, sym, ap, subst, ◌∙◌, arith, set}
 use Rattle.std.proofs.lemmas.Bool.{cases_eq, false≢true}
 use Rattle.std.proofs.lemmas.Option.{slice_get_within}
+use Rattle.std.proofs.Math.ListN.{length-set}
 use Rattle.std.specs.Cmp.{IsEquivalence}
 use Rattle.std.specs.List.{slice_get}
 use Rattle.std.specs.Option.{option_map, option_map_or}
@@ -19,9 +20,10 @@ use Rattle.moka_buckets.specs.Nodes.{is_one_key, hash_by, same_by, own_by, mine_
 use Rattle.moka_buckets.specs.Tables.{IsWell}
 use Rattle.moka_buckets.specs.Walks.{AreNodes, Covers, WalksOn, listed_in}
 use Rattle.moka_buckets.specs.Parts.{memory_at, keys_at, peak_at, map_at, map_over, segment_of, AreParts, Goes}
-use Rattle.moka_buckets.specs.Keys.{CoversIt, FitsKeys, KeepsKeys}
+use Rattle.moka_buckets.specs.Keys.{CoversIt, FitsKeys, FitsThere, KeepsKeys, ListsIt}
 use Rattle.moka_buckets.proofs.Placed.{get-set-same, get-set-other}
 use Rattle.moka_buckets.proofs.Led.{has_key, walks_last, covers_last}
+use Rattle.moka_buckets.proofs.Elsewhere.{lists_as, named_by, walks_at}
 
 one_item : {A : Type 0} {x y : A} → Some x ≡ Some y → x ≡ y
 one_item d = cc
@@ -32,7 +34,7 @@ module _ {K V : Type 0} (eq : K → K → Bool) (hash : K → ℕ) (nodes more :
   pub agrees_less : (keys : ℕ → Option K) → Agrees keys more → Agrees keys nodes
   agrees_less keys agrees n node there = agrees n node (grows n node there)
 
-  key_more : (n : ℕ) → IsSome (key_in nodes n) → key_in more n ≡ key_in nodes n
+  pub key_more : (n : ℕ) → IsSome (key_in nodes n) → key_in more n ≡ key_in nodes n
   key_more n has = by (slice_get nodes n) refl has
     where
       by : (o : Option (Node K V)) → slice_get nodes n ≡ o → IsSome (option_map (λ node. node.key) o) → key_in more n ≡ key_in nodes n
@@ -95,8 +97,11 @@ module _ {K V : Type 0} (eq : K → K → Bool) (laws : IsEquivalence eq) (hash 
       (walks_more eq hash p.nodes.items new.nodes.items goes.done.grows (memory_at p) s w)
       (covers_more eq hash p.nodes.items new.nodes.items goes.done.grows (memory_at p) key s covers)
 
-  fits : (c : KeysCall) → FitsKeys eq hash parts c → FitsKeys eq hash (set parts i new) c
-  fits c f = elim (cases_eq c.segment i) [
+  long : length (set parts i new) ≡ length parts
+  long = length-set parts i new
+
+  fits_there : (c : KeysCall) → FitsThere eq hash parts c → FitsThere eq hash (set parts i new) c
+  fits_there c f = elim (cases_eq c.segment i) [
     | inl d ↦ record {
       part = new;
       there = ap (slice_get (set parts i new)) d ∙ now;
@@ -105,19 +110,25 @@ module _ {K V : Type 0} (eq : K → K → Bool) (laws : IsEquivalence eq) (hash 
     | inr d ↦ record { part = f.part; there = get-set-other parts i c.segment new d ∙ f.there; walks = f.walks }
   ]
 
+  fits : (c : KeysCall) → FitsKeys eq hash parts c → FitsKeys eq hash (set parts i new) c
+  fits c (inl f) = inl (fits_there c f)
+  fits c (inr f) = inr (record { absent = let a = f.absent in let l = long in omega (arith, a, l); empty = f.empty })
+
+  lists : (c : KeysCall) (key : K) → FitsKeys eq hash parts c → ListsIt (set parts i new) c key ↔ ListsIt parts c key
+  lists c key f = lists_as eq hash parts i p new there c key
+      (λ d x n e. key_more eq hash p.nodes.items new.nodes.items goes.done.grows n
+      (named_by eq hash p c.table (walks_at eq hash parts c p (ap (slice_get parts) d ∙ there) f) x n e))
+
   covers : (c : KeysCall) (key : K) → FitsKeys eq hash parts c → segment_of (length parts) (hash key) ≡ c.segment → IsSome (map_over eq hash parts key) →
       CoversIt eq parts c key → CoversIt eq (set parts i new) c key
-  covers c key f at has covered = λ q e. elim (cases_eq c.segment i) [
-    | inl d ↦ mine d q (sym (ap (slice_get (set parts i new)) d ∙ now) ∙ e)
-    | inr d ↦ covered q (sym (get-set-other parts i c.segment new d) ∙ e)
+  covers c key f at has (q, e, covered) = elim (cases_eq c.segment i) [
+    | inl d ↦ (new, ap (slice_get (set parts i new)) d ∙ now, mine (ap (slice_get parts) d ∙ there))
+    | inr d ↦ (q, get-set-other parts i c.segment new d ∙ e, covered)
   ]
     where
-      mine : c.segment ≡ i → (q : Part K V) → Some new ≡ Some q → Covers eq (memory_at q) q.nodes.items key c.table
-      mine d q e =
-          let here : slice_get parts c.segment ≡ Some p = ap (slice_get parts) d ∙ there in
-          subst (λ y. Covers eq (memory_at y) y.nodes.items key c.table) (one_item e)
-          (covers_new key (subst IsSome (ap (λ o. option_map_or (λ x. map_at eq x key) o None) (ap (slice_get parts) at ∙ here)) has) c.table
-          (subst (λ x. WalksOn eq hash (memory_at x) x.nodes.items c.table) (one_item (sym f.there ∙ here)) f.walks) (covered p here))
+      mine : slice_get parts c.segment ≡ Some p → Covers eq (memory_at new) new.nodes.items key c.table
+      mine here = covers_new key (subst IsSome (ap (λ o. option_map_or (λ x. map_at eq x key) o None) (ap (slice_get parts) at ∙ here)) has) c.table
+          (walks_at eq hash parts c p here f) (subst (λ x. Covers eq (memory_at x) x.nodes.items key c.table) (one_item (sym e ∙ here)) covered)
 
   pub keeps_keys : KeepsKeys eq hash parts (set parts i new)
-  keeps_keys = record { fits = fits; covers = covers }
+  keeps_keys = record { fits = fits; lists = lists; covers = covers }

@@ -26,4 +26,5 @@ pub mod Led
 pub mod Walks
 pub mod Across
 pub mod Keyed
+pub mod Elsewhere
 pub mod Kept

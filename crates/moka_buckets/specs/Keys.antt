@@ -1,9 +1,10 @@
 -- Calls that list the keys of a segment, among all segments of a table.
-use Rattle.std.specs.Prelude.{◌≡◌, ◌⊎◌, ℕ, ◌<◌, Bool, true, false, List, length, Some, IsSome, Result, IfOk, OnErr}
+use Rattle.std.specs.Prelude.{◌≡◌, ◌⊎◌, ◌↔◌, ℕ, ◌<◌, ◌≤◌, Bool, true, false, List, [], length, Some, IsSome, Result, Ok, IfOk, OnErr}
 use Rattle.std.specs.Option.{option_map_or, option_to_list}
 use Rattle.std.specs.List.{slice_get, flat_map}
 use Rattle.std.specs.declared.alloc.AllocError.{AllocError}
-use Rattle.moka_growth.specs.Calls.{Step}
+use Rattle.moka_growth.specs.declared.kinds.CallKind.TheVariants as kind
+use Rattle.moka_growth.specs.Calls.{Step, Going, Decided, Nodes, call_from}
 use Rattle.moka_calls.specs.Standing.{IsGoing}
 use Rattle.moka_table.specs.Map.{SameMap}
 use Rattle.moka_buckets.specs.declared.node.Node.{Node}
@@ -28,10 +29,18 @@ module _ {K V : Type 0} where
     pub err : OnErr gives ((memory_at new ≡ memory_at old) × (after ≡ before))
 
   -- a call fits its segment: it goes on, or has ended
-  pub record FitsKeys (eq : K → K → Bool) (hash : K → ℕ) (parts : List (Part K V)) (c : KeysCall) : Type 0 where
+  pub record FitsThere (eq : K → K → Bool) (hash : K → ℕ) (parts : List (Part K V)) (c : KeysCall) : Type 0 where
     pub part : Part K V
     pub there : slice_get parts c.segment ≡ Some part
     pub walks : WalksOn eq hash (memory_at part) part.nodes.items c.table
+
+  -- one to a segment that isn't there has made no step, or has ended without a key
+  pub record FitsNowhere (parts : List (Part K V)) (c : KeysCall) : Type 0 where
+    pub absent : length parts ≤ c.segment
+    pub empty : (c.table ≡ Going (call_from kind.Keys 0)) ⊎ (c.table ≡ Decided (Nodes []))
+
+  abbrev pub FitsKeys : (K → K → Bool) → (K → ℕ) → List (Part K V) → KeysCall → Type 0
+  FitsKeys eq hash parts c = FitsThere eq hash parts c ⊎ FitsNowhere parts c
 
   -- it has listed this key
   abbrev pub ListsIt : List (Part K V) → KeysCall → K → Type 0
@@ -40,7 +49,7 @@ module _ {K V : Type 0} where
 
   -- it lists this key, if the key stays
   abbrev pub CoversIt : (K → K → Bool) → List (Part K V) → KeysCall → K → Type 0
-  CoversIt eq parts c key = (p : Part K V) → slice_get parts c.segment ≡ Some p → Covers eq (memory_at p) p.nodes.items key c.table
+  CoversIt eq parts c key = (p : Part K V) × (slice_get parts c.segment ≡ Some p) × Covers eq (memory_at p) p.nodes.items key c.table
 
   -- how many steps it has left
   abbrev pub left_keys : (first : ℕ) → List (Part K V) → KeysCall → ℕ
@@ -53,14 +62,16 @@ module _ {K V : Type 0} where
     pub fits : FitsKeys eq hash parts c
     pub going : IsGoing c.table
 
-  -- calls that list keys, while others make their steps: they fit, and cover what they covered of the keys that were in the map
+  -- calls that list keys, while others make their steps: they fit, have listed the same keys, and cover what they covered of the keys that were in
+  -- the map
   pub record KeepsKeys (eq : K → K → Bool) (hash : K → ℕ) (old new : List (Part K V)) : Type 0 where
     pub fits : (c : KeysCall) → FitsKeys eq hash old c → FitsKeys eq hash new c
+    pub lists : (c : KeysCall) (key : K) → FitsKeys eq hash old c → ListsIt new c key ↔ ListsIt old c key
     pub covers : (c : KeysCall) (key : K) → FitsKeys eq hash old c → segment_of (length old) (hash key) ≡ c.segment
         → IsSome (map_over eq hash old key) → CoversIt eq old c key → CoversIt eq new c key
 
   -- What a step of a call does to all segments: the map stays. It is nearer to its end, or has ended; what it lists anew was in the map, and a key that was
-  -- there it goes on to cover. All other calls fit.
+  -- there it goes on to cover. In a segment that isn't there it ends. All other calls fit.
   pub record WalksOver (eq : K → K → Bool) (hash : K → ℕ) (first : ℕ) (old : List (Part K V)) (most len : ℕ) (before : KeysCall)
       (gives : Result Bool AllocError) (new : List (Part K V)) (after : KeysCall) : Type 0 where
     pub segment : after.segment ≡ before.segment
@@ -68,6 +79,7 @@ module _ {K V : Type 0} where
     pub long : length new ≡ length old
     pub map : SameMap (map_over eq hash old) (map_over eq hash new)
     pub fits : FitsKeys eq hash new after
+    pub absent : length old ≤ before.segment → gives ≡ Ok true
     pub ended : IfOk gives (λ done. done ≡ is_ended after.table)
     pub nears : IfOk gives (λ done. done ≡ false → left_keys first new after < left_keys first old before)
     pub lists : IfOk gives (λ done. (key : K) → ListsIt new after key → ListsIt old before key ⊎ IsSome (map_over eq hash old key))
@@ -75,7 +87,11 @@ module _ {K V : Type 0} where
         → IsSome (map_over eq hash old key) → CoversIt eq old before key → CoversIt eq new after key)
     pub others : (c : BucketCall K V) → FitsParts eq hash old c → FitsParts eq hash new c
     pub keys : KeepsKeys eq hash old new
-    pub err : OnErr gives (after ≡ before)
+    pub err : OnErr gives ((after ≡ before) × (left_keys first new after ≡ left_keys first old before))
+
+  -- the nodes of a segment; none where it isn't there
+  abbrev pub nodes_of : List (Part K V) → (segment : ℕ) → List (Node K V)
+  nodes_of parts segment = option_map_or (λ p. p.nodes.items) (slice_get parts segment) []
 
   -- the keys of these nodes, in their order
   abbrev pub keys_in : List (Node K V) → List ℕ → List K

@@ -1,6 +1,6 @@
 //! The table of buckets.
 
-ghost use Rattle.std.specs.Prelude.{List, ◌≡◌, ◌≢◌, ◌⊎◌, ℕ, false, is_some, IsSome, ◌+◌, ◌*◌, ◌-◌, ◌^◌, ◌<◌, ◌≤◌, max, min, length, OnErr, IfOk, Some, None};
+ghost use Rattle.std.specs.Prelude.{List, ◌≡◌, ◌≢◌, ◌⊎◌, ◌↔◌, ℕ, true, false, is_some, IsSome, ◌+◌, ◌*◌, ◌-◌, ◌^◌, ◌<◌, ◌≤◌, max, min, length, Ok, OnErr, IfOk, Some, None};
 ghost use Rattle.std.proofs.Common.{arith};
 ghost use Rattle.moka_hist.specs.Finite.{IsExact};
 ghost use Rattle.moka_hist.specs.declared.tables.TableOp.{TableOp};
@@ -60,7 +60,7 @@ impl<K: Eq + Hash, V, S: BuildHasher> Model for BucketTable<K, V, S> {
 impl<K: Eq + Hash + Drop, V: Drop, S: BuildHasher + Drop> BucketTable<K, V, S> {
     ghost use Rattle.std.specs.Int.{IsNextPowerOfTwo};
     ghost use Rattle.moka_table.specs.Empty.{IsEmptyTable};
-    ghost use Rattle.moka_buckets.specs.Views.{IsFirst, bucket_table, first_of, words_in};
+    ghost use Rattle.moka_buckets.specs.Views.{IsFirst, bucket_table, count_of, first_of, map_in, peak_of, words_in};
 
     /// A table without keys, of so many segments, rounded up to a power of two. For a capacity each
     /// of them has an array; without one none has. Keys are hashed by this.
@@ -74,6 +74,11 @@ impl<K: Eq + Hash + Drop, V: Drop, S: BuildHasher + Drop> BucketTable<K, V, S> {
         requires few { segments ≤ 65536 }
         ensures segments { IfOk result (λ t. IsNextPowerOfTwo segments (length t.parts)) }
         ensures first { IfOk result (λ t. IsFirst capacity (length t.parts) t.first) }
+        ensures hasher { IfOk result (λ t. t.hasher ≡ hasher) }
+        // It has no key, and never had one.
+        ensures none { IfOk result (λ t. (key : K)
+            → map_in S.BuildHasher S.Hasher.Hasher K.eq K.hash_input t key ≡ None) }
+        ensures count { IfOk result (λ t. (count_of t ≡ 0) × (peak_of t ≡ 0)) }
         ensures empty { IfOk result (λ t. first_of t ≡ 128 → IsEmptyTable
             (bucket_table S.BuildHasher S.Hasher.Hasher K.eq K.hash_input) t) }
     {
@@ -125,6 +130,7 @@ impl<K: Eq + Hash + Clone + Drop, V: Clone + Drop, S: BuildHasher + Drop> Bucket
         ensures first { first_of self.new ≡ first_of self.old }
         ensures peak { peak_of self.new ≡ peak_of self.old }
         ensures segments { length self.new.parts ≡ length self.old.parts }
+        ensures hasher { self.new.hasher ≡ self.old.hasher }
         ensures compact { IfOk result (λ done. AllCompact self.old.parts self.new.parts) }
         ensures err { OnErr result (self.new ≡ self.old) }
     {
@@ -133,16 +139,17 @@ impl<K: Eq + Hash + Clone + Drop, V: Clone + Drop, S: BuildHasher + Drop> Bucket
         Ok(())
     }
 
-    /// Begins a call that lists the keys of this segment. It takes no memory.
+    /// Begins a call that lists the keys of this segment: none, where the table hasn't the segment.
+    /// It takes no memory.
     pub fn begin_keys(&self, segment: usize) -> KeysCall
-        requires { segment < length self.now.parts }
         ensures segment { result.segment ≡ segment }
         ensures fits { fits_keys_in S.BuildHasher S.Hasher.Hasher K.eq K.hash_input
             self.now result }
         ensures going { IsGoing result.table }
         // It has listed no key, and has yet to come to each.
         ensures none { (key : K) → lists_in self.now result key → ⊥ }
-        ensures covers { (key : K) → covers_in K.eq self.now result key }
+        ensures covers { segment < length self.now.parts
+            → (key : K) → covers_in K.eq self.now result key }
         ensures left { left_keys_of self.now result
             ≤ most_steps (first_of self.now) (peak_of self.now) }
     {
@@ -153,7 +160,7 @@ impl<K: Eq + Hash + Clone + Drop, V: Clone + Drop, S: BuildHasher + Drop> Bucket
     }
 
     /// Makes one step of a call that lists keys, and changes no pair; tells whether the call has
-    /// decided.
+    /// decided. One to a segment that the table hasn't decides at its first step, with no keys.
     pub fn step_keys(&mut self, call: &mut KeysCall) -> Result<bool, AllocError>
         requires fits { fits_keys_in S.BuildHasher S.Hasher.Hasher K.eq K.hash_input
             self.old call.old }
@@ -164,9 +171,12 @@ impl<K: Eq + Hash + Clone + Drop, V: Clone + Drop, S: BuildHasher + Drop> Bucket
         ensures count { count_of self.new ≡ count_of self.old }
         ensures first { first_of self.new ≡ first_of self.old }
         ensures peak { peak_of self.new ≡ peak_of self.old }
+        ensures segments { length self.new.parts ≡ length self.old.parts }
+        ensures hasher { self.new.hasher ≡ self.old.hasher }
         ensures segment { call.new.segment ≡ call.old.segment }
         ensures fits { fits_keys_in S.BuildHasher S.Hasher.Hasher K.eq K.hash_input
             self.new call.new }
+        ensures absent { length self.old.parts ≤ call.old.segment → result ≡ Ok true }
         ensures ended { IfOk result (λ done. done ≡ is_ended call.new.table) }
         ensures nears { IfOk result (λ done. done ≡ false
             → left_keys_of self.new call.new < left_keys_of self.old call.old) }
@@ -193,13 +203,17 @@ impl<K: Eq + Hash + Clone + Drop, V: Clone + Drop, S: BuildHasher + Drop> Bucket
             → fits_keys_in S.BuildHasher S.Hasher.Hasher K.eq K.hash_input self.old other
             → left_keys_of self.new other
             ≤ most_steps (first_of self.new) (peak_of self.new) }
+        ensures keys_lists { (other : KeysCall) (key : K)
+            → fits_keys_in S.BuildHasher S.Hasher.Hasher K.eq K.hash_input self.old other
+            → lists_in self.new other key ↔ lists_in self.old other key }
         ensures keys_covers { (other : KeysCall) (key : K)
             → fits_keys_in S.BuildHasher S.Hasher.Hasher K.eq K.hash_input self.old other
             → segment_for S.BuildHasher S.Hasher.Hasher K.eq K.hash_input self.old key
             ≡ other.segment
             → IsSome (map_in S.BuildHasher S.Hasher.Hasher K.eq K.hash_input self.old key)
             → covers_in K.eq self.old other key → covers_in K.eq self.new other key }
-        ensures err { OnErr result (call.new ≡ call.old) }
+        ensures err { OnErr result ((call.new ≡ call.old)
+            × (left_keys_of self.new call.new ≡ left_keys_of self.old call.old)) }
     {
         walk_parts(&mut self.parts, call)
     }
@@ -222,7 +236,7 @@ impl<K: Eq + Hash + Clone + Drop, V: Clone + Drop, S: BuildHasher + Drop> Table<
     for BucketTable<K, V, S> {
     type Call = BucketCall<K, V>;
 
-    ghost use Rattle.moka_buckets.specs.Views.{count_of, covers_in, first_of, fits_in, fits_keys_in, left_keys_of, left_of, map_in, operation_of, peak_of, segment_for, segment_in};
+    ghost use Rattle.moka_buckets.specs.Views.{count_of, covers_in, first_of, fits_in, fits_keys_in, left_keys_of, left_of, lists_in, map_in, operation_of, peak_of, segment_for, segment_in};
     ghost use Rattle.moka_buckets.specs.declared.keys_call.KeysCall.{KeysCall};
     ghost use Rattle.moka_buckets.specs.declared.bucket_call.BucketCall.{BucketCall};
 
@@ -281,6 +295,8 @@ impl<K: Eq + Hash + Clone + Drop, V: Clone + Drop, S: BuildHasher + Drop> Table<
             (count_of self.new)) }
         ensures peak { peak_of self.new ≡ max (peak_of self.old) (count_of self.new) }
         ensures first { first_of self.new ≡ first_of self.old }
+        ensures segments { length self.new.parts ≡ length self.old.parts }
+        ensures hasher { self.new.hasher ≡ self.old.hasher }
         // An undecided call is still begun, and nearer to its end.
         ensures undecided { IfOk result (λ turn. turn ≡ TableTurn.Going
             → (operation_of call.new ≡ operation_of call.old)
@@ -299,7 +315,8 @@ impl<K: Eq + Hash + Clone + Drop, V: Clone + Drop, S: BuildHasher + Drop> Table<
         ensures elsewhere { (other : BucketCall K V)
             → segment_in self.old other ≢ segment_in self.old call.old
             → left_of self.new other ≡ left_of self.old other }
-        // Calls that list keys still fit, and cover what they covered of the keys that were there.
+        // Calls that list keys still fit, have listed what they had, and cover what they covered of
+        // the keys that were there.
         ensures keys { (other : KeysCall)
             → fits_keys_in S.BuildHasher S.Hasher.Hasher K.eq K.hash_input self.old other
             → fits_keys_in S.BuildHasher S.Hasher.Hasher K.eq K.hash_input self.new other }
@@ -307,6 +324,9 @@ impl<K: Eq + Hash + Clone + Drop, V: Clone + Drop, S: BuildHasher + Drop> Table<
             → fits_keys_in S.BuildHasher S.Hasher.Hasher K.eq K.hash_input self.old other
             → left_keys_of self.new other
             ≤ most_steps (first_of self.new) (peak_of self.new) }
+        ensures keys_lists { (other : KeysCall) (key : K)
+            → fits_keys_in S.BuildHasher S.Hasher.Hasher K.eq K.hash_input self.old other
+            → lists_in self.new other key ↔ lists_in self.old other key }
         ensures keys_covers { (other : KeysCall) (key : K)
             → fits_keys_in S.BuildHasher S.Hasher.Hasher K.eq K.hash_input self.old other
             → segment_for S.BuildHasher S.Hasher.Hasher K.eq K.hash_input self.old key

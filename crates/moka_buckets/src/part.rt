@@ -98,6 +98,7 @@ pub fn step_parts<K: Eq + Clone + Drop, V: Clone + Drop>(
     ensures keys { (hash : K → ℕ) (first most : ℕ)
         → CanGo K.eq hash parts.old.items first most len.old call.old
         → KeepsKeys K.eq hash parts.old.items parts.new.items }
+    ensures long { length parts.new.items ≡ length parts.old.items }
 {
     let index = segment_of(parts.len(), call.hash);
     let before = keys_at(parts, index);

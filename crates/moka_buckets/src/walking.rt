@@ -1,14 +1,15 @@
 //! One step of a call that lists keys, and its list.
 
-ghost use Rattle.std.specs.Prelude.{List, ◌≡◌, ℕ, ◌++◌, ◌<◌, is_some, length, IfOk, OnErr, None, Some, slice_set};
+ghost use Rattle.std.specs.Prelude.{List, ◌≡◌, ℕ, ◌++◌, true, is_some, IfOk, Ok, OnErr, None, Some, [], slice_set};
 ghost use Rattle.std.specs.List.{slice_get};
 ghost use Rattle.std.specs.Option.{option_copied, option_map, option_to_list};
 ghost use Rattle.moka_hist.specs.Finite.{IsExact};
-ghost use Rattle.moka_calls.specs.Standing.{ending_of};
+ghost use Rattle.moka_growth.specs.declared.kinds.CallKind.TheVariants as kind;
+ghost use Rattle.moka_growth.specs.Calls.{Going, Decided, Nodes, call_from};
 ghost use Rattle.moka_buckets.specs.Nodes.{key_in};
 ghost use Rattle.moka_buckets.specs.Arrays.{ArePlaced, memory_of};
-ghost use Rattle.moka_buckets.specs.Walks.{CanWalk, Lead, is_ended, listed_by, listed_in};
-ghost use Rattle.moka_buckets.specs.Keys.{CanList, Leads, WalksOver, keys_in};
+ghost use Rattle.moka_buckets.specs.Walks.{CanWalk, Lead, is_ended, listed_by};
+ghost use Rattle.moka_buckets.specs.Keys.{CanList, Leads, WalksOver, keys_in, nodes_of};
 ghost use Rattle.moka_buckets.specs.Parts.{memory_at, peak_at};
 ghost use Rattle.moka_buckets.specs.declared.part.Part.{Part};
 
@@ -19,6 +20,7 @@ use crate::node::Node;
 use crate::nodes::node_at;
 use crate::part::Part;
 use moka_calls::{Decision, TableCall};
+use moka_words::Seen;
 use std::alloc::{AllocError, Global};
 
 /// Makes one access; tells whether the call has decided. Without memory nothing has changed.
@@ -84,7 +86,22 @@ fn walk_at<K: Eq, V>(
     parts[index].walk(table)
 }
 
-/// Makes one step of a call in its segment.
+// Ends a call to a segment that isn't there: it lists nothing.
+fn walk_nowhere(table: &mut TableCall) -> Result<bool, AllocError>
+    requires { table.old ≡ Going (call_from kind.Keys 0) }
+    ensures result { result ≡ Ok true }
+    ensures ended { table.new ≡ Decided (Nodes []) }
+{
+    table.take(Seen::Root {
+        array: None,
+        length: 0,
+        tombstones: 0,
+        len: 0,
+    })?;
+    Ok(true)
+}
+
+/// Makes one step of a call in its segment, if that is there.
 pub fn walk_parts<K: Eq, V>(
     parts: &mut Vec<Part<K, V>>,
     call: &mut KeysCall,
@@ -96,7 +113,11 @@ pub fn walk_parts<K: Eq, V>(
         → WalksOver K.eq hash first parts.old.items most len call.old result
         parts.new.items call.new }
 {
-    walk_at(parts, call.segment, &mut call.table)
+    if call.segment < parts.len() {
+        walk_at(parts, call.segment, &mut call.table)
+    } else {
+        walk_nowhere(&mut call.table)
+    }
 }
 
 /// Clones of the keys that the call has listed; None where it hasn't decided.
@@ -106,34 +127,29 @@ pub fn listed_keys<K: Clone + Drop, V>(
     call: &KeysCall,
 ) -> Result<Option<Vec<K>>, AllocError>
     requires keys { IsExact K.is_clone }
-    requires within { call.now.segment < length parts.now }
     ensures ended { IfOk result (λ keys. is_some keys ≡ is_ended call.now.table) }
-    ensures listed { IfOk result (λ keys. (p : Part K V) (list : List K)
-        → slice_get parts.now call.now.segment ≡ Some p
+    ensures listed { IfOk result (λ keys. (list : List K)
         → option_map (λ v. v.items) keys ≡ Some list
-        → list ≡ keys_in p.nodes.items (listed_by call.now.table)) }
+        → list ≡ keys_in (nodes_of parts.now call.now.segment) (listed_by call.now.table)) }
 {
     match call.table.decided() {
         None => Ok(None),
         Some(Decision::Nodes(numbers)) => {
-            let keys = clone_keys(
-                alloc,
-                parts[call.segment].nodes.as_slice(),
-                numbers.as_slice(),
-            )?;
+            let nodes = nodes_of(parts, call.segment);
+            let keys = clone_keys(alloc, nodes, numbers.as_slice())?;
             Ok(Some(keys))
         }
         Some(_) => Ok(Some(Vec::new(alloc))),
     }
 }
 
-// The nodes of the list; other calls have none.
-fn numbers_of(decision: &Decision) -> &[u64]
-    ensures { result.now ≡ listed_in (ending_of decision.now) }
+// The nodes of a segment; none where it isn't there.
+fn nodes_of<K, V>(parts: &[Part<K, V>], segment: usize) -> &[Node<K, V>]
+    ensures { result.now ≡ nodes_of parts.now segment }
 {
-    match decision {
-        Decision::Nodes(numbers) => numbers.as_slice(),
-        _ => &[],
+    match parts.get(segment) {
+        None => &[],
+        Some(part) => part.nodes.as_slice(),
     }
 }
 

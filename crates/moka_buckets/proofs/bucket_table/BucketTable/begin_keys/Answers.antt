@@ -1,4 +1,4 @@
-use Rattle.std.proofs.Common.{◌<◌, ◌≤◌, length, max, subst, sym}
+use Rattle.std.proofs.Common.{◌<◌, ◌≤◌, length, max, subst}
 use Rattle.moka_table.specs.Map.{most_steps}
 use Rattle.moka_buckets.specs.Hashing.{hash_in}
 use Rattle.moka_buckets.specs.Views.{covers_in, first_of, fits_keys_in, left_keys_of, lists_in, peak_of}
@@ -9,8 +9,7 @@ pub returns-clause-fits : goal.returns-clause-fits
 returns-clause-fits g c = subst (λ o. fits_keys_in g.S.BuildHasher g.S.Hasher.Hasher g.K.PartialEq.eq g.K.Hash.hash_input o
     (record { segment = c.args.segment; table = c.new.result })) c.self.view_is
     (begun_keys g.K.PartialEq.eq (hash_in g.S.BuildHasher g.S.Hasher.Hasher g.K.Hash.hash_input c.self.inside.hasher) c.self.inside.parts.items
-    (record { segment = c.args.segment; table = c.new.result }) c.new.ensures
-    (subst (λ o. c.args.segment < length o.parts) (sym c.self.view_is) c.requires))
+    (record { segment = c.args.segment; table = c.new.result }) c.new.ensures)
 
 pub returns-clause-none : goal.returns-clause-none
 returns-clause-none g c = subst (λ o. (key : g.row.K.Denot) → lists_in o (record { segment = c.args.segment; table = c.new.result }) key → ⊥) c.self.view_is
@@ -18,7 +17,7 @@ returns-clause-none g c = subst (λ o. (key : g.row.K.Denot) → lists_in o (rec
     (record { segment = c.args.segment; table = c.new.result }) c.new.ensures)
 
 pub returns-clause-covers : goal.returns-clause-covers
-returns-clause-covers g c = subst (λ o. (key : g.row.K.Denot) → covers_in g.K.PartialEq.eq o (record { segment = c.args.segment; table = c.new.result }) key) c.self.view_is
+returns-clause-covers g c = subst (λ o. c.args.segment < length o.parts → (key : g.row.K.Denot) → covers_in g.K.PartialEq.eq o (record { segment = c.args.segment; table = c.new.result }) key) c.self.view_is
     (begun_covers g.K.PartialEq.eq (hash_in g.S.BuildHasher g.S.Hasher.Hasher g.K.Hash.hash_input c.self.inside.hasher) c.self.inside.parts.items
     (record { segment = c.args.segment; table = c.new.result }) c.new.ensures)
 
@@ -28,5 +27,4 @@ returns-clause-left g c = subst (λ o. left_keys_of o (record { segment = c.args
     c.self.inside.parts.items (max c.self.inside.peak c.self.inside.len) c.self.inside.len c.self.invariant
     (record { segment = c.args.segment; table = c.new.result })
     (begun_keys g.K.PartialEq.eq (hash_in g.S.BuildHasher g.S.Hasher.Hasher g.K.Hash.hash_input c.self.inside.hasher) c.self.inside.parts.items
-    (record { segment = c.args.segment; table = c.new.result }) c.new.ensures
-    (subst (λ o. c.args.segment < length o.parts) (sym c.self.view_is) c.requires)))
+    (record { segment = c.args.segment; table = c.new.result }) c.new.ensures))

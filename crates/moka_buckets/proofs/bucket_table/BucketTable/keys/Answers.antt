@@ -1,9 +1,7 @@
 use Rattle.std.proofs.Common.{◌≡◌, List, Some, IfOk, subst, sym}
-use Rattle.std.specs.List.{slice_get}
 use Rattle.std.specs.Option.{option_map}
-use Rattle.moka_buckets.specs.declared.part.Part.{Part}
 use Rattle.moka_buckets.specs.Hashing.{hash_in}
-use Rattle.moka_buckets.specs.Keys.{IsListing, keys_in}
+use Rattle.moka_buckets.specs.Keys.{IsListing, keys_in, nodes_of}
 use Rattle.moka_buckets.specs.Views.{fits_keys_in}
 use Rattle.moka_buckets.specs.Walks.{listed_by}
 use Rattle.moka_buckets.proofs.Keyed.{listing_of}
@@ -17,5 +15,5 @@ returns-clause-listing g c =
     (listing_of g.K.PartialEq.eq (hash_in g.S.BuildHasher g.S.Hasher.Hasher g.K.Hash.hash_input c.self.inside.hasher) c.self.inside.parts.items call
     (subst (λ o. fits_keys_in g.S.BuildHasher g.S.Hasher.Hasher g.K.PartialEq.eq g.K.Hash.hash_input o call) (sym c.self.view_is) c.requires.fits)
     _ (λ v. v.items) c.listed_keys.result c.listed_keys.ensures.ended
-    (subst (λ xs. IfOk c.listed_keys.result (λ keys. (p : Part g.row.K.Denot g.row.V.Denot) (list : List g.row.K.Denot) → slice_get xs call.segment ≡ Some p →
-    option_map (λ v. v.items) keys ≡ Some list → list ≡ keys_in p.nodes.items (listed_by call.table))) c.deref.ensures.value c.listed_keys.ensures.listed))
+    (subst (λ xs. IfOk c.listed_keys.result (λ keys. (list : List g.row.K.Denot) → option_map (λ v. v.items) keys ≡ Some list →
+    list ≡ keys_in (nodes_of xs call.segment) (listed_by call.table))) c.deref.ensures.value c.listed_keys.ensures.listed))

@@ -1,4 +1,4 @@
-use Rattle.std.proofs.Common.{◌≡◌, ◌⊎◌, ℕ, ◌<◌, false, IsSome, IfOk, ap, max, subst, sym}
+use Rattle.std.proofs.Common.{◌≡◌, ◌⊎◌, ◌↔◌, ℕ, ◌<◌, ◌≤◌, true, false, length, IsSome, Ok, OnErr, IfOk, ap, max, subst, sym}
 use Rattle.std.specs.List.{fold}
 use Rattle.moka_buckets.specs.declared.bucket_call.BucketCall.{BucketCall}
 use Rattle.moka_buckets.specs.declared.keys_call.KeysCall.{KeysCall}
@@ -48,6 +48,12 @@ pub returns-clause-map : goal.returns-clause-map
 returns-clause-map g c = λ q. subst (λ o. map_over g.K.PartialEq.eq (H g c) c.walk_parts.new.parts.items q
     ≡ map_in g.S.BuildHasher g.S.Hasher.Hasher g.K.PartialEq.eq g.K.Hash.hash_input o q) c.self.view_is ((over g c).map q)
 
+pub returns-clause-segments : goal.returns-clause-segments
+returns-clause-segments g c = subst (λ o. length c.walk_parts.new.parts.items ≡ length o.parts) c.self.view_is (over g c).long
+
+pub returns-clause-absent : goal.returns-clause-absent
+returns-clause-absent g c = subst (λ o. length o.parts ≤ c.args.call.now.segment → c.walk_parts.result ≡ Ok true) c.self.view_is (over g c).absent
+
 pub returns-clause-segment : goal.returns-clause-segment
 returns-clause-segment g c = (over g c).segment
 
@@ -85,6 +91,11 @@ returns-clause-keys g c = subst (λ o. (other : KeysCall) →
     fits_keys_in g.S.BuildHasher g.S.Hasher.Hasher g.K.PartialEq.eq g.K.Hash.hash_input o other →
     FitsKeys g.K.PartialEq.eq (H g c) c.walk_parts.new.parts.items other) c.self.view_is (over g c).keys.fits
 
+pub returns-clause-keys_lists : goal.returns-clause-keys_lists
+returns-clause-keys_lists g c = subst (λ o. (other : KeysCall) (key : g.row.K.Denot) →
+    fits_keys_in g.S.BuildHasher g.S.Hasher.Hasher g.K.PartialEq.eq g.K.Hash.hash_input o other →
+    ListsIt c.walk_parts.new.parts.items other key ↔ lists_in o other key) c.self.view_is (over g c).keys.lists
+
 pub returns-clause-keys_left : goal.returns-clause-keys_left
 returns-clause-keys_left g c = λ other f. keys_bounded g.K.PartialEq.eq (H g c) (max 128 c.self.inside.first) c.walk_parts.new.parts.items
     (max c.self.inside.peak c.self.inside.len) c.self.inside.len (over g c).well other (returns-clause-keys g c other f)
@@ -97,4 +108,5 @@ returns-clause-keys_covers g c = subst (λ o. (other : KeysCall) (key : g.row.K.
     CoversIt g.K.PartialEq.eq c.walk_parts.new.parts.items other key) c.self.view_is (over g c).keys.covers
 
 pub returns-clause-err : goal.returns-clause-err
-returns-clause-err g c = (over g c).err
+returns-clause-err g c = subst (λ o. OnErr c.walk_parts.result ((c.walk_parts.new.call ≡ c.args.call.now)
+    × (left_keys (max 128 c.self.inside.first) c.walk_parts.new.parts.items c.walk_parts.new.call ≡ left_keys_of o c.args.call.now))) c.self.view_is (over g c).err

@@ -11,10 +11,13 @@ invariant_of-result g c =
     fresh_parts g.K.PartialEq.eq (hash_in g.S.BuildHasher g.S.Hasher.Hasher g.K.Hash.hash_input c.args.hasher) (max 128 c.in_ok-first.first) c.in_ok-first.first
     (omega arith) (omega arith) c.next_power_of_two-count.result 0 c.in_ok-parts.parts.items some c.in_ok-parts.ensures
 
+pub returns-clause-none : goal.returns-clause-none
+returns-clause-none g c = λ q. fresh_map g.K.PartialEq.eq (hash_in g.S.BuildHasher g.S.Hasher.Hasher g.K.Hash.hash_input c.args.hasher) (max 128 c.in_ok-first.first)
+    c.in_ok-first.first (omega arith) (omega arith) c.next_power_of_two-count.result c.in_ok-parts.parts.items c.in_ok-parts.ensures q
+
 pub returns-clause-empty : goal.returns-clause-empty
 returns-clause-empty g c = λ is. record {
-  map = λ q. fresh_map g.K.PartialEq.eq (hash_in g.S.BuildHasher g.S.Hasher.Hasher g.K.Hash.hash_input c.args.hasher) (max 128 c.in_ok-first.first) c.in_ok-first.first
-      (omega arith) (omega arith) c.next_power_of_two-count.result c.in_ok-parts.parts.items c.in_ok-parts.ensures q;
+  map = returns-clause-none g c;
   count = refl;
   peak = refl;
   first = is;

@@ -1,12 +1,12 @@
-use Rattle.std.proofs.Common.{◌≡◌, ◌≤◌, IsSome, ap, max, subst, sym}
+use Rattle.std.proofs.Common.{◌≡◌, ◌↔◌, ◌≤◌, IsSome, length, ap, max, subst, sym}
 use Rattle.std.specs.List.{fold}
 use Rattle.moka_table.specs.Map.{most_steps}
 use Rattle.moka_buckets.specs.declared.bucket_call.BucketCall.{BucketCall}
 use Rattle.moka_buckets.specs.Hashing.{hash_in}
 use Rattle.moka_buckets.specs.Parts.{AreParts, GoesOver}
 use Rattle.moka_buckets.specs.declared.keys_call.KeysCall.{KeysCall}
-use Rattle.moka_buckets.specs.Keys.{CoversIt, FitsKeys, KeepsKeys, left_keys}
-use Rattle.moka_buckets.specs.Views.{covers_in, fits_in, fits_keys_in, left_keys_of, left_of, first_of, map_in, peak_of, segment_for}
+use Rattle.moka_buckets.specs.Keys.{CoversIt, FitsKeys, KeepsKeys, ListsIt, left_keys}
+use Rattle.moka_buckets.specs.Views.{covers_in, fits_in, fits_keys_in, left_keys_of, left_of, lists_in, first_of, map_in, peak_of, segment_for}
 use Rattle.moka_buckets.proofs.Going.{Does, does}
 use Rattle.moka_buckets.proofs.Keyed.{keys_bounded}
 use Rattle.moka_buckets.proofs.Spread.{bounded}
@@ -105,6 +105,14 @@ kept g c = c.step_parts.ensures.keys (hash_in g.S.BuildHasher g.S.Hasher.Hasher 
 pub returns-clause-keys : goal.returns-clause-keys
 returns-clause-keys g c = subst (λ o. (other : KeysCall) → fits_keys_in g.S.BuildHasher g.S.Hasher.Hasher g.K.PartialEq.eq g.K.Hash.hash_input o other →
     FitsKeys g.K.PartialEq.eq (hash_in g.S.BuildHasher g.S.Hasher.Hasher g.K.Hash.hash_input c.self.inside.hasher) c.step_parts.new.parts.items other) c.self.view_is (kept g c).fits
+
+pub returns-clause-segments : goal.returns-clause-segments
+returns-clause-segments g c = subst (λ o. length c.step_parts.new.parts.items ≡ length o.parts) c.self.view_is c.step_parts.ensures.long
+
+pub returns-clause-keys_lists : goal.returns-clause-keys_lists
+returns-clause-keys_lists g c = subst (λ o. (other : KeysCall) (key : g.row.K.Denot) →
+    fits_keys_in g.S.BuildHasher g.S.Hasher.Hasher g.K.PartialEq.eq g.K.Hash.hash_input o other →
+    ListsIt c.step_parts.new.parts.items other key ↔ lists_in o other key) c.self.view_is (kept g c).lists
 
 pub returns-clause-keys_covers : goal.returns-clause-keys_covers
 returns-clause-keys_covers g c = subst (λ o. (other : KeysCall) (key : g.row.K.Denot) →

@@ -1,6 +1,6 @@
 -- The operation fits the table until it has decided, and so does the call.
 use Rattle.moka_buckets.specs.Views.{fits_in, fits_keys_in}
-use Rattle.moka_bucket_cases.proofs.keys.run.Given as goal
+use Rattle.moka_bucket_cases.proofs.keys.finish.Given as goal
 
 abbrev pub invariant-loop : goal.invariant-loop
 invariant-loop g l =

@@ -1,10 +1,10 @@
-use Rattle.moka_bucket_cases.proofs.keys.run.Goals as goal
+use Rattle.moka_bucket_cases.proofs.keys.finish.Goals as goal
 
 pub returns-in_err-step : goal.returns-in_err-step
-returns-in_err-step g c = record { fits = c.in_err-step.ensures.keys c.args.call.now c.loop.invariant.1 }
+returns-in_err-step g c = record { listing = c.in_err-step.ensures.keys c.args.call.now c.loop.invariant.1 }
 
 pub returns-in-Decided : goal.returns-in-Decided
-returns-in-Decided g c = record { fits = c.in_ok-step.ensures.keys c.args.call.now c.loop.invariant.1 }
+returns-in-Decided g c = record { listing = c.in_ok-step.ensures.keys c.args.call.now c.loop.invariant.1 }
 
 pub loop-preserved : goal.loop-preserved
 loop-preserved g c = ((c.in_ok-step.ensures.undecided c.in-Going.is).1, c.in_ok-step.ensures.keys c.args.call.now c.loop.invariant.1)
