@@ -1,0 +1,7 @@
+pub mod Ways
+pub mod Reached
+pub mod Wanting
+pub mod Keeping
+pub mod Stopping
+pub mod Staging
+pub mod Looks

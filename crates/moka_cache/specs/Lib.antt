@@ -1,0 +1,11 @@
+pub mod Settings
+pub mod Kept
+pub mod Asked
+pub mod Loaded
+pub mod Paths
+pub mod Parked
+pub mod Rests
+pub mod Stops
+pub mod Stages
+pub mod Starts
+pub mod Counts

@@ -1,0 +1,95 @@
+-- What a poll of a state does, by how far the state is.
+use Rattle.std.specs.Prelude.{◌≡◌, ℕ, Bool, Option, Some, None}
+use Rattle.moka_hist.specs.Next.{answers}
+use Rattle.moka_hist.specs.Run.{last_call}
+use Rattle.moka_hist.specs.SoundDesk.{SoundDesk}
+use Rattle.moka_hist.specs.State.{Call, DeskPart}
+use Rattle.moka_hist.specs.declared.replies.Answer.{Answer}
+use Rattle.moka_hist.specs.declared.replies.Answer.TheVariants as answer
+use Rattle.moka_init.specs.FlowPlan.{call_of}
+use Rattle.moka_hist.specs.declared.events.Told.{Told}
+use Rattle.moka_cache.specs.Asked.{NoAnswer}
+use Rattle.moka_cache.specs.Paths.{CameWith, EndedWith}
+use Rattle.moka_cache.specs.Rests.{Rests}
+use Rattle.moka_cache.specs.Stops.{Pends}
+use Rattle.moka_cache.specs.declared.stage.Stage.{Stage}
+use Rattle.moka_cache.specs.declared.stage.Stage.TheVariants as stage
+
+-- the value that an answer tells, if it does
+abbrev pub value_in : {K V E : Type 0} → Answer K V E → Option V
+value_in answer.Done = None
+value_in (answer.Found value) = value
+value_in (answer.Loaded value fresh) = Some value
+value_in answer.Nothing = None
+value_in (answer.InitErr error) = None
+value_in (answer.Computed done) = None
+value_in (answer.ComputeErr error) = None
+value_in answer.RetriesExhausted = None
+value_in answer.Evicted = None
+value_in answer.Kept = None
+
+-- some sound desk has given the greatest number out
+abbrev pub NumbersSpent : (K V E : Type 0) → (K → K → Bool) → Type 0
+NumbersSpent K V E eq = (w : DeskPart K V E) × SoundDesk eq w × (w.last ≡ last_call)
+
+module _ {A K V E : Type 0} where
+  -- the state may be polled: it has not answered
+  abbrev pub MayPoll : Stage A K V E → Type 0
+  MayPoll (stage.Fresh begin) = Unit {0}
+  MayPoll (stage.Running flow) = Rests flow
+  MayPoll stage.Spent = Unit {0}
+  MayPoll stage.Answered = ⊥
+
+  -- it has no number yet, and what it begins with is so
+  abbrev pub BeginsWith : Stage A K V E → (A → Type 0) → Type 0
+  BeginsWith (stage.Fresh begin) holds = holds begin
+  BeginsWith _ holds = ⊥
+
+  -- A poll that answers nothing brought the state so far, whose call is to begin with this start:
+  -- it took no number yet, or none was left; or its call came by accesses to where it is, from
+  -- where it was or from its fresh flow. Each answer to its own ask that it took is such.
+  abbrev pub CameOnWith : (K → K → Bool) → (Told V E → Type 0) → (A → Call K V E) → Stage A K V E
+      → Stage A K V E → Type 0
+  CameOnWith eq such begins (stage.Fresh begin) (stage.Fresh kept) = kept ≡ begin
+  CameOnWith eq such begins (stage.Fresh begin) stage.Spent = NumbersSpent K V E eq
+  CameOnWith eq such begins stage.Spent stage.Spent = Unit {0}
+  CameOnWith eq such begins (stage.Fresh begin) (stage.Running new) =
+      CameWith eq such new.call (begins begin) (call_of new)
+  CameOnWith eq such begins (stage.Running old) (stage.Running new) =
+      (new.call ≡ old.call) × CameWith eq such old.call (call_of old) (call_of new)
+  CameOnWith eq such begins _ _ = ⊥
+
+  -- the poll's answer follows from the last of its accesses
+  abbrev pub AnswersWith : (K → K → Bool) → (Told V E → Type 0) → (A → Call K V E) → Stage A K V E
+      → Answer K V E → Type 0
+  AnswersWith eq such begins (stage.Fresh begin) answer =
+      (n : ℕ) × EndedWith eq such n (begins begin) (answers answer)
+  AnswersWith eq such begins (stage.Running old) answer =
+      EndedWith eq such old.call (call_of old) (answers answer)
+  AnswersWith eq such begins stage.Spent answer = ⊥
+  AnswersWith eq such begins stage.Answered answer = ⊥
+
+  -- the same of a call that takes no answer to an own ask
+  abbrev pub CameOn : (K → K → Bool) → (A → Call K V E) → Stage A K V E → Stage A K V E → Type 0
+  CameOn eq begins old new = CameOnWith eq NoAnswer begins old new
+
+  abbrev pub AnswersBy : (K → K → Bool) → (A → Call K V E) → Stage A K V E → Answer K V E → Type 0
+  AnswersBy eq begins old answer = AnswersWith eq NoAnswer begins old answer
+
+  -- why a poll of the state is pending
+  abbrev pub StagePends : {Q : Type 0} → (K → K → Bool) → (Q → Q → Type 0) → Q → Stage A K V E
+      → Type 0
+  StagePends eq pends asked (stage.Running flow) = Pends eq pends asked flow
+  StagePends eq pends asked _ = ⊥
+
+  -- A state is begun: its call is as its start says, and rests; no number was left for it; or its
+  -- key was not copied. One that was begun before is as it was.
+  abbrev pub Begins : (K → K → Bool) → (A → Call K V E) → Stage A K V E → Stage A K V E → Type 0
+  Begins eq begins (stage.Fresh begin) (stage.Running flow) =
+      (call_of flow ≡ begins begin) × Rests flow
+  Begins eq begins (stage.Fresh begin) (stage.Fresh kept) = kept ≡ begin
+  Begins eq begins (stage.Fresh begin) stage.Spent = NumbersSpent K V E eq
+  Begins eq begins (stage.Fresh begin) stage.Answered = ⊥
+  Begins eq begins (stage.Running flow) new = new ≡ stage.Running flow
+  Begins eq begins stage.Spent new = new ≡ stage.Spent
+  Begins eq begins stage.Answered new = new ≡ stage.Answered

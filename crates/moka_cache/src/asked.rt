@@ -1,0 +1,78 @@
+//! Who is asked where a call asks its caller.
+ghost use Rattle.std.specs.Prelude.{IfSome, IsSomeAnd};
+ghost use Rattle.futures.specs.Poll.{IfReady, OnPending};
+ghost use Rattle.futures.specs.Task.{IsArmed, Keeps};
+ghost use Rattle.moka_hist.specs.declared.events.Told.{Told};
+ghost use Rattle.moka_cache.specs.Asked.{NoAnswer, TellsValue};
+
+use crate::init::Init;
+use futures::task::{Context, Poll};
+use moka_hist::Told;
+
+/// Who answers the own ask of a call. It is polled without the lock, as long as the ask is open.
+pub trait Asked<V, E>: Drop {
+    /// Holds of the states in which it may be polled.
+    ghost can_poll: { Self → Type 0 };
+
+    /// Holds of each answer that it may give.
+    ghost gives: { Self → Told V E → Type 0 };
+
+    /// Holds of its states before and after a poll that answers Pending.
+    ghost pends: { Self → Self → Type 0 };
+
+    /// Goes on with its answer. Answers None where it has none to give, or gave it before.
+    fn poll(&mut self, cx: &mut Context<'_>) -> Poll<Option<Told<V, E>>>
+        requires { can_poll self.old }
+        // What it gives, and that it may give no other answer afterwards.
+        ensures value { IfReady result (λ told. IfSome told (gives self.old)) }
+        ensures same { (told : Told V E) → gives self.new told → gives self.old told }
+        ensures again { can_poll self.new }
+        // Where it gives nothing yet.
+        ensures pending { OnPending result (pends self.old self.new) }
+        ensures armed { OnPending result (IsArmed cx.new) }
+        ensures kept { Keeps cx.old cx.new };
+}
+
+/// Who is asked by a call that asks nothing.
+#[derive(Drop)]
+pub struct Nobody;
+
+impl<V, E> Asked<V, E> for Nobody {
+    ghost can_poll = { λ nobody. Unit {0} };
+
+    ghost gives = { λ nobody. NoAnswer };
+
+    ghost pends = { λ old new. ⊥ };
+
+    fn poll(&mut self, _cx: &mut Context<'_>) -> Poll<Option<Told<V, E>>> {
+        Poll::Ready(None)
+    }
+}
+
+/// An initializer that is asked for a value. Once it gave one it is gone, so that it is never
+/// polled again.
+#[derive(Drop)]
+pub struct ByInit<I> {
+    pub(crate) init: Option<I>,
+}
+
+impl<V, E, I: Init<V>> Asked<V, E> for ByInit<I> {
+    ghost can_poll = { λ asked. IfSome asked.init I.can_poll };
+
+    ghost gives = { λ asked told. IsSomeAnd asked.init (λ init. TellsValue (I.gives init) told) };
+
+    ghost pends = { λ old new. IsSomeAnd old.init (λ init. IsSomeAnd new.init (I.pends init)) };
+
+    fn poll(&mut self, cx: &mut Context<'_>) -> Poll<Option<Told<V, E>>> {
+        match &mut self.init {
+            Some(init) => match init.poll(cx) {
+                Poll::Ready(value) => {
+                    self.init = None;
+                    Poll::Ready(Some(Told::Value(value)))
+                }
+                Poll::Pending => Poll::Pending,
+            },
+            None => Poll::Ready(None),
+        }
+    }
+}

@@ -1,0 +1,240 @@
+//! A call of a cache, as a state that is polled.
+ghost use Rattle.std.specs.Prelude.{◌≡◌, ◌↔◌, IfOk, IfErr, OnOk, OnErr};
+ghost use Rattle.futures.specs.Poll.{IfReady, OnPending};
+ghost use Rattle.futures.specs.Task.{IsArmed, Keeps};
+ghost use Rattle.moka_hist.specs.Finite.{IsExact};
+ghost use Rattle.moka_hist.specs.declared.replies.Answer.{Answer};
+ghost use Rattle.moka_cache.specs.Settings.{rules_of};
+ghost use Rattle.moka_hist.specs.declared.events.Told.{Told};
+ghost use Rattle.moka_cache.specs.Stages.{AnswersWith, Begins, CameOnWith, MayPoll, StagePends};
+ghost use Rattle.moka_cache.specs.Starts.{called};
+
+use crate::asked::{Asked, Nobody};
+use crate::begin::Begin;
+use crate::cache::Cache;
+use crate::errors::PollError;
+use crate::polled::State;
+use crate::stage::{Nested, Stage, put};
+use futures::task::{Context, Poll};
+use moka_hist::Start;
+use std::hash::Hash;
+use std::marker::PhantomData;
+use std::mem;
+use std::sync::Wait;
+
+/// A call of a cache, polled until it has answered. `A` is what it begins with, and `Q` who answers
+/// its own ask, if it has one; the states of the calls by name, as `Get`, are of this type.
+///
+/// It has no `Drop`: one that has answered is finished, and any other is cancelled.
+pub struct CacheCall<'a, A, K: Eq + Hash, V, E, Q> {
+    cache: &'a Cache<K, V, E>,
+    stage: Stage<A, K, V, E>,
+    asked: Q,
+    nested: Nested<K, V, E>,
+}
+
+impl<K: Eq + Hash + Clone + Drop, V: Clone + Drop, E: Clone + Drop> Cache<K, V, E> {
+    /// A call that is to begin so, and asks nothing. It takes no memory, number or lock before its
+    /// first poll.
+    pub(crate) fn call<'a, A: Begin<K, V, E>>(
+        &'a self,
+        begin: A,
+    ) -> CacheCall<'a, A, K, V, E, Nobody>
+        ensures stage { result.stage ≡ Stage.Fresh begin }
+        ensures cache { result.cache.now ≡ self.now }
+    {
+        self.call_asking(begin, Nobody)
+    }
+
+    /// The same of a call whose own ask is answered by this one.
+    pub(crate) fn call_asking<'a, A: Begin<K, V, E>, Q: Asked<V, E>>(
+        &'a self,
+        begin: A,
+        asked: Q,
+    ) -> CacheCall<'a, A, K, V, E, Q>
+        ensures stage { result.stage ≡ Stage.Fresh begin }
+        ensures asked { result.asked ≡ asked }
+        ensures cache { result.cache.now ≡ self.now }
+    {
+        CacheCall {
+            cache: self,
+            stage: Stage::Fresh(begin),
+            asked,
+            nested: PhantomData,
+        }
+    }
+
+    /// Begins the call of a state that is fresh. Without memory for its key that stays so.
+    pub(crate) fn begin<R: Wait, A: Begin<K, V, E>>(
+        &self,
+        rt: &R,
+        stage: &mut Stage<A, K, V, E>,
+        moment: u64,
+    )
+        requires keys { IsExact K.is_clone }
+        requires may { MayPoll stage.old }
+        ensures begins { Begins K.eq (called (rules_of self.now) A.start) stage.old stage.new }
+        ensures may { MayPoll stage.new }
+    {
+        match mem::replace(stage, Stage::Spent) {
+            Stage::Fresh(begin) => put(stage, self.begun(rt, begin, moment)),
+            other => put(stage, other),
+        }
+    }
+
+    // The stage of a call that begins so.
+    fn begun<R: Wait, A: Begin<K, V, E>>(&self, rt: &R, begin: A, moment: u64) -> Stage<A, K, V, E>
+        requires keys { IsExact K.is_clone }
+        ensures begins { Begins K.eq (called (rules_of self.now) A.start) (Stage.Fresh begin)
+            result }
+        ensures may { MayPoll result }
+    {
+        match begin.start() {
+            Ok(start) => self.numbered(rt, start, moment),
+            Err(kept) => Stage::Fresh(kept),
+        }
+    }
+
+    // The stage of a call of this start, which gets a number if one is left.
+    fn numbered<R: Wait, A: Begin<K, V, E>>(
+        &self,
+        rt: &R,
+        start: Start<K, V>,
+        moment: u64,
+    ) -> Stage<A, K, V, E>
+        ensures begins { (begin : A) → start ≡ A.start begin
+            → Begins K.eq (called (rules_of self.now) A.start) (Stage.Fresh begin) result }
+        ensures may { MayPoll result }
+    {
+        match self.enter(rt, start, moment) {
+            Some(flow) => Stage::Running(flow),
+            None => Stage::Spent,
+        }
+    }
+
+    /// Lets a state go. Where its call was begun that leaves as it stands, and those that wait for
+    /// it are woken.
+    pub(crate) fn let_go<R: Wait, A: Drop>(&self, rt: &R, stage: Stage<A, K, V, E>) {
+        match stage {
+            Stage::Running(flow) => self.leave(rt, flow),
+            other => drop(other),
+        }
+    }
+}
+
+impl<A, K, V, E, Q> CacheCall<'_, A, K, V, E, Q>
+where
+    A: Begin<K, V, E>,
+    Q: Asked<V, E>,
+    K: Eq + Hash + Clone + Drop,
+    V: Clone + Drop,
+    E: Clone + Drop,
+{
+    /// Goes on at `moment`, in nanoseconds; one before the clock counts as the clock. Answers Ready
+    /// once its call has answered. After `Memory` it can be polled again, and what was done stands;
+    /// `CallsSpent` comes where the greatest number was given out before the call took one.
+    pub fn poll<R: Wait>(
+        &mut self,
+        rt: &R,
+        cx: &mut Context<'_>,
+        moment: u64,
+    ) -> Poll<Result<A::Output, PollError>>
+        requires keys { IsExact K.is_clone }
+        requires values { IsExact V.is_clone }
+        requires errors { IsExact E.is_clone }
+        requires may { MayPoll self.old.stage }
+        requires asks { Q.can_poll self.old.asked }
+        // What was done.
+        ensures answers { IfReady result (λ r. IfOk r (λ told. (answer : Answer K V E)
+            × AnswersWith K.eq (Q.gives self.old.asked)
+            (called (rules_of self.old.cache.now) A.start) self.old.stage answer
+            × (told ≡ A.output answer))) }
+        ensures failed { IfReady result (λ r. OnErr r
+            (CameOnWith K.eq (Q.gives self.old.asked)
+            (called (rules_of self.old.cache.now) A.start) self.old.stage self.new.stage)) }
+        ensures came { OnPending result
+            (CameOnWith K.eq (Q.gives self.old.asked)
+            (called (rules_of self.old.cache.now) A.start) self.old.stage self.new.stage) }
+        // Why it answers nothing.
+        ensures cause { OnPending result
+            (StagePends K.eq Q.pends self.new.asked self.new.stage) }
+        ensures spent { IfReady result (λ r. IfErr r (λ e.
+            (e ≡ PollError.CallsSpent) ↔ (self.new.stage ≡ Stage.Spent))) }
+        // It can be polled again, until it has answered.
+        ensures pending { OnPending result (MayPoll self.new.stage) }
+        ensures again { IfReady result (λ r. OnErr r (MayPoll self.new.stage)) }
+        ensures over { IfReady result (λ r. OnOk r (self.new.stage ≡ Stage.Answered)) }
+        ensures cache { self.new.cache.now ≡ self.old.cache.now }
+        // Who is asked can still be polled, and may give no other answer.
+        ensures asks { Q.can_poll self.new.asked }
+        ensures same { (told : Told V E) → Q.gives self.new.asked told
+            → Q.gives self.old.asked told }
+        // The task is woken.
+        ensures armed { OnPending result (IsArmed cx.new) }
+        ensures kept { Keeps cx.old cx.new }
+    {
+        self.cache.begin(rt, &mut self.stage, moment);
+        match self
+            .cache
+            .advance(rt, &mut self.stage, &mut self.asked, cx, moment)
+        {
+            Poll::Ready(Ok(answer)) => Poll::Ready(Ok(A::output(answer))),
+            Poll::Ready(Err(e)) => Poll::Ready(Err(e)),
+            Poll::Pending => Poll::Pending,
+        }
+    }
+
+    /// Drops the call: what it held is left to others, and those that wait for it are woken. Where
+    /// no call was begun, or it has answered, it does nothing.
+    pub fn cancel<R: Wait>(self, rt: &R) {
+        let CacheCall {
+            cache,
+            stage,
+            asked,
+            nested: _,
+        } = self;
+        drop(asked);
+        cache.let_go(rt, stage);
+    }
+
+    /// Lets a state go that has answered.
+    pub fn finish(self)
+        requires { self.stage ≡ Stage.Answered }
+    {
+        let CacheCall {
+            cache: _,
+            stage,
+            asked,
+            nested: _,
+        } = self;
+        drop(asked);
+        drop(stage);
+    }
+}
+
+impl<A, K, V, E, Q> State for CacheCall<'_, A, K, V, E, Q>
+where
+    A: Begin<K, V, E>,
+    Q: Asked<V, E>,
+    K: Eq + Hash + Clone + Drop,
+    V: Clone + Drop,
+    E: Clone + Drop,
+{
+    type Output = A::Output;
+
+    ghost can_poll = { λ call. IsExact K.is_clone × IsExact V.is_clone × IsExact E.is_clone
+        × MayPoll call.stage × Q.can_poll call.asked };
+
+    fn poll<R: Wait>(
+        &mut self,
+        rt: &R,
+        cx: &mut Context<'_>,
+        moment: u64,
+    ) -> Poll<Result<A::Output, PollError>> {
+        CacheCall::poll(self, rt, cx, moment)
+    }
+
+    fn cancel<R: Wait>(self, rt: &R) {
+        CacheCall::cancel(self, rt);
+    }
+}

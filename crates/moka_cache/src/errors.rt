@@ -1,0 +1,15 @@
+//! Why a call of the cache answers no result.
+
+/// What a poll answers in place of its result.
+#[derive(Clone, Copy, PartialEq, Eq, Debug)]
+pub enum PollError {
+    /// The call needs a number, and the greatest was given out before. Each later poll of the state
+    /// answers so again.
+    CallsSpent,
+    /// Memory was wanting. What was done stands, and the state can be polled again.
+    Memory,
+}
+
+/// Why a load answers no value: the owners that it waited for were dropped 200 times.
+#[derive(Clone, Copy, PartialEq, Eq, Debug)]
+pub struct RetriesExhausted;

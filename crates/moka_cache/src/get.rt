@@ -1,0 +1,70 @@
+//! Looking a value up.
+ghost use Rattle.std.specs.Prelude.{◌≡◌};
+ghost use Rattle.moka_hist.specs.declared.events.Start.TheVariants as Start;
+ghost use Rattle.moka_cache.specs.Stages.{BeginsWith, MayPoll, value_in};
+
+use crate::asked::Nobody;
+use crate::begin::Begin;
+use crate::cache::Cache;
+use crate::call::CacheCall;
+use moka_hist::{Answer, Start};
+use std::hash::Hash;
+
+/// What a get looks up.
+#[derive(Drop)]
+pub struct ToGet<'a, K> {
+    key: &'a K,
+}
+
+/// Looks the value of a key up, polled until it is found, or known to be absent.
+pub type Get<'a, K, V, E> = CacheCall<'a, ToGet<'a, K>, K, V, E, Nobody>;
+
+impl<K: Clone + Drop, V: Drop, E: Drop> Begin<K, V, E> for ToGet<'_, K> {
+    type Output = Option<V>;
+
+    ghost start = { λ get. Start.Get get.key.now };
+
+    ghost output = { value_in };
+
+    fn start(self) -> Result<Start<K, V>, Self> {
+        match self.key.clone() {
+            Ok(key) => Ok(Start::Get { key }),
+            Err(_) => Err(self),
+        }
+    }
+
+    fn output(answer: Answer<K, V, E>) -> Option<V>
+        ensures told { result ≡ value_in answer }
+    {
+        value_in(answer)
+    }
+}
+
+impl<K: Eq + Hash + Clone + Drop, V: Clone + Drop, E: Clone + Drop> Cache<K, V, E> {
+    /// Looks the key up. Answers its value, or None where it is absent.
+    pub fn get<'a>(&'a self, key: &'a K) -> Get<'a, K, V, E>
+        ensures fresh { BeginsWith result.stage (λ get. get.key.now ≡ key.now) }
+        ensures may { MayPoll result.stage }
+        ensures cache { result.cache.now ≡ self.now }
+    {
+        self.call(ToGet { key })
+    }
+}
+
+/// The value that an answer tells, if it does.
+pub(crate) fn value_in<K: Drop, V: Drop, E: Drop>(answer: Answer<K, V, E>) -> Option<V>
+    ensures { result ≡ value_in answer }
+{
+    match answer {
+        Answer::Found(value) => value,
+        Answer::Loaded { value, fresh: _ } => Some(value),
+        Answer::Done => None,
+        Answer::Nothing => None,
+        Answer::InitErr(_) => None,
+        Answer::Computed(_) => None,
+        Answer::ComputeErr(_) => None,
+        Answer::RetriesExhausted => None,
+        Answer::Evicted => None,
+        Answer::Kept => None,
+    }
+}

@@ -1,0 +1,59 @@
+//! Loading a value.
+ghost use Rattle.std.specs.Prelude.{◌≡◌, Some, None};
+ghost use Rattle.moka_hist.specs.declared.events.Start.TheVariants as Start;
+ghost use Rattle.moka_cache.specs.Loaded.{loaded_in};
+ghost use Rattle.moka_cache.specs.Stages.{BeginsWith, MayPoll};
+
+use crate::asked::ByInit;
+use crate::begin::Begin;
+use crate::cache::Cache;
+use crate::call::CacheCall;
+use crate::errors::RetriesExhausted;
+use crate::get::value_in;
+use crate::init::Init;
+use moka_hist::{Answer, Start};
+use std::hash::Hash;
+
+/// What a load looks up, and stores where it is absent.
+#[derive(Drop)]
+pub struct ToLoad<K> {
+    key: K,
+}
+
+/// Looks the value of a key up, or loads it, polled until it is there.
+pub type GetWith<'a, K, V, E, I> = CacheCall<'a, ToLoad<K>, K, V, E, ByInit<I>>;
+
+impl<K: Clone + Drop, V: Drop, E: Drop> Begin<K, V, E> for ToLoad<K> {
+    type Output = Result<V, RetriesExhausted>;
+
+    ghost start = { λ load. Start.GetWith load.key None };
+
+    ghost output = { loaded_in };
+
+    fn start(self) -> Result<Start<K, V>, Self> {
+        Ok(Start::GetWith {
+            key: self.key,
+            replace: None,
+        })
+    }
+
+    fn output(answer: Answer<K, V, E>) -> Result<V, RetriesExhausted>
+        ensures told { result ≡ loaded_in answer }
+    {
+        value_in(answer).ok_or(RetriesExhausted)
+    }
+}
+
+impl<K: Eq + Hash + Clone + Drop, V: Clone + Drop, E: Clone + Drop> Cache<K, V, E> {
+    /// Looks the key up. Where it is absent its value is loaded: by the initializer, or by that of
+    /// another load of the key, for which it waits. Answers the value, or `RetriesExhausted` once
+    /// 200 owners of such a load were dropped. `init` is polled only where this call is the owner.
+    pub fn get_with<'a, I: Init<V>>(&'a self, key: K, init: I) -> GetWith<'a, K, V, E, I>
+        ensures fresh { BeginsWith result.stage (λ load. load.key ≡ key) }
+        ensures may { MayPoll result.stage }
+        ensures init { result.asked.init ≡ Some init }
+        ensures cache { result.cache.now ≡ self.now }
+    {
+        self.call_asking(ToLoad { key }, ByInit { init: Some(init) })
+    }
+}

@@ -1,0 +1,31 @@
+//! What a load runs to get its value.
+ghost use Rattle.std.specs.Prelude.{⊤};
+ghost use Rattle.futures.specs.Poll.{IfReady, OnPending};
+ghost use Rattle.futures.specs.Task.{IsArmed, Keeps};
+
+use futures::task::{Context, Poll};
+
+/// The initializer of a load. It is polled without the lock, by whoever polls the load's state,
+/// until it gives its output; then it is let go.
+pub trait Init<O>: Drop {
+    /// Holds of the states in which it may be polled.
+    ghost can_poll: { Self → Type 0 } = { λ _. ⊤ };
+
+    /// Holds of each output that it may give.
+    ghost gives: { Self → O → Type 0 } = { λ _ _. ⊤ };
+
+    /// Holds of its states before and after a poll that answers Pending.
+    ghost pends: { Self → Self → Type 0 } = { λ _ _. ⊤ };
+
+    /// Goes on. Where it answers Pending it has seen to it that the task is polled again.
+    fn poll(&mut self, cx: &mut Context<'_>) -> Poll<O>
+        requires { can_poll self.old }
+        // What it gives, and that a poll which gives nothing allows no further output.
+        ensures value { IfReady result (gives self.old) }
+        ensures same { OnPending result ((x : O) → gives self.new x → gives self.old x) }
+        // Where it gives nothing.
+        ensures again { OnPending result (can_poll self.new) }
+        ensures pending { OnPending result (pends self.old self.new) }
+        ensures armed { OnPending result (IsArmed cx.new) }
+        ensures kept { Keeps cx.old cx.new };
+}

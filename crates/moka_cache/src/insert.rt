@@ -1,0 +1,52 @@
+//! Storing a value.
+ghost use Rattle.std.specs.Prelude.{◌≡◌};
+ghost use Rattle.moka_hist.specs.declared.events.Start.TheVariants as Start;
+ghost use Rattle.moka_cache.specs.Stages.{BeginsWith, MayPoll};
+
+use crate::asked::Nobody;
+use crate::begin::Begin;
+use crate::cache::Cache;
+use crate::call::CacheCall;
+use moka_hist::{Answer, Start};
+use std::hash::Hash;
+
+/// What an insert stores.
+#[derive(Drop)]
+pub struct ToInsert<K, V> {
+    key: K,
+    value: V,
+}
+
+/// Stores a value under a key, polled until its write is logged.
+pub type Insert<'a, K, V, E> = CacheCall<'a, ToInsert<K, V>, K, V, E, Nobody>;
+
+impl<K: Clone + Drop, V: Drop, E: Drop> Begin<K, V, E> for ToInsert<K, V> {
+    type Output = ();
+
+    ghost start = { λ insert. Start.Insert insert.key insert.value };
+
+    ghost output = { λ answer. tt };
+
+    fn start(self) -> Result<Start<K, V>, Self> {
+        let ToInsert { key, value } = self;
+        Ok(Start::Insert { key, value })
+    }
+
+    fn output(answer: Answer<K, V, E>)
+        ensures told { result ≡ tt }
+    {
+        drop(answer);
+    }
+}
+
+impl<K: Eq + Hash + Clone + Drop, V: Clone + Drop, E: Clone + Drop> Cache<K, V, E> {
+    /// Stores the value under the key, in place of the one that is there, if any.
+    pub fn insert<'a>(&'a self, key: K, value: V) -> Insert<'a, K, V, E>
+        ensures fresh { BeginsWith result.stage
+            (λ insert. (insert.key ≡ key) × (insert.value ≡ value)) }
+        ensures may { MayPoll result.stage }
+        ensures cache { result.cache.now ≡ self.now }
+    {
+        self.call(ToInsert { key, value })
+    }
+}

@@ -1,0 +1,52 @@
+//! Invalidating a key.
+ghost use Rattle.std.specs.Prelude.{◌≡◌};
+ghost use Rattle.moka_hist.specs.declared.events.Start.TheVariants as Start;
+ghost use Rattle.moka_cache.specs.Stages.{BeginsWith, MayPoll};
+
+use crate::asked::Nobody;
+use crate::begin::Begin;
+use crate::cache::Cache;
+use crate::call::CacheCall;
+use moka_hist::{Answer, Start};
+use std::hash::Hash;
+
+/// What an invalidation takes out.
+#[derive(Drop)]
+pub struct ToInvalidate<'a, K> {
+    key: &'a K,
+}
+
+/// Takes a key out, polled until that is logged, or the key known to be absent.
+pub type Invalidate<'a, K, V, E> = CacheCall<'a, ToInvalidate<'a, K>, K, V, E, Nobody>;
+
+impl<K: Clone + Drop, V: Drop, E: Drop> Begin<K, V, E> for ToInvalidate<'_, K> {
+    type Output = ();
+
+    ghost start = { λ invalidate. Start.Invalidate invalidate.key.now };
+
+    ghost output = { λ answer. tt };
+
+    fn start(self) -> Result<Start<K, V>, Self> {
+        match self.key.clone() {
+            Ok(key) => Ok(Start::Invalidate { key }),
+            Err(_) => Err(self),
+        }
+    }
+
+    fn output(answer: Answer<K, V, E>)
+        ensures told { result ≡ tt }
+    {
+        drop(answer);
+    }
+}
+
+impl<K: Eq + Hash + Clone + Drop, V: Clone + Drop, E: Clone + Drop> Cache<K, V, E> {
+    /// Takes the key out, if it is there.
+    pub fn invalidate<'a>(&'a self, key: &'a K) -> Invalidate<'a, K, V, E>
+        ensures fresh { BeginsWith result.stage (λ invalidate. invalidate.key.now ≡ key.now) }
+        ensures may { MayPoll result.stage }
+        ensures cache { result.cache.now ≡ self.now }
+    {
+        self.call(ToInvalidate { key })
+    }
+}

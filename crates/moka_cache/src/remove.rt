@@ -1,0 +1,53 @@
+//! Removing a key, with its value.
+ghost use Rattle.std.specs.Prelude.{◌≡◌};
+ghost use Rattle.moka_hist.specs.declared.events.Start.TheVariants as Start;
+ghost use Rattle.moka_cache.specs.Stages.{BeginsWith, MayPoll, value_in};
+
+use crate::asked::Nobody;
+use crate::begin::Begin;
+use crate::cache::Cache;
+use crate::call::CacheCall;
+use crate::get::value_in;
+use moka_hist::{Answer, Start};
+use std::hash::Hash;
+
+/// What a removal takes out.
+#[derive(Drop)]
+pub struct ToRemove<'a, K> {
+    key: &'a K,
+}
+
+/// Takes a key out and gives its value, polled until that is logged, or the key known to be absent.
+pub type Remove<'a, K, V, E> = CacheCall<'a, ToRemove<'a, K>, K, V, E, Nobody>;
+
+impl<K: Clone + Drop, V: Drop, E: Drop> Begin<K, V, E> for ToRemove<'_, K> {
+    type Output = Option<V>;
+
+    ghost start = { λ remove. Start.Remove remove.key.now };
+
+    ghost output = { value_in };
+
+    fn start(self) -> Result<Start<K, V>, Self> {
+        match self.key.clone() {
+            Ok(key) => Ok(Start::Remove { key }),
+            Err(_) => Err(self),
+        }
+    }
+
+    fn output(answer: Answer<K, V, E>) -> Option<V>
+        ensures told { result ≡ value_in answer }
+    {
+        value_in(answer)
+    }
+}
+
+impl<K: Eq + Hash + Clone + Drop, V: Clone + Drop, E: Clone + Drop> Cache<K, V, E> {
+    /// Takes the key out. Answers the value that it had, or None where it is absent.
+    pub fn remove<'a>(&'a self, key: &'a K) -> Remove<'a, K, V, E>
+        ensures fresh { BeginsWith result.stage (λ remove. remove.key.now ≡ key.now) }
+        ensures may { MayPoll result.stage }
+        ensures cache { result.cache.now ≡ self.now }
+    {
+        self.call(ToRemove { key })
+    }
+}
