@@ -4,4 +4,5 @@ pub mod Wanting
 pub mod Keeping
 pub mod Stopping
 pub mod Staging
+pub mod Suiting
 pub mod Looks

@@ -5,7 +5,7 @@ use Rattle.std.specs.declared.hash.Hash as Hash
 use Rattle.moka_hist.specs.Bound.{most_undecided, times_of}
 use Rattle.moka_hist.specs.Next.{Next}
 use Rattle.moka_hist.specs.SoundDesk.{SoundDesk}
-use Rattle.moka_hist.specs.State.{Call, Stay, World}
+use Rattle.moka_hist.specs.State.{Call, DeskPart, Stay, World}
 use Rattle.moka_hist.specs.Step.{Access, Gets, May, On_table, On_desk, access_of, want_for}
 use Rattle.moka_hist.specs.declared.accesses.Got.{Got}
 use Rattle.moka_hist.specs.declared.accesses.Got.TheVariants as got
@@ -17,6 +17,7 @@ use Rattle.moka_init.specs.FlowPlan.{StandsStill, call_of}
 use Rattle.moka_init.specs.Grounds.{Gives, HasBegun, IsOn, MayWant, OfWanted, access_at, wanted, wish_of}
 use Rattle.moka_init.specs.Steps.{MovesThere}
 use Rattle.moka_init.specs.declared.flow.Flow.{Flow}
+use Rattle.moka_desk.specs.Past.{AllowsAlike, with_past}
 use Rattle.moka_laws.specs.Sound.{VisitsKeepSound}
 use Rattle.moka_layers.specs.Layers.{AlwaysDecides, BegunIs, Decides, GroundIs, LayersStay, Serves, account_of, most_on, operation_in}
 use Rattle.moka_layers.proofs.Wanted.{none_begun}
@@ -79,6 +80,17 @@ module _ {K V E : Type 0} {same : PartialEq.Ghosts K} {hash : Hash.Ghosts K} (eq
         log = kept.log;
         decided = kept.decided;
       }
+
+  -- the world, with a state of the desk that allows what is wanted
+  abbrev pub allowing : (layers : CacheLayers K V E same hash) (kept : IsKept eq layers) (P : DeskPart K V E → Type 0) → AllowsAlike eq layers.desk kept.world.desk P → IsKept eq layers
+  allowing layers kept P alike = record {
+    world = record kept.world { desk = with_past kept.world.desk alike.applied alike.notices };
+    stands = record { table = kept.stands.table; desk = alike.stands; tests = kept.stands.tests; stay = kept.stands.stay };
+    sound = alike.sound kept.sound;
+    log = kept.log;
+    decided = kept.decided;
+    none_begun = kept.none_begun;
+  }
 
   -- such a world where nothing is begun is kept
   pub kept_of : (layers : CacheLayers K V E same hash) (w : World K V E) → ReachIs eq layers w → layers.begun ≡ None → IsKept eq layers

@@ -1,5 +1,5 @@
 -- How steps of a flow, one after another, leave its call.
-use Rattle.std.proofs.Common.{◌≡◌, Bool, false, Option, Some, None, Result, Ok, Err, IfOk, OnErr, IfSome, inl, refl, sym, ◌∙◌, subst}
+use Rattle.std.proofs.Common.{◌≡◌, Bool, false, Option, Some, None, Result, Ok, Err, IfOk, OnErr, IfSome, ◌⊎◌, inl, inr, refl, sym, ◌∙◌, subst}
 use Rattle.futures.specs.Poll.{OnPending}
 use Rattle.futures.specs.declared.task.Poll.{Poll}
 use Rattle.futures.specs.declared.task.Poll.TheVariants.{Ready, Pending}
@@ -14,7 +14,8 @@ use Rattle.moka_init.specs.Grounds.{HasBegun}
 use Rattle.moka_init.specs.declared.flow.Flow.{Flow}
 use Rattle.moka_cache.specs.Paths.{CameWith, EndedWith, Waited}
 use Rattle.moka_cache.specs.Rests.{Rests}
-use Rattle.moka_cache.specs.Stops.{CameTo, Pends, PollIs, StopIs, TurnIs, Waits, poll_of, stop_after, stop_of}
+use Rattle.moka_cache.specs.Hearing.{Follows, MayPend}
+use Rattle.moka_cache.specs.Stops.{CameTo, PollIs, StopIs, TurnIs, Waits, stop_after, stop_of}
 use Rattle.moka_cache.specs.declared.errors.PollError.{PollError}
 use Rattle.moka_cache.specs.declared.stop.Stop.{Stop}
 use Rattle.moka_cache.specs.declared.stop.Stop.TheVariants as stop
@@ -86,21 +87,24 @@ module _ {K V E : Type 0} (eq : K → K → Bool) (such : Told V E → Type 0) w
   pub came_here : (flow : Flow K V E) → Rests flow → CameTo eq such flow flow
   came_here flow rests = record { number = refl; came = came_same eq such flow.call (call_of flow) (call_of flow) refl; rests = rests }
 
-  -- a hold of the lock ends a turn of a poll
-  pub turned : (old : Flow K V E) (s : Stop K V E) (new : Flow K V E) → StopIs eq such old s new → TurnIs eq such old (poll_of s) new
-  turned old (stop.Answers answer) new end = end
-  turned old stop.Going new after = after
-  turned old stop.Waits new after = after.0
-  turned old (stop.Asks ask) new after = after
-  turned old stop.Memory new after = (refl, after)
+  -- a turn that goes on, or is pending
+  may_pend : (old : Flow K V E) (t : Option (Poll (Result (Answer K V E) PollError))) (new : Flow K V E) → CameTo eq such old new → MayPend t → TurnIs eq such old t new
+  may_pend old t new came (inl none) = subst (λ u. TurnIs eq such old u new) (sym none) came
+  may_pend old t new came (inr pends) = subst (λ u. TurnIs eq such old u new) (sym pends) came
 
-  pub caused : {Q : Type 0} (pends : Q → Q → Type 0) (asked : Q) (old : Flow K V E) (s : Stop K V E) (new : Flow K V E) → StopIs eq such old s new
-      → IfSome (poll_of s) (λ poll. OnPending poll (Pends eq pends asked new))
-  caused pends asked old (stop.Answers answer) new end = tt
-  caused pends asked old stop.Going new after = tt
-  caused pends asked old stop.Waits new after = inl after.1
-  caused pends asked old (stop.Asks ask) new after = tt
-  caused pends asked old stop.Memory new after = tt
+  -- a hold of the lock, with what follows it, ends a turn of a poll
+  pub turned : (old : Flow K V E) (s : Stop K V E) (t : Option (Poll (Result (Answer K V E) PollError))) (new : Flow K V E) → StopIs eq such old s new → Follows s t
+      → TurnIs eq such old t new
+  turned old (stop.Answers answer) t new end follows = subst (λ u. TurnIs eq such old u new) (sym follows) end
+  turned old stop.Going t new after follows = subst (λ u. TurnIs eq such old u new) (sym follows) after
+  turned old stop.Waits t new after follows = may_pend old t new after.0 follows
+  turned old (stop.Asks ask) t new after follows = may_pend old t new after follows
+  turned old stop.Memory t new after follows = subst (λ u. TurnIs eq such old u new) (sym follows) (refl, after)
+
+  -- where the steps left the call waiting, it waits
+  pub waits_still : (A : Type 0) (old : Flow K V E) (s : Stop K V E) (new : Flow K V E) → StopIs eq such old s new → (s ≡ stop.Waits) ⊎ A → Waits eq new ⊎ A
+  waits_still A old s new stops (inl waits) = inl (subst (λ x. StopIs eq such old x new) waits stops).1
+  waits_still A old s new stops (inr other) = inr other
 
   -- turns after turns
   pub polls_on : (a b : Flow K V E) (poll : Poll (Result (Answer K V E) PollError)) (c : Flow K V E) → CameTo eq such a b → PollIs eq such b poll c → PollIs eq such a poll c
@@ -108,13 +112,24 @@ module _ {K V E : Type 0} (eq : K → K → Bool) (such : Told V E → Type 0) w
   polls_on a b (Ready (Err e)) c before after = (after.0, came_to_on a b c before after.1)
   polls_on a b Pending c before after = came_to_on a b c before after
 
--- what holds of a hold that is pending holds of its turn
-pub armed_by : {K V E : Type 0} (P : Type 0) (s : Stop K V E) → (s ≡ stop.Waits → P) → IfSome (poll_of s) (λ poll. OnPending poll P)
-armed_by P (stop.Answers answer) h = tt
-armed_by P stop.Going h = tt
-armed_by P stop.Waits h = h refl
-armed_by P (stop.Asks ask) h = tt
-armed_by P stop.Memory h = tt
+-- what a pending poll has, where it is pending
+pub pending_is : {A : Type 0} (P : Type 0) (poll : Poll A) → poll ≡ Pending → OnPending poll P → P
+pending_is P poll is h = subst (λ p. OnPending p P) is h
+
+-- what holds where a turn is pending
+pub pending_by : {A : Type 0} (P : Type 0) (t : Option (Poll A)) → (t ≡ Some Pending → P) → IfSome t (λ poll. OnPending poll P)
+pending_by P None h = tt
+pending_by P (Some (Ready a)) h = tt
+pending_by P (Some Pending) h = h refl
+
+-- why it is pending
+pub pends_by : {A : Type 0} (P Q R : Type 0) (t : Option (Poll A)) → IfSome t (λ poll. OnPending poll (P ⊎ R)) → IfSome t (λ poll. OnPending poll (P ⊎ (Q ⊎ R)))
+pends_by P Q R None h = tt
+pends_by P Q R (Some (Ready a)) h = tt
+pends_by P Q R (Some Pending) h = wider h where
+  wider : P ⊎ R → P ⊎ (Q ⊎ R)
+  wider (inl p) = inl p
+  wider (inr r) = inr (inr r)
 
 module _ {K V E : Type 0} (eq : K → K → Bool) (such other : Told V E → Type 0) (weaker : (told : Told V E) → such told → other told) where
   pub came_to_weaker : (old new : Flow K V E) → CameTo eq such old new → CameTo eq other old new

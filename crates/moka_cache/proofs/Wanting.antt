@@ -3,6 +3,8 @@ use Rattle.std.proofs.Common.{◌≡◌, ℕ, Bool, true, false, List, [], ◌�
 use Rattle.std.proofs.lemmas.Bool.{false≢true}
 use Rattle.std.proofs.lemmas.Option.{same_Some}
 use Rattle.std.specs.Bool.{OnTrue}
+use Rattle.std.specs.declared.cmp.PartialEq as PartialEq
+use Rattle.std.specs.declared.hash.Hash as Hash
 use Rattle.moka_hist.specs.Conditions.{MayVisit}
 use Rattle.moka_needs.specs.Needs.{IsOfCall, need_of}
 use Rattle.moka_hist.specs.Plan.{Item}
@@ -19,6 +21,10 @@ use Rattle.moka_cache.specs.Asked.{NoAnswer, is_taking, needs_answer, takes_answ
 use Rattle.moka_needs.specs.declared.needs.Need.{Need}
 use Rattle.moka_hist.specs.declared.visits.Visit.{Visit}
 use Rattle.moka_init.specs.Needs.{need_at}
+use Rattle.moka_desk.specs.Past.{AllowsAlike}
+use Rattle.moka_desk.specs.StandsFor.{StandsFor}
+use Rattle.moka_desk.specs.declared.state.Desk.{Desk}
+use Rattle.moka_desk.proofs.Allowing.{alike_same}
 use Rattle.moka_cache.specs.Kept.{MayMake}
 
 module _ {K V E : Type 0} where
@@ -64,23 +70,24 @@ module _ {K V E : Type 0} where
     by [] = refl
     by (item ∷ rest) = of_item n item
 
+module _ {K V E : Type 0} {same : PartialEq.Ghosts K} {hash : Hash.Ghosts K} (eq : K → K → Bool) (desk : Desk K V E same hash) (w : DeskPart K V E) (h : StandsFor eq desk w) where
   -- the desk allows the call's next access, where it allows each visit of the call that needs what
   -- that needs
-  pub allowed : (n : ℕ) (c : Call K V E) (w : DeskPart K V E) (need : Need K) → Some need ≡ need_at (access_of n c)
-      → ((made : Visit K V E) → IsOfCall n made → need_of made ≡ need → MayVisit w made) → MayMake w (access_of n c)
-  allowed n c w need is may = by (access_of n c) (of_call n c) is where
+  pub allowed : (n : ℕ) (c : Call K V E) (need : Need K) → Some need ≡ need_at (access_of n c)
+      → ((made : Visit K V E) → IsOfCall n made → need_of made ≡ need → AllowsAlike eq desk w (λ v. MayVisit v made)) → AllowsAlike eq desk w (λ v. MayMake v (access_of n c))
+  allowed n c need is may = by (access_of n c) (of_call n c) is where
     one : (a b : Need K) → Some a ≡ Some b → b ≡ a
     one a b e = cc
 
-    by : (a : Access K V E) → OfCall n a → Some need ≡ need_at a → MayMake w a
-    by (On_table operation) own is = tt
+    by : (a : Access K V E) → OfCall n a → Some need ≡ need_at a → AllowsAlike eq desk w (λ v. MayMake v a)
+    by (On_table operation) own is = alike_same eq desk w h (λ v. MayMake v (On_table operation)) tt
     by (On_desk made) own is = may made own (one need (need_of made) is)
 
   -- one that needs nothing is none of the desk
-  pub needs_none : (n : ℕ) (c : Call K V E) (w : DeskPart K V E) → None ≡ need_at (access_of n c) → MayMake w (access_of n c)
-  needs_none n c w is = by (access_of n c) is where
-    by : (a : Access K V E) → None ≡ need_at a → MayMake w a
-    by (On_table operation) is = tt
+  pub needs_none : (n : ℕ) (c : Call K V E) → None ≡ need_at (access_of n c) → AllowsAlike eq desk w (λ v. MayMake v (access_of n c))
+  needs_none n c is = by (access_of n c) is where
+    by : (a : Access K V E) → None ≡ need_at a → AllowsAlike eq desk w (λ v. MayMake v a)
+    by (On_table operation) is = alike_same eq desk w h (λ v. MayMake v (On_table operation)) tt
     by (On_desk made) is = absurd (cc)
 
 pub on_true : (b : Bool) (P : Type 0) → (b ≡ true → P) → OnTrue b P

@@ -5,7 +5,9 @@ pub mod Loaded
 pub mod Paths
 pub mod Parked
 pub mod Rests
+pub mod Hearing
 pub mod Stops
 pub mod Stages
 pub mod Starts
+pub mod Suits
 pub mod Counts

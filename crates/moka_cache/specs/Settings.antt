@@ -1,25 +1,34 @@
 -- What a cache was built with.
-use Rattle.std.specs.Prelude.{ℕ, false, List, Option, None}
+use Rattle.std.specs.Prelude.{ℕ, Bool, false, List, Option, None}
 use Rattle.std.specs.Arc.{arc_value}
 use Rattle.std.specs.Option.{option_map}
 use Rattle.std.specs.String.{string_bytes}
 use Rattle.moka_hist.specs.declared.rules.Rules.{Rules}
 use Rattle.moka_cache.specs.declared.cache.Cache.{Cache}
 
--- the rules of the cache
-abbrev pub rules_of : {K V E : Type 0} → Cache K V E → Rules
-rules_of cache = (arc_value cache.shared).rules
+module _ {K V E L S : Type 0} where
+  -- the rules of the cache
+  abbrev pub rules_of : Cache K V E L S → Rules
+  rules_of cache = (arc_value cache.shared).rules
 
--- its name, as bytes
-abbrev pub name_of : {K V E : Type 0} → Cache K V E → Option (List ℕ)
-name_of cache = option_map string_bytes (arc_value cache.shared).name
+  -- its name, as bytes
+  abbrev pub name_of : Cache K V E L S → Option (List ℕ)
+  name_of cache = option_map string_bytes (arc_value cache.shared).name
 
--- rules of this capacity, and of nothing else
-abbrev pub rules_with : Option ℕ → Rules
-rules_with most = record {
+  -- its listener, if it has one
+  abbrev pub listener_of : Cache K V E L S → Option L
+  listener_of cache = (arc_value cache.shared).listener
+
+  -- what makes its hashers
+  abbrev pub hasher_of : Cache K V E L S → S
+  hasher_of cache = (arc_value cache.shared).hasher
+
+-- rules of this capacity, with a listener or without, and of nothing else
+abbrev pub rules_with : Option ℕ → Bool → Rules
+rules_with most heard = record {
   max_capacity = most;
   time_to_live = None;
   time_to_idle = None;
-  listener = false;
+  listener = heard;
   closures = false;
 }

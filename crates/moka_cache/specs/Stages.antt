@@ -77,10 +77,10 @@ module _ {A K V E : Type 0} where
   AnswersBy eq begins old answer = AnswersWith eq NoAnswer begins old answer
 
   -- why a poll of the state is pending
-  abbrev pub StagePends : {Q : Type 0} → (K → K → Bool) → (Q → Q → Type 0) → Q → Stage A K V E
-      → Type 0
-  StagePends eq pends asked (stage.Running flow) = Pends eq pends asked flow
-  StagePends eq pends asked _ = ⊥
+  abbrev pub StagePends : {Q : Type 0} → (K → K → Bool) → (Q → Q → Type 0) → (ℕ → Type 0) → Q
+      → Stage A K V E → Type 0
+  StagePends eq pends unheard asked (stage.Running flow) = Pends eq pends unheard asked flow
+  StagePends eq pends unheard asked _ = ⊥
 
   -- A state is begun: its call is as its start says, and rests; no number was left for it; or its
   -- key was not copied. One that was begun before is as it was.

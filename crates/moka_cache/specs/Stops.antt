@@ -1,5 +1,5 @@
 -- How a hold of the lock, and a turn of a poll, leaves a call.
-use Rattle.std.specs.Prelude.{◌≡◌, Bool, true, Option, Some, None, Result, Ok, Err, ◌⊎◌}
+use Rattle.std.specs.Prelude.{◌≡◌, ℕ, Bool, true, Option, Some, None, Result, Ok, Err, ◌⊎◌}
 use Rattle.futures.specs.declared.task.Poll.{Poll}
 use Rattle.futures.specs.declared.task.Poll.TheVariants.{Ready, Pending}
 use Rattle.moka_hist.specs.Next.{answers}
@@ -11,6 +11,7 @@ use Rattle.moka_init.specs.FlowPlan.{call_of}
 use Rattle.moka_init.specs.Grounds.{access_at}
 use Rattle.moka_init.specs.declared.flow.Flow.{Flow}
 use Rattle.moka_cache.specs.Asked.{is_taking}
+use Rattle.moka_cache.specs.Hearing.{Awaits}
 use Rattle.moka_cache.specs.Paths.{CameWith, EndedWith, Waited}
 use Rattle.moka_cache.specs.Rests.{Rests}
 use Rattle.moka_cache.specs.declared.errors.PollError.{PollError}
@@ -30,14 +31,6 @@ module _ {K V E : Type 0} where
   abbrev pub stop_after : {F : Type 0} → Result (Turn K V E) F → Stop K V E
   stop_after (Ok turn) = stop_of turn
   stop_after (Err e) = stop.Memory
-
-  -- the answer of a poll whose call was left so; None where the call goes on
-  abbrev pub poll_of : Stop K V E → Option (Poll (Result (Answer K V E) PollError))
-  poll_of stop.Going = None
-  poll_of (stop.Asks ask) = None
-  poll_of stop.Waits = Some Pending
-  poll_of (stop.Answers answer) = Some (Ready (Ok answer))
-  poll_of stop.Memory = Some (Ready (Err error.Memory))
 
   -- The call of the old flow came by accesses to where the new one stands, and rests there. Each
   -- answer to its own ask that it took is such.
@@ -79,8 +72,11 @@ module _ {K V E : Type 0} where
   TurnIs eq such old (Some poll) new = PollIs eq such old poll new
 
   -- Why a poll is pending: the last access left its call waiting; or its own ask is open, and who
-  -- is asked answered Pending, and is as that poll left it.
-  abbrev pub Pends : {Q : Type 0} → (K → K → Bool) → (Q → Q → Type 0) → Q → Flow K V E → Type 0
-  Pends {Q} eq pends asked flow =
+  -- is asked answered Pending, and is as that poll left it; or it awaits the end of a notice, whose
+  -- poll the listener left pending.
+  abbrev pub Pends : {Q : Type 0} → (K → K → Bool) → (Q → Q → Type 0) → (ℕ → Type 0) → Q
+      → Flow K V E → Type 0
+  Pends {Q} eq pends unheard asked flow =
       Waits eq flow
-      ⊎ ((is_taking (access_at flow) ≡ true) × ((before : Q) × pends before asked))
+      ⊎ (((is_taking (access_at flow) ≡ true) × ((before : Q) × pends before asked))
+      ⊎ Awaits unheard flow)

@@ -1,9 +1,10 @@
 //! How a cache is built.
-ghost use Rattle.std.specs.Prelude.{◌≡◌, Some, None, IfOk};
+ghost use Rattle.std.specs.Prelude.{◌≡◌, Some, None, IfOk, is_some};
 ghost use Rattle.std.specs.Option.{option_map};
 ghost use Rattle.std.specs.String.{string_bytes};
 
-use crate::cache::Cache;
+use crate::cache::{Cache, FixedSeed};
+use crate::listener::NoListener;
 use std::alloc::Global;
 use std::hash::Hash;
 use std::marker::PhantomData;
@@ -17,37 +18,47 @@ pub enum BuildError {
 
 /// What a cache is built by. No setter takes memory, and of each the last call counts.
 #[derive(Drop)]
-pub struct CacheBuilder<K, V, E> {
+pub struct CacheBuilder<K, V, E, L = NoListener> {
     pub(crate) name: Option<String>,
     pub(crate) max_capacity: Option<u64>,
     pub(crate) initial_capacity: Option<usize>,
+    pub(crate) listener: Option<L>,
     types: PhantomData<(K, V, E)>,
 }
 
-impl<K, V, E> Default for CacheBuilder<K, V, E> {
+impl<K, V, E, L> Default for CacheBuilder<K, V, E, L> {
     ghost is_default = { λ b. (b.name ≡ None) × (b.max_capacity ≡ None)
-        × (b.initial_capacity ≡ None) };
+        × (b.initial_capacity ≡ None) × (b.listener ≡ None) };
 
-    /// Builds a cache without a name, whose capacity has no bound.
+    /// Builds a cache without a name and a listener, whose capacity has no bound.
     fn default() -> Self {
         CacheBuilder {
             name: None,
             max_capacity: None,
             initial_capacity: None,
+            listener: None,
             types: PhantomData,
         }
     }
 }
 
-impl<K: Eq + Hash + Clone + Drop, V: Clone + Drop, E: Clone + Drop> CacheBuilder<K, V, E> {
-    ghost use Rattle.moka_cache.specs.Settings.{name_of, rules_of, rules_with};
+impl<K, V, E, L> CacheBuilder<K, V, E, L>
+where
+    K: Eq + Hash + Clone + Drop,
+    V: Clone + Drop,
+    E: Clone + Drop,
+    L: Drop,
+{
+    ghost use Rattle.moka_cache.specs.Settings.{hasher_of, listener_of, name_of, rules_of};
+    ghost use Rattle.moka_cache.specs.Settings.{rules_with};
 
     /// Builds a cache of this capacity: how many records it keeps. One of capacity 0 stores
-    /// nothing.
+    /// nothing. It has no name and no listener.
     pub fn new(max_capacity: u64) -> Self
         ensures name { result.name ≡ None }
         ensures capacity { result.max_capacity ≡ Some max_capacity }
         ensures initial { result.initial_capacity ≡ None }
+        ensures listener { result.listener ≡ None }
     {
         CacheBuilder::default().max_capacity(max_capacity)
     }
@@ -79,12 +90,52 @@ impl<K: Eq + Hash + Clone + Drop, V: Clone + Drop, E: Clone + Drop> CacheBuilder
         built
     }
 
-    /// Builds the cache. `Memory` comes where memory is wanting for it.
-    pub fn build(self, alloc: Global) -> Result<Cache<K, V, E>, BuildError>
-        ensures rules { IfOk result (λ cache. rules_of cache ≡ rules_with self.max_capacity) }
-        ensures name { IfOk result (λ cache. name_of cache ≡ option_map string_bytes self.name) }
+    /// The listener hears of each record that a write replaces or a call takes out.
+    pub fn eviction_listener(self, listener: L) -> Self
+        ensures { result ≡ record self { listener = Some listener } }
     {
-        match Cache::starting_after(alloc, self.name, self.max_capacity, 0) {
+        let mut built = self;
+        built.listener = Some(listener);
+        built
+    }
+
+    /// The same: there is one listener, which is polled.
+    pub fn async_eviction_listener(self, listener: L) -> Self
+        ensures { result ≡ record self { listener = Some listener } }
+    {
+        self.eviction_listener(listener)
+    }
+
+    /// Builds the cache. `Memory` comes where memory is wanting for it.
+    pub fn build(self, alloc: Global) -> Result<Cache<K, V, E, L>, BuildError>
+        ensures rules { IfOk result (λ cache.
+            rules_of cache ≡ rules_with self.max_capacity (is_some self.listener)) }
+        ensures name { IfOk result (λ cache. name_of cache ≡ option_map string_bytes self.name) }
+        ensures listener { IfOk result (λ cache. listener_of cache ≡ self.listener) }
+    {
+        self.build_with_hasher(alloc, FixedSeed::new())
+    }
+
+    /// The same, with this to make its hashers. It is kept, and nothing is hashed by it yet.
+    pub fn build_with_hasher<S: Drop>(
+        self,
+        alloc: Global,
+        hasher: S,
+    ) -> Result<Cache<K, V, E, L, S>, BuildError>
+        ensures rules { IfOk result (λ cache.
+            rules_of cache ≡ rules_with self.max_capacity (is_some self.listener)) }
+        ensures name { IfOk result (λ cache. name_of cache ≡ option_map string_bytes self.name) }
+        ensures listener { IfOk result (λ cache. listener_of cache ≡ self.listener) }
+        ensures hasher { IfOk result (λ cache. hasher_of cache ≡ hasher) }
+    {
+        match Cache::made(
+            alloc,
+            self.name,
+            self.max_capacity,
+            self.listener,
+            hasher,
+            0,
+        ) {
             Ok(cache) => Ok(cache),
             Err(_) => Err(BuildError::Memory),
         }

@@ -1,66 +1,116 @@
 //! The cache.
-ghost use Rattle.std.specs.Prelude.{◌≡◌, Some, None, false, IfOk, map};
+ghost use Rattle.std.specs.Prelude.{◌≡◌, Some, None, false, IfOk, is_some, map};
 ghost use Rattle.std.specs.Option.{option_map};
 ghost use Rattle.std.specs.Arc.{arc_value};
+ghost use Rattle.std.specs.String.{string_bytes};
 
 use crate::builder::CacheBuilder;
 use crate::kept::Kept;
+use crate::listener::NoListener;
 use moka_engine::Policy;
 use moka_hist::Rules;
 use std::alloc::{AllocError, Global};
-use std::hash::Hash;
+use std::hash::{BuildHasherDefault, FoldHasher, Hash};
 use std::sync::{Arc, Mutex};
 
 // What the clones of a cache share.
 #[derive(Drop)]
-pub(crate) struct Shared<K: Eq + Hash, V, E> {
+pub(crate) struct Shared<K: Eq + Hash, V, E, L, S> {
     pub(crate) alloc: Global,
     pub(crate) name: Option<String>,
     pub(crate) rules: Rules,
     pub(crate) kept: Mutex<Kept<K, V, E>>,
+    pub(crate) listener: Option<L>,
+    pub(crate) hasher: S,
 }
 
-/// A cache, which any number of tasks on any threads share by its clones.
+/// The hashers of a cache that is given none: those of std's maps, of a fixed seed.
+pub type FixedSeed = BuildHasherDefault<FoldHasher>;
+
+/// A cache, which any number of tasks on any threads share by its clones. `E` is the type of errors
+/// of its loads, `L` of its listener, and `S` of what makes its hashers, which hash nothing yet.
 #[derive(Drop)]
-pub struct Cache<K: Eq + Hash, V, E> {
-    pub(crate) shared: Arc<Shared<K, V, E>, Global>,
+pub struct Cache<K: Eq + Hash, V, E, L = NoListener, S = FixedSeed> {
+    pub(crate) shared: Arc<Shared<K, V, E, L, S>, Global>,
 }
 
-impl<K: Eq + Hash + Clone + Drop, V: Clone + Drop, E: Clone + Drop> Cache<K, V, E> {
-    ghost use Rattle.moka_cache.specs.Settings.{name_of, rules_of, rules_with};
+impl<K, V, E, L> Cache<K, V, E, L>
+where
+    K: Eq + Hash + Clone + Drop,
+    V: Clone + Drop,
+    E: Clone + Drop,
+    L: Drop,
+{
+    ghost use Rattle.moka_cache.specs.Settings.{listener_of, name_of, rules_of, rules_with};
 
-    /// Makes an empty cache of this capacity, without a name.
+    /// Makes an empty cache of this capacity, without a name and a listener.
     pub fn new(alloc: Global, max_capacity: u64) -> Result<Self, AllocError>
-        ensures rules { IfOk result (λ cache. rules_of cache ≡ rules_with (Some max_capacity)) }
+        ensures rules { IfOk result
+            (λ cache. rules_of cache ≡ rules_with (Some max_capacity) false) }
         ensures name { IfOk result (λ cache. name_of cache ≡ None) }
+        ensures listener { IfOk result (λ cache. listener_of cache ≡ None) }
     {
         Cache::starting_after(alloc, None, Some(max_capacity), 0)
     }
 
-    /// Begins to build a cache: one without a name, whose capacity has no bound.
-    pub fn builder() -> CacheBuilder<K, V, E>
+    /// Begins to build a cache: one without a name and a listener, whose capacity has no bound.
+    pub fn builder() -> CacheBuilder<K, V, E, L>
         ensures name { result.name ≡ None }
         ensures capacity { result.max_capacity ≡ None }
+        ensures listener { result.listener ≡ None }
     {
         CacheBuilder::default()
     }
 
-    /// Makes an empty cache of this name and capacity, of which this call number and those before
-    /// it were given out.
-    pub(crate) fn starting_after(
+    /// Makes an empty cache of this name and capacity, without a bound where it is None, of which
+    /// this call number and those before it were given out. It has no listener. It is an error only
+    /// where memory is wanting. Tests make so a cache whose numbers end soon.
+    pub fn starting_after(
         alloc: Global,
         name: Option<String>,
         max_capacity: Option<u64>,
         last: u64,
     ) -> Result<Self, AllocError>
-        ensures rules { IfOk result (λ cache. rules_of cache ≡ rules_with max_capacity) }
-        ensures name { IfOk result (λ cache. (arc_value cache.shared).name ≡ name) }
+        ensures rules { IfOk result (λ cache. rules_of cache ≡ rules_with max_capacity false) }
+        ensures name { IfOk result (λ cache. name_of cache ≡ option_map string_bytes name) }
+        ensures listener { IfOk result (λ cache. listener_of cache ≡ None) }
+    {
+        Cache::made(alloc, name, max_capacity, None, FixedSeed::new(), last)
+    }
+}
+
+impl<K, V, E, L, S> Cache<K, V, E, L, S>
+where
+    K: Eq + Hash + Clone + Drop,
+    V: Clone + Drop,
+    E: Clone + Drop,
+    L: Drop,
+    S: Drop,
+{
+    ghost use Rattle.moka_cache.specs.Settings.{hasher_of, listener_of, name_of, rules_of};
+    ghost use Rattle.moka_cache.specs.Settings.{rules_with};
+
+    /// Makes an empty cache of all this, of which this call number and those before it were given
+    /// out.
+    pub(crate) fn made(
+        alloc: Global,
+        name: Option<String>,
+        max_capacity: Option<u64>,
+        listener: Option<L>,
+        hasher: S,
+        last: u64,
+    ) -> Result<Self, AllocError>
+        ensures rules { IfOk result
+            (λ cache. rules_of cache ≡ rules_with max_capacity (is_some listener)) }
+        ensures name { IfOk result (λ cache. name_of cache ≡ option_map string_bytes name) }
+        ensures listener { IfOk result (λ cache. listener_of cache ≡ listener) }
+        ensures hasher { IfOk result (λ cache. hasher_of cache ≡ hasher) }
     {
         let rules = Rules {
             max_capacity,
             time_to_live: None,
             time_to_idle: None,
-            listener: false,
+            listener: listener.is_some(),
             closures: false,
         };
         let kept = Mutex::new(Kept::starting_after(alloc, rules, last)?);
@@ -71,6 +121,8 @@ impl<K: Eq + Hash + Clone + Drop, V: Clone + Drop, E: Clone + Drop> Cache<K, V, 
                 name,
                 rules,
                 kept,
+                listener,
+                hasher,
             },
         )?;
         Ok(Cache { shared })
@@ -80,7 +132,7 @@ impl<K: Eq + Hash + Clone + Drop, V: Clone + Drop, E: Clone + Drop> Cache<K, V, 
     pub fn name(&self) -> Option<&str>
         ensures { option_map (λ s. s.now) result ≡ name_of self.now }
     {
-        let shared: &Shared<K, V, E> = &self.shared;
+        let shared: &Shared<K, V, E, L, S> = &self.shared;
         match &shared.name {
             Some(name) => Some(name.as_str()),
             None => None,
@@ -91,7 +143,7 @@ impl<K: Eq + Hash + Clone + Drop, V: Clone + Drop, E: Clone + Drop> Cache<K, V, 
     pub fn policy(&self) -> Policy
         ensures { result.rules ≡ rules_of self.now }
     {
-        let shared: &Shared<K, V, E> = &self.shared;
+        let shared: &Shared<K, V, E, L, S> = &self.shared;
         Policy {
             rules: shared.rules,
         }
@@ -99,7 +151,14 @@ impl<K: Eq + Hash + Clone + Drop, V: Clone + Drop, E: Clone + Drop> Cache<K, V, 
 }
 
 /// A clone shares the cache. It takes memory only where the count of the clones asks for it.
-impl<K: Eq + Hash + Clone + Drop, V: Clone + Drop, E: Clone + Drop> Clone for Cache<K, V, E> {
+impl<K, V, E, L, S> Clone for Cache<K, V, E, L, S>
+where
+    K: Eq + Hash + Clone + Drop,
+    V: Clone + Drop,
+    E: Clone + Drop,
+    L: Drop,
+    S: Drop,
+{
     ghost is_clone = { λ cache copy. arc_value copy.shared ≡ arc_value cache.shared };
 
     fn clone(&self) -> Result<Self, AllocError> {

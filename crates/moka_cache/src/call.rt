@@ -4,15 +4,18 @@ ghost use Rattle.futures.specs.Poll.{IfReady, OnPending};
 ghost use Rattle.futures.specs.Task.{IsArmed, Keeps};
 ghost use Rattle.moka_hist.specs.Finite.{IsExact};
 ghost use Rattle.moka_hist.specs.declared.replies.Answer.{Answer};
-ghost use Rattle.moka_cache.specs.Settings.{rules_of};
+ghost use Rattle.moka_cache.specs.Hearing.{Unheard};
+ghost use Rattle.moka_cache.specs.Settings.{listener_of, rules_of};
 ghost use Rattle.moka_hist.specs.declared.events.Told.{Told};
 ghost use Rattle.moka_cache.specs.Stages.{AnswersWith, Begins, CameOnWith, MayPoll, StagePends};
 ghost use Rattle.moka_cache.specs.Starts.{called};
+ghost use Rattle.moka_cache.specs.Suits.{IsAnswerOf, Suits};
 
 use crate::asked::{Asked, Nobody};
 use crate::begin::Begin;
-use crate::cache::Cache;
+use crate::cache::{Cache, FixedSeed};
 use crate::errors::PollError;
+use crate::listener::{Listener, NoListener};
 use crate::polled::State;
 use crate::stage::{Nested, Stage, put};
 use futures::task::{Context, Poll};
@@ -23,23 +26,31 @@ use std::mem;
 use std::sync::Wait;
 
 /// A call of a cache, polled until it has answered. `A` is what it begins with, and `Q` who answers
-/// its own ask, if it has one; the states of the calls by name, as `Get`, are of this type.
+/// its own ask, if it has one; `L` and `S` are those of its cache. The states of the calls by name,
+/// as `Get`, are of this type.
 ///
 /// It has no `Drop`: one that has answered is finished, and any other is cancelled.
-pub struct CacheCall<'a, A, K: Eq + Hash, V, E, Q> {
-    cache: &'a Cache<K, V, E>,
+pub struct CacheCall<'a, A, K: Eq + Hash, V, E, Q, L = NoListener, S = FixedSeed> {
+    cache: &'a Cache<K, V, E, L, S>,
     stage: Stage<A, K, V, E>,
     asked: Q,
     nested: Nested<K, V, E>,
 }
 
-impl<K: Eq + Hash + Clone + Drop, V: Clone + Drop, E: Clone + Drop> Cache<K, V, E> {
+impl<K, V, E, L, S> Cache<K, V, E, L, S>
+where
+    K: Eq + Hash + Clone + Drop,
+    V: Clone + Drop,
+    E: Clone + Drop,
+    L: Listener<K, V>,
+    S: Drop,
+{
     /// A call that is to begin so, and asks nothing. It takes no memory, number or lock before its
     /// first poll.
     pub(crate) fn call<'a, A: Begin<K, V, E>>(
         &'a self,
         begin: A,
-    ) -> CacheCall<'a, A, K, V, E, Nobody>
+    ) -> CacheCall<'a, A, K, V, E, Nobody, L, S>
         ensures stage { result.stage ≡ Stage.Fresh begin }
         ensures cache { result.cache.now ≡ self.now }
     {
@@ -51,7 +62,7 @@ impl<K: Eq + Hash + Clone + Drop, V: Clone + Drop, E: Clone + Drop> Cache<K, V, 
         &'a self,
         begin: A,
         asked: Q,
-    ) -> CacheCall<'a, A, K, V, E, Q>
+    ) -> CacheCall<'a, A, K, V, E, Q, L, S>
         ensures stage { result.stage ≡ Stage.Fresh begin }
         ensures asked { result.asked ≡ asked }
         ensures cache { result.cache.now ≡ self.now }
@@ -122,13 +133,15 @@ impl<K: Eq + Hash + Clone + Drop, V: Clone + Drop, E: Clone + Drop> Cache<K, V, 
     }
 }
 
-impl<A, K, V, E, Q> CacheCall<'_, A, K, V, E, Q>
+impl<A, K, V, E, Q, L, S> CacheCall<'_, A, K, V, E, Q, L, S>
 where
     A: Begin<K, V, E>,
     Q: Asked<V, E>,
     K: Eq + Hash + Clone + Drop,
     V: Clone + Drop,
     E: Clone + Drop,
+    L: Listener<K, V>,
+    S: Drop,
 {
     /// Goes on at `moment`, in nanoseconds; one before the clock counts as the clock. Answers Ready
     /// once its call has answered. After `Memory` it can be polled again, and what was done stands;
@@ -148,6 +161,7 @@ where
         ensures answers { IfReady result (λ r. IfOk r (λ told. (answer : Answer K V E)
             × AnswersWith K.eq (Q.gives self.old.asked)
             (called (rules_of self.old.cache.now) A.start) self.old.stage answer
+            × (Suits K.eq A.start self.old.stage → IsAnswerOf A.start answer)
             × (told ≡ A.output answer))) }
         ensures failed { IfReady result (λ r. OnErr r
             (CameOnWith K.eq (Q.gives self.old.asked)
@@ -157,13 +171,15 @@ where
             (called (rules_of self.old.cache.now) A.start) self.old.stage self.new.stage) }
         // Why it answers nothing.
         ensures cause { OnPending result
-            (StagePends K.eq Q.pends self.new.asked self.new.stage) }
+            (StagePends K.eq Q.pends (Unheard L.pends (listener_of self.old.cache.now))
+            self.new.asked self.new.stage) }
         ensures spent { IfReady result (λ r. IfErr r (λ e.
             (e ≡ PollError.CallsSpent) ↔ (self.new.stage ≡ Stage.Spent))) }
         // It can be polled again, until it has answered.
         ensures pending { OnPending result (MayPoll self.new.stage) }
         ensures again { IfReady result (λ r. OnErr r (MayPoll self.new.stage)) }
         ensures over { IfReady result (λ r. OnOk r (self.new.stage ≡ Stage.Answered)) }
+        ensures suits { Suits K.eq A.start self.old.stage → Suits K.eq A.start self.new.stage }
         ensures cache { self.new.cache.now ≡ self.old.cache.now }
         // Who is asked can still be polled, and may give no other answer.
         ensures asks { Q.can_poll self.new.asked }
@@ -173,6 +189,7 @@ where
         ensures armed { OnPending result (IsArmed cx.new) }
         ensures kept { Keeps cx.old cx.new }
     {
+        moka_laws::shapes_fit::<K, V, E>();
         self.cache.begin(rt, &mut self.stage, moment);
         match self
             .cache
@@ -212,20 +229,23 @@ where
     }
 }
 
-impl<A, K, V, E, Q> State for CacheCall<'_, A, K, V, E, Q>
+impl<R, A, K, V, E, Q, L, S> State<R> for CacheCall<'_, A, K, V, E, Q, L, S>
 where
+    R: Wait,
     A: Begin<K, V, E>,
     Q: Asked<V, E>,
     K: Eq + Hash + Clone + Drop,
     V: Clone + Drop,
     E: Clone + Drop,
+    L: Listener<K, V>,
+    S: Drop,
 {
     type Output = A::Output;
 
     ghost can_poll = { λ call. IsExact K.is_clone × IsExact V.is_clone × IsExact E.is_clone
         × MayPoll call.stage × Q.can_poll call.asked };
 
-    fn poll<R: Wait>(
+    fn poll(
         &mut self,
         rt: &R,
         cx: &mut Context<'_>,
@@ -234,7 +254,7 @@ where
         CacheCall::poll(self, rt, cx, moment)
     }
 
-    fn cancel<R: Wait>(self, rt: &R) {
+    fn cancel(self, rt: &R) {
         CacheCall::cancel(self, rt);
     }
 }

@@ -16,7 +16,14 @@ use std::alloc::AllocError;
 use std::hash::Hash;
 use std::sync::Wait;
 
-impl<K: Eq + Hash + Clone + Drop, V: Clone + Drop, E: Clone + Drop> Cache<K, V, E> {
+impl<K, V, E, L, S> Cache<K, V, E, L, S>
+where
+    K: Eq + Hash + Clone + Drop,
+    V: Clone + Drop,
+    E: Clone + Drop,
+    L: Drop,
+    S: Drop,
+{
     /// Whether the cache has the key at `moment`, in nanoseconds; one before the clock counts as
     /// the clock. It is no access to the record. An error comes where memory is wanting for a copy
     /// of the key or of its record, and nothing but the clock has changed then.
@@ -27,7 +34,7 @@ impl<K: Eq + Hash + Clone + Drop, V: Clone + Drop, E: Clone + Drop> Cache<K, V, 
             Behind K.eq (λ (w : World K V E). (moment ≤ w.desk.clock)
             × (there ≡ sees w key.now))) }
     {
-        let shared: &Shared<K, V, E> = &self.shared;
+        let shared: &Shared<K, V, E, L, S> = &self.shared;
         let mut guard = shared.kept.lock(rt);
         let kept = &mut *guard;
         kept.contains_key(key, moment)
@@ -38,7 +45,7 @@ impl<K: Eq + Hash + Clone + Drop, V: Clone + Drop, E: Clone + Drop> Cache<K, V, 
     pub fn entry_count<R: Wait>(&self, rt: &R) -> u64
         ensures { Behind K.eq (λ (w : World K V E). result ≡ w.desk.published) }
     {
-        let shared: &Shared<K, V, E> = &self.shared;
+        let shared: &Shared<K, V, E, L, S> = &self.shared;
         let mut guard = shared.kept.lock(rt);
         let kept = &mut *guard;
         kept.entry_count()

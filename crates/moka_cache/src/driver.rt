@@ -1,16 +1,18 @@
 //! The polls of all states: steps under the lock, hold by hold.
-ghost use Rattle.std.specs.Prelude.{◌≡◌, ◌↔◌, Some, IfOk, IfErr, IfNone, IfSome, OnOk, OnErr};
+ghost use Rattle.std.specs.Prelude.{◌≡◌, ◌⊎◌, ◌↔◌, Some, IfOk, IfErr, IfNone, IfSome, OnOk, OnErr};
 ghost use Rattle.futures.specs.Poll.{IfReady, OnPending};
 ghost use Rattle.futures.specs.Task.{IsArmed, Keeps};
 ghost use Rattle.moka_hist.specs.Finite.{IsExact};
 ghost use Rattle.moka_hist.specs.declared.events.Told.{Told};
 ghost use Rattle.moka_cache.specs.Rests.{Rests};
 ghost use Rattle.moka_cache.specs.Stages.{NumbersSpent};
-ghost use Rattle.moka_cache.specs.Stops.{StopIs, poll_of};
+ghost use Rattle.moka_cache.specs.Stops.{StopIs};
 
 use crate::asked::Asked;
 use crate::cache::{Cache, Shared};
 use crate::errors::PollError;
+use crate::hearing::Heard;
+use crate::listener::Listener;
 use crate::parked::Wakers;
 use crate::reaching::is_asking;
 use crate::stage::Stage;
@@ -23,13 +25,21 @@ use std::hash::Hash;
 use std::mem;
 use std::sync::Wait;
 
-impl<K: Eq + Hash + Clone + Drop, V: Clone + Drop, E: Clone + Drop> Cache<K, V, E> {
+impl<K, V, E, L, S> Cache<K, V, E, L, S>
+where
+    K: Eq + Hash + Clone + Drop,
+    V: Clone + Drop,
+    E: Clone + Drop,
+    L: Listener<K, V>,
+    S: Drop,
+{
     ghost use Rattle.moka_hist.specs.Run.{fresh_call};
     ghost use Rattle.moka_init.specs.FlowPlan.{call_of};
     ghost use Rattle.moka_hist.specs.State.{Call};
-    ghost use Rattle.moka_cache.specs.Settings.{rules_of};
+    ghost use Rattle.moka_cache.specs.Hearing.{Awaits, Unheard};
+    ghost use Rattle.moka_cache.specs.Settings.{listener_of, rules_of};
     ghost use Rattle.moka_cache.specs.Stages.{AnswersWith, CameOnWith, MayPoll, StagePends};
-    ghost use Rattle.moka_cache.specs.Stops.{Pends, PollIs, TurnIs};
+    ghost use Rattle.moka_cache.specs.Stops.{Pends, PollIs, TurnIs, Waits};
 
     /// Moves the clock on to the moment, where that is later, and gives the call of this start the
     /// next number. Answers None where the greatest one was given out.
@@ -44,7 +54,7 @@ impl<K: Eq + Hash + Clone + Drop, V: Clone + Drop, E: Clone + Drop> Cache<K, V, 
         ensures rests { IfSome result Rests }
         ensures spent { IfNone result (NumbersSpent K V E K.eq) }
     {
-        let shared: &Shared<K, V, E> = &self.shared;
+        let shared: &Shared<K, V, E, L, S> = &self.shared;
         let call = shared.next_call(rt, moment)?;
         Some(Flow::new(start, call, shared.rules))
     }
@@ -72,7 +82,8 @@ impl<K: Eq + Hash + Clone + Drop, V: Clone + Drop, E: Clone + Drop> Cache<K, V, 
         ensures came { OnPending result ((begins : A → Call K V E)
             → CameOnWith K.eq (Q.gives asked.old) begins stage.old stage.new) }
         // Why it isn't ready.
-        ensures cause { OnPending result (StagePends K.eq Q.pends asked.new stage.new) }
+        ensures cause { OnPending result (StagePends K.eq Q.pends
+            (Unheard L.pends (listener_of self.now)) asked.new stage.new) }
         ensures spent { IfReady result (λ r. IfErr r (λ e.
             (e ≡ PollError.CallsSpent) ↔ (stage.new ≡ Stage.Spent))) }
         // It can be polled again, until it has answered.
@@ -117,14 +128,16 @@ impl<K: Eq + Hash + Clone + Drop, V: Clone + Drop, E: Clone + Drop> Cache<K, V, 
         requires rests { Rests flow.old }
         requires asks { Q.can_poll asked.old }
         ensures polled { PollIs K.eq (Q.gives asked.old) flow.old result flow.new }
-        ensures cause { OnPending result (Pends K.eq Q.pends asked.new flow.new) }
+        ensures cause { OnPending result (Pends K.eq Q.pends
+            (Unheard L.pends (listener_of self.now)) asked.new flow.new) }
         ensures asks { Q.can_poll asked.new }
         ensures same { (told : Told V E) → Q.gives asked.new told → Q.gives asked.old told }
         ensures armed { OnPending result (IsArmed cx.new) }
         ensures kept { Keeps cx.old cx.new }
     {
+        let mut heard = None;
         for _ in rt.forever() {
-            match self.turn(rt, flow, asked, cx, moment) {
+            match self.turn(rt, flow, asked, &mut heard, cx, moment) {
                 Some(poll) => return poll,
                 None => {}
             }
@@ -133,12 +146,15 @@ impl<K: Eq + Hash + Clone + Drop, V: Clone + Drop, E: Clone + Drop> Cache<K, V, 
     }
 
     // Polls who is asked, where the own ask of the flow is open; once that has answered, or where
-    // none is open, makes steps in one hold of the lock. Answers None where the call goes on.
+    // none is open, makes steps in one hold of the lock, and what follows it. What the listener has
+    // answered, in `heard`, is told first, and what it answers comes there. None where the call goes
+    // on.
     fn turn<R: Wait, Q: Asked<V, E>>(
         &self,
         rt: &R,
         flow: &mut Flow<K, V, E>,
         asked: &mut Q,
+        heard: &mut Option<Heard>,
         cx: &mut Context<'_>,
         moment: u64,
     ) -> Option<Poll<Result<Answer<K, V, E>, PollError>>>
@@ -148,34 +164,66 @@ impl<K: Eq + Hash + Clone + Drop, V: Clone + Drop, E: Clone + Drop> Cache<K, V, 
         requires rests { Rests flow.old }
         requires asks { Q.can_poll asked.old }
         ensures turns { TurnIs K.eq (Q.gives asked.old) flow.old result flow.new }
-        ensures cause { IfSome result (λ poll.
-            OnPending poll (Pends K.eq Q.pends asked.new flow.new)) }
+        ensures cause { IfSome result (λ poll. OnPending poll (Pends K.eq Q.pends
+            (Unheard L.pends (listener_of self.now)) asked.new flow.new)) }
         ensures asks { Q.can_poll asked.new }
         ensures same { (told : Told V E) → Q.gives asked.new told → Q.gives asked.old told }
         ensures armed { IfSome result (λ poll. OnPending poll (IsArmed cx.new)) }
         ensures kept { Keeps cx.old cx.new }
     {
-        let shared: &Shared<K, V, E> = &self.shared;
         if !is_asking(flow) {
-            return poll_of(shared.hold(rt, flow, None, cx, moment));
+            return self.round(rt, flow, None, heard, cx, moment);
         }
         match asked.poll(cx) {
-            Poll::Ready(Some(answer)) => poll_of(shared.hold(rt, flow, Some(answer), cx, moment)),
+            Poll::Ready(Some(answer)) => self.round(rt, flow, Some(answer), heard, cx, moment),
             Poll::Ready(None) => Some(Poll::Ready(Err(PollError::Memory))),
             Poll::Pending => Some(Poll::Pending),
         }
     }
 
+    // Makes steps in one hold of the lock, and what follows it. Where the flow is told the answer to
+    // its own ask, the first step takes that.
+    fn round<R: Wait>(
+        &self,
+        rt: &R,
+        flow: &mut Flow<K, V, E>,
+        told: Option<Told<V, E>>,
+        heard: &mut Option<Heard>,
+        cx: &mut Context<'_>,
+        moment: u64,
+    ) -> Option<Poll<Result<Answer<K, V, E>, PollError>>>
+        requires keys { IsExact K.is_clone }
+        requires values { IsExact V.is_clone }
+        requires errors { IsExact E.is_clone }
+        requires rests { Rests flow.old }
+        ensures turns { TurnIs K.eq (λ t. told ≡ Some t) flow.old result flow.new }
+        ensures cause { IfSome result (λ poll. OnPending poll (Waits K.eq flow.new
+            ⊎ Awaits (Unheard L.pends (listener_of self.now)) flow.new)) }
+        ensures armed { IfSome result (λ poll. OnPending poll (IsArmed cx.new)) }
+        ensures kept { Keeps cx.old cx.new }
+    {
+        let shared: &Shared<K, V, E, L, S> = &self.shared;
+        let stop = shared.hold(rt, flow, told, heard.take(), cx, moment);
+        shared.after(flow, stop, heard, cx)
+    }
+
     /// Lets the call of the flow leave, where it stands, and wakes those that wait for it.
     pub(crate) fn leave<R: Wait>(&self, rt: &R, flow: Flow<K, V, E>) {
-        let shared: &Shared<K, V, E> = &self.shared;
+        let shared: &Shared<K, V, E, L, S> = &self.shared;
         let mut woken = LinkedList::new(shared.alloc);
         shared.let_leave(rt, &flow, &mut woken);
         drop(flow);
     }
 }
 
-impl<K: Eq + Hash + Clone + Drop, V: Clone + Drop, E: Clone + Drop> Shared<K, V, E> {
+impl<K, V, E, L, S> Shared<K, V, E, L, S>
+where
+    K: Eq + Hash + Clone + Drop,
+    V: Clone + Drop,
+    E: Clone + Drop,
+    L: Listener<K, V>,
+    S: Drop,
+{
     // The next call number, once the clock has moved on to the moment.
     fn next_call<R: Wait>(&self, rt: &R, moment: u64) -> Option<u64>
         ensures { IfNone result (NumbersSpent K V E K.eq) }
@@ -186,12 +234,14 @@ impl<K: Eq + Hash + Clone + Drop, V: Clone + Drop, E: Clone + Drop> Shared<K, V,
     }
 
     // Makes steps of the flow in one hold of the lock; where it is told the answer to its own ask,
-    // the first takes that. Once the lock is free it wakes all that the visits handed out.
+    // the first takes that. Before them it tells the end of a notice that was heard. Once the lock
+    // is free it wakes all that the visits and that end handed out.
     fn hold<R: Wait>(
         &self,
         rt: &R,
         flow: &mut Flow<K, V, E>,
         told: Option<Told<V, E>>,
+        heard: Option<Heard>,
         cx: &mut Context<'_>,
         moment: u64,
     ) -> Stop<K, V, E>
@@ -204,15 +254,16 @@ impl<K: Eq + Hash + Clone + Drop, V: Clone + Drop, E: Clone + Drop> Shared<K, V,
         ensures kept { Keeps cx.old cx.new }
     {
         let mut woken = LinkedList::new(self.alloc);
-        self.make_steps(rt, flow, told, cx, moment, &mut woken)
+        self.make_steps(rt, flow, told, heard, cx, moment, &mut woken)
     }
 
-    // The same. The wakers of all that the visits handed out come to those in `woken`.
+    // The same. The wakers of all that are handed out come to those in `woken`.
     fn make_steps<R: Wait>(
         &self,
         rt: &R,
         flow: &mut Flow<K, V, E>,
         told: Option<Told<V, E>>,
+        heard: Option<Heard>,
         cx: &mut Context<'_>,
         moment: u64,
         woken: &mut Wakers,
@@ -228,6 +279,7 @@ impl<K: Eq + Hash + Clone + Drop, V: Clone + Drop, E: Clone + Drop> Shared<K, V,
         let mut guard = self.kept.lock(rt);
         let kept = &mut *guard;
         kept.move_clock(moment);
+        kept.hear(heard, woken);
         kept.go(flow, told, cx, woken)
     }
 
@@ -237,21 +289,6 @@ impl<K: Eq + Hash + Clone + Drop, V: Clone + Drop, E: Clone + Drop> Shared<K, V,
         let mut guard = self.kept.lock(rt);
         let kept = &mut *guard;
         kept.leave(flow, woken);
-    }
-}
-
-// How the call was left so by a turn, as the answer of its poll. None where it goes on.
-fn poll_of<K: Drop, V: Drop, E>(
-    stop: Stop<K, V, E>,
-) -> Option<Poll<Result<Answer<K, V, E>, PollError>>>
-    ensures { result ≡ poll_of stop }
-{
-    match stop {
-        Stop::Going => None,
-        Stop::Asks(_) => None,
-        Stop::Waits => Some(Poll::Pending),
-        Stop::Answers(answer) => Some(Poll::Ready(Ok(answer))),
-        Stop::Memory => Some(Poll::Ready(Err(PollError::Memory))),
     }
 }
 

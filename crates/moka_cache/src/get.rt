@@ -1,12 +1,14 @@
 //! Looking a value up.
 ghost use Rattle.std.specs.Prelude.{◌≡◌};
 ghost use Rattle.moka_hist.specs.declared.events.Start.TheVariants as Start;
+ghost use Rattle.moka_cache.specs.Suits.{Suits};
 ghost use Rattle.moka_cache.specs.Stages.{BeginsWith, MayPoll, value_in};
 
 use crate::asked::Nobody;
 use crate::begin::Begin;
-use crate::cache::Cache;
+use crate::cache::{Cache, FixedSeed};
 use crate::call::CacheCall;
+use crate::listener::{Listener, NoListener};
 use moka_hist::{Answer, Start};
 use std::hash::Hash;
 
@@ -17,7 +19,16 @@ pub struct ToGet<'a, K> {
 }
 
 /// Looks the value of a key up, polled until it is found, or known to be absent.
-pub type Get<'a, K, V, E> = CacheCall<'a, ToGet<'a, K>, K, V, E, Nobody>;
+pub type Get<'a, K, V, E, L = NoListener, S = FixedSeed> = CacheCall<
+    'a,
+    ToGet<'a, K>,
+    K,
+    V,
+    E,
+    Nobody,
+    L,
+    S,
+>;
 
 impl<K: Clone + Drop, V: Drop, E: Drop> Begin<K, V, E> for ToGet<'_, K> {
     type Output = Option<V>;
@@ -40,11 +51,19 @@ impl<K: Clone + Drop, V: Drop, E: Drop> Begin<K, V, E> for ToGet<'_, K> {
     }
 }
 
-impl<K: Eq + Hash + Clone + Drop, V: Clone + Drop, E: Clone + Drop> Cache<K, V, E> {
+impl<K, V, E, L, S> Cache<K, V, E, L, S>
+where
+    K: Eq + Hash + Clone + Drop,
+    V: Clone + Drop,
+    E: Clone + Drop,
+    L: Listener<K, V>,
+    S: Drop,
+{
     /// Looks the key up. Answers its value, or None where it is absent.
-    pub fn get<'a>(&'a self, key: &'a K) -> Get<'a, K, V, E>
+    pub fn get<'a>(&'a self, key: &'a K) -> Get<'a, K, V, E, L, S>
         ensures fresh { BeginsWith result.stage (λ get. get.key.now ≡ key.now) }
         ensures may { MayPoll result.stage }
+        ensures suits { Suits K.eq (λ get. Start.Get get.key.now) result.stage }
         ensures cache { result.cache.now ≡ self.now }
     {
         self.call(ToGet { key })

@@ -6,11 +6,12 @@ ghost use Rattle.moka_cache.specs.Stages.{BeginsWith, MayPoll};
 
 use crate::asked::ByInit;
 use crate::begin::Begin;
-use crate::cache::Cache;
+use crate::cache::{Cache, FixedSeed};
 use crate::call::CacheCall;
 use crate::errors::RetriesExhausted;
 use crate::get::value_in;
 use crate::init::Init;
+use crate::listener::{Listener, NoListener};
 use moka_hist::{Answer, Start};
 use std::hash::Hash;
 
@@ -21,7 +22,16 @@ pub struct ToLoad<K> {
 }
 
 /// Looks the value of a key up, or loads it, polled until it is there.
-pub type GetWith<'a, K, V, E, I> = CacheCall<'a, ToLoad<K>, K, V, E, ByInit<I>>;
+pub type GetWith<'a, K, V, E, I, L = NoListener, S = FixedSeed> = CacheCall<
+    'a,
+    ToLoad<K>,
+    K,
+    V,
+    E,
+    ByInit<I>,
+    L,
+    S,
+>;
 
 impl<K: Clone + Drop, V: Drop, E: Drop> Begin<K, V, E> for ToLoad<K> {
     type Output = Result<V, RetriesExhausted>;
@@ -44,11 +54,18 @@ impl<K: Clone + Drop, V: Drop, E: Drop> Begin<K, V, E> for ToLoad<K> {
     }
 }
 
-impl<K: Eq + Hash + Clone + Drop, V: Clone + Drop, E: Clone + Drop> Cache<K, V, E> {
+impl<K, V, E, L, S> Cache<K, V, E, L, S>
+where
+    K: Eq + Hash + Clone + Drop,
+    V: Clone + Drop,
+    E: Clone + Drop,
+    L: Listener<K, V>,
+    S: Drop,
+{
     /// Looks the key up. Where it is absent its value is loaded: by the initializer, or by that of
     /// another load of the key, for which it waits. Answers the value, or `RetriesExhausted` once
     /// 200 owners of such a load were dropped. `init` is polled only where this call is the owner.
-    pub fn get_with<'a, I: Init<V>>(&'a self, key: K, init: I) -> GetWith<'a, K, V, E, I>
+    pub fn get_with<'a, I: Init<V>>(&'a self, key: K, init: I) -> GetWith<'a, K, V, E, I, L, S>
         ensures fresh { BeginsWith result.stage (λ load. load.key ≡ key) }
         ensures may { MayPoll result.stage }
         ensures init { result.asked.init ≡ Some init }

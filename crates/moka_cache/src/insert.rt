@@ -1,12 +1,14 @@
 //! Storing a value.
 ghost use Rattle.std.specs.Prelude.{◌≡◌};
 ghost use Rattle.moka_hist.specs.declared.events.Start.TheVariants as Start;
+ghost use Rattle.moka_cache.specs.Suits.{Suits};
 ghost use Rattle.moka_cache.specs.Stages.{BeginsWith, MayPoll};
 
 use crate::asked::Nobody;
 use crate::begin::Begin;
-use crate::cache::Cache;
+use crate::cache::{Cache, FixedSeed};
 use crate::call::CacheCall;
+use crate::listener::{Listener, NoListener};
 use moka_hist::{Answer, Start};
 use std::hash::Hash;
 
@@ -18,7 +20,16 @@ pub struct ToInsert<K, V> {
 }
 
 /// Stores a value under a key, polled until its write is logged.
-pub type Insert<'a, K, V, E> = CacheCall<'a, ToInsert<K, V>, K, V, E, Nobody>;
+pub type Insert<'a, K, V, E, L = NoListener, S = FixedSeed> = CacheCall<
+    'a,
+    ToInsert<K, V>,
+    K,
+    V,
+    E,
+    Nobody,
+    L,
+    S,
+>;
 
 impl<K: Clone + Drop, V: Drop, E: Drop> Begin<K, V, E> for ToInsert<K, V> {
     type Output = ();
@@ -39,12 +50,20 @@ impl<K: Clone + Drop, V: Drop, E: Drop> Begin<K, V, E> for ToInsert<K, V> {
     }
 }
 
-impl<K: Eq + Hash + Clone + Drop, V: Clone + Drop, E: Clone + Drop> Cache<K, V, E> {
+impl<K, V, E, L, S> Cache<K, V, E, L, S>
+where
+    K: Eq + Hash + Clone + Drop,
+    V: Clone + Drop,
+    E: Clone + Drop,
+    L: Listener<K, V>,
+    S: Drop,
+{
     /// Stores the value under the key, in place of the one that is there, if any.
-    pub fn insert<'a>(&'a self, key: K, value: V) -> Insert<'a, K, V, E>
+    pub fn insert<'a>(&'a self, key: K, value: V) -> Insert<'a, K, V, E, L, S>
         ensures fresh { BeginsWith result.stage
             (λ insert. (insert.key ≡ key) × (insert.value ≡ value)) }
         ensures may { MayPoll result.stage }
+        ensures suits { Suits K.eq (λ insert. Start.Insert insert.key insert.value) result.stage }
         ensures cache { result.cache.now ≡ self.now }
     {
         self.call(ToInsert { key, value })

@@ -1,12 +1,14 @@
 //! Invalidating a key.
 ghost use Rattle.std.specs.Prelude.{◌≡◌};
 ghost use Rattle.moka_hist.specs.declared.events.Start.TheVariants as Start;
+ghost use Rattle.moka_cache.specs.Suits.{Suits};
 ghost use Rattle.moka_cache.specs.Stages.{BeginsWith, MayPoll};
 
 use crate::asked::Nobody;
 use crate::begin::Begin;
-use crate::cache::Cache;
+use crate::cache::{Cache, FixedSeed};
 use crate::call::CacheCall;
+use crate::listener::{Listener, NoListener};
 use moka_hist::{Answer, Start};
 use std::hash::Hash;
 
@@ -17,7 +19,16 @@ pub struct ToInvalidate<'a, K> {
 }
 
 /// Takes a key out, polled until that is logged, or the key known to be absent.
-pub type Invalidate<'a, K, V, E> = CacheCall<'a, ToInvalidate<'a, K>, K, V, E, Nobody>;
+pub type Invalidate<'a, K, V, E, L = NoListener, S = FixedSeed> = CacheCall<
+    'a,
+    ToInvalidate<'a, K>,
+    K,
+    V,
+    E,
+    Nobody,
+    L,
+    S,
+>;
 
 impl<K: Clone + Drop, V: Drop, E: Drop> Begin<K, V, E> for ToInvalidate<'_, K> {
     type Output = ();
@@ -40,11 +51,19 @@ impl<K: Clone + Drop, V: Drop, E: Drop> Begin<K, V, E> for ToInvalidate<'_, K> {
     }
 }
 
-impl<K: Eq + Hash + Clone + Drop, V: Clone + Drop, E: Clone + Drop> Cache<K, V, E> {
+impl<K, V, E, L, S> Cache<K, V, E, L, S>
+where
+    K: Eq + Hash + Clone + Drop,
+    V: Clone + Drop,
+    E: Clone + Drop,
+    L: Listener<K, V>,
+    S: Drop,
+{
     /// Takes the key out, if it is there.
-    pub fn invalidate<'a>(&'a self, key: &'a K) -> Invalidate<'a, K, V, E>
+    pub fn invalidate<'a>(&'a self, key: &'a K) -> Invalidate<'a, K, V, E, L, S>
         ensures fresh { BeginsWith result.stage (λ invalidate. invalidate.key.now ≡ key.now) }
         ensures may { MayPoll result.stage }
+        ensures suits { Suits K.eq (λ invalidate. Start.Invalidate invalidate.key.now) result.stage }
         ensures cache { result.cache.now ≡ self.now }
     {
         self.call(ToInvalidate { key })

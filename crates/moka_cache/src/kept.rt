@@ -4,6 +4,7 @@ ghost use Rattle.moka_hist.specs.Finite.{IsExact};
 ghost use Rattle.moka_cache.specs.Kept.{IsKept};
 
 use crate::ground::Reach;
+use crate::hearing::Heard;
 use crate::parked::{Parked, Wakers};
 use crate::stop::Stop;
 use futures::task::{Context, Poll};
@@ -63,6 +64,21 @@ impl<K: Eq + Hash + Clone + Drop, V: Clone + Drop, E: Clone + Drop> Kept<K, V, E
     /// Moves the clock on to the moment, where that is later.
     pub(crate) fn move_clock(&mut self, moment: u64) {
         self.reach.move_clock(moment);
+    }
+
+    /// Tells the end of a notice, if one was heard. The wakers of all that it hands out come to those
+    /// in `woken`. Where the notice doesn't run nothing is told.
+    pub(crate) fn hear(&mut self, heard: Option<Heard>, woken: &mut Wakers) {
+        if let Some(heard) = heard {
+            self.end_notice(heard, woken);
+        }
+    }
+
+    // Tells the end of a notice.
+    fn end_notice(&mut self, heard: Heard, woken: &mut Wakers) {
+        if let Some(calls) = self.reach.hear(heard.notice, heard.end) {
+            self.parked.hand_out(&calls, woken);
+        }
     }
 
     /// Makes steps of the flow, at most 32 and one. Where it is told the answer to its own ask, the

@@ -14,16 +14,16 @@ pub trait Moments {
     fn moment(&mut self) -> u64;
 }
 
-/// A call of a cache as a state that is polled. It has no `Drop`: one that has answered is
-/// finished, and any other is cancelled.
-pub trait State {
+/// A call of a cache as a state that is polled with this runtime. It has no `Drop`: one that has
+/// answered is finished, and any other is cancelled.
+pub trait State<R: Wait> {
     type Output;
 
     /// It has not answered.
     ghost can_poll: { Self → Type 0 };
 
     /// Goes on at `moment`, in nanoseconds; one before the cache's clock counts as the clock.
-    fn poll<R: Wait>(
+    fn poll(
         &mut self,
         rt: &R,
         cx: &mut Context<'_>,
@@ -37,18 +37,18 @@ pub trait State {
 
     /// Drops the call: what it held is left to others, and those that wait for it are woken. It
     /// takes no memory. Where no call was begun, or it has answered, it does nothing.
-    fn cancel<R: Wait>(self, rt: &R);
+    fn cancel(self, rt: &R);
 }
 
 /// A future over a state. Dropped before it has answered, it cancels the state. Where memory is
 /// wanting it asks to be polled again.
-pub struct Polled<'a, R: Wait, S: State, M: Moments> {
+pub struct Polled<'a, R: Wait, S: State<R>, M: Moments> {
     rt: &'a R,
     state: Option<S>,
     moments: M,
 }
 
-impl<'a, R: Wait, S: State, M: Moments> Polled<'a, R, S, M> {
+impl<'a, R: Wait, S: State<R>, M: Moments> Polled<'a, R, S, M> {
     /// Polls the state at moments that come from there.
     pub fn new(rt: &'a R, state: S, moments: M) -> Self
         ensures { result.state ≡ Some state }
@@ -61,7 +61,7 @@ impl<'a, R: Wait, S: State, M: Moments> Polled<'a, R, S, M> {
     }
 }
 
-impl<R: Wait, S: State, M: Moments + Drop> Drop for Polled<'_, R, S, M> {
+impl<R: Wait, S: State<R>, M: Moments + Drop> Drop for Polled<'_, R, S, M> {
     fn drop(self) {
         let Self {
             rt,
@@ -74,7 +74,7 @@ impl<R: Wait, S: State, M: Moments + Drop> Drop for Polled<'_, R, S, M> {
     }
 }
 
-impl<R: Wait, S: State, M: Moments + Drop> Future for Polled<'_, R, S, M> {
+impl<R: Wait, S: State<R>, M: Moments + Drop> Future for Polled<'_, R, S, M> {
     type Output = Result<S::Output, PollError>;
 
     ghost can_poll = { λ p. IsSome p.state × IfSome p.state S.can_poll };
@@ -89,7 +89,7 @@ impl<R: Wait, S: State, M: Moments + Drop> Future for Polled<'_, R, S, M> {
 }
 
 // Polls the state. Where memory is wanting it asks to be polled again.
-fn poll_again<R: Wait, S: State>(
+fn poll_again<R: Wait, S: State<R>>(
     state: &mut S,
     rt: &R,
     cx: &mut Context<'_>,

@@ -4,6 +4,7 @@ ghost use Rattle.std.specs.Bool.{OnTrue};
 ghost use Rattle.std.specs.Option.{option_map};
 ghost use Rattle.moka_hist.specs.Finite.{IsExact};
 ghost use Rattle.moka_hist.specs.State.{DeskPart};
+ghost use Rattle.moka_desk.specs.Past.{AllowsAlike};
 ghost use Rattle.moka_desk.specs.StandsFor.{StandsFor};
 ghost use Rattle.moka_init.specs.FlowPlan.{call_of, next_in, Leaves, StandsStill};
 ghost use Rattle.moka_init.specs.Grounds.{HasBegun, access_at};
@@ -18,6 +19,7 @@ ghost use Rattle.moka_cache.specs.Rests.{Rests};
 ghost use Rattle.moka_cache.specs.Stages.{NumbersSpent};
 
 use crate::ground::Reach;
+use crate::listener::ListenerEnd;
 use crate::no_tests::NoTests;
 use moka_desk::Desk;
 use moka_hist::{Owed, Rules, Told, Turn, Write};
@@ -39,7 +41,7 @@ impl<K: Eq + Hash + Clone + Drop, V: Clone + Drop, E: Clone + Drop> Reach<K, V, 
     {
         moka_laws::fresh_is_sound::<K, V, E>();
         moka_laws::entering_keeps_sound::<K, V, E>();
-        let desk = Desk::starting_after(alloc, rules, LOG_LENGTH, last)?;
+        let desk = Desk::without_history(alloc, rules, LOG_LENGTH, last)?;
         let layers = Layers {
             table: PlainTable::new(alloc),
             desk,
@@ -88,6 +90,16 @@ impl<K: Eq + Hash + Clone + Drop, V: Clone + Drop, E: Clone + Drop> Reach<K, V, 
         }
     }
 
+    /// Tells that the listener has ended the notice of this number, and gives those that it hands
+    /// out. Answers None where that doesn't run; nothing has changed then.
+    pub(crate) fn hear(&mut self, notice: u64, end: ListenerEnd) -> Option<CallList>
+        requires { IsKept K.eq self.old.layers }
+        ensures { IsKept K.eq self.new.layers }
+    {
+        moka_laws::telling_keeps_sound::<K, V, E>();
+        self.layers.desk.tell(notice, told_by(end))
+    }
+
     /// Makes one step of a flow that rests, where the desk allows its next visit: the visit that
     /// takes the answer to its own ask, if `takes`, and any other, if not. Else, and after want of
     /// memory, the flow stands where it stood.
@@ -127,7 +139,8 @@ impl<K: Eq + Hash + Clone + Drop, V: Clone + Drop, E: Clone + Drop> Reach<K, V, 
         requires kept { IsKept K.eq self.old.layers }
         requires rests { Rests flow.old }
         requires may { (w : DeskPart K V E) → StandsFor K.eq self.old.layers.desk w
-            → (flow.old.call ≤ w.last) × MayMake w (access_at flow.old) }
+            → (flow.old.call ≤ w.last) × AllowsAlike K.eq self.old.layers.desk w
+            (λ v. MayMake v (access_at flow.old)) }
         ensures kept { IsKept K.eq self.new.layers }
         ensures untaken { is_taking (access_at flow.old) ≡ false → IfOk result (λ turn.
             EndedWith K.eq NoAnswer flow.old.call (call_of flow.old) (next_in turn flow.new)) }
@@ -169,6 +182,14 @@ fn write_of(held: &Option<Owed>) -> Option<Write>
     }
 }
 
+// What the desk is told by a listener that ends a notice so.
+fn told_by<V, E>(end: ListenerEnd) -> Told<V, E> {
+    match end {
+        ListenerEnd::Done => Told::Done,
+        ListenerEnd::Off => Told::Off,
+    }
+}
+
 // Whether the answer is one for a call, and none that the listener gives.
 fn is_for_call<V, E>(answer: &Told<V, E>) -> bool
     ensures { result ≡ is_of_call answer.now }
@@ -193,7 +214,8 @@ fn may_step<K: Eq + Hash + Clone + Drop, V: Clone + Drop, E: Clone + Drop>(
 ) -> bool
     requires { IsExact K.is_clone }
     ensures may { OnTrue result ((w : DeskPart K V E) → StandsFor K.eq desk.now w
-        → (flow.now.call ≤ w.last) × MayMake w (access_at flow.now)) }
+        → (flow.now.call ≤ w.last)
+        × AllowsAlike K.eq desk.now w (λ v. MayMake v (access_at flow.now))) }
     ensures takes { OnTrue result (is_taking (access_at flow.now) ≡ takes) }
 {
     if flow.number() > desk.last() {
@@ -218,7 +240,7 @@ fn may_visit<K: Eq + Hash + Clone + Drop, V: Drop, E: Drop>(
 ) -> bool
     ensures may { OnTrue result ((w : DeskPart K V E) (visit : Visit K V E)
         → StandsFor K.eq desk.now w → IsOfCall call visit → need_of visit ≡ need
-        → MayVisit w visit) }
+        → AllowsAlike K.eq desk.now w (λ v. MayVisit v visit)) }
     ensures takes { OnTrue result (needs_answer need ≡ takes) }
 {
     needs_told(&need) == takes && desk.has(call, need)

@@ -1,13 +1,15 @@
 //! Removing a key, with its value.
 ghost use Rattle.std.specs.Prelude.{◌≡◌};
 ghost use Rattle.moka_hist.specs.declared.events.Start.TheVariants as Start;
+ghost use Rattle.moka_cache.specs.Suits.{Suits};
 ghost use Rattle.moka_cache.specs.Stages.{BeginsWith, MayPoll, value_in};
 
 use crate::asked::Nobody;
 use crate::begin::Begin;
-use crate::cache::Cache;
+use crate::cache::{Cache, FixedSeed};
 use crate::call::CacheCall;
 use crate::get::value_in;
+use crate::listener::{Listener, NoListener};
 use moka_hist::{Answer, Start};
 use std::hash::Hash;
 
@@ -18,7 +20,16 @@ pub struct ToRemove<'a, K> {
 }
 
 /// Takes a key out and gives its value, polled until that is logged, or the key known to be absent.
-pub type Remove<'a, K, V, E> = CacheCall<'a, ToRemove<'a, K>, K, V, E, Nobody>;
+pub type Remove<'a, K, V, E, L = NoListener, S = FixedSeed> = CacheCall<
+    'a,
+    ToRemove<'a, K>,
+    K,
+    V,
+    E,
+    Nobody,
+    L,
+    S,
+>;
 
 impl<K: Clone + Drop, V: Drop, E: Drop> Begin<K, V, E> for ToRemove<'_, K> {
     type Output = Option<V>;
@@ -41,11 +52,19 @@ impl<K: Clone + Drop, V: Drop, E: Drop> Begin<K, V, E> for ToRemove<'_, K> {
     }
 }
 
-impl<K: Eq + Hash + Clone + Drop, V: Clone + Drop, E: Clone + Drop> Cache<K, V, E> {
+impl<K, V, E, L, S> Cache<K, V, E, L, S>
+where
+    K: Eq + Hash + Clone + Drop,
+    V: Clone + Drop,
+    E: Clone + Drop,
+    L: Listener<K, V>,
+    S: Drop,
+{
     /// Takes the key out. Answers the value that it had, or None where it is absent.
-    pub fn remove<'a>(&'a self, key: &'a K) -> Remove<'a, K, V, E>
+    pub fn remove<'a>(&'a self, key: &'a K) -> Remove<'a, K, V, E, L, S>
         ensures fresh { BeginsWith result.stage (λ remove. remove.key.now ≡ key.now) }
         ensures may { MayPoll result.stage }
+        ensures suits { Suits K.eq (λ remove. Start.Remove remove.key.now) result.stage }
         ensures cache { result.cache.now ≡ self.now }
     {
         self.call(ToRemove { key })

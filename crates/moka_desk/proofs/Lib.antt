@@ -1,9 +1,11 @@
 pub mod Standing
+pub mod Coming
 pub mod SameLoads
 pub mod Waiting
 pub mod Outcomes
 pub mod WhoHolds
 pub mod Owing
+pub mod Numbers
 pub mod Keys
 pub mod Noticed
 pub mod Allowed
@@ -13,3 +15,9 @@ pub mod Misses
 pub mod Woken
 pub mod Needing
 pub mod Tested
+pub mod Histories
+pub mod Alike
+pub mod Forgetting
+pub mod Recalling
+pub mod Sounding
+pub mod Allowing

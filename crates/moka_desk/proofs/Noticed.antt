@@ -17,30 +17,16 @@ module _ {K V : Type 0} where
     by true e = e
     by false e = cc
 
-  module _ (heard : ℕ → Option (Heard K V)) (past : ℕ → Option (Notice K V)) (notices : ℕ → Option (Notice K V)) (now : (n : ℕ) → option_map (running n) (heard n) ≡ if_running (notices n))
-      (then : (n : ℕ) → past n ≡ if_past (notices n)) (call : ℕ) where
+  module _ (heard : ℕ → Option (Heard K V)) (notices : ℕ → Option (Notice K V)) (now : (n : ℕ) → option_map (running n) (heard n) ≡ if_running (notices n)) (call : ℕ) where
     -- a notice is opened, and runs
-
     pub opened_running : (h : Heard K V) (n : ℕ) → option_map (running n) (cond (call == n) (Some h) (heard n)) ≡ if_running (put_at notices call (Some (running call h)) n)
     opened_running h n = by (call == n) refl where
       by : (b : Bool) → (call == n) ≡ b → option_map (running n) (cond b (Some h) (heard n)) ≡ if_running (cond b (Some (running call h)) (notices n))
       by true e = ap (λ m. Some (running m h)) (sym (eqb-true call n e))
       by false e = now n
 
-    pub opened_past : (h : Heard K V) → notices call ≡ None → (n : ℕ) → past n ≡ if_past (put_at notices call (Some (running call h)) n)
-    opened_past h none n = by (call == n) refl where
-      by : (b : Bool) → (call == n) ≡ b → past n ≡ if_past (cond b (Some (running call h)) (notices n))
-      by true e = then n ∙ ap if_past (ap notices (sym (eqb-true call n e)) ∙ none)
-      by false e = then n
-
-    -- a notice is listed among those of the past
+    -- a notice runs no more
     module _ (x : Notice K V) (is : x.number ≡ call) where
-      pub listed_past : runs x.state ≡ false → (n : ℕ) → cond (call == n) (Some x) (past n) ≡ if_past (put_at notices call (Some x) n)
-      listed_past over n = by (call == n) where
-        by : (b : Bool) → cond b (Some x) (past n) ≡ if_past (cond b (Some x) (notices n))
-        by true = rw over refl
-        by false = then n
-
       pub listed_running : runs x.state ≡ false → (new : ℕ → Option (Heard K V)) → new call ≡ None → ((n : ℕ) → (call == n) ≡ false → new n ≡ heard n) →
           (n : ℕ) → option_map (running n) (new n) ≡ if_running (put_at notices call (Some x) n)
       listed_running over new none same n = by (call == n) refl where
@@ -52,11 +38,39 @@ module _ {K V : Type 0} where
     pub heard_by : (h : Heard K V) → heard call ≡ Some h → notices call ≡ Some (running call h)
     heard_by h e = found_running (notices call) (running call h) (sym (now call) ∙ ap (option_map (running call)) e)
 
+    -- a notice that doesn't run may as well not have been opened
+    pub unopened_running : heard call ≡ None → (n : ℕ) → option_map (running n) (heard n) ≡ if_running (put_at notices call None n)
+    unopened_running none n = by (call == n) refl where
+      by : (b : Bool) → (call == n) ≡ b → option_map (running n) (heard n) ≡ if_running (cond b None (notices n))
+      by true e = ap (option_map (running n)) (ap heard (sym (eqb-true call n e)) ∙ none)
+      by false e = now n
+
     pub none_heard : notices call ≡ None → heard call ≡ None
     none_heard none = by (heard call) refl (now call ∙ ap if_running none) where
       by : (o : Option (Heard K V)) → heard call ≡ o → option_map (running call) o ≡ None → o ≡ None
       by None e f = refl
       by (Some h) e f = cc
+
+  module _ (past : ℕ → Option (Notice K V)) (notices : ℕ → Option (Notice K V)) (then : (n : ℕ) → past n ≡ if_past (notices n)) (call : ℕ) where
+    -- a notice is opened, and runs
+    pub opened_past : (h : Heard K V) → notices call ≡ None → (n : ℕ) → past n ≡ if_past (put_at notices call (Some (running call h)) n)
+    opened_past h none n = by (call == n) refl where
+      by : (b : Bool) → (call == n) ≡ b → past n ≡ if_past (cond b (Some (running call h)) (notices n))
+      by true e = then n ∙ ap if_past (ap notices (sym (eqb-true call n e)) ∙ none)
+      by false e = then n
+
+    pub unopened_past : past call ≡ None → (n : ℕ) → past n ≡ if_past (put_at notices call None n)
+    unopened_past none n = by (call == n) refl where
+      by : (b : Bool) → (call == n) ≡ b → past n ≡ if_past (cond b None (notices n))
+      by true e = ap past (sym (eqb-true call n e)) ∙ none
+      by false e = then n
+
+    -- a notice is listed among those of the past
+    pub listed_past : (x : Notice K V) → runs x.state ≡ false → (n : ℕ) → cond (call == n) (Some x) (past n) ≡ if_past (put_at notices call (Some x) n)
+    listed_past x over n = by (call == n) where
+      by : (b : Bool) → cond b (Some x) (past n) ≡ if_past (cond b (Some x) (notices n))
+      by true = rw over refl
+      by false = then n
 
 -- what is taken out is gone, and the rest stays
 pub gone_at : {A : Type 0} (f g : ℕ → Option A) (k : ℕ) → ((n : ℕ) → g n ≡ cond (k == n) None (f n)) → g k ≡ None

@@ -21,7 +21,7 @@ times_of_both n xs ys = ap (times n) (map-append number_of xs ys) ∙ times-appe
 pub numbers_more : (owed : List Owed) (o : Owed) → owed_numbers (owed ++ o ∷ []) ≡ owed_numbers owed ++ number_of o.write ∷ []
 numbers_more owed o = ap (map number_of) (map-append (λ x. x.write) owed (o ∷ [])) ∙ map-append number_of (map (λ x. x.write) owed) (o.write ∷ [])
 
-one : (n x : ℕ) → times n (x ∷ []) ≡ cond (n == x) 1 0
+pub one : (n x : ℕ) → times n (x ∷ []) ≡ cond (n == x) 1 0
 one n x = by (n == x) where
   by : (b : Bool) → cond b (0 + 1) 0 ≡ cond b 1 0
   by true = refl
@@ -52,51 +52,6 @@ owed_once o rest place e = by (number_of o.write == number_of o.write) refl (owe
       times (number_of o.write) (owed_numbers (o ∷ rest)) ≡ times (number_of o.write) (owed_numbers rest) + cond b 1 0 → owed_at place ≡ 1
   by true h f = let most = at_most_one place in omega (arith, e, f)
   by false h f = absurd (eqb-false _ _ h refl)
-
--- the numbers that were posted, once one more write is, and once the oldest is applied
-pub posted_then : (log applied : List Write) (w : Write) (n : ℕ) →
-    nat_lt 0 (times n (map number_of ((log ++ w ∷ []) ++ applied))) ≡ (nat_lt 0 (times n (map number_of (log ++ applied))) || (number_of w == n))
-posted_then log applied w n =
-    let all = times_of_both n (log ++ w ∷ []) applied in
-    let front = times_of_both n log (w ∷ []) in
-    let old = times_of_both n log applied in
-    let last = one n (number_of w) in
-    by (number_of w == n) refl (n == number_of w) refl all front old last
-  where
-    by : (a : Bool) → (number_of w == n) ≡ a → (b : Bool) → (n == number_of w) ≡ b →
-        times n (map number_of ((log ++ w ∷ []) ++ applied)) ≡ times n (map number_of (log ++ w ∷ [])) + times n (map number_of applied) →
-        times n (map number_of (log ++ w ∷ [])) ≡ times n (map number_of log) + times n (number_of w ∷ []) →
-        times n (map number_of (log ++ applied)) ≡ times n (map number_of log) + times n (map number_of applied) →
-        times n (number_of w ∷ []) ≡ cond b 1 0 →
-        nat_lt 0 (times n (map number_of ((log ++ w ∷ []) ++ applied))) ≡ (nat_lt 0 (times n (map number_of (log ++ applied))) || a)
-    by true e true f all front old last = grind (arith, nat_tests)
-    by true e false f all front old last = absurd (eqb-false _ _ f (sym (eqb-true _ _ e)))
-    by false e true f all front old last = absurd (eqb-false _ _ e (sym (eqb-true _ _ f)))
-    by false e false f all front old last = grind (arith, nat_tests)
-
-pub posted_still : (w : Write) (log applied : List Write) (n : ℕ) → times n (map number_of (log ++ (applied ++ w ∷ []))) ≡ times n (map number_of (w ∷ (log ++ applied)))
-posted_still w log applied n =
-    let all = times_of_both n log (applied ++ w ∷ []) in
-    let end = times_of_both n applied (w ∷ []) in
-    let old = times_of_both n (w ∷ []) (log ++ applied) in
-    let rest = times_of_both n log applied in
-    omega (arith, all, end, old, rest)
-
--- the front of the log was posted
-pub first_posted : (w : Write) (log : List Write) → nat_lt 0 (times (number_of w) (map number_of (w ∷ log))) ≡ true
-first_posted w log = ap (λ b. nat_lt 0 (cond b (times (number_of w) (map number_of log) + 1) (times (number_of w) (map number_of log)))) (same_number (number_of w)) ∙ over (times (number_of w) (map number_of log)) where
-  over : (m : ℕ) → nat_lt 0 (m + 1) ≡ true
-  over m = grind (arith, nat_tests)
-
--- a number that isn't posted stands in neither list
-pub none_posted : (m : ℕ) (posted : Bool) → posted ≡ nat_lt 0 m → not posted ≡ true → m ≡ 0
-none_posted m true e f = absurd (no f) where
-  no : false ≡ true → ⊥
-  no e = cc
-none_posted m false e f = grind (arith, nat_tests)
-
-pub as_posted : (m : ℕ) (posted : Bool) → posted ≡ nat_lt 0 m → m ≡ 0 → not posted ≡ true
-as_posted m posted e none = ap not (e ∙ ap (nat_lt 0) none)
 
 -- ---- which numbers are unused
 

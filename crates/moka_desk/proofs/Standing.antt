@@ -1,16 +1,14 @@
 -- The count of the records that stand, as one more write is applied.
-use Rattle.std.proofs.Common.{◌≡◌, ℕ, ◌+◌, ◌≤◌, ◌==◌, Bool, true, false, not, cond, ◌&&◌, ◌||◌, eqb-true, List, [], ◌∷◌, ◌++◌, Option, Some, None, count_by, add-zero, zero-add, refl, sym, ap, ◌∙◌, arith}
+use Rattle.std.proofs.Common.{◌≡◌, ℕ, ◌+◌, ◌==◌, Bool, true, false, not, cond, ◌&&◌, ◌||◌, eqb-true, List, [], ◌∷◌, ◌++◌, Option, Some, None, count_by, add-zero, zero-add, refl, sym, ap, ◌∙◌, arith}
 use Rattle.std.specs.List.{sum_by}
 use Rattle.std.specs.Option.{option_map_or}
 use Rattle.std.proofs.lemmas.List.Sums.{sum_by-cons, sum_by-append}
 use Rattle.std.proofs.lemmas.List.Folds.{list_any-append}
 use Rattle.std.proofs.Math.Bool.{or-false}
 use Rattle.std.proofs.lemmas.Bool.Decides.{nat_tests}
-use mir.Val.{bool_byte}
-use Rattle.moka_hist.specs.Visits.{number_of, old_of, is_upsert, is_replaced, standing}
+use Rattle.moka_hist.specs.Visits.{number_of, old_of, is_upsert, is_replaced}
 use Rattle.moka_hist.specs.declared.writes.Write.{Write}
-use Rattle.moka_hist.specs.declared.writes.Write.TheVariants.{Remove}
-use Rattle.moka_desk.specs.Fallen.{count_of, fallen}
+use Rattle.moka_desk.specs.Records.{and_this, count_of, is_made, standing_but}
 
 -- where each part adds up, so do the sums
 sum_by_parts : {X : Type 0} (f g h : X → ℕ) → ((x : X) → f x + g x ≡ h x) → (xs : List X) → sum_by f xs + sum_by g xs ≡ sum_by h xs
@@ -32,34 +30,23 @@ falls_bool true false h = refl
 falls_bool true true h = let e : true ≡ false = h refl in cc
 
 -- a record falls exactly where it stood and is of this stamp
-pub falls_alone : (r : ℕ → Bool) (s n : ℕ) → r s ≡ false → cond (not (r n || (s == n))) 1 0 + cond (n == s) 1 0 ≡ cond (not (r n)) 1 0
+falls_alone : (r : ℕ → Bool) (s n : ℕ) → r s ≡ false → cond (not (r n || (s == n))) 1 0 + cond (n == s) 1 0 ≡ cond (not (r n)) 1 0
 falls_alone r s n h =
     rw (same_test s n) (falls_bool (r n) (n == s) (λ e. ap r (eqb-true n s e) ∙ h))
 
 -- so it is of each write: one that made no record stands nowhere
-pub falls_of : (r : ℕ → Bool) (s n : ℕ) (made : Bool) → r s ≡ false →
+falls_of : (r : ℕ → Bool) (s n : ℕ) (made : Bool) → r s ≡ false →
     cond (made && not (r n || (s == n))) 1 0 + cond (made && n == s) 1 0 ≡ cond (made && not (r n)) 1 0
 falls_of r s n true h = falls_alone r s n h
 falls_of r s n false h = refl
 
--- where the stamp's record was replaced before, nothing falls
+-- where the stamp's record was gone before, nothing falls
 falls_again : (r : ℕ → Bool) (s n : ℕ) (b : Bool) → (s == n) ≡ b → r s ≡ true → (r n || (s == n)) ≡ r n
 falls_again r s n false e h = rw e (or-false (r n))
 falls_again r s n true e h = let same : r n ≡ true = ap r (sym (eqb-true s n e)) ∙ h in rw same refl
 
--- how many of the writes stand once these stamps are replaced
-abbrev standing_but : (ℕ → Bool) → List Write → ℕ
-standing_but gone writes = count_by (λ w. is_upsert w && not (gone (number_of w))) writes
-
--- the stamps that are replaced once one more is
-abbrev pub and_this : (ℕ → Bool) → Option ℕ → ℕ → Bool
-and_this gone old n = gone n || option_map_or (λ stamp. stamp == n) old false
-
--- how many fall as one more stamp is replaced
-abbrev falling : (ℕ → Bool) → List Write → Option ℕ → ℕ
-falling gone writes old = option_map_or (λ stamp. cond (gone stamp) 0 (count_of stamp writes)) old 0
-
-falling_is : (gone : ℕ → Bool) (writes : List Write) (stamp : ℕ) (b : Bool) → gone stamp ≡ b
+-- what stands once this record is gone too
+pub falling_is : (gone : ℕ → Bool) (writes : List Write) (stamp : ℕ) (b : Bool) → gone stamp ≡ b
     → standing_but (and_this gone (Some stamp)) writes + cond b 0 (count_of stamp writes) ≡ standing_but gone writes
 falling_is gone writes stamp false e =
     sum_by_parts _ _ _ (λ w. falls_of gone stamp (number_of w) (is_upsert w) e) writes
@@ -67,43 +54,20 @@ falling_is gone writes stamp true e =
     rw add-zero (λ i. sum_by (λ w. cond (is_upsert w
     && not (falls_again gone stamp (number_of w) (stamp == number_of w) refl e i)) 1 0) writes)
 
-falls : (gone : ℕ → Bool) (writes : List Write) (old : Option ℕ)
-    → standing_but (and_this gone old) writes + falling gone writes old ≡ standing_but gone writes
-falls gone writes None = simp (or-false, add-zero)
-falls gone writes (Some stamp) = falling_is gone writes stamp (gone stamp) refl
-
 -- the stamps that the writes and one more replace
 pub gone_then : (writes : List Write) (w : Write) (n : ℕ) → is_replaced (writes ++ w ∷ []) n ≡ and_this (is_replaced writes) (old_of w) n
 gone_then writes w n =
     rw (list_any-append (λ v. option_map_or (λ old. old == n) (old_of v) false) writes (w ∷ [])) (simp or-false)
 
--- no more fall than stand
-pub fallen_le : (writes : List Write) (old : Option ℕ) → fallen writes old ≤ standing writes
-fallen_le writes old = omega (arith, falls (is_replaced writes) writes old)
+-- the records that the writes and one more made
+pub made_then : (writes : List Write) (w : Write) (n : ℕ) → is_made (writes ++ w ∷ []) n ≡ (is_made writes n || (is_upsert w && number_of w == n))
+made_then writes w n =
+    rw (list_any-append (λ v. is_upsert v && number_of v == n) writes (w ∷ [])) (simp or-false)
 
--- the number of a test
-pub byte_not : (b : Bool) → bool_byte (not b) ≡ cond (not b) 1 0
-byte_not false = refl
-byte_not true = refl
-
--- what stands once one more write is applied
-pub standing_then : (writes : List Write) (w : Write) → standing (writes ++ w ∷ []) + fallen writes (old_of w)
-    ≡ standing writes + cond (is_upsert w && not (is_replaced (writes ++ w ∷ []) (number_of w))) 1 0
-standing_then writes w =
-    let after : ℕ → Bool = is_replaced (writes ++ w ∷ []) in
-    let gone : ℕ → Bool = and_this (is_replaced writes) (old_of w) in
-    let parts : standing (writes ++ w ∷ []) ≡ standing_but after writes + (0 + cond (is_upsert w && not (after (number_of w))) 1 0) =
-    sum_by-append (λ v. cond (is_upsert v && not (after (number_of v))) 1 0) writes (w ∷ []) in
-    let along : standing_but after writes ≡ standing_but gone writes = λ i. standing_but (λ n. gone_then writes w n i) writes in
-    let rest : standing_but gone writes + fallen writes (old_of w) ≡ standing writes = falls (is_replaced writes) writes (old_of w) in
-    omega arith
+-- what stands once one more write is there, and none is gone by it
+pub but_then : (gone : ℕ → Bool) (writes : List Write) (w : Write) → standing_but gone (writes ++ w ∷ []) ≡ standing_but gone writes + cond (is_upsert w && not (gone (number_of w))) 1 0
+but_then gone writes w = rw (sum_by-append, zero-add) refl
 
 -- how many are of a number once one more write is applied
 pub count_then : (n : ℕ) (writes : List Write) (w : Write) → count_of n (writes ++ w ∷ []) ≡ count_of n writes + cond (is_upsert w && number_of w == n) 1 0
 count_then n writes w = rw (sum_by-append, zero-add) refl
-
--- a removal makes no record
-pub count_stays : (n : ℕ) (writes : List Write) (number old : ℕ) → count_of n writes ≡ count_of n (writes ++ Remove number old ∷ [])
-count_stays n writes number old =
-    let then : count_of n (writes ++ Remove number old ∷ []) ≡ count_of n writes + 0 = count_then n writes (Remove number old) in
-    omega arith

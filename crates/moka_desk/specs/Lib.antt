@@ -1,4 +1,5 @@
-pub mod Fallen
+pub mod Records
+pub mod Applied
 pub mod Writes
 pub mod Readers
 pub mod Loads
@@ -8,10 +9,13 @@ pub mod Held
 pub mod Lines
 pub mod Asks
 pub mod StandsFor
+pub mod History
+pub mod Moments
 pub mod Sizes
 pub mod SoundDesk
 pub mod Waits
 pub mod ListedMiss
 pub mod Woken
 pub mod WakeList
+pub mod Past
 pub mod Meets

@@ -1,5 +1,5 @@
 -- What a visit needs of the desk, by the need that it has.
-use Rattle.std.specs.Prelude.{◌≡◌, ◌≢◌, ℕ, Bool, true, false, ◌||◌, Some, is_some, IsSome, IsNone, IsSomeAnd}
+use Rattle.std.specs.Prelude.{◌≡◌, ◌≢◌, ◌↔◌, ℕ, Bool, IsTrue, true, false, ◌||◌, Some, is_some, IsSome, IsNone, IsSomeAnd}
 use Rattle.moka_hist.specs.Conditions.{HasUnsettled, HoldsNoWrite, HoldsWrite, IsUnused}
 use Rattle.moka_hist.specs.State.{DeskPart}
 use Rattle.moka_hist.specs.declared.loads.Kind.{Kind}
@@ -8,6 +8,19 @@ use Rattle.moka_needs.specs.declared.needs.Ending.{Ending}
 use Rattle.moka_needs.specs.declared.needs.Ending.TheVariants as ending
 use Rattle.moka_needs.specs.declared.needs.Need.{Need}
 use Rattle.moka_needs.specs.declared.needs.Need.TheVariants as need
+
+-- The test answers exactly whether P, where it can tell. Else it answers true where P, and where it
+-- does so Q.
+abbrev pub Tests : Bool → Bool → Type 0 → Type 0 → Type 0
+Tests true answer P Q = IsTrue answer ↔ P
+Tests false answer P Q = (P → IsTrue answer) × (IsTrue answer → Q)
+
+-- A desk without a history can tell whether it has this: all but that no write of the call's number
+-- was applied, and that no notice was opened for it.
+abbrev pub is_recalled : {K : Type 0} → Need K → Bool
+is_recalled need.StampMoment = false
+is_recalled need.OpenNotice = false
+is_recalled _ = true
 
 -- an owner of a load of this kind may end so
 abbrev pub may_end_so : Kind → Ending → Bool

@@ -1,7 +1,7 @@
 -- What the kept notices stand for.
-use Rattle.std.specs.Prelude.{◌≡◌, ℕ, Bool, false, cond, List, Option, Some, None, nat_eq}
+use Rattle.std.specs.Prelude.{◌≡◌, ◌<◌, ℕ, Bool, true, false, cond, List, Option, Some, None, nat_eq, vec_capacity, vec_len}
 use Rattle.std.specs.Option.{option_map, option_map_or}
-use Rattle.std.specs.HashMap.{get}
+use Rattle.std.specs.HashMap.{get, hash_map_len, spare}
 use Rattle.moka_hist.specs.State.{DeskPart}
 use Rattle.moka_hist.specs.Visits.{runs}
 use Rattle.moka_hist.specs.declared.notices.Notice.{Notice}
@@ -43,12 +43,13 @@ abbrev pub either : {A : Type 0} → Option A → Option A → Option A
 either (Some x) other = Some x
 either None other = other
 
--- The notices that run stand in one map, the others in the other.
+-- The notices that run stand in one map. With a history the others stand in the other, and their
+-- numbers are listed.
 pub record NoticesAre {K V : Type 0} (notices : Notices K V) (p : NoticePart K V) : Type 0 where
   pub running : (n : ℕ) → option_map (running n) (get nat_eq notices.running n) ≡
       if_running (p.notices n)
-  pub past : (n : ℕ) → get nat_eq notices.past n ≡ if_past (p.notices n)
-  pub opened : notices.opened.items ≡ p.opened
+  pub past : notices.history ≡ true → (n : ℕ) → get nat_eq notices.past n ≡ if_past (p.notices n)
+  pub opened : notices.history ≡ true → notices.opened.items ≡ p.opened
   pub off : notices.off ≡ p.off
 
 -- the notices change as the part does, whatever they stand for
@@ -56,3 +57,9 @@ abbrev pub NoticesBecome : {K V : Type 0} → Notices K V → (NoticePart K V �
     Notices K V → Type 0
 NoticesBecome {K} {V} old change new =
     (p : NoticePart K V) → NoticesAre old p → NoticesAre new (change p)
+
+-- the history has room for one more notice
+abbrev pub HasRoom : {K V : Type 0} → Notices K V → Type 0
+HasRoom notices =
+    (vec_len notices.opened < vec_capacity notices.opened)
+    × (hash_map_len notices.running < spare notices.past)

@@ -1,5 +1,5 @@
 -- What the desk stands for.
-use Rattle.std.specs.Prelude.{◌≡◌, ℕ, Bool, Option, nat_eq}
+use Rattle.std.specs.Prelude.{◌≡◌, ℕ, Bool, true, Option, nat_eq}
 use Rattle.std.specs.HashMap.{get}
 use Rattle.std.specs.declared.cmp.PartialEq as PartialEq
 use Rattle.std.specs.declared.hash.Hash as Hash
@@ -9,6 +9,7 @@ use Rattle.moka_hist.specs.Conditions.{MayVisit, MayLeave}
 use Rattle.moka_hist.specs.declared.visits.Visit.{Visit}
 use Rattle.moka_hist.specs.declared.visits.Found.{Found}
 use Rattle.moka_hist.specs.declared.writes.Write.{Write}
+use Rattle.moka_desk.specs.History.{keeps_moments}
 use Rattle.moka_desk.specs.Writes.{write_part, WritesAre}
 use Rattle.moka_desk.specs.Loads.{load_part, LoadsAre}
 use Rattle.moka_desk.specs.Locks.{lock_part, LocksAre}
@@ -16,12 +17,13 @@ use Rattle.moka_desk.specs.Notices.{notice_part, NoticesAre}
 use Rattle.moka_desk.specs.Asks.{ask_part, AsksAre}
 use Rattle.moka_desk.specs.declared.state.Desk.{Desk}
 
--- The desk has what the reference's desk has, part by part.
+-- The desk has what the reference's desk has, part by part. Of the past it has with a history all,
+-- and without one what its parts say. When records were seen it has where that is kept.
 pub record StandsFor {K V E : Type 0} {same : PartialEq.Ghosts K} {hash : Hash.Ghosts K}
     (eq : K → K → Bool) (desk : Desk K V E same hash) (w : DeskPart K V E) : Type 0 where
   pub rules : desk.rules ≡ w.rules
   pub clock : desk.clock ≡ w.clock
-  pub accessed : (n : ℕ) → get nat_eq desk.accessed n ≡ w.accessed n
+  pub accessed : keeps_moments desk ≡ true → (n : ℕ) → get nat_eq desk.accessed n ≡ w.accessed n
   pub turn : desk.turn ≡ w.turn
   pub published : desk.published ≡ w.published
   pub last : desk.last ≡ w.last

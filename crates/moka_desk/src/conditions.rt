@@ -1,6 +1,6 @@
 //! The conditions of visits, tested.
 
-ghost use Rattle.std.specs.Prelude.{◌≡◌, true, false, Some, None, IsTrue, IsSome, IsNone, IsSomeAnd, ◌↔◌};
+ghost use Rattle.std.specs.Prelude.{◌≡◌, ◌||◌, true, false, Some, None, IsTrue, IsSome, IsNone, IsSomeAnd, ◌↔◌};
 
 use crate::Desk;
 use moka_hist::{Holding, Kind, Load, Write};
@@ -12,21 +12,32 @@ impl<K: Eq + Hash + Clone + Drop, V: Drop, E: Drop> Desk<K, V, E> {
     ghost use Rattle.moka_hist.specs.Conditions.{HasUnsettled, HoldsNoWrite, HoldsWrite, IsUnused, MayLeave, MayVisit};
     ghost use Rattle.moka_needs.specs.Needs.{need_of, IsOfCall};
     ghost use Rattle.moka_hist.specs.declared.visits.Visit.{Visit};
-    ghost use Rattle.moka_desk.specs.Meets.{Meets, may_end_so};
+    ghost use Rattle.moka_desk.specs.History.{keeps_history};
+    ghost use Rattle.moka_desk.specs.Meets.{Meets, Tests, is_recalled, may_end_so};
+    ghost use Rattle.moka_desk.specs.Past.{AllowsAlike};
     ghost use Rattle.moka_desk.specs.StandsFor.{StandsFor};
 
-    /// Whether the desk allows the call each visit that needs this.
+    /// Whether the desk allows the call each visit that needs this. Without a history it may have
+    /// forgotten that a write of the call's number was applied, or that its notice has ended. It
+    /// answers true then, and stands for a state as well where none was.
     pub fn has(&self, call: u64, need: Need<K>) -> bool
-        ensures { (w : DeskPart K V E) (visit : Visit K V E) → StandsFor K.eq self.now w
+        ensures exact { (is_recalled need || keeps_history self.now) ≡ true
+            → (w : DeskPart K V E) (visit : Visit K V E) → StandsFor K.eq self.now w
             → IsOfCall call visit → need_of visit ≡ need → IsTrue result ↔ MayVisit w visit }
+        ensures allowed { (w : DeskPart K V E) (visit : Visit K V E) → StandsFor K.eq self.now w
+            → IsOfCall call visit → need_of visit ≡ need → MayVisit w visit → IsTrue result }
+        ensures alike { IsTrue result → (w : DeskPart K V E) (visit : Visit K V E)
+            → StandsFor K.eq self.now w → IsOfCall call visit → need_of visit ≡ need
+            → AllowsAlike K.eq self.now w (λ v. MayVisit v visit) }
     {
         self.meets(call, need)
     }
 
-    // Whether the desk has what the call needs.
+    // Whether the desk has what the call needs, as far as it can tell.
     fn meets(&self, call: u64, need: Need<K>) -> bool
         ensures { (w : DeskPart K V E) → StandsFor K.eq self.now w
-            → IsTrue result ↔ Meets w call need }
+            → Tests (is_recalled need || keeps_history self.now) result (Meets w call need)
+            (AllowsAlike K.eq self.now w (λ v. Meets v call need)) }
     {
         match need {
             Need::Clock => self.holds_no_write(call),
@@ -94,10 +105,11 @@ impl<K: Eq + Hash + Clone + Drop, V: Drop, E: Drop> Desk<K, V, E> {
         }
     }
 
-    // The call holds nothing, and no write of its number stands anywhere.
+    // The call holds nothing, and no write of its number stands anywhere, as far as is remembered.
     fn may_stamp(&self, call: u64) -> bool
         ensures { (w : DeskPart K V E) → StandsFor K.eq self.now w
-            → IsTrue result ↔ (IsNone (w.holding call) × IsUnused w call) }
+            → Tests (keeps_history self.now) result (IsNone (w.holding call) × IsUnused w call)
+            (AllowsAlike K.eq self.now w (λ v. IsNone (v.holding call) × IsUnused v call)) }
     {
         self.holds_nothing(call) && self.writes.is_unused(call)
     }
@@ -156,12 +168,13 @@ impl<K: Eq + Hash + Clone + Drop, V: Drop, E: Drop> Desk<K, V, E> {
         }
     }
 
-    // No notice was opened for the call.
+    // No notice was opened for the call, as far as is remembered.
     fn opened_none(&self, call: u64) -> bool
         ensures { (w : DeskPart K V E) → StandsFor K.eq self.now w
-            → IsTrue result ↔ IsNone (w.notices call) }
+            → Tests (keeps_history self.now) result (IsNone (w.notices call))
+            (AllowsAlike K.eq self.now w (λ v. IsNone (v.notices call))) }
     {
-        !self.notices.running.contains_key(&call) && !self.notices.past.contains_key(&call)
+        !self.notices.recalls(call)
     }
 
     // The call has no open ask, and was told nothing.

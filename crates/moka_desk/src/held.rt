@@ -1,6 +1,6 @@
 //! The writes that are held or owed, by the numbers of the calls that made them.
 
-ghost use Rattle.std.specs.Prelude.{◌≡◌, ℕ, ◌+◌, ◌≤◌, ◌<◌, ◌==◌, true, cond, Option, Some, None, is_some, nat_eq, OnOk, if◌then◌else◌};
+ghost use Rattle.std.specs.Prelude.{◌≡◌, ℕ, ◌+◌, ◌≤◌, ◌<◌, ◌==◌, ◌||◌, true, false, cond, Option, Some, None, is_some, nat_eq, OnOk, if◌then◌else◌};
 ghost use Rattle.std.specs.HashMap.{get, spare, hash_map_len};
 ghost use Rattle.moka_hist.specs.Visits.{number_of as written_by};
 ghost use Rattle.moka_desk.specs.Held.{decided_holding, held_by, held_count, holding_room, holds_number, is_holder, owed_at};
@@ -78,6 +78,8 @@ impl Held {
             ≡ cond (call == n) (Some (holding.Own (Some moment))) (held_by self.old.holdings n) }
         ensures owed { (n : ℕ) → owed_at (get nat_eq self.new.holders n)
             ≡ owed_at (get nat_eq self.old.holders n) }
+        ensures known { (n : ℕ) → is_some (get nat_eq self.new.holders n)
+            ≡ (is_some (get nat_eq self.old.holders n) || (call == n)) }
         ensures places { hash_map_len self.new.holders ≡ hash_map_len self.old.holders + 1 }
         ensures count { held_count self.new.holdings ≤ held_count self.old.holdings + 1 }
         ensures kept { holding_room self.new.holdings ≡ holding_room self.old.holdings }
@@ -100,6 +102,8 @@ impl Held {
             ≡ cond (call == n) (Some (holding.TookUp write)) (held_by self.old.holdings n) }
         ensures owed { (n : ℕ) → owed_at (get nat_eq self.new.holders n)
             + cond (n == written_by write) 1 0 ≡ owed_at (get nat_eq self.old.holders n) }
+        ensures known { (n : ℕ) → is_some (get nat_eq self.new.holders n)
+            ≡ is_some (get nat_eq self.old.holders n) }
         ensures places { hash_map_len self.new.holders ≡ hash_map_len self.old.holders }
         ensures count { held_count self.new.holdings ≤ held_count self.old.holdings + 1 }
         ensures kept { holding_room self.new.holdings ≡ holding_room self.old.holdings }
@@ -115,6 +119,8 @@ impl Held {
             ≡ cond (call == n) None (held_by self.old.holdings n) }
         ensures owed { (n : ℕ) → owed_at (get nat_eq self.new.holders n)
             ≡ owed_at (get nat_eq self.old.holders n) + cond (n == number) 1 0 }
+        ensures known { (n : ℕ) → is_some (get nat_eq self.new.holders n)
+            ≡ is_some (get nat_eq self.old.holders n) }
         ensures places { hash_map_len self.new.holders ≡ hash_map_len self.old.holders }
         ensures count { held_count self.new.holdings + 1 ≤ held_count self.old.holdings }
         ensures kept { holding_room self.new.holdings ≡ holding_room self.old.holdings }
@@ -130,6 +136,8 @@ impl Held {
             ≡ cond (call == n) None (held_by self.old.holdings n) }
         ensures owed { (n : ℕ) → owed_at (get nat_eq self.new.holders n)
             ≡ owed_at (get nat_eq self.old.holders n) }
+        ensures known { (n : ℕ) → is_some (get nat_eq self.new.holders n)
+            ≡ cond (number == n) false (is_some (get nat_eq self.old.holders n)) }
         ensures places { hash_map_len self.new.holders + 1 ≡ hash_map_len self.old.holders }
         ensures count { held_count self.new.holdings + 1 ≤ held_count self.old.holdings }
         ensures kept { holding_room self.new.holdings ≡ holding_room self.old.holdings }

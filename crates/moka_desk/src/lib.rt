@@ -13,6 +13,7 @@ mod loads;
 mod locks;
 mod maps;
 mod notices;
+mod records;
 mod state;
 mod waits;
 mod writes;

@@ -23,6 +23,8 @@ impl<K: Eq + Hash + Clone + Drop, V: Drop, E: Drop> Desk<K, V, E> {
     ghost use Rattle.moka_desk.specs.Waits.{comes, leaves, lock_line, notice_line, stays, waits_at, LocksMove, NoticesMove, NobodyMoves};
     ghost use Rattle.moka_desk.specs.WakeList.{LocksWake, NobodyWakes, NoticesWake};
     ghost use Rattle.moka_desk.specs.Woken.{all_but, and_calls};
+    ghost use Rattle.moka_desk.specs.History.{KeepsAsBefore};
+    ghost use Rattle.moka_desk.specs.Moments.{AreAlike};
     ghost use Rattle.moka_desk.specs.StandsFor.{StandsFor, Can, Finds, Makes, Stays};
     ghost use Rattle.moka_desk.specs.ListedMiss.{MissAfter, MissWith};
 
@@ -47,6 +49,7 @@ impl<K: Eq + Hash + Clone + Drop, V: Drop, E: Drop> Desk<K, V, E> {
         ensures misses { OnOk result
             (MissAfter K.eq self.old (visit.LockKey call key.now) self.new) }
         ensures misses_still { OnErr result (MissWith K.eq self.old (λ w. w) self.new) }
+        ensures kept { KeepsAsBefore self.old self.new }
     {
         if let Some(holder) = self.locks.holder(key) {
             self.waits.locks.wait(holder, call)?;
@@ -67,6 +70,7 @@ impl<K: Eq + Hash + Clone + Drop, V: Drop, E: Drop> Desk<K, V, E> {
         ensures waits { LocksMove self.old (comes call) self.new }
         ensures wakes { LocksWake self.old (and_calls result) self.new }
         ensures misses { MissAfter K.eq self.old (visit.UnlockKey call wrote) self.new }
+        ensures kept { KeepsAsBefore self.old self.new }
     {
         self.writes.conclude(call, wrote);
         self.locks.free(call);
@@ -99,6 +103,7 @@ impl<K: Eq + Hash + Clone + Drop, V: Drop, E: Drop> Desk<K, V, E> {
         ensures misses { OnOk result (MissAfter K.eq self.old
             (visit.OpenNotice call key value stamp modified cause upsert) self.new) }
         ensures misses_still { OnErr result (MissWith K.eq self.old (λ w. w) self.new) }
+        ensures kept { KeepsAsBefore self.old self.new }
     {
         let cause = self.cause_of(stamp, modified, cause, upsert);
         let asked = self.notices.open(call, Heard { key, value, cause })?;
@@ -128,6 +133,7 @@ impl<K: Eq + Hash + Clone + Drop, V: Drop, E: Drop> Desk<K, V, E> {
         ensures misses { OnOk result
             (MissAfter K.eq self.old (visit.NoticeEnded call notice) self.new) }
         ensures misses_still { OnErr result (MissWith K.eq self.old (λ w. w) self.new) }
+        ensures kept { KeepsAsBefore self.old self.new }
     {
         if self.notices.is_running(notice) {
             self.waits.notices.wait(notice, call)?;
@@ -147,6 +153,7 @@ impl<K: Eq + Hash + Clone + Drop, V: Drop, E: Drop> Desk<K, V, E> {
         ensures waits { NoticesMove self.old (comes notice) self.new }
         ensures wakes { NoticesWake self.old (and_calls result) self.new }
         ensures misses { MissWith K.eq self.old (λ w. heard w notice off) self.new }
+        ensures kept { KeepsAsBefore self.old self.new }
     {
         self.notices.end(notice, off);
         self.waits.notices.hand_out(notice)
@@ -176,10 +183,11 @@ impl<K: Eq + Hash + Clone + Drop, V: Drop, E: Drop> Desk<K, V, E> {
         chosen_holds(&self.rules, &self.times(stamp, modified), false, cause)
     }
 
-    // The times of the record of this stamp, last written at the moment.
+    // The times of the record of this stamp, last written at the moment; when it was last seen
+    // where a rule reads that.
     fn times(&self, stamp: u64, modified: u64) -> Times
-        ensures { (w : DeskPart K V E) → StandsFor K.eq self.now w →
-            result ≡ times_at w stamp modified }
+        ensures { (w : DeskPart K V E) → StandsFor K.eq self.now w
+            → AreAlike w.rules result (times_at w stamp modified) }
     {
         Times {
             clock: self.clock,

@@ -23,6 +23,7 @@ impl<K: Eq + Hash + Clone + Drop, V: Drop, E: Drop> Desk<K, V, E> {
     ghost use Rattle.moka_desk.specs.WakeList.{after_leaving, AnswersWake, NobodyWakes, NoticesWake, SettlementsWake, ToldWake, Wake};
     ghost use Rattle.moka_desk.specs.Woken.{all_but, and_calls};
     ghost use Rattle.moka_desk.specs.Asks.{asks_if, is_open};
+    ghost use Rattle.moka_desk.specs.History.{KeepsAsBefore};
     ghost use Rattle.moka_desk.specs.StandsFor.{StandsFor, Can, CanLeave, Finds, Becomes, Makes, Stays};
     ghost use Rattle.moka_desk.specs.ListedMiss.{MissAfter, MissWith};
 
@@ -42,6 +43,7 @@ impl<K: Eq + Hash + Clone + Drop, V: Drop, E: Drop> Desk<K, V, E> {
         ensures misses { OnOk result
             (MissAfter K.eq self.old (visit.WaitOrOwn call load.key load.kind) self.new) }
         ensures misses_still { OnErr result (MissWith K.eq self.old (λ w. w) self.new) }
+        ensures kept { KeepsAsBefore self.old self.new }
     {
         self.loads.claim(call, load)
     }
@@ -60,6 +62,7 @@ impl<K: Eq + Hash + Clone + Drop, V: Drop, E: Drop> Desk<K, V, E> {
         ensures wakes { NobodyWakes self.old self.new }
         ensures misses { OnOk result (MissAfter K.eq self.old (visit.OwnAlone call key) self.new) }
         ensures misses_still { OnErr result (MissWith K.eq self.old (λ w. w) self.new) }
+        ensures kept { KeepsAsBefore self.old self.new }
     {
         let kind = Kind::Compute;
         self.loads.claim_alone(call, Load { key, kind })
@@ -89,6 +92,7 @@ impl<K: Eq + Hash + Clone + Drop, V: Drop, E: Drop> Desk<K, V, E> {
         // who is listed misses that thing
         ensures misses { OnOk result (MissAfter K.eq self.old (visit.ReadSettled call) self.new) }
         ensures misses_still { OnErr result (MissWith K.eq self.old (λ w. w) self.new) }
+        ensures kept { KeepsAsBefore self.old self.new }
     {
         if let Some(owner) = self.loads.awaited(call) {
             self.waits.settlements.wait(owner, call)?;
@@ -108,6 +112,7 @@ impl<K: Eq + Hash + Clone + Drop, V: Drop, E: Drop> Desk<K, V, E> {
         ensures waits { SettlementsMove self.old (comes call) self.new }
         ensures wakes { SettlementsWake self.old (and_calls result) self.new }
         ensures misses { MissAfter K.eq self.old (visit.Settle call with) self.new }
+        ensures kept { KeepsAsBefore self.old self.new }
     {
         self.loads.settle(call, with);
         self.waits.settlements.hand_out(call)
@@ -121,6 +126,7 @@ impl<K: Eq + Hash + Clone + Drop, V: Drop, E: Drop> Desk<K, V, E> {
         ensures wakes { NobodyWakes self.old self.new }
         ensures misses { OnOk result (MissAfter K.eq self.old (visit.OpenAsk call takes) self.new) }
         ensures misses_still { OnErr result (MissWith K.eq self.old (λ w. w) self.new) }
+        ensures kept { KeepsAsBefore self.old self.new }
     {
         self.asks.open(call, takes)
     }
@@ -141,6 +147,7 @@ impl<K: Eq + Hash + Clone + Drop, V: Drop, E: Drop> Desk<K, V, E> {
             (λ woken. ToldWake self.old answer woken self.new) }
         ensures misses { MissWith K.eq self.old
             (λ w. if is_some result then with_told w number answer else w) self.new }
+        ensures kept { KeepsAsBefore self.old self.new }
     {
         match answer {
             Told::Value(value) => self.asks.tell(number, Told::Value(value)),
@@ -165,6 +172,7 @@ impl<K: Eq + Hash + Clone + Drop, V: Drop, E: Drop> Desk<K, V, E> {
             (λ woken. NoticesWake self.old (and_calls woken) self.new) }
         ensures misses { MissWith K.eq self.old
             (λ w. if is_some result then heard w number off else w) self.new }
+        ensures kept { KeepsAsBefore self.old self.new }
     {
         if !self.notices.is_running(number) {
             return None;
@@ -182,6 +190,7 @@ impl<K: Eq + Hash + Clone + Drop, V: Drop, E: Drop> Desk<K, V, E> {
             (asks_if (is_open self.old.asks.open_asks call) call) self.new }
         ensures back { AnswersWake self.old (all_but call) self.new }
         ensures misses { MissAfter K.eq self.old (visit.TakeTold call) self.new }
+        ensures kept { KeepsAsBefore self.old self.new }
     {
         self.asks.take(call)
     }
@@ -201,6 +210,7 @@ impl<K: Eq + Hash + Clone + Drop, V: Drop, E: Drop> Desk<K, V, E> {
         ensures wakes { Wake self.old
             (after_leaving call (settlement_line self.old call) (lock_line self.old call)) self.new }
         ensures misses { MissWith K.eq self.old (λ w. left w call held) self.new }
+        ensures kept { KeepsAsBefore self.old self.new }
     {
         let held = self.still_heard(held);
         self.writes.leave(call, held);

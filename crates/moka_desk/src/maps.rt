@@ -1,9 +1,10 @@
-//! Writes to hash maps that take no memory.
+//! Writes to hash maps and sets that take no memory.
 
-ghost use Rattle.std.specs.Prelude.{◌≡◌, ℕ, ◌+◌, ◌≤◌, ◌<◌, ◌==◌, cond, Some, IsSome, is_some, nat_eq, if◌then◌else◌};
+ghost use Rattle.std.specs.Prelude.{◌≡◌, ℕ, ◌+◌, ◌≤◌, ◌<◌, ◌==◌, cond, Some, IsSome, is_some, nat_eq, ◌||◌, if◌then◌else◌};
+ghost use Rattle.std.specs.HashSet as hash_set;
 ghost use Rattle.std.specs.HashMap.{get, spare, hash_map_len, PutsEntry, Updates};
 
-use std::collections::HashMap;
+use std::collections::{HashMap, HashSet};
 use std::hash::Hash;
 
 /// Puts the value at the key, for which there is room.
@@ -29,6 +30,21 @@ pub(crate) fn replace<T: Drop>(map: &mut HashMap<u64, T>, key: u64, value: T)
     ensures len { hash_map_len map.new ≡ hash_map_len map.old }
 {
     match map.insert(key, value) {
+        Ok(_) => {}
+        Err(_) => unreachable!(),
+    }
+}
+
+/// Adds the number to the set, in which there is room for it.
+pub(crate) fn add(set: &mut HashSet<u64>, number: u64)
+    requires { 0 < hash_set.spare set.old }
+    ensures has { (n : ℕ) → hash_set.contains nat_eq set.new n
+        ≡ (hash_set.contains nat_eq set.old n || (number == n)) }
+    ensures spare { hash_set.spare set.old ≤ hash_set.spare set.new + 1 }
+    ensures len { hash_set.hash_set_len set.new ≡ hash_set.hash_set_len set.old +
+        (if hash_set.contains nat_eq set.old number then 0 else 1) }
+{
+    match set.insert(number) {
         Ok(_) => {}
         Err(_) => unreachable!(),
     }

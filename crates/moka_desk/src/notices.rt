@@ -1,6 +1,6 @@
 //! The notices to the listener.
 
-ghost use Rattle.std.specs.Prelude.{◌≡◌, ℕ, ◌+◌, ◌≤◌, ◌<◌, ◌==◌, ◌||◌, true, false, not, cond, Option, Some, None, [], ◌∷◌, ◌++◌, is_some, IsNone, nat_eq, vec_len, vec_capacity, OnOk, OnErr, IfOk, if◌then◌else◌};
+ghost use Rattle.std.specs.Prelude.{◌≡◌, ℕ, ◌+◌, ◌≤◌, ◌<◌, ◌==◌, ◌||◌, true, false, not, cond, Option, Some, None, [], ◌∷◌, ◌++◌, is_some, IsNone, IsSome, IsTrue, IsFalse, ◌↔◌, nat_eq, vec_len, vec_capacity, OnOk, OnErr, IfOk, if◌then◌else◌};
 ghost use Rattle.std.specs.HashMap.{get, hash_map_len, spare};
 ghost use Rattle.moka_hist.specs.Finite.{IsExact};
 
@@ -18,16 +18,17 @@ pub(crate) struct Heard<K, V> {
     pub(crate) cause: Cause,
 }
 
-/// The running notices by their numbers; for reports those that have ended or were skipped, among
-/// which no visit looks, and the order in which all were opened. Each running notice has its place
-/// among those of the past. Beside them, whether the listener is off.
+/// The running notices by their numbers; with a history those that have ended or were skipped,
+/// among which no visit looks, and the order in which all were opened. Each running notice has its
+/// place among those of the past then. Beside them, whether the listener is off.
 #[derive(Drop)]
 pub(crate) struct Notices<K, V> {
+    pub(crate) history: bool,
     pub(crate) running: HashMap<u64, Heard<K, V>>,
     pub(crate) past: HashMap<u64, Notice<K, V>>,
     pub(crate) opened: Vec<u64>,
     pub(crate) off: bool,
-    ghost past_has_room: { hash_map_len running ≤ spare past },
+    ghost past_has_room: { history ≡ true → hash_map_len running ≤ spare past },
 }
 
 impl<K: Drop, V: Drop> Notices<K, V> {
@@ -35,13 +36,19 @@ impl<K: Drop, V: Drop> Notices<K, V> {
     ghost use Rattle.moka_hist.specs.Telling.{with_end, MayEnd};
     ghost use Rattle.moka_hist.specs.declared.notices.NoticeState.TheVariants as notice;
     ghost use Rattle.std.specs.Option.{option_map};
-    ghost use Rattle.moka_desk.specs.Notices.{either, running, NoticePart, NoticesAre, NoticesBecome};
+    ghost use Rattle.moka_desk.specs.Notices.{either, running, HasRoom, NoticePart, NoticesAre, NoticesBecome};
 
-    /// No notice was opened, and the listener is not off.
-    pub(crate) fn new(alloc: Global) -> Self
-        ensures { NoticesAre result (record { notices = λ _. None; opened = []; off = false }) }
+    /// No notice was opened, and the listener is not off; with a history, or without one.
+    pub(crate) fn new(alloc: Global, history: bool) -> Self
+        ensures none { NoticesAre result (record {
+          notices = λ _. None;
+          opened = [];
+          off = false;
+        }) }
+        ensures kind { result.history ≡ history }
     {
         Notices {
+            history,
             running: HashMap::new(alloc),
             past: HashMap::new(alloc),
             opened: Vec::new(alloc),
@@ -54,6 +61,23 @@ impl<K: Drop, V: Drop> Notices<K, V> {
         ensures { result ≡ is_some (get nat_eq self.now.running number) }
     {
         self.running.contains_key(&number)
+    }
+
+    /// Whether a notice of this number was opened, as far as is remembered: without a history where
+    /// it runs.
+    pub(crate) fn recalls(&self, number: u64) -> bool
+        ensures opened { (p : NoticePart K V) → NoticesAre self.now p → IsTrue result
+            → IsSome (p.notices number) }
+        ensures exact { self.now.history ≡ true → (p : NoticePart K V) → NoticesAre self.now p
+            → IsTrue result ↔ IsSome (p.notices number) }
+        ensures quiet { IsFalse result → IsNone (get nat_eq self.now.running number) }
+        ensures over { IsFalse result → self.now.history ≡ true
+            → IsNone (get nat_eq self.now.past number) }
+    {
+        match self.history {
+            true => self.is_running(number) || self.past.contains_key(&number),
+            false => self.is_running(number),
+        }
     }
 
     /// The notice of this number, if one was opened.
@@ -93,9 +117,10 @@ impl<K: Drop, V: Drop> Notices<K, V> {
               opened = p.opened ++ number ∷ [];
             })) }
         ensures err { OnErr result (NoticesBecome self.old (λ p. p) self.new) }
+        ensures kind { self.new.history ≡ self.old.history }
     {
         self.make_room()?;
-        self.opened.push_reserved(number);
+        self.list(number);
         if self.off {
             self.keep(number, heard, NoticeState::Skipped);
             return Ok(false);
@@ -108,46 +133,73 @@ impl<K: Drop, V: Drop> Notices<K, V> {
     fn make_room(&mut self) -> Result<(), AllocError>
         ensures same { NoticesBecome self.old (λ p. p) self.new }
         ensures off { self.new.off ≡ self.old.off }
-        ensures room { OnOk result ((0 < spare self.new.running)
-            × (vec_len self.new.opened < vec_capacity self.new.opened)
-            × (hash_map_len self.new.running < spare self.new.past)) }
+        ensures kind { self.new.history ≡ self.old.history }
+        ensures running { OnOk result (0 < spare self.new.running) }
+        ensures room { OnOk result (self.new.history ≡ true → HasRoom self.new) }
     {
-        self.past.reserve(self.running.len() + 1)?;
         self.running.reserve(1)?;
-        self.opened.reserve(1)
+        self.make_room_in_history()
     }
 
-    // Keeps a notice that has ended or was skipped. There is room for it.
+    // Makes room for one more notice in the history, if there is one.
+    fn make_room_in_history(&mut self) -> Result<(), AllocError>
+        ensures same { NoticesBecome self.old (λ p. p) self.new }
+        ensures off { self.new.off ≡ self.old.off }
+        ensures kind { self.new.history ≡ self.old.history }
+        ensures running { self.new.running ≡ self.old.running }
+        ensures room { OnOk result (self.new.history ≡ true → HasRoom self.new) }
+    {
+        if self.history {
+            self.past.reserve(self.running.len() + 1)?;
+            self.opened.reserve(1)?;
+        }
+        Ok(())
+    }
+
+    // Lists the number of a notice that is opened, where there is a history.
+    fn list(&mut self, number: u64)
+        requires { self.old.history ≡ true → HasRoom self.old }
+        ensures opened { self.new.history ≡ true
+            → self.new.opened.items ≡ self.old.opened.items ++ number ∷ [] }
+        ensures running { self.new.running ≡ self.old.running }
+        ensures past { self.new.past ≡ self.old.past }
+        ensures off { self.new.off ≡ self.old.off }
+        ensures kind { self.new.history ≡ self.old.history }
+    {
+        if self.history {
+            self.opened.push_reserved(number);
+        }
+    }
+
+    // Keeps a notice that has ended or was skipped, where there is a history.
     fn keep(&mut self, number: u64, heard: Heard<K, V>, state: NoticeState)
-        requires { hash_map_len self.old.running < spare self.old.past }
-        ensures past { (n : ℕ) → get nat_eq self.new.past n ≡ cond (number == n) (Some (record {
-          number = number;
-          key = heard.key;
-          value = heard.value;
-          cause = heard.cause;
-          state = state;
-        })) (get nat_eq self.old.past n) }
+        requires { self.old.history ≡ true → hash_map_len self.old.running < spare self.old.past }
+        ensures past { self.new.history ≡ true → (n : ℕ) → get nat_eq self.new.past n
+            ≡ cond (number == n) (Some (record {
+              number = number;
+              key = heard.key;
+              value = heard.value;
+              cause = heard.cause;
+              state = state;
+            })) (get nat_eq self.old.past n) }
         ensures running { self.new.running ≡ self.old.running }
         ensures opened { self.new.opened ≡ self.old.opened }
         ensures off { self.new.off ≡ self.old.off }
+        ensures kind { self.new.history ≡ self.old.history }
     {
-        let notice = Notice {
-            number,
-            key: heard.key,
-            value: heard.value,
-            cause: heard.cause,
-            state,
-        };
-        put(&mut self.past, number, notice);
+        if self.history {
+            put(&mut self.past, number, heard.past(number, state));
+        }
     }
 
     /// Ends the notice of this number, if it runs, and turns the listener off, if `off`.
     pub(crate) fn end(&mut self, number: u64, off: bool)
-        ensures { (p : NoticePart K V) → NoticesAre self.old p → MayEnd (p.notices number)
+        ensures makes { (p : NoticePart K V) → NoticesAre self.old p → MayEnd (p.notices number)
             → NoticesAre self.new (record p {
               notices = put_at p.notices number (option_map with_end (p.notices number));
               off = p.off || off;
             }) }
+        ensures kind { self.new.history ≡ self.old.history }
     {
         self.silence(off);
         if let Some(heard) = self.running.remove(&number) {
@@ -161,6 +213,27 @@ impl<K: Drop, V: Drop> Notices<K, V> {
     {
         if off {
             self.off = true;
+        }
+    }
+}
+
+impl<K, V> Heard<K, V> {
+    // The notice of this number by which the listener heard this, in this state.
+    fn past(self, number: u64, state: NoticeState) -> Notice<K, V>
+        ensures { result ≡ record {
+          number = number;
+          key = self.key;
+          value = self.value;
+          cause = self.cause;
+          state = state;
+        } }
+    {
+        Notice {
+            number,
+            key: self.key,
+            value: self.value,
+            cause: self.cause,
+            state,
         }
     }
 }

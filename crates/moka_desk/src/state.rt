@@ -1,6 +1,7 @@
 //! The desk, its clock and its numbers.
 
-ghost use Rattle.std.specs.Prelude.{◌≡◌, ℕ, Bool, false, ◌+◌, ◌==◌, nat_lt, not, Option, Some, None, MatchOption, IfOk, if◌then◌else◌};
+ghost use Rattle.moka_desk.specs.Moments.{reads_moments};
+ghost use Rattle.std.specs.Prelude.{◌≡◌, ℕ, Bool, true, false, ◌+◌, ◌==◌, nat_lt, not, Option, Some, None, MatchOption, IfOk, if◌then◌else◌};
 
 use crate::asks::Asks;
 use crate::loads::Loads;
@@ -21,6 +22,7 @@ use std::hash::Hash;
 pub struct Desk<K: Eq + Hash, V, E> {
     pub(crate) rules: Rules,
     pub(crate) clock: u64,
+    pub(crate) moments: bool,
     pub(crate) accessed: HashMap<u64, u64>,
     pub(crate) turn: Option<u64>,
     pub(crate) published: u64,
@@ -38,19 +40,38 @@ impl<K: Eq + Hash + Clone + Drop, V: Drop, E: Drop> Desk<K, V, E> {
     ghost use Rattle.moka_hist.specs.Finite.{IsExact};
     ghost use Rattle.moka_hist.specs.Run.{last_call};
     ghost use Rattle.moka_desk.specs.StandsFor.{StandsFor, Becomes};
+    ghost use Rattle.moka_desk.specs.History.{KeepsAsBefore, keeps_history, keeps_moments};
     ghost use Rattle.moka_desk.specs.ListedMiss.{ListedMiss, MissWith};
     ghost use Rattle.moka_desk.specs.WakeList.{is_on, wake_list, ListedAreUnwoken, NobodyWakes};
 
-    /// A desk by these rules, where nothing has happened, with a log of this many writes.
+    /// A desk by these rules, where nothing has happened, with a log of this many writes, that keeps
+    /// a history: the applied writes, each notice, and when each record was seen.
     pub fn new(alloc: Global, rules: Rules, log: usize) -> Result<Self, AllocError>
-        ensures { IfOk result (λ desk. (tests : ℕ → K → V → Bool)
+        ensures stands { IfOk result (λ desk. (tests : ℕ → K → V → Bool)
             → StandsFor K.eq desk (fresh_desk K V E rules log tests)) }
+        ensures history { IfOk result (λ desk. keeps_history desk ≡ true) }
     {
         Desk::starting_after(alloc, rules, log, 0)
     }
 
-    /// The same, where this call number and those before it were given out.
+    /// A desk with a history, where this call number and those before it were given out.
     pub fn starting_after(
+        alloc: Global,
+        rules: Rules,
+        log: usize,
+        last: u64,
+    ) -> Result<Self, AllocError>
+        ensures stands { IfOk result (λ desk. (tests : ℕ → K → V → Bool)
+            → StandsFor K.eq desk (record (fresh_desk K V E rules log tests) { last = last })) }
+        ensures history { IfOk result (λ desk. keeps_history desk ≡ true) }
+        ensures misses { IfOk result (λ desk. (w : DeskPart K V E) → ListedMiss desk w) }
+        ensures unwoken { IfOk result (λ desk. (call : ℕ) → is_on (wake_list desk) call ≡ false) }
+    {
+        Desk::made(alloc, rules, log, last, true)
+    }
+
+    /// The same, but that it keeps no history: of the past it keeps what a later visit may ask for.
+    pub fn without_history(
         alloc: Global,
         rules: Rules,
         log: usize,
@@ -61,17 +82,36 @@ impl<K: Eq + Hash + Clone + Drop, V: Drop, E: Drop> Desk<K, V, E> {
         ensures misses { IfOk result (λ desk. (w : DeskPart K V E) → ListedMiss desk w) }
         ensures unwoken { IfOk result (λ desk. (call : ℕ) → is_on (wake_list desk) call ≡ false) }
     {
+        Desk::made(alloc, rules, log, last, false)
+    }
+
+    // A desk where this call number and those before it were given out, with a history or without
+    // one.
+    fn made(
+        alloc: Global,
+        rules: Rules,
+        log: usize,
+        last: u64,
+        history: bool,
+    ) -> Result<Self, AllocError>
+        ensures stands { IfOk result (λ desk. (tests : ℕ → K → V → Bool)
+            → StandsFor K.eq desk (record (fresh_desk K V E rules log tests) { last = last })) }
+        ensures history { IfOk result (λ desk. history ≡ true → keeps_history desk ≡ true) }
+        ensures misses { IfOk result (λ desk. (w : DeskPart K V E) → ListedMiss desk w) }
+        ensures unwoken { IfOk result (λ desk. (call : ℕ) → is_on (wake_list desk) call ≡ false) }
+    {
         Ok(Desk {
             rules,
             clock: 0,
+            moments: history,
             accessed: HashMap::new(alloc),
             turn: None,
             published: 0,
             last,
-            writes: Writes::new(alloc, log)?,
+            writes: Writes::new(alloc, log, history)?,
             loads: Loads::new(alloc),
             locks: Locks::new(alloc),
-            notices: Notices::new(alloc),
+            notices: Notices::new(alloc, history),
             asks: Asks::new(alloc),
             waits: Waits::new(alloc),
         })
@@ -108,6 +148,7 @@ impl<K: Eq + Hash + Clone + Drop, V: Drop, E: Drop> Desk<K, V, E> {
         ensures misses { MissWith K.eq self.old
             (λ w. if nat_lt moment w.clock then w else record w { clock = moment }) self.new }
         ensures wakes { NobodyWakes self.old self.new }
+        ensures kept { KeepsAsBefore self.old self.new }
     {
         if moment < self.clock {
             return false;
@@ -128,6 +169,7 @@ impl<K: Eq + Hash + Clone + Drop, V: Drop, E: Drop> Desk<K, V, E> {
             → MatchOption result (ListedMiss self.new w)
             (λ n. ListedMiss self.new (record w { last = n })) }
         ensures wakes { NobodyWakes self.old self.new }
+        ensures kept { KeepsAsBefore self.old self.new }
     {
         let next = self.last.checked_add(1)?;
         self.last = next;
@@ -148,9 +190,10 @@ impl<K: Eq + Hash + Clone + Drop, V: Drop, E: Drop> Desk<K, V, E> {
         &self.writes.log
     }
 
-    /// The applied writes, oldest first.
+    /// The applied writes, oldest first, where there is a history; none where there isn't.
     pub fn applied(&self) -> &[Write]
-        ensures { (w : DeskPart K V E) → StandsFor K.eq self.now w → result.now ≡ w.applied }
+        ensures { keeps_history self.now ≡ true → (w : DeskPart K V E)
+            → StandsFor K.eq self.now w → result.now ≡ w.applied }
     {
         self.writes.applied.writes.as_slice()
     }
@@ -162,21 +205,23 @@ impl<K: Eq + Hash + Clone + Drop, V: Drop, E: Drop> Desk<K, V, E> {
         self.published
     }
 
-    /// The notice of this number, if one was opened.
+    /// The notice of this number, if one was opened. Without a history only one that runs is known.
     pub fn notice(&self, number: u64) -> Result<Option<Notice<K, V>>, AllocError>
     where
         V: Clone,
         requires keys { IsExact K.is_clone }
         requires values { IsExact V.is_clone }
-        ensures { IfOk result (λ notice. (w : DeskPart K V E) → StandsFor K.eq self.now w
-            → notice ≡ w.notices number) }
+        ensures { IfOk result (λ notice. keeps_history self.now ≡ true → (w : DeskPart K V E)
+            → StandsFor K.eq self.now w → notice ≡ w.notices number) }
     {
         self.notices.notice(number)
     }
 
-    /// The numbers of the notices that were opened, in the order in which they were.
+    /// The numbers of the notices that were opened, in the order in which they were, where there is
+    /// a history; none where there isn't.
     pub fn opened(&self) -> &[u64]
-        ensures { (w : DeskPart K V E) → StandsFor K.eq self.now w → result.now ≡ w.opened }
+        ensures { keeps_history self.now ≡ true → (w : DeskPart K V E)
+            → StandsFor K.eq self.now w → result.now ≡ w.opened }
     {
         self.notices.opened.as_slice()
     }
@@ -188,6 +233,13 @@ impl<K: Eq + Hash + Clone + Drop, V: Drop, E: Drop> Desk<K, V, E> {
         self.notices.off
     }
 
+    // Whether it is kept when records were seen: where there is a history, or a rule reads that.
+    pub(crate) fn keeps_moments(&self) -> bool
+        ensures { result ≡ keeps_moments self.now }
+    {
+        self.moments || reads_moments(&self.rules)
+    }
+
     /// Whether the call was handed out, and has since neither come back to the visit that it waited
     /// at nor left.
     pub fn is_woken(&self, call: u64) -> bool
@@ -196,4 +248,11 @@ impl<K: Eq + Hash + Clone + Drop, V: Drop, E: Drop> Desk<K, V, E> {
     {
         self.waits.is_woken(call) || self.asks.is_woken(call)
     }
+}
+
+/// Whether a rule reads when a record was last seen: a time to idle, or a capacity.
+fn reads_moments(rules: &Rules) -> bool
+    ensures { result ≡ reads_moments rules.now }
+{
+    rules.time_to_idle.is_some() || rules.max_capacity.is_some()
 }

@@ -1,6 +1,6 @@
 //! The visits that see to writes: owed, logged and applied.
 
-ghost use Rattle.std.specs.Prelude.{◌≡◌, false, not, None, cond, IsFalse, IfOk, OnOk, OnErr};
+ghost use Rattle.std.specs.Prelude.{◌≡◌, true, false, not, None, cond, IsFalse, IfOk, OnOk, OnErr};
 ghost use Rattle.std.specs.Bool.{OnTrue, OnFalse};
 ghost use Rattle.moka_sync.specs.Holders.{is_others};
 
@@ -16,6 +16,7 @@ impl<K: Eq + Hash + Clone + Drop, V: Drop, E: Drop> Desk<K, V, E> {
     ghost use Rattle.moka_hist.specs.declared.visits.Visit.TheVariants as visit;
     ghost use Rattle.moka_hist.specs.declared.visits.Found.TheVariants as found;
     ghost use Rattle.moka_desk.specs.StandsFor.{StandsFor, Can, Finds, Becomes, Makes, Stays};
+    ghost use Rattle.moka_desk.specs.History.{KeepsAsBefore};
     ghost use Rattle.moka_desk.specs.ListedMiss.{MissAfter, MissWith};
     ghost use Rattle.moka_desk.specs.Waits.{comes, leaves, stays, turn_line, waits_at, NobodyMoves, TurnsMove};
     ghost use Rattle.moka_desk.specs.WakeList.{NobodyWakes, TurnsWake};
@@ -30,6 +31,7 @@ impl<K: Eq + Hash + Clone + Drop, V: Drop, E: Drop> Desk<K, V, E> {
         ensures quiet { NobodyMoves self.old self.new }
         ensures wakes { NobodyWakes self.old self.new }
         ensures misses { MissAfter K.eq self.old (visit.Clock call) self.new }
+        ensures kept { KeepsAsBefore self.old self.new }
     {
         self.writes.give_up(call);
         self.clock
@@ -44,6 +46,7 @@ impl<K: Eq + Hash + Clone + Drop, V: Drop, E: Drop> Desk<K, V, E> {
         ensures quiet { NobodyMoves self.old self.new }
         ensures wakes { NobodyWakes self.old self.new }
         ensures misses { MissAfter K.eq self.old (visit.TakeOwed call) self.new }
+        ensures kept { KeepsAsBefore self.old self.new }
     {
         self.writes.take_owed(call)
     }
@@ -60,6 +63,7 @@ impl<K: Eq + Hash + Clone + Drop, V: Drop, E: Drop> Desk<K, V, E> {
         ensures wakes { NobodyWakes self.old self.new }
         ensures misses { OnOk result (MissAfter K.eq self.old (visit.StampMoment call) self.new) }
         ensures misses_still { OnErr result (MissWith K.eq self.old (λ w. w) self.new) }
+        ensures kept { KeepsAsBefore self.old self.new }
     {
         self.writes.stamp(call, self.clock)?;
         Ok(self.clock)
@@ -71,6 +75,7 @@ impl<K: Eq + Hash + Clone + Drop, V: Drop, E: Drop> Desk<K, V, E> {
         ensures quiet { NobodyMoves self.old self.new }
         ensures wakes { NobodyWakes self.old self.new }
         ensures misses { MissWith K.eq self.old (λ w. with_decided w call) self.new }
+        ensures kept { KeepsAsBefore self.old self.new }
     {
         self.writes.decide(call);
     }
@@ -89,13 +94,33 @@ impl<K: Eq + Hash + Clone + Drop, V: Drop, E: Drop> Desk<K, V, E> {
         ensures misses { OnOk result
             (MissWith K.eq self.old (λ w. judged w stamp modified (not replaced)) self.new) }
         ensures misses_still { OnErr result (MissWith K.eq self.old (λ w. w) self.new) }
+        ensures kept { KeepsAsBefore self.old self.new }
     {
         if replaced {
             return Ok(false);
         }
-        let accessed = self.accessed.get(&stamp).copied().unwrap_or(modified);
-        self.accessed.insert(stamp, accessed.max(self.clock))?;
+        self.see(stamp, modified)?;
         Ok(true)
+    }
+
+    // Raises the access moment of the record of this stamp, written at the moment `modified`, to
+    // the clock, where moments are kept.
+    fn see(&mut self, stamp: u64, modified: u64) -> Result<(), AllocError>
+        ensures makes { OnOk result (Becomes K.eq self.old
+            (λ w. judged w stamp modified true) self.new) }
+        ensures err { OnErr result (Stays K.eq self.old self.new) }
+        ensures quiet { NobodyMoves self.old self.new }
+        ensures wakes { NobodyWakes self.old self.new }
+        ensures kept { KeepsAsBefore self.old self.new }
+        ensures misses { OnOk result
+            (MissWith K.eq self.old (λ w. judged w stamp modified true) self.new) }
+        ensures misses_still { OnErr result (MissWith K.eq self.old (λ w. w) self.new) }
+    {
+        if self.keeps_moments() {
+            let accessed = self.accessed.get(&stamp).copied().unwrap_or(modified);
+            self.accessed.insert(stamp, accessed.max(self.clock))?;
+        }
+        Ok(())
     }
 
     /// Appends the write, which the call holds, to the log. Answers false where the log is full;
@@ -107,6 +132,7 @@ impl<K: Eq + Hash + Clone + Drop, V: Drop, E: Drop> Desk<K, V, E> {
         ensures quiet { NobodyMoves self.old self.new }
         ensures wakes { NobodyWakes self.old self.new }
         ensures misses { MissAfter K.eq self.old (visit.PostWrite call write) self.new }
+        ensures kept { KeepsAsBefore self.old self.new }
     {
         self.writes.post(call, write)
     }
@@ -133,6 +159,7 @@ impl<K: Eq + Hash + Clone + Drop, V: Drop, E: Drop> Desk<K, V, E> {
         // who is listed misses that thing
         ensures misses { OnOk result (MissAfter K.eq self.old (visit.TakeTurn call) self.new) }
         ensures misses_still { OnErr result (MissWith K.eq self.old (λ w. w) self.new) }
+        ensures kept { KeepsAsBefore self.old self.new }
     {
         if let Some(holder) = self.turn_of_another(call) {
             self.waits.turns.wait(holder, call)?;
@@ -161,6 +188,7 @@ impl<K: Eq + Hash + Clone + Drop, V: Drop, E: Drop> Desk<K, V, E> {
         ensures quiet { NobodyMoves self.old self.new }
         ensures wakes { NobodyWakes self.old self.new }
         ensures misses { MissAfter K.eq self.old (visit.ApplyOne call) self.new }
+        ensures kept { KeepsAsBefore self.old self.new }
     {
         self.writes.apply_one()
     }
@@ -174,6 +202,7 @@ impl<K: Eq + Hash + Clone + Drop, V: Drop, E: Drop> Desk<K, V, E> {
         ensures waits { TurnsMove self.old (comes call) self.new }
         ensures wakes { TurnsWake self.old (and_calls result) self.new }
         ensures misses { MissAfter K.eq self.old (visit.EndTurn call) self.new }
+        ensures kept { KeepsAsBefore self.old self.new }
     {
         self.published = self.writes.applied.standing();
         self.turn = None;

@@ -10,6 +10,8 @@ mod loads;
 #[cfg(test)]
 mod notices;
 #[cfg(test)]
+mod orders;
+#[cfg(test)]
 mod waking;
 #[cfg(test)]
 mod writes;

@@ -44,7 +44,10 @@ fn a_key_is_locked(rt: HostRuntime) -> Result<(), Fail> {
 }
 
 /// What is published once the write was posted by its call and applied.
-fn published_after(desk: &mut Desk<u32, u32, u32>, write: Write) -> Result<u64, AllocError>
+pub(crate) fn published_after(
+    desk: &mut Desk<u32, u32, u32>,
+    write: Write,
+) -> Result<u64, AllocError>
     requires { (writes : List write_of) × Rests desk.old writes
         × (times (number_of write) (map number_of writes) ≡ 0) }
     ensures { OnOk result ((writes : List write_of) → Rests desk.old writes

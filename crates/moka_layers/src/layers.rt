@@ -32,6 +32,7 @@ impl<
     T: Table<K, V, Call = C> + Drop,
     Q: Tests<K, V> + Drop,
 > Layers<K, V, E, T, C, Q> {
+    ghost use Rattle.moka_desk.specs.History.{KeepsAsBefore};
     ghost use Rattle.moka_hist.specs.Conditions.{MayVisit};
     ghost use Rattle.moka_hist.specs.State.{World};
     ghost use Rattle.moka_hist.specs.Step.{Access, On_table, On_desk};
@@ -61,6 +62,7 @@ impl<
         ensures err_account { OnErr result (account_of T.Table self.new
             ≡ account_of T.Table (record self.old { begun = Some call })) }
         ensures call { self.new.call ≡ self.old.call }
+        ensures kept { KeepsAsBefore self.old.desk self.new.desk }
         ensures decides { IfOk result (λ given. Decides T.Table given self.new) }
     {
         match self.table.step(&mut call) {
@@ -93,6 +95,7 @@ impl<
         ensures err_account { OnErr result
             (account_of T.Table self.new ≡ account_of T.Table self.old) }
         ensures call { self.new.call ≡ self.old.call }
+        ensures kept { KeepsAsBefore self.old.desk self.new.desk }
         ensures decides { IfOk result (λ given. Decides T.Table given self.new) }
     {
         let call = self.table.begin(operation);
@@ -123,6 +126,7 @@ impl<
         ensures err_account { OnErr result
             (account_of T.Table self.new ≡ account_of T.Table self.old) }
         ensures call { self.new.call ≡ self.old.call }
+        ensures kept { KeepsAsBefore self.old.desk self.new.desk }
         ensures decides { IfOk result (λ given. Decides T.Table given self.new) }
     {
         match self.begun.take() {
@@ -153,6 +157,7 @@ impl<
         ensures err_account { OnErr result
             (account_of T.Table self.new ≡ account_of T.Table self.old) }
         ensures call { self.new.call ≡ self.old.call }
+        ensures kept { KeepsAsBefore self.old.desk self.new.desk }
         ensures decides { IfOk result (λ given. Decides T.Table given self.new) }
         ensures woken { IfOk result (λ given.
             woken.new ≡ handed_out self.old.desk visit woken.old) }
@@ -177,6 +182,7 @@ impl<
             (λ access. Accesses (account_of T.Table self.old) access given
             (account_of T.Table self.new))) }
         ensures call { self.new.call ≡ self.old.call }
+        ensures kept { KeepsAsBefore self.old.desk self.new.desk }
         ensures decides { IfOk result (λ given. Decides T.Table given self.new) }
         // Without memory.
         ensures err { OnErr result (LayersStay K.eq T.Table Q.Tests self.old self.new) }
@@ -207,6 +213,7 @@ impl<
             (λ access. Accesses (account_of T.Table self.old) access given
             (account_of T.Table self.new))) }
         ensures call { self.new.call ≡ self.old.call }
+        ensures kept { KeepsAsBefore self.old.desk self.new.desk }
         ensures decides { IfOk result (λ given. Decides T.Table given self.new) }
         ensures woken { IfOk result (λ given. OfWanted (account_of T.Table self.old) want
             (λ access. woken.new ≡ handed_for self.old access woken.old)) }

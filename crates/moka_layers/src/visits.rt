@@ -1,6 +1,7 @@
 //! The visits of the desk that flows make.
 ghost use Rattle.std.specs.Prelude.{◌≡◌, Some, IfOk, OnErr};
 ghost use Rattle.moka_hist.specs.Finite.{IsExact};
+ghost use Rattle.moka_desk.specs.History.{KeepsAsBefore};
 ghost use Rattle.moka_desk.specs.StandsFor.{Can};
 ghost use Rattle.moka_desk.specs.Waits.{lock_line, settlement_line, turn_line};
 ghost use Rattle.moka_init.specs.Forms.{IsFoundBy};
@@ -36,6 +37,7 @@ pub(crate) fn make_visit<
     ensures woken { IfOk result (λ found. woken.new ≡ handed_out desk.old visit woken.old) }
     ensures err { OnErr result (DeskStays K.eq desk.old desk.new) }
     ensures err_needs { OnErr result (VisitLacks K.eq desk.old visit) }
+    ensures kept { KeepsAsBefore desk.old desk.new }
 {
     match visit {
         Visit::Clock { call } => Ok(Found::Clock(desk.read_clock(call))),
@@ -82,6 +84,7 @@ fn stamp_moment<K: Eq + Hash + Clone + Drop, V: Clone + Drop, E: Clone + Drop>(
     ensures ok { IfOk result (λ found.
         VisitIs K.eq desk.old (Visit.StampMoment call) found desk.new) }
     ensures err { OnErr result (DeskStays K.eq desk.old desk.new) }
+    ensures kept { KeepsAsBefore desk.old desk.new }
 {
     let moment = desk.stamp_moment(call)?;
     Ok(Found::StampMoment(moment))
@@ -99,6 +102,7 @@ fn judge_by<K: Eq + Hash + Clone + Drop, V: Clone + Drop, E: Clone + Drop, Q: Te
         (test_holds (Q.answers tests.now) replace key.now stored.now.value)
         stored.now.stamp stored.now.modified found desk.new) }
     ensures err { OnErr result (DeskStays K.eq desk.old desk.new) }
+    ensures kept { KeepsAsBefore desk.old desk.new }
 {
     let replaced = is_replaced(tests, replace, key, &stored.value);
     judge(desk, replaced, stored.stamp, stored.modified)
@@ -124,6 +128,7 @@ fn judge<K: Eq + Hash + Clone + Drop, V: Clone + Drop, E: Clone + Drop>(
     ensures ok { IfOk result (λ found.
         JudgeIs K.eq desk.old replaced stamp modified found desk.new) }
     ensures err { OnErr result (DeskStays K.eq desk.old desk.new) }
+    ensures kept { KeepsAsBefore desk.old desk.new }
 {
     let seen = desk.judge(replaced, stamp, modified)?;
     Ok(Found::Judge(seen))
@@ -137,7 +142,8 @@ fn holds<K: Eq + Hash + Clone + Drop, V: Clone + Drop, E: Clone + Drop>(
     modified: u64,
     cause: Cause,
 ) -> Found<V, E>
-    ensures { HoldsIs K.eq desk.old stamp modified cause result desk.new }
+    ensures visit { HoldsIs K.eq desk.old stamp modified cause result desk.new }
+    ensures kept { KeepsAsBefore desk.old desk.new }
 {
     Found::Holds(desk.holds(stamp, modified, cause))
 }
@@ -152,6 +158,7 @@ fn wait_or_own<K: Eq + Hash + Clone + Drop, V: Clone + Drop, E: Clone + Drop>(
     ensures ok { IfOk result (λ found.
         VisitIs K.eq desk.old (Visit.WaitOrOwn call load.key load.kind) found desk.new) }
     ensures err { OnErr result (DeskStays K.eq desk.old desk.new) }
+    ensures kept { KeepsAsBefore desk.old desk.new }
 {
     let claim = desk.wait_or_own(call, load)?;
     Ok(Found::WaitOrOwn(claim))
@@ -167,6 +174,7 @@ fn own_alone<K: Eq + Hash + Clone + Drop, V: Clone + Drop, E: Clone + Drop>(
     ensures ok { IfOk result (λ found.
         VisitIs K.eq desk.old (Visit.OwnAlone call key) found desk.new) }
     ensures err { OnErr result (DeskStays K.eq desk.old desk.new) }
+    ensures kept { KeepsAsBefore desk.old desk.new }
 {
     let owned = desk.owned(call, key)?;
     Ok(Found::OwnAlone(owned))
@@ -182,6 +190,7 @@ fn read_settled<K: Eq + Hash + Clone + Drop, V: Clone + Drop, E: Clone + Drop>(
     ensures ok { IfOk result (λ found.
         VisitIs K.eq desk.old (Visit.ReadSettled call) found desk.new) }
     ensures err { OnErr result (DeskStays K.eq desk.old desk.new) }
+    ensures kept { KeepsAsBefore desk.old desk.new }
 {
     let settled = desk.read_settled(call)?;
     Ok(Found::ReadSettled(settled))
@@ -196,6 +205,7 @@ fn open_ask<K: Eq + Hash + Clone + Drop, V: Clone + Drop, E: Clone + Drop>(
     ensures ok { IfOk result (λ found.
         VisitIs K.eq desk.old (Visit.OpenAsk call takes) found desk.new) }
     ensures err { OnErr result (DeskStays K.eq desk.old desk.new) }
+    ensures kept { KeepsAsBefore desk.old desk.new }
 {
     desk.open_ask(call, takes)?;
     Ok(Found::OpenAsk)
@@ -210,6 +220,7 @@ fn settle<K: Eq + Hash + Clone + Drop, V: Clone + Drop, E: Clone + Drop>(
     requires { Can K.eq desk.old (Visit.Settle call with) }
     ensures visit { VisitIs K.eq desk.old (Visit.Settle call with) result desk.new }
     ensures woken { woken.new ≡ Some (settlement_line desk.old call) }
+    ensures kept { KeepsAsBefore desk.old desk.new }
 {
     *woken = Some(desk.settle(call, with));
     Found::Settle
@@ -225,6 +236,7 @@ fn end_turn<K: Eq + Hash + Clone + Drop, V: Clone + Drop, E: Clone + Drop>(
     requires { Can K.eq desk.old (Visit.EndTurn call) }
     ensures visit { VisitIs K.eq desk.old (Visit.EndTurn call) result desk.new }
     ensures woken { woken.new ≡ Some (turn_line desk.old call) }
+    ensures kept { KeepsAsBefore desk.old desk.new }
 {
     *woken = Some(desk.end_turn(call));
     Found::EndTurn
@@ -241,6 +253,7 @@ fn notice_ended<K: Eq + Hash + Clone + Drop, V: Clone + Drop, E: Clone + Drop>(
         VisitIs K.eq desk.old (Visit.NoticeEnded call notice) found desk.new) }
     ensures err { OnErr result (DeskStays K.eq desk.old desk.new) }
     ensures err_needs { OnErr result (VisitLacks K.eq desk.old (Visit.NoticeEnded call notice)) }
+    ensures kept { KeepsAsBefore desk.old desk.new }
 {
     let ended = desk.notice_ended(call, notice)?;
     Ok(Found::NoticeEnded(ended))
@@ -258,6 +271,7 @@ fn lock_key<K: Eq + Hash + Clone + Drop, V: Clone + Drop, E: Clone + Drop>(
     ensures ok { IfOk result (λ found.
         VisitIs K.eq desk.old (Visit.LockKey call key) found desk.new) }
     ensures err { OnErr result (DeskStays K.eq desk.old desk.new) }
+    ensures kept { KeepsAsBefore desk.old desk.new }
 {
     let locked = desk.lock_key(call, &key)?;
     Ok(Found::LockKey(locked))
@@ -274,6 +288,7 @@ fn unlock_key<K: Eq + Hash + Clone + Drop, V: Clone + Drop, E: Clone + Drop>(
     requires { Can K.eq desk.old (Visit.UnlockKey call wrote) }
     ensures visit { VisitIs K.eq desk.old (Visit.UnlockKey call wrote) result desk.new }
     ensures woken { woken.new ≡ Some (lock_line desk.old call) }
+    ensures kept { KeepsAsBefore desk.old desk.new }
 {
     *woken = Some(desk.unlock_key(call, wrote));
     Found::UnlockKey
@@ -296,6 +311,7 @@ fn open_notice<K: Eq + Hash + Clone + Drop, V: Clone + Drop, E: Clone + Drop>(
     ensures ok { IfOk result (λ found. VisitIs K.eq desk.old
         (Visit.OpenNotice call key value stamp modified cause upsert) found desk.new) }
     ensures err { OnErr result (DeskStays K.eq desk.old desk.new) }
+    ensures kept { KeepsAsBefore desk.old desk.new }
 {
     let told = desk.open_notice(call, key, value, stamp, modified, cause, upsert)?;
     Ok(Found::OpenNotice(told))
@@ -312,6 +328,7 @@ fn take_turn<K: Eq + Hash + Clone + Drop, V: Clone + Drop, E: Clone + Drop>(
         VisitIs K.eq desk.old (Visit.TakeTurn call) found desk.new) }
     ensures err { OnErr result (DeskStays K.eq desk.old desk.new) }
     ensures err_needs { OnErr result (VisitLacks K.eq desk.old (Visit.TakeTurn call)) }
+    ensures kept { KeepsAsBefore desk.old desk.new }
 {
     let taken = desk.take_turn(call)?;
     Ok(Found::TakeTurn(taken))

@@ -9,6 +9,7 @@ use Rattle.moka_hist.specs.declared.tables.TableTurn.TheVariants as table
 use Rattle.moka_hist.specs.declared.accesses.Got.{Got}
 use Rattle.moka_hist.specs.declared.accesses.Got.TheVariants as got
 use Rattle.moka_hist.specs.declared.record_tests.Tests as Tests
+use Rattle.moka_desk.specs.History.{KeepsAsBefore}
 use Rattle.moka_layers.specs.Layers.{GroundIs, OthersStay}
 use Rattle.moka_layers.specs.declared.layers.Layers.{Layers}
 use Rattle.moka_layers.proofs.Wanted.{last_same}
@@ -28,9 +29,9 @@ module _ {K V E : Type 0} (eq : K → K → Bool) where
 module _ {K V E T : Type 0} {same : PartialEq.Ghosts K} {hash : Hash.Ghosts K} (eq : K → K → Bool) (q : Tests.Ghosts T K V) where
   -- where no call number was given out, and the others may go on with what they have begun
   pub still_reaches : (old new : Layers K V E (TheTable K V) (TheCall K V) T same hash) (calls : Calls K V E) (w after : World K V E) → new.call ≡ old.call
-      → after.desk.last ≡ w.desk.last → GroundIs eq (the_table eq) q new after → OthersStay (the_table eq) old w new after
+      → after.desk.last ≡ w.desk.last → GroundIs eq (the_table eq) q new after → OthersStay (the_table eq) old w new after → KeepsAsBefore old.desk new.desk
       → Reaches eq q (record { layers = old; calls = calls }) w → Reaches eq q (record { layers = new; calls = calls }) after
-  still_reaches old new calls w after call last layers stay h =
+  still_reaches old new calls w after call last layers stay kept h =
       record {
         layers = layers;
         out = subst (λ (n : ℕ). running_at calls n ≡ None) (sym call) h.out;
@@ -46,4 +47,5 @@ module _ {K V E T : Type 0} {same : PartialEq.Ghosts K} {hash : Hash.Ghosts K} (
               given = subst (λ (n : ℕ). k ≤ n) (sym last) is.given;
             };
         used = λ k ne. h.used k (λ e. ne (call ∙ e));
+        history = kept ∙ h.history;
       }

@@ -69,6 +69,7 @@ module _ {K V E T : Type 0} {same : PartialEq.Ghosts K} {hash : Hash.Ghosts K} (
         each = set_each (IsOf eq m.layers.table w.table w.stay w.desk.last) (running_at m.calls) (running_at new) n (Some back)
             (λ x e. let f : back ≡ x = cc in subst (λ (r : Running K V E). IsOf eq m.layers.table w.table w.stay w.desk.last n r) f is) runs h.reaches.each;
         used = set_used (place_at m.calls) (place_at new) n (Some (Some back)) puts (λ e. e) (λ k ne. h.reaches.used k (λ e. ne (sym h.number ∙ e)));
+        history = h.reaches.history;
       }
 
   -- the call has given its place up
@@ -83,4 +84,5 @@ module _ {K V E T : Type 0} {same : PartialEq.Ghosts K} {hash : Hash.Ghosts K} (
         calls = set_calls (running_at m.calls) (running_at new) others n None None refl runs h.calls;
         each = set_each (IsOf eq m.layers.table w.table w.stay w.desk.last) (running_at m.calls) (running_at new) n None (λ x e. absurd (cc)) runs h.reaches.each;
         used = set_used (place_at m.calls) (place_at new) n None puts (λ e. e) (λ k ne. h.reaches.used k (λ e. ne (sym h.number ∙ e)));
+        history = h.reaches.history;
       }

@@ -1,5 +1,5 @@
 -- What a machine stands for, and what its calls do.
-use Rattle.std.specs.Prelude.{◌≡◌, ◌≢◌, ◌≤◌, ℕ, Bool, Option, Some, None}
+use Rattle.std.specs.Prelude.{◌≡◌, ◌≢◌, ◌≤◌, ℕ, Bool, true, Option, Some, None}
 use Rattle.std.specs.Option.{option_map}
 use Rattle.std.specs.declared.cmp.PartialEq as PartialEq
 use Rattle.std.specs.declared.hash.Hash as Hash
@@ -14,6 +14,7 @@ use Rattle.moka_hist.specs.declared.events.Event.{Event}
 use Rattle.moka_hist.specs.declared.events.Event.TheVariants as event
 use Rattle.moka_hist.specs.declared.replies.Reply.{Reply}
 use Rattle.moka_hist.specs.declared.record_tests.Tests as Tests
+use Rattle.moka_desk.specs.History.{keeps_history}
 use Rattle.moka_init.specs.declared.flow.Flow.{Flow}
 use Rattle.moka_init.specs.FlowPlan.{call_of, IsLive}
 use Rattle.moka_init.specs.Grounds.{HasBegun, IsOn, MayWant, access_at, NeedsMemory}
@@ -54,7 +55,7 @@ module _ {K V E T : Type 0} {same : PartialEq.Ghosts K} {hash : Hash.Ghosts K} w
       → IsOf eq m.layers.table w.table w.stay w.desk.last n r
 
 -- The machine stands for the state: its layers for the world, its running calls for the live ones.
--- It keeps a place for no other call.
+-- It keeps a place for no other call. Its desk keeps a history.
 pub record MachineIs {K V E T : Type 0} {same : PartialEq.Ghosts K} {hash : Hash.Ghosts K}
     (eq : K → K → Bool) (q : Tests.Ghosts T K V) (m : Machine K V E T same hash)
     (s : State K V E) : Type 0 where
@@ -62,6 +63,7 @@ pub record MachineIs {K V E T : Type 0} {same : PartialEq.Ghosts K} {hash : Hash
   pub calls : (n : ℕ) → option_map call_in (running_at m.calls n) ≡ s.calls n
   pub each : EachIsOf eq m s.world
   pub used : (n : ℕ) → IsUsed (place_at m.calls n)
+  pub history : keeps_history m.layers.desk ≡ true
 
 -- The machine stands for the world as the call reaches it that was taken out.
 pub record Reaches {K V E T : Type 0} {same : PartialEq.Ghosts K} {hash : Hash.Ghosts K}
@@ -71,6 +73,7 @@ pub record Reaches {K V E T : Type 0} {same : PartialEq.Ghosts K} {hash : Hash.G
   pub out : running_at m.calls m.layers.call ≡ None
   pub each : EachIsOf eq m w
   pub used : (n : ℕ) → m.layers.call ≢ n → IsUsed (place_at m.calls n)
+  pub history : keeps_history m.layers.desk ≡ true
 
 -- The call of this number was taken out of the machine. It reaches the world, and the other calls
 -- are these.

@@ -1,11 +1,12 @@
 //! The notices of a machine's state: those that were opened, and those that are due.
-ghost use Rattle.std.specs.Prelude.{◌≡◌, ◌++◌, ◌∷◌, [], ℕ, List, Option, nat_eq, IfOk, OnOk};
+ghost use Rattle.std.specs.Prelude.{◌≡◌, ◌++◌, ◌∷◌, [], ℕ, true, List, Option, nat_eq, IfOk, OnOk};
 ghost use Rattle.std.specs.List.{filter_map};
 ghost use Rattle.moka_hist.specs.Finite.{IsExact, Lists};
 ghost use Rattle.moka_hist.specs.State.{Call, DeskPart, State};
 ghost use Rattle.moka_hist.specs.Visits.{cause_of};
 ghost use Rattle.moka_hist.specs.declared.notices.Notice.{Notice};
 ghost use Rattle.moka_hist.specs.declared.notices.NoticeState.TheVariants as notice;
+ghost use Rattle.moka_desk.specs.History.{keeps_history};
 ghost use Rattle.moka_desk.specs.StandsFor.{StandsFor as DeskStandsFor};
 ghost use Rattle.moka_machine.specs.Machine.{MachineIs};
 ghost use Rattle.moka_machine.specs.Listed.{AreNotices, all_notices, waiting};
@@ -54,7 +55,7 @@ impl<K: Eq + Hash + Clone + Drop, V: Clone + Drop, E: Clone + Drop, T: Tests<K, 
     }
 }
 
-// Appends the notices of these numbers that were opened.
+// Appends the notices of these numbers that were opened: of all, where the desk keeps a history.
 fn push_opened<K: Eq + Hash + Clone + Drop, V: Clone + Drop, E: Clone + Drop>(
     notices: &mut Vec<Notice<K, V>>,
     desk: &Desk<K, V, E>,
@@ -62,7 +63,8 @@ fn push_opened<K: Eq + Hash + Clone + Drop, V: Clone + Drop, E: Clone + Drop>(
 ) -> Result<(), AllocError>
     requires keys { IsExact K.is_clone }
     requires values { IsExact V.is_clone }
-    ensures { OnOk result ((w : DeskPart K V E) → DeskStandsFor K.eq desk.now w
+    ensures { OnOk result (keeps_history desk.now ≡ true → (w : DeskPart K V E)
+        → DeskStandsFor K.eq desk.now w
         → notices.new.items ≡ notices.old.items ++ filter_map w.notices numbers.now) }
 {
     for number in numbers {

@@ -23,6 +23,7 @@ impl<K: Eq + Hash + Clone + Drop, V: Clone + Drop, E: Clone + Drop, T: Tests<K, 
     ghost use Rattle.moka_hist.specs.Run.{Drops};
     ghost use Rattle.moka_hist.specs.State.{DeskPart, State};
     ghost use Rattle.moka_hist.specs.Telling.{is_asked, told};
+    ghost use Rattle.moka_desk.specs.History.{KeepsAsBefore};
     ghost use Rattle.moka_desk.specs.StandsFor.{StandsFor as DeskStandsFor, Becomes as DeskBecomes};
     ghost use Rattle.moka_init.specs.FlowPlan.{call_of};
     ghost use Rattle.moka_machine.specs.Calls.{HasPlace};
@@ -108,6 +109,7 @@ impl<K: Eq + Hash + Clone + Drop, V: Clone + Drop, E: Clone + Drop, T: Tests<K, 
         ensures rest { self.new ≡ record self.old {
           layers = record self.old.layers { desk = self.new.layers.desk };
         } }
+        ensures kept { KeepsAsBefore self.old.layers.desk self.new.layers.desk }
     {
         self.layers.desk.tell(call, answer).is_some()
     }

@@ -14,7 +14,7 @@ returns-in-Some-clause-may g c =
     let within = c.if-number-last.false in
     let number = c.number.ensures in (
       omega (arith, last, within, number),
-      allowed flow.call (call_of flow) w c.in-Some.need (sym c.in-Some.is ∙ c.in-Ok.ensures)
+      allowed g.K.PartialEq.eq c.args.desk.now w h flow.call (call_of flow) c.in-Some.need (sym c.in-Some.is ∙ c.in-Ok.ensures)
           (λ made own is. may w made h (subst (λ n. IsOfCall n made) (sym c.number-in-Some.ensures) own) is),
     )) c.may_visit.ensures.may
 
@@ -29,7 +29,7 @@ returns-in-None-clause-may g c = on_true (not c.args.takes) _ (λ yes w h.
     let within = c.if-number-last.false in
     let number = c.number.ensures in (
       omega (arith, last, within, number),
-      needs_none flow.call (call_of flow) w (sym c.in-None.is ∙ c.in-Ok.ensures),
+      needs_none g.K.PartialEq.eq c.args.desk.now w h flow.call (call_of flow) (sym c.in-None.is ∙ c.in-Ok.ensures),
     ))
 
 untaken : (b : Bool) → not b ≡ true → false ≡ b

@@ -1,16 +1,24 @@
--- What a begun state came to, it came to from where it was.
+-- What a begun state came to, it came to from where it was; so it still fits what it was started for.
+use Rattle.std.proofs.Common.{sym, subst}
 use Rattle.moka_cache.specs.Settings.{rules_of}
 use Rattle.moka_cache.specs.Starts.{called}
+use Rattle.moka_cache.specs.Suits.{Suits}
 use Rattle.moka_cache.proofs.Staging.{answered_since, came_since, failed_since}
+use Rattle.moka_cache.proofs.Suiting.{suits_answer, suits_on, when_ok}
 use Rattle.moka_cache.proofs.call.CacheCall.poll.Goals as goal
 
 pub returns-in-Ready-Ok-clause-answers : goal.returns-in-Ready-Ok-clause-answers
-returns-in-Ready-Ok-clause-answers g c = (
-  c.in-Ready-Ok.answer,
-  answered_since g.K.PartialEq.eq (g.Q.Asked.gives c.args.self.now.asked) (called (rules_of c.args.self.now.cache.now) g.A.Begin.start) c.args.self.now.stage c.begin.new.stage c.in-Ready-Ok.field-0 c.in-Ready-Ok.answer c.in-Ready-Ok.field-0-is
-      c.begin.ensures.begins c.in-Ready-Ok.ensures.answers,
-  c.output.ensures.told,
-)
+returns-in-Ready-Ok-clause-answers g c =
+    let such = g.Q.Asked.gives c.args.self.now.asked in
+    let rules = rules_of c.args.self.now.cache.now in
+    let start = g.A.Begin.start in
+    let by = answered_since g.K.PartialEq.eq such (called rules start) c.args.self.now.stage c.begin.new.stage c.in-Ready-Ok.field-0 c.in-Ready-Ok.answer c.in-Ready-Ok.field-0-is c.begin.ensures.begins
+    c.in-Ready-Ok.ensures.answers in (
+      c.in-Ready-Ok.answer,
+      by,
+      suits_answer g.K.PartialEq.eq c.shapes_fit.ensures.fits such rules start c.args.self.now.stage c.in-Ready-Ok.answer by,
+      c.output.ensures.told,
+    )
 
 pub returns-in-Ready-Err-clause-failed : goal.returns-in-Ready-Err-clause-failed
 returns-in-Ready-Err-clause-failed g c =
@@ -21,3 +29,22 @@ pub returns-in-Pending-clause-came : goal.returns-in-Pending-clause-came
 returns-in-Pending-clause-came g c =
     let begins = called {E = g.row.E.Denot} (rules_of c.args.self.now.cache.now) g.A.Begin.start in
     came_since g.K.PartialEq.eq (g.Q.Asked.gives c.args.self.now.asked) begins c.args.self.now.stage c.begin.new.stage c.advance.new.stage c.begin.ensures.begins (c.in-Pending.ensures.came begins)
+
+pub returns-in-Ready-Ok-clause-suits : goal.returns-in-Ready-Ok-clause-suits
+returns-in-Ready-Ok-clause-suits g c = λ suits.
+    let over = when_ok _ c.in-Ready-Ok.field-0 c.in-Ready-Ok.answer c.in-Ready-Ok.field-0-is c.in-Ready-Ok.ensures.over in
+    subst (λ s. Suits g.K.PartialEq.eq g.A.Begin.start s) (sym over) tt
+
+pub returns-in-Ready-Err-clause-suits : goal.returns-in-Ready-Err-clause-suits
+returns-in-Ready-Err-clause-suits g c =
+    let rules = rules_of c.args.self.now.cache.now in
+    suits_on g.K.PartialEq.eq c.shapes_fit.ensures.fits (g.Q.Asked.gives c.args.self.now.asked) rules g.A.Begin.start c.args.self.now.stage c.advance.new.stage
+    (failed_since g.K.PartialEq.eq (g.Q.Asked.gives c.args.self.now.asked) (called rules g.A.Begin.start) c.args.self.now.stage c.begin.new.stage c.advance.new.stage c.in-Ready-Err.field-0 c.in-Ready-Err.e
+    c.in-Ready-Err.field-0-is c.begin.ensures.begins c.in-Ready-Err.ensures.failed)
+
+pub returns-in-Pending-clause-suits : goal.returns-in-Pending-clause-suits
+returns-in-Pending-clause-suits g c =
+    let rules = rules_of c.args.self.now.cache.now in
+    let begins = called {E = g.row.E.Denot} rules g.A.Begin.start in
+    suits_on g.K.PartialEq.eq c.shapes_fit.ensures.fits (g.Q.Asked.gives c.args.self.now.asked) rules g.A.Begin.start c.args.self.now.stage c.advance.new.stage
+    (came_since g.K.PartialEq.eq (g.Q.Asked.gives c.args.self.now.asked) begins c.args.self.now.stage c.begin.new.stage c.advance.new.stage c.begin.ensures.begins (c.in-Pending.ensures.came begins))

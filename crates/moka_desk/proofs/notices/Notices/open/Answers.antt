@@ -9,30 +9,37 @@ pub returns-then-self-clause-ok : goal.returns-then-self-clause-ok
 returns-then-self-clause-ok g c = λ p h free.
     let r = c.make_room.ensures.same p h in
     let mid = c.make_room.new.self in
-    let off : p.off ≡ true = sym r.off ∙ c.if-self.true in
+    let off : p.off ≡ true = sym r.off ∙ sym c.list.ensures.off ∙ c.if-self.true in
     let x : Notice g.row.K.Denot g.row.V.Denot = record { number = c.args.number; key = c.args.heard.key; value = c.args.heard.value; cause = c.args.heard.cause; state = notice.Skipped } in
-    let none = none_heard (get nat_eq mid.running) (get nat_eq mid.past) p.notices r.running r.past c.args.number free in
+    let none = none_heard (get nat_eq mid.running) p.notices r.running c.args.number free in
     record {
       running = λ n.
-          rw (off, c.keep.ensures.running)
-          (listed_running (get nat_eq mid.running) (get nat_eq mid.past) p.notices r.running r.past c.args.number x refl refl (get nat_eq mid.running) none (λ m e. refl) n);
-      past = λ n.
-          rw (off, c.keep.ensures.past n)
-          (listed_past (get nat_eq mid.running) (get nat_eq mid.past) p.notices r.running r.past c.args.number x refl refl n);
-      opened = rw (c.keep.ensures.opened, c.push_reserved.ensures.items, r.opened) refl;
-      off = c.keep.ensures.off ∙ r.off;
+          rw (off, c.keep.ensures.running, c.list.ensures.running)
+          (listed_running (get nat_eq mid.running) p.notices r.running c.args.number x refl refl (get nat_eq mid.running) none (λ m e. refl) n);
+      past = λ whole n.
+          let listed = sym c.keep.ensures.kind ∙ whole in
+          let kept = sym c.list.ensures.kind ∙ listed in
+          rw (off, c.keep.ensures.past whole n, c.list.ensures.past)
+          (listed_past (get nat_eq mid.past) p.notices (r.past kept) c.args.number x refl n);
+      opened = λ whole.
+          let listed = sym c.keep.ensures.kind ∙ whole in
+          let kept = sym c.list.ensures.kind ∙ listed in
+          rw (c.keep.ensures.opened, c.list.ensures.opened listed, r.opened kept) refl;
+      off = c.keep.ensures.off ∙ c.list.ensures.off ∙ r.off;
     }
 
 pub returns-clause-ok : goal.returns-clause-ok
 returns-clause-ok g c = λ p h free.
     let r = c.make_room.ensures.same p h in
     let mid = c.make_room.new.self in
-    let off : p.off ≡ false = sym r.off ∙ c.if-self.false in
+    let off : p.off ≡ false = sym r.off ∙ sym c.list.ensures.off ∙ c.if-self.false in
     record {
       running = λ n.
-          rw (off, c.put.ensures.updates.0 n)
-          (opened_running (get nat_eq mid.running) (get nat_eq mid.past) p.notices r.running r.past c.args.number c.args.heard n);
-      past = λ n. rw off (opened_past (get nat_eq mid.running) (get nat_eq mid.past) p.notices r.running r.past c.args.number c.args.heard free n);
-      opened = rw (c.push_reserved.ensures.items, r.opened) refl;
-      off = r.off;
+          rw (off, c.put.ensures.updates.0 n, c.list.ensures.running)
+          (opened_running (get nat_eq mid.running) p.notices r.running c.args.number c.args.heard n);
+      past = λ whole n.
+          let kept = sym c.list.ensures.kind ∙ whole in
+          rw (off, c.list.ensures.past) (opened_past (get nat_eq mid.past) p.notices (r.past kept) c.args.number c.args.heard free n);
+      opened = λ whole. let kept = sym c.list.ensures.kind ∙ whole in rw (c.list.ensures.opened whole, r.opened kept) refl;
+      off = c.list.ensures.off ∙ r.off;
     }

@@ -12,6 +12,6 @@ returns-clause-makes g c = λ w h may. record {
   writes = h.writes;
   loads = h.loads;
   locks = h.locks;
-  notices = c.end.ensures (notice_part w) h.notices may;
+  notices = c.end.ensures.makes (notice_part w) h.notices may;
   asks = h.asks;
 }

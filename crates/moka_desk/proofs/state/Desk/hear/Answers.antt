@@ -21,6 +21,6 @@ returns-clause-makes g c = λ w h.
       writes = h.writes;
       loads = h.loads;
       locks = h.locks;
-      notices = c.end.ensures (notice_part w) h.notices (running_may_end (w.notices number) runs);
+      notices = c.end.ensures.makes (notice_part w) h.notices (running_may_end (w.notices number) runs);
       asks = h.asks;
     }

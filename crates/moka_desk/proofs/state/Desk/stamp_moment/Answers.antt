@@ -5,6 +5,7 @@ use Rattle.moka_hist.specs.Visits.{number_of}
 use Rattle.moka_hist.proofs.Owners.{is_none_of}
 use Rattle.moka_desk.specs.Held.{held_by}
 use Rattle.moka_desk.specs.Writes.{write_part}
+use Rattle.moka_desk.proofs.Numbers.{unposted, unused_logged}
 use Rattle.moka_desk.proofs.Owing.{has_no_place}
 use Rattle.moka_desk.proofs.Outcomes.{on_err}
 use Rattle.moka_desk.proofs.state.Desk.stamp_moment.Goals as goal
@@ -15,9 +16,19 @@ stamp-requires-clause-unused g c =
     let may = c.requires.2 in
     let s = c.args.self.now.writes in
     let call = c.args.call in
-    let nowhere : times call (map number_of (map (λ o. o.write) s.owed.items ++ s.log.items ++ s.applied.writes.items)) ≡ 0 = rw (h.writes.owed, h.writes.log, h.writes.applied) may.1.stands in
-    is_none_of _ (has_no_place (get nat_eq s.held.holders) (held_by s.held.holdings) s.held.agree s.owed.items s.log.items s.applied.writes.items s.nobody_holds_owed call nowhere
+    let w = c.requires.0 in
+    let nowhere : times call (map number_of (map (λ o. o.write) s.owed.items ++ s.log.items ++ w.applied)) ≡ 0 = rw (h.writes.owed, h.writes.log) may.1.stands in
+    is_none_of _ (has_no_place (get nat_eq s.held.holders) (held_by s.held.holdings) s.held.agree s.owed.items s.log.items w.applied s.nobody_holds_owed call nowhere
     (λ n held is. may.1.held n held (sym (h.writes.holding n) ∙ is)))
+
+pub stamp-requires-clause-unposted : goal.stamp-requires-clause-unposted
+stamp-requires-clause-unposted g c =
+    let w = c.requires.0 in
+    let h = c.requires.1 in
+    let s = c.args.self.now.writes in
+    let call = c.args.call in
+    let none : times call (map number_of s.log.items) ≡ 0 = rw h.writes.log (unused_logged call w.owed w.log w.applied c.requires.2.1.stands) in
+    unposted _ _ (s.posted_are call) none
 
 pub stamp-requires-clause-free : goal.stamp-requires-clause-free
 stamp-requires-clause-free g c =
@@ -48,7 +59,7 @@ returns-clause-makes g c = λ w h may. record {
   turn = h.turn;
   published = h.published;
   last = h.last;
-  writes = rw (← h.clock) (c.in_ok-stamp.ensures.ok (write_part w) h.writes);
+  writes = rw (← h.clock) (c.in_ok-stamp.ensures.ok (write_part w) h.writes (record { stands = may.1.stands; held = may.1.held }));
   loads = h.loads;
   locks = h.locks;
   notices = h.notices;

@@ -11,7 +11,7 @@ returns-clause-makes g c = λ w h may. record {
   turn = h.turn;
   published = h.published;
   last = h.last;
-  writes = c.conclude.ensures (write_part w) h.writes
+  writes = c.conclude.ensures.makes (write_part w) h.writes
       (λ none. leaves_none (w.holding c.args.call) c.args.call (may.1 none));
   loads = h.loads;
   locks = c.free.ensures (lock_part w) h.locks;

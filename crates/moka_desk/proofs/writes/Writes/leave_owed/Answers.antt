@@ -20,3 +20,6 @@ invariant_of-self-clause-nobody_holds_owed c = λ n.
     ∙ ap (λ k. k + cond (n == number_of c.args.owed.write) 1 0) (s.nobody_holds_owed n)
     ∙ ap (λ number. owed_at (get nat_eq s.held.holders n) + cond (n == number) 1 0) (sym c.number.ensures)
     ∙ sym (c.leave.ensures.owed n)
+
+pub invariant_of-self-clause-posted_by_none : goal.invariant_of-self-clause-posted_by_none
+invariant_of-self-clause-posted_by_none c = λ n e. c.args.self.now.posted_by_none n (sym (c.leave.ensures.known n) ∙ e)

@@ -1,9 +1,12 @@
-use Rattle.std.proofs.Common.{◌≡◌, ◌==◌, ◌||◌, ◌++◌, true, List, map, nat_lt, sym, ap, subst, ◌∙◌}
+use Rattle.std.proofs.Common.{◌≡◌, ◌==◌, ◌||◌, ◌++◌, true, false, cond, List, map, nat_eq, is_some, refl, sym, ap, subst, ◌∙◌}
+use Rattle.std.specs.HashMap.{get}
+use Rattle.std.specs.HashSet.{contains}
 use Rattle.moka_hist.specs.Finite.{times}
 use Rattle.moka_hist.specs.Visits.{number_of}
 use Rattle.moka_hist.specs.declared.writes.Write.{Write}
 use Rattle.moka_desk.specs.Held.{held_by, holds_number}
-use Rattle.moka_desk.proofs.Owing.{posted_then}
+use Rattle.moka_desk.proofs.Numbers.{logged_more, once_logged, still_apart, still_once}
+use Rattle.moka_desk.proofs.WhoHolds.{has_place, holder_is}
 use Rattle.moka_desk.proofs.writes.Writes.log_write.Goals as goal
 
 pub clear-requires : goal.clear-requires
@@ -13,12 +16,18 @@ clear-requires c =
 pub invariant_of-self-clause-posted_are : goal.invariant_of-self-clause-posted_are
 invariant_of-self-clause-posted_are c = λ n.
     let s = c.args.self.now in
-    c.expect.ensures.made n
-    ∙ ap (λ b. b || (c.number-number.result == n)) (s.posted_are n)
-    ∙ ap (λ m. nat_lt 0 (times n (map number_of (s.log.items ++ s.applied.writes.items))) || (m == n)) c.number-number.ensures
-    ∙ sym (posted_then s.log.items s.applied.writes.items c.args.write n)
-    ∙ ap (λ (xs : List Write). nat_lt 0 (times n (map number_of (xs ++ s.applied.writes.items)))) (sym c.push_back_reserved.ensures.items)
-    ∙ ap (λ (xs : List Write). nat_lt 0 (times n (map number_of (c.push_back_reserved.new.self.items ++ xs)))) (sym c.expect.ensures.items)
+    let number = number_of c.args.write in
+    let placed = holder_is (get nat_eq s.held.holders number) c.args.call (has_place (get nat_eq s.held.holders) (held_by s.held.holdings) s.held.agree c.args.call number c.requires.held) in
+    ap (λ (xs : List Write). times n (map number_of xs)) c.push_back_reserved.ensures.items
+    ∙ logged_more (contains nat_eq s.posted) s.log.items c.args.write s.posted_are (s.posted_by_none number placed) n
+    ∙ ap (λ k. cond (contains nat_eq s.posted n || (k == n)) 1 0) (sym c.number-number.ensures)
+    ∙ ap (λ b. cond b 1 0) (sym (c.add.ensures.has n))
+
+pub invariant_of-self-clause-posted_by_none : goal.invariant_of-self-clause-posted_by_none
+invariant_of-self-clause-posted_by_none c = λ n e.
+    let s = c.args.self.now in
+    c.add.ensures.has n
+    ∙ still_apart (c.number-number.result == n) (is_some (get nat_eq s.held.holders n)) (contains nat_eq s.posted n) (s.posted_by_none n) (sym (c.clear.ensures.known n) ∙ e)
 
 pub invariant_of-self-clause-nobody_holds_owed : goal.invariant_of-self-clause-nobody_holds_owed
 invariant_of-self-clause-nobody_holds_owed c = λ n. c.args.self.now.nobody_holds_owed n ∙ sym (c.clear.ensures.owed n)

@@ -1,6 +1,8 @@
-use Rattle.std.proofs.Common.{◌≡◌, ◌==◌, cond, nat_lt, false, length, ap, ◌∙◌, arith}
+use Rattle.std.proofs.Common.{◌≡◌, ◌==◌, cond, nat_lt, nat_eq, is_some, false, length, refl, ap, ◌∙◌, arith}
 use Rattle.std.proofs.lemmas.Bool.Decides.{nat_tests}
+use Rattle.std.specs.HashMap.{get}
 use Rattle.moka_desk.specs.Held.{decided_holding, held_by}
+use Rattle.moka_desk.proofs.Numbers.{still_once}
 use Rattle.moka_desk.proofs.writes.Writes.post.Goals as goal
 
 pub returns-then-len-self-clause-makes : goal.returns-then-len-self-clause-makes
@@ -17,5 +19,6 @@ returns-then-len-self-clause-makes c = λ p h.
       owed = h.owed;
       log = rw full h.log;
       applied = h.applied;
+      once = λ n. still_once _ _ _ _ _ (ap (λ m. is_some (get nat_eq m n)) c.decide.ensures.holders) refl (h.once n);
       size = h.size;
     }

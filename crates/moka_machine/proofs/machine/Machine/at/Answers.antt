@@ -21,5 +21,6 @@ returns-then-at g c = λ s h reached.
         calls = h.calls;
         each = h.each;
         used = h.used;
+        history = c.at.ensures.kept ∙ h.history;
       },
     )

@@ -14,13 +14,14 @@ returns-clause-fresh g c =
     record {
       world = record {
         table = record { map = empty.map; keys = empty.count; peak = omega (arith, none); first = empty.first };
-        desk = c.in_ok-desk.ensures (g.T.Tests.answers c.args.tests);
+        desk = c.in_ok-desk.ensures.stands (g.T.Tests.answers c.args.tests);
         tests = refl;
         stay = omega arith;
       };
       calls = λ n. ap (λ p. option_map call_in (runs_in p)) (c.new-3.ensures n);
       each = λ n r e. let f : None ≡ Some r = sym (ap runs_in (c.new-3.ensures n)) ∙ e in absurd (cc);
       used = λ n. subst (λ (p : Option (Option (Running g.row.K.Denot g.row.V.Denot g.row.E.Denot))). IsUsed p) (sym (c.new-3.ensures n)) (λ e. e);
+      history = c.in_ok-desk.ensures.history;
     }
 
 pub returns-clause-valid : goal.returns-clause-valid

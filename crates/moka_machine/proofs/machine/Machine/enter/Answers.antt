@@ -50,5 +50,6 @@ returns-in-Some g c = λ s h reached.
                 (λ x e. let f : runs ≡ x = cc in subst (λ (r : Running g.row.K.Denot g.row.V.Denot g.row.E.Denot). IsOf eq c.args.self.now.layers.table s.world.table s.world.stay n n r) f is) puts
                 (λ k x e. given_before eq c.args.self.now.layers.table s.world.table s.world.stay w.last n k x before (h.each k x e));
             used = set_used (place_at c.args.self.now.calls) (place_at c.add.new.self) n (Some (Some runs)) c.add.ensures (λ e. e) (λ k ne. h.used k);
+            history = c.enter.ensures.kept ∙ h.history;
           }),
     )

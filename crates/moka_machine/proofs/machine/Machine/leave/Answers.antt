@@ -36,6 +36,7 @@ returns-clause-leaves g c = λ s t all.
         out = t.rest.reaches.out;
         each = t.rest.reaches.each;
         used = t.rest.reaches.used;
+        history = c.leave.ensures.kept ∙ t.rest.reaches.history;
       };
       number = t.rest.number;
       calls = t.rest.calls;

@@ -13,4 +13,5 @@ returns-clause-same g c = λ s h.
       calls = λ k. ap (λ p. option_map call_in (runs_in p)) (c.reserve.ensures.same k) ∙ h.calls k;
       each = λ k x e. h.each k x (sym (ap runs_in (c.reserve.ensures.same k)) ∙ e);
       used = λ k. subst (λ (p : Option (Option (Running g.row.K.Denot g.row.V.Denot g.row.E.Denot))). IsUsed p) (sym (c.reserve.ensures.same k)) (h.used k);
+      history = h.history;
     }

@@ -59,3 +59,7 @@ pub returns-in-Tell-clause-stops : goal.returns-in-Tell-clause-stops
 returns-in-Tell-clause-stops g c =
     subst (λ (e : Event g.row.K.Denot g.row.V.Denot g.row.E.Denot). IfErr c.unpolled-in-Tell.result (λ u. Stops g.K.PartialEq.eq g.T.Tests c.args.self.now e u.steps c.tell.new.self)) (sym c.in-Tell.is)
     (IfErr-weaker c.unpolled-in-Tell.result _ _ (λ u stopped s stands reached. (s, (stopped.0, refl), stopped.1 s stands)) (unpolled_err c.tell.result c.unpolled-in-Tell.result _ c.unpolled-in-Tell.ensures c.tell.ensures.err))
+
+pub returns-in-Drop-clause-serves : goal.returns-in-Drop-clause-serves
+returns-in-Drop-clause-serves g c =
+    subst (λ (e : Event g.row.K.Denot g.row.V.Denot g.row.E.Denot). Serves g.K.PartialEq.eq g.T.Tests c.args.self.now e c.drop_call.result c.drop_call.new.self) (sym c.in-Drop.is) c.drop_call.ensures

@@ -37,6 +37,7 @@ returns-in-Some-clause-some g c = λ s h.
             each = set_each (IsOf eq m.layers.table s.world.table s.world.stay s.world.desk.last) old (running_at c.take.new.self) n None (λ x e. absurd (cc)) taken h.each;
             used = λ k ne. subst (λ (p : Option (Option (Running g.row.K.Denot g.row.V.Denot g.row.E.Denot))). IsUsed p)
                 (sym (c.take.ensures.rest k ∙ other_at places n (emptied (places n)) k ne)) (h.used k);
+            history = h.history;
           };
           number = refl;
           calls = λ k ne. ap (option_map call_in) (taken k ∙ other_at old n None k ne) ∙ h.calls k;
@@ -55,4 +56,5 @@ returns-in-None-clause-same g c = λ s h.
       calls = λ k. ap (λ p. option_map call_in (runs_in p)) (same k) ∙ h.calls k;
       each = λ k x e. h.each k x (sym (ap runs_in (same k)) ∙ e);
       used = λ k. subst (λ (p : Option (Option (Running g.row.K.Denot g.row.V.Denot g.row.E.Denot))). IsUsed p) (sym (same k)) (h.used k);
+      history = h.history;
     }

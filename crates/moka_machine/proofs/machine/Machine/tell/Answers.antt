@@ -25,7 +25,7 @@ returns-then-tell_desk-clause-serves g c = λ s h reached.
       with_desk s (told w n c.args.answer.now),
       match_true _ _ _ e (record { reply = refl; after = refl }),
       subst (λ (m : Machine g.row.K.Denot g.row.V.Denot g.row.E.Denot g.row.T.Denot g.K.PartialEq g.K.Hash). MachineIs eq g.T.Tests m (with_desk s (told w n c.args.answer.now))) (sym c.tell_desk.ensures.rest)
-          (told_stands eq g.T.Tests c.args.self.now d s n c.args.answer.now h stands),
+          (told_stands eq g.T.Tests c.args.self.now d s n c.args.answer.now h stands (c.tell_desk.ensures.kept ∙ h.history)),
     )
 
 pub returns-else-tell_desk-clause-serves : goal.returns-else-tell_desk-clause-serves
@@ -42,5 +42,5 @@ returns-else-tell_desk-clause-serves g c = λ s h reached.
       s,
       match_false _ _ _ e (record { reply = refl; same = refl }),
       subst (λ (m : Machine g.row.K.Denot g.row.V.Denot g.row.E.Denot g.row.T.Denot g.K.PartialEq g.K.Hash). MachineIs eq g.T.Tests m s) (sym c.tell_desk.ensures.rest)
-          (still_stands eq g.T.Tests c.args.self.now d s h stands),
+          (still_stands eq g.T.Tests c.args.self.now d s h stands (c.tell_desk.ensures.kept ∙ h.history)),
     )

@@ -9,7 +9,7 @@ returns g c = λ s h.
     let desk = h.world.desk in (
       held.calls,
       record { distinct = held.lists.distinct; same = λ q. held.lists.same q ∙ h.calls q },
-      places_joined held.calls s _ _ _ _ _ _ _ _ _ c.new-places.ensures.items (c.in_ok-push_writes.ensures) (c.applied.ensures s.world.desk desk)
+      places_joined held.calls s _ _ _ _ _ _ _ _ _ c.new-places.ensures.items (c.in_ok-push_writes.ensures) (c.applied.ensures h.history s.world.desk desk)
           (c.in_ok-push_queue.ensures) (c.logged.ensures s.world.desk desk) (c.in_ok-push_owed.ensures) (c.owed.ensures s.world.desk desk)
           (c.in_ok-push_numbers.ensures) (c.deref.ensures.value ∙ held.are),
     )

@@ -9,6 +9,6 @@ returns g c = λ s h.
     let desk = h.world.desk in (
       due.calls,
       record { distinct = due.lists.distinct; same = λ q. due.lists.same q ∙ h.calls q },
-      notices_joined due.calls s _ _ _ _ _ c.new-notices.ensures.items (c.in_ok-push_opened.ensures s.world.desk desk) (c.opened.ensures s.world.desk desk)
+      notices_joined due.calls s _ _ _ _ _ c.new-notices.ensures.items (c.in_ok-push_opened.ensures h.history s.world.desk desk) (c.opened.ensures h.history s.world.desk desk)
           (c.in_ok-push_due.ensures s.world.desk desk) due.are,
     )

@@ -1,0 +1,81 @@
+-- A call that asks nobody answers as what it was started for may, over all its polls.
+use Rattle.std.proofs.Common.{◌≡◌, ℕ, Bool, true, List, [], ◌∷◌, ◌++◌, map, Result, Ok, OnOk, sym, ap, subst}
+use Rattle.moka_hist.specs.Next.{Next, answers}
+use Rattle.moka_hist.specs.Run.{fresh_call}
+use Rattle.moka_hist.specs.State.{Call}
+use Rattle.moka_hist.specs.Step.{Access, Gets, access_of}
+use Rattle.moka_hist.specs.declared.accesses.Got.{Got}
+use Rattle.moka_hist.specs.declared.events.Start.{Start}
+use Rattle.moka_hist.specs.declared.events.Told.{Told}
+use Rattle.moka_hist.specs.declared.replies.Answer.{Answer}
+use Rattle.moka_hist.specs.declared.rules.Rules.{Rules}
+use Rattle.moka_init.specs.FlowPlan.{call_of}
+use Rattle.moka_laws.specs.Loads.{may_answer}
+use Rattle.moka_laws.specs.Shapes.{Fits, MayGive, MayLead, ShapesFit, asks_nobody}
+use Rattle.moka_cache.specs.Paths.{CameWith, EndedWith, IsGiven, LeadsWith}
+use Rattle.moka_cache.specs.Stages.{AnswersWith, CameOnWith}
+use Rattle.moka_cache.specs.Starts.{called}
+use Rattle.moka_cache.specs.Suits.{IsAnswerOf, Suits}
+use Rattle.moka_cache.specs.declared.stage.Stage.{Stage}
+use Rattle.moka_cache.specs.declared.stage.Stage.TheVariants as stage
+
+-- what the accesses of a way gave
+abbrev what_gave : {K V E : Type 0} → List (Access K V E × Got K V E) → List (Got K V E)
+what_gave path = map (λ made. made.1) path
+
+module _ {K V E : Type 0} (eq : K → K → Bool) (n : ℕ) where
+  lead_on : (c : Call K V E) (path : List (Got K V E)) (d : Call K V E) (more : List (Got K V E)) (e : Call K V E)
+      → MayLead eq n c path d → MayLead eq n d more e → MayLead eq n c (path ++ more) e
+  lead_on c [] d more e first then = subst (λ (x : Call K V E). MayLead eq n x more e) first then
+  lead_on c (given ∷ path) d more e first then = (first.0, first.1, first.2, lead_on first.0 path d more e first.3 then)
+
+  may_give : (c : Call K V E) (access : Access K V E) (given : Got K V E) → access ≡ access_of n c → IsGiven eq n access given → MayGive eq n c given
+  may_give c access given is by = record { world = by.world; after = by.after; gets = subst (λ a. Gets eq n by.world a given by.after) is by.gets }
+
+module _ {K V E : Type 0} (eq : K → K → Bool) (such : Told V E → Type 0) (n : ℕ) where
+  may_lead : (c : Call K V E) (path : List (Access K V E × Got K V E)) (d : Call K V E) → LeadsWith eq such n c path d → MayLead eq n c (what_gave path) d
+  may_lead c [] d led = led
+  may_lead c (made ∷ more) d led = (led.0, may_give eq n c made.0 made.1 led.1 led.2, led.3, may_lead led.0 more d led.5)
+
+  -- on its way the call keeps fitting
+  fits_on : (begin : Start K V) (c d : Call K V E) → Fits eq n begin c → CameWith eq such n c d → Fits eq n begin d
+  fits_on begin c d fits came path e given a led gives answers =
+      fits (what_gave came.0 ++ path) e given a (lead_on eq n c (what_gave came.0) d path e (may_lead c came.0 d came.1) led) gives answers
+
+  -- and so it answers
+  fits_end : (begin : Start K V) (c : Call K V E) (a : Answer K V E) → Fits eq n begin c → EndedWith eq such n c (answers a) → may_answer begin a ≡ true
+  fits_end begin c a fits end =
+      fits (what_gave end.came.0) end.call end.given a (may_lead c end.came.0 end.call end.came.1)
+      (record { world = end.last.world; after = end.last.after; gets = end.last.gets }) (sym (ap (λ (x : Next K V E). x.turn) end.follows))
+
+module _ {A K V E : Type 0} (eq : K → K → Bool) (law : ShapesFit K V E eq) (such : Told V E → Type 0) (rules : Rules) (start : A → Start K V) where
+  pub suits_on : (old new : Stage A K V E) → CameOnWith eq such (called rules start) old new → Suits eq start old → Suits eq start new
+  suits_on (stage.Fresh begin) (stage.Fresh kept) came suits = subst (λ b. asks_nobody (start b) ≡ true) (sym came) suits
+  suits_on (stage.Fresh begin) (stage.Running flow) came suits =
+      (begin, fits_on eq such flow.call (start begin) (fresh_call rules (start begin)) (call_of flow) (law rules (start begin) flow.call suits) came)
+  suits_on (stage.Running old) (stage.Running new) came suits =
+      (suits.0, subst (λ n. Fits eq n (start suits.0) (call_of new)) (sym came.0) (fits_on eq such old.call (start suits.0) (call_of old) (call_of new) suits.1 came.1))
+  suits_on stage.Spent stage.Spent came suits = tt
+  suits_on (stage.Fresh begin) stage.Spent came suits = tt
+  suits_on (stage.Fresh begin) stage.Answered came suits = tt
+  suits_on (stage.Running old) (stage.Fresh kept) came suits = absurd came
+  suits_on (stage.Running old) stage.Spent came suits = tt
+  suits_on (stage.Running old) stage.Answered came suits = tt
+  suits_on stage.Spent (stage.Fresh kept) came suits = absurd came
+  suits_on stage.Spent (stage.Running new) came suits = absurd came
+  suits_on stage.Spent stage.Answered came suits = tt
+  suits_on stage.Answered (stage.Fresh kept) came suits = absurd came
+  suits_on stage.Answered (stage.Running new) came suits = absurd came
+  suits_on stage.Answered stage.Spent came suits = tt
+  suits_on stage.Answered stage.Answered came suits = tt
+
+  pub suits_answer : (old : Stage A K V E) (answer : Answer K V E) → AnswersWith eq such (called rules start) old answer → Suits eq start old → IsAnswerOf start answer
+  suits_answer (stage.Fresh begin) answer by suits =
+      (begin, fits_end eq such by.0 (start begin) (fresh_call rules (start begin)) answer (law rules (start begin) by.0 suits) by.1)
+  suits_answer (stage.Running old) answer by suits = (suits.0, fits_end eq such old.call (start suits.0) (call_of old) answer suits.1 by)
+  suits_answer stage.Spent answer by suits = absurd by
+  suits_answer stage.Answered answer by suits = absurd by
+
+-- what an answer leaves
+pub when_ok : {A F : Type 0} (P : Type 0) (r : Result A F) (a : A) → r ≡ Ok a → OnOk r P → P
+when_ok P r a is h = subst (λ x. OnOk x P) is h

@@ -1,0 +1,35 @@
+-- What follows a hold of the lock, without it, and which notice a call awaits.
+use Rattle.std.specs.Prelude.{◌≡◌, ◌⊎◌, ℕ, Option, Some, None, IsSomeAnd, Result, Ok, Err}
+use Rattle.futures.specs.declared.task.Poll.{Poll}
+use Rattle.futures.specs.declared.task.Poll.TheVariants.{Ready, Pending}
+use Rattle.moka_hist.specs.Plan.{hearing}
+use Rattle.moka_hist.specs.declared.replies.Answer.{Answer}
+use Rattle.moka_init.specs.FlowPlan.{call_of}
+use Rattle.moka_init.specs.declared.flow.Flow.{Flow}
+use Rattle.moka_cache.specs.declared.errors.PollError.{PollError}
+use Rattle.moka_cache.specs.declared.errors.PollError.TheVariants as error
+use Rattle.moka_cache.specs.declared.stop.Stop.{Stop}
+use Rattle.moka_cache.specs.declared.stop.Stop.TheVariants as stop
+
+-- the notices whose polls the listener leaves pending, if there is one
+abbrev pub Unheard : {L : Type 0} → (L → ℕ → Type 0) → Option L → ℕ → Type 0
+Unheard pends listener notice = IsSomeAnd listener (λ l. pends l notice)
+
+-- the turn goes on, or is pending
+abbrev pub MayPend : {A : Type 0} → Option (Poll A) → Type 0
+MayPend turn = (turn ≡ None) ⊎ (turn ≡ Some Pending)
+
+module _ {K V E : Type 0} where
+  -- the flow's call awaits the end of a notice that is such: of its own, or of that of a write which
+  -- it took up
+  abbrev pub Awaits : (ℕ → Type 0) → Flow K V E → Type 0
+  Awaits such flow = (n : ℕ) × (hearing flow.call (call_of flow).plan ≡ Some n) × such n
+
+  -- What follows a hold that left the call so: it goes on, is pending where it asks or waits, or
+  -- answers.
+  abbrev pub Follows : Stop K V E → Option (Poll (Result (Answer K V E) PollError)) → Type 0
+  Follows stop.Going turn = turn ≡ None
+  Follows stop.Waits turn = MayPend turn
+  Follows (stop.Asks ask) turn = MayPend turn
+  Follows (stop.Answers answer) turn = turn ≡ Some (Ready (Ok answer))
+  Follows stop.Memory turn = turn ≡ Some (Ready (Err error.Memory))

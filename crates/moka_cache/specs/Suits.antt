@@ -1,0 +1,23 @@
+-- What a state may answer, by what it was started for.
+use Rattle.std.specs.Prelude.{◌≡◌, Bool, true}
+use Rattle.moka_hist.specs.declared.events.Start.{Start}
+use Rattle.moka_hist.specs.declared.replies.Answer.{Answer}
+use Rattle.moka_init.specs.FlowPlan.{call_of}
+use Rattle.moka_laws.specs.Loads.{may_answer}
+use Rattle.moka_laws.specs.Shapes.{Fits, asks_nobody}
+use Rattle.moka_cache.specs.declared.stage.Stage.{Stage}
+use Rattle.moka_cache.specs.declared.stage.Stage.TheVariants as stage
+
+module _ {A K V E : Type 0} where
+  -- The state starts for something that asks its caller for nothing; from where its call stands it
+  -- answers as one that was started so may.
+  abbrev pub Suits : (K → K → Bool) → (A → Start K V) → Stage A K V E → Type 0
+  Suits eq start (stage.Fresh begin) = asks_nobody (start begin) ≡ true
+  Suits eq start (stage.Running flow) =
+      (begin : A) × Fits eq flow.call (start begin) (call_of flow)
+  Suits eq start stage.Spent = Unit {0}
+  Suits eq start stage.Answered = Unit {0}
+
+  -- a state that starts so may answer this
+  abbrev pub IsAnswerOf : (A → Start K V) → Answer K V E → Type 0
+  IsAnswerOf start answer = (begin : A) × (may_answer (start begin) answer ≡ true)

@@ -1,0 +1,45 @@
+//! What was inserted, and what is found.
+
+use crate::at::{At, Numbers, get, insert};
+use futures::executor::block_on;
+use moka_cache::{Cache, Listener, Polled};
+use std::hash::Hash;
+use std::test::Fail;
+
+// Takes what any thread may have and share.
+fn is_shared<T: Send + Sync>(_shared: &T) {}
+
+// A cache crosses threads where its keys, values, errors, listener and hasher do.
+fn crosses_threads<K, V, E, L, S>(cache: &Cache<K, V, E, L, S>)
+where
+    K: Eq + Hash + Clone + Drop + Send + Sync,
+    V: Clone + Drop + Send + Sync,
+    E: Clone + Drop + Send + Sync,
+    L: Listener<K, V> + Send + Sync,
+    S: Drop + Send + Sync,
+{
+    is_shared(cache);
+}
+
+#[test]
+fn what_was_inserted_is_found(rt: HostRuntime) -> Result<(), Fail> {
+    let cache: Numbers = Cache::new(rt.alloc(), 100)?;
+    assert_eq!(rt; insert(&rt, &cache, 1, 5)?, Ok(()));
+    assert_eq!(rt; get(&rt, &cache, 1)?, Ok(Some(5)));
+    assert_eq!(rt; get(&rt, &cache, 2)?, Ok(None));
+    Ok(())
+}
+
+#[test]
+fn a_later_insert_replaces(rt: HostRuntime) -> Result<(), Fail> {
+    let cache: Cache<u32, u32, u32> = Cache::new(rt.alloc(), 100)?;
+    let shared = cache.clone()?;
+    crosses_threads(&shared);
+    for value in 0..1000 {
+        let inserted = block_on(&rt, Polled::new(&rt, cache.insert(7, value), At(3)))?;
+        assert_eq!(rt; inserted, Ok(()));
+        let found = block_on(&rt, Polled::new(&rt, shared.get(&7), At(2)))?;
+        assert_eq!(rt; found, Ok(Some(value)));
+    }
+    Ok(())
+}

@@ -1,0 +1,35 @@
+use Rattle.std.proofs.Common.{None, ◌||◌, refl, ap, ◌∙◌}
+use Rattle.moka_desk.specs.Woken.{is_told}
+use Rattle.moka_desk.proofs.Misses.{answers_miss, nobody_listed, nothing_asked}
+use Rattle.moka_desk.proofs.state.Desk.made.Goals as goal
+
+pub returns-clause-stands : goal.returns-clause-stands
+returns-clause-stands g c = λ tests. record {
+  rules = refl;
+  clock = refl;
+  accessed = λ kept n. rw c.new.ensures.empty refl;
+  turn = refl;
+  published = refl;
+  last = refl;
+  writes = c.in_ok-new.ensures.none;
+  loads = c.new-3.ensures;
+  locks = c.new-4.ensures;
+  notices = c.new-5.ensures.none;
+  asks = c.new-6.ensures.none;
+}
+
+pub returns-clause-misses : goal.returns-clause-misses
+returns-clause-misses g c = λ w. record {
+  turns = nobody_listed _ _ c.new-7.ensures.turns;
+  settlements = nobody_listed _ _ c.new-7.ensures.settlements;
+  answers = λ n k on. nothing_asked (answers_miss c.new-6.result.open_asks (λ _. None) c.new-6.ensures.none.open_asks n k on).1;
+  locks = nobody_listed _ _ c.new-7.ensures.locks;
+  notices = nobody_listed _ _ c.new-7.ensures.notices;
+}
+
+pub returns-clause-unwoken : goal.returns-clause-unwoken
+returns-clause-unwoken g c = λ call.
+    ap (λ b. b || is_told c.new-6.result call) (c.new-7.ensures.unwoken call) ∙ c.new-6.ensures.unwoken call
+
+pub returns-clause-history : goal.returns-clause-history
+returns-clause-history g c = λ whole. rw (c.in_ok-new.ensures.kind, c.new-5.ensures.kind, whole) refl

@@ -1,0 +1,385 @@
+//! Listeners.
+
+use futures::executor::block_on;
+use futures::future::join;
+use futures::task::{Context, Poll};
+use futures::{Future, FutureExt};
+use moka_cache::{
+    Cache, CacheBuilder, Listener, ListenerEnd, NoListener, PollError, Polled, RetriesExhausted,
+    State,
+};
+use moka_cache_cases::at::At;
+use moka_cache_cases::inits::{After, DropsAfter};
+use moka_hist::Cause;
+use std::alloc::{AllocError, AllocGlobal, Global};
+use std::cell::Cell;
+use std::random::RandomSource;
+use std::sync::atomic::{AtomicU64, Ordering};
+use std::sync::{Arc, Wait};
+use std::test::Fail;
+use std::{io, thread};
+
+const THREADS: u32 = 16;
+
+const NOTICES: u64 = 64;
+
+// What a listener was told.
+#[derive(Clone, Copy, PartialEq, Eq, Debug)]
+struct Started {
+    notice: u64,
+    key: u32,
+    value: u32,
+    cause: Cause,
+}
+
+// What a listener was told last, and how often, and whether it lets its notices go.
+#[derive(Drop)]
+struct Board {
+    is_open: Cell<bool>,
+    started: Cell<u64>,
+    last: Cell<Option<Started>>,
+    polls: Cell<u64>,
+}
+
+// Leaves its notices pending until it is let go.
+#[derive(Drop)]
+struct KeepListener {
+    board: Arc<Board, Global>,
+}
+
+impl Listener<u32, u32> for KeepListener {
+    fn start(&self, notice: u64, key: &u32, value: &u32, cause: Cause) {
+        let board: &Board = &self.board;
+        board.started.set(board.started.get().saturating_add(1));
+        board.last.set(Some(Started {
+            notice,
+            key: *key,
+            value: *value,
+            cause,
+        }));
+    }
+
+    fn poll(&self, _notice: u64, cx: &mut Context<'_>) -> Poll<ListenerEnd> {
+        let board: &Board = &self.board;
+        if board.is_open.get() {
+            return Poll::Ready(ListenerEnd::Done);
+        }
+        cx.yield_now()
+    }
+}
+
+// Lets the listener go after each poll of the future, and counts these.
+#[derive(Drop)]
+struct Opens<F> {
+    future: F,
+    board: Arc<Board, Global>,
+}
+
+impl<F: Future> Future for Opens<F> {
+    type Output = F::Output;
+
+    ghost can_poll = { λ opens. F.can_poll opens.future };
+
+    fn poll(&mut self, cx: &mut Context<'_>) -> Poll<F::Output> {
+        let polled = self.future.poll(cx);
+        let board: &Board = &self.board;
+        board.is_open.set(true);
+        board.polls.set(board.polls.get().saturating_add(1));
+        polled
+    }
+}
+
+// Leaves each notice pending once, and counts those that it was started with.
+#[derive(Drop)]
+struct PendsOnce {
+    polls: Vec<AtomicU64>,
+    started: Arc<AtomicU64, Global>,
+}
+
+impl PendsOnce {
+    fn new(alloc: Global, started: Arc<AtomicU64, Global>) -> Result<PendsOnce, AllocError> {
+        let mut polls = Vec::new(alloc);
+        for _ in 0..NOTICES {
+            polls.push(AtomicU64::new(0))?;
+        }
+        Ok(PendsOnce { polls, started })
+    }
+
+    // Whether it is the first poll of the notice.
+    fn is_first(&self, notice: u64) -> bool {
+        match self.polls.get(notice as usize) {
+            Some(polls) => polls.fetch_add(1, Ordering::SeqCst) == 0,
+            None => false,
+        }
+    }
+}
+
+impl Listener<u32, u32> for PendsOnce {
+    fn start(&self, _notice: u64, _key: &u32, _value: &u32, _cause: Cause) {
+        self.started.fetch_add(1, Ordering::SeqCst);
+    }
+
+    fn poll(&self, notice: u64, cx: &mut Context<'_>) -> Poll<ListenerEnd> {
+        if self.is_first(notice) {
+            return cx.yield_now();
+        }
+        Poll::Ready(ListenerEnd::Done)
+    }
+}
+
+// Hears one record, and no further one.
+#[derive(Drop)]
+struct HearsOne {
+    started: Arc<AtomicU64, Global>,
+}
+
+impl Listener<u32, u32> for HearsOne {
+    fn start(&self, _notice: u64, _key: &u32, _value: &u32, _cause: Cause) {
+        self.started.fetch_add(1, Ordering::SeqCst);
+    }
+
+    fn poll(&self, _notice: u64, _cx: &mut Context<'_>) -> Poll<ListenerEnd> {
+        Poll::Ready(ListenerEnd::Off)
+    }
+}
+
+// A cache of numbers with this listener.
+type Heard<L> = Cache<u32, u32, u32, L>;
+
+// Polls a call once. Where it is pending it is dropped, and None is answered.
+fn polled_once<R: Wait + RandomSource + AllocGlobal, S: State<R>>(
+    rt: &R,
+    call: S,
+) -> io::Result<Option<Result<S::Output, PollError>>>
+    requires { S.can_poll call }
+{
+    Polled::new(rt, call, At(0)).now_or_never(rt)
+}
+
+// Polls a call until it has answered, and lets the listener go after each poll.
+fn opening<R: Wait + RandomSource + AllocGlobal, S: State<R>>(
+    rt: &R,
+    call: S,
+    board: Arc<Board, Global>,
+) -> io::Result<Result<S::Output, PollError>>
+    requires { S.can_poll call }
+{
+    let future = Polled::new(rt, call, At(0));
+    block_on(rt, Opens { future, board })
+}
+
+// What two calls answered, one after the other.
+type Both<A, B> = (Result<A, PollError>, Result<B, PollError>);
+
+// Polls three calls in one task. The first is dropped after two polls.
+fn beside<R: Wait + RandomSource + AllocGlobal, S: State<R, Output: Drop>, T>(
+    rt: &R,
+    dropped: S,
+    other: S,
+    third: T,
+) -> io::Result<Both<S::Output, T::Output>>
+where
+    T: State<R, Output: Drop>,
+    requires dropped { S.can_poll dropped }
+    requires other { S.can_poll other }
+    requires third { T.can_poll third }
+{
+    let dropped = DropsAfter {
+        polls: 2,
+        future: Some(Polled::new(rt, dropped, At(0))),
+    };
+    let other = Polled::new(rt, other, At(0));
+    let third = Polled::new(rt, third, At(0));
+    let ((), both) = block_on(rt, join(dropped, join(other, third)))?;
+    Ok(both)
+}
+
+// Polls an insert under key 1 once.
+fn insert_once<'a, R: Wait + RandomSource + AllocGlobal, L: Listener<u32, u32>>(
+    rt: &'a R,
+    cache: &'a Heard<L>,
+    value: u32,
+) -> io::Result<Option<Result<(), PollError>>> {
+    polled_once(rt, cache.insert(1, value))
+}
+
+// Polls a get of key 1 once.
+fn get_once<'a, R: Wait + RandomSource + AllocGlobal, L: Listener<u32, u32>>(
+    rt: &'a R,
+    cache: &'a Heard<L>,
+) -> io::Result<Option<Result<Option<u32>, PollError>>> {
+    polled_once(rt, cache.get(&1))
+}
+
+// Polls a removal of key 1 once.
+fn remove_once<'a, R: Wait + RandomSource + AllocGlobal, L: Listener<u32, u32>>(
+    rt: &'a R,
+    cache: &'a Heard<L>,
+) -> io::Result<Option<Result<Option<u32>, PollError>>> {
+    polled_once(rt, cache.remove(&1))
+}
+
+// Gets key 1, and lets the listener go after each poll.
+fn get_opening<'a, R: Wait + RandomSource + AllocGlobal>(
+    rt: &'a R,
+    cache: &'a Heard<KeepListener>,
+    board: Arc<Board, Global>,
+) -> io::Result<Result<Option<u32>, PollError>> {
+    opening(rt, cache.get(&1), board)
+}
+
+// Loads key 1 twice, and stores 5 under it, in one task. The first load is dropped after two polls.
+fn load_beside_insert<'a, R: Wait + RandomSource + AllocGlobal>(
+    rt: &'a R,
+    cache: &'a Heard<PendsOnce>,
+    owner: After<'a>,
+    waiter: After<'a>,
+) -> io::Result<Both<Result<u32, RetriesExhausted>, ()>> {
+    let owner = cache.get_with(1, owner);
+    let waiter = cache.get_with(1, waiter);
+    beside(rt, owner, waiter, cache.insert(1, 5))
+}
+
+// Inserts under key 1, as long as it takes, and tells whether it did.
+fn has_inserted<'a, R: Wait + RandomSource + AllocGlobal>(
+    rt: &'a R,
+    cache: &'a Heard<PendsOnce>,
+    value: u32,
+) -> io::Result<bool> {
+    let inserted = block_on(rt, Polled::new(rt, cache.insert(1, value), At(0)))?;
+    Ok(inserted == Ok(()))
+}
+
+#[test]
+fn a_get_goes_on_with_the_notice_of_a_dropped_insert(rt: HostRuntime) -> Result<(), Fail> {
+    let board = Arc::new(
+        rt.alloc(),
+        Board {
+            is_open: Cell::new(false),
+            started: Cell::new(0),
+            last: Cell::new(None),
+            polls: Cell::new(0),
+        },
+    )?;
+    let told: &Board = &board;
+    let listener = KeepListener {
+        board: Arc::try_clone(&board)?,
+    };
+    let cache: Heard<KeepListener> = CacheBuilder::new(100)
+        .eviction_listener(listener)
+        .build(rt.alloc())?;
+    assert_eq!(rt; insert_once(&rt, &cache, 5)?, Some(Ok(())));
+    assert_eq!(rt; insert_once(&rt, &cache, 6)?, None);
+    let first = Started {
+        notice: 2,
+        key: 1,
+        value: 5,
+        cause: Cause::Replaced,
+    };
+    assert_eq!(rt; told.last.get(), Some(first));
+    let found = get_opening(&rt, &cache, Arc::try_clone(&board)?)?;
+    assert_eq!(rt; found, Ok(Some(6)));
+    assert_eq!(rt; told.polls.get(), 2, "the first poll of the get is pending");
+    assert_eq!(rt; insert_once(&rt, &cache, 7)?, Some(Ok(())));
+    let second = Started {
+        notice: 4,
+        key: 1,
+        value: 6,
+        cause: Cause::Replaced,
+    };
+    assert_eq!(rt; told.last.get(), Some(second));
+    assert_eq!(rt; told.started.get(), 2);
+    assert_eq!(rt; remove_once(&rt, &cache)?, Some(Ok(Some(7))));
+    let third = Started {
+        notice: 5,
+        key: 1,
+        value: 7,
+        cause: Cause::Explicit,
+    };
+    assert_eq!(rt; told.last.get(), Some(third));
+    Ok(())
+}
+
+#[test]
+fn threads_insert_one_key_and_each_is_heard(rt: HostRuntime) -> Result<(), Fail> {
+    let started = Arc::new(rt.alloc(), AtomicU64::new(0))?;
+    let listener = PendsOnce::new(rt.alloc(), Arc::try_clone(&started)?)?;
+    let cache: Heard<PendsOnce> = CacheBuilder::new(100)
+        .eviction_listener(listener)
+        .build(rt.alloc())?;
+    let mut jobs = Vec::new(rt.alloc());
+    for value in 0..THREADS {
+        jobs.push((value, cache.clone()?))?;
+    }
+    let inserted = thread::map_vec(
+        &rt,
+        jobs,
+        &|job: (u32, Heard<PendsOnce>)| { has_inserted(&rt, &job.1, job.0).unwrap_or(false) },
+    )?;
+    for done in inserted {
+        assert!(rt; done);
+    }
+    assert_eq!(rt; started.load(Ordering::SeqCst), 15);
+    let found = get_once(&rt, &cache)?;
+    assert!(rt; matches!(&found, Some(Ok(Some(value))) if *value < THREADS));
+    Ok(())
+}
+
+#[test]
+fn a_waiter_answers_what_its_owner_stored_before_it_was_dropped(
+    rt: HostRuntime,
+) -> Result<(), Fail> {
+    let started = Arc::new(rt.alloc(), AtomicU64::new(0))?;
+    let listener = PendsOnce::new(rt.alloc(), Arc::try_clone(&started)?)?;
+    let cache: Heard<PendsOnce> = CacheBuilder::new(100)
+        .eviction_listener(listener)
+        .build(rt.alloc())?;
+    let (first, second) = (AtomicU64::new(0), AtomicU64::new(0));
+    let owner = After::polls(1, 7, &first);
+    let waiter = After::polls(0, 6, &second);
+    let (loaded, inserted) = load_beside_insert(&rt, &cache, owner, waiter)?;
+    assert_eq!(rt; inserted, Ok(()));
+    assert_eq!(rt; loaded, Ok(Ok(7)));
+    assert_eq!(rt; first.load(Ordering::SeqCst), 2);
+    assert_eq!(rt; second.load(Ordering::SeqCst), 0);
+    assert_eq!(rt; started.load(Ordering::SeqCst), 1);
+    assert_eq!(rt; get_once(&rt, &cache)?, Some(Ok(Some(7))));
+    Ok(())
+}
+
+#[test]
+fn a_listener_that_is_off_is_not_started_again(rt: HostRuntime) -> Result<(), Fail> {
+    let first = Arc::new(rt.alloc(), AtomicU64::new(0))?;
+    let second = Arc::new(rt.alloc(), AtomicU64::new(0))?;
+    let cache: Heard<HearsOne> = CacheBuilder::new(100)
+        .eviction_listener(HearsOne {
+            started: Arc::try_clone(&first)?,
+        })
+        .async_eviction_listener(HearsOne {
+            started: Arc::try_clone(&second)?,
+        })
+        .build(rt.alloc())?;
+    for value in 5..8 {
+        assert_eq!(rt; insert_once(&rt, &cache, value)?, Some(Ok(())));
+    }
+    assert_eq!(rt; get_once(&rt, &cache)?, Some(Ok(Some(7))));
+    assert_eq!(rt;
+        first.load(Ordering::SeqCst),
+        0,
+        "the listener that was set before"
+    );
+    assert_eq!(rt; second.load(Ordering::SeqCst), 1);
+    Ok(())
+}
+
+#[test]
+fn a_hasher_is_kept(rt: HostRuntime) -> Result<(), Fail> {
+    let cache: Cache<u32, u32, u32, NoListener, u8> = CacheBuilder::new(100).build_with_hasher(
+        rt.alloc(),
+        3,
+    )?;
+    let inserted = Polled::new(&rt, cache.insert(1, 5), At(0)).now_or_never(&rt)?;
+    assert_eq!(rt; inserted, Some(Ok(())));
+    assert!(rt; cache.contains_key(&rt, &1, 0)?);
+    Ok(())
+}
