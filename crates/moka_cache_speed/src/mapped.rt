@@ -1,0 +1,70 @@
+//! The works on std's map under a lock.
+
+use crate::asked::{Shares, Work};
+use crate::cached::{FEW_KEYS, place_of};
+use std::alloc::{AllocError, Global};
+use std::collections::HashMap;
+use std::sync::{Mutex, Wait};
+use std::thread;
+use std::thread::Threads;
+
+/// A map of numbers under a lock.
+pub(crate) type Map = Mutex<HashMap<u64, u64>>;
+
+/// Stores each of the keys once.
+pub(crate) fn fill<R: Wait>(rt: &R, map: &Map, keys: &[u64]) {
+    for key in keys {
+        let _ = insert(rt, map, *key, *key);
+    }
+}
+
+/// Makes each thread's calls, and tells how many answered.
+pub(crate) fn work<R: Threads + Wait + Sync>(
+    rt: &R,
+    alloc: Global,
+    map: &Map,
+    keys: &[u64],
+    work: Work,
+    shares: Shares,
+) -> Result<u64, AllocError> {
+    let keys = keys.len() as u64;
+    let answered = thread::map_indices(
+        rt,
+        alloc,
+        shares.threads as usize,
+        &|thread| work_as(rt, map, keys, work, thread as u64, shares.calls),
+    )?;
+    let mut all = 0u64;
+    for one in answered.iter() {
+        all = all.wrapping_add(*one);
+    }
+    Ok(all)
+}
+
+/// Makes the calls of this thread.
+fn work_as<R: Wait>(rt: &R, map: &Map, keys: u64, work: Work, thread: u64, calls: u64) -> u64 {
+    let mut answered = 0u64;
+    for call in 0..calls {
+        let done = match work {
+            Work::Get => get(rt, map, place_of(thread, call, keys)),
+            Work::Insert => insert(rt, map, place_of(thread, call, FEW_KEYS), call),
+            Work::Load => load(rt, map, call),
+        };
+        answered = answered.wrapping_add(u64::from(done));
+    }
+    answered
+}
+
+fn get<R: Wait>(rt: &R, map: &Map, key: u64) -> bool {
+    map.lock(rt).contains_key(&key)
+}
+
+fn insert<R: Wait>(rt: &R, map: &Map, key: u64, value: u64) -> bool {
+    map.lock(rt).insert(key, value).is_ok()
+}
+
+/// Stores the key where it is absent.
+fn load<R: Wait>(rt: &R, map: &Map, key: u64) -> bool {
+    let mut locked = map.lock(rt);
+    locked.contains_key(&key) || locked.insert(key, key).is_ok()
+}
