@@ -1,8 +1,3 @@
-pub mod Ways
-pub mod Reached
-pub mod Wanting
-pub mod Keeping
-pub mod Stopping
+pub mod Turning
 pub mod Staging
 pub mod Suiting
-pub mod Looks

@@ -1,12 +1,12 @@
 -- How a state goes on once it was begun.
-use Rattle.std.proofs.Common.{◌≡◌, Bool, Result, Ok, Err, IfOk, OnErr, sym, ◌∙◌, subst}
+use Rattle.std.proofs.Common.{◌≡◌, Bool, Option, Result, Ok, Err, IfOk, OnOk, OnErr, refl, sym, ap, ◌∙◌, subst}
 use Rattle.moka_hist.specs.State.{Call}
 use Rattle.moka_hist.specs.Next.{answers}
 use Rattle.moka_hist.specs.declared.replies.Answer.{Answer}
 use Rattle.moka_hist.specs.declared.events.Told.{Told}
 use Rattle.moka_init.specs.FlowPlan.{call_of}
-use Rattle.moka_cache.specs.Paths.{CameWith, EndedWith}
-use Rattle.moka_cache.specs.Stages.{AnswersWith, Begins, CameOnWith}
+use Rattle.moka_kept.specs.Paths.{CameWith, EndedWith}
+use Rattle.moka_cache.specs.Stages.{AnswersWith, Begins, CameOnWith, IsNamed, name_in}
 use Rattle.moka_cache.specs.declared.stage.Stage.{Stage}
 use Rattle.moka_cache.specs.declared.stage.Stage.TheVariants as stage
 
@@ -55,3 +55,70 @@ module _ {A K V E : Type 0} (eq : K → K → Bool) (such : Told V E → Type 0)
       let came : (starts : A → Call K V E) → CameOnWith eq such starts mid new =
       subst (λ (x : Result T F). OnErr x ((starts : A → Call K V E) → CameOnWith eq such starts mid new)) is failed in
       came_since old mid new begun (came begins)
+
+-- ---- the key of the entry that it answers
+
+module _ {A K V E : Type 0} (names : A → Option K) where
+  -- nothing has changed
+  pub named_same : (stage : Stage A K V E) (kept : Option K) → IsNamed names stage kept stage kept
+  named_same (stage.Fresh a) kept = refl
+  named_same (stage.Running f) kept = refl
+  named_same stage.Spent kept = tt
+  named_same stage.Answered kept = refl
+
+module _ {A K V E : Type 0} (names : A → Option K) (eq : K → K → Bool) (begins : A → Call K V E) where
+  -- as the call is begun that key is kept which it begins with
+  pub named_begun : (begin : A) (before key : Option K) (new : Stage A K V E) → key ≡ names begin → Begins eq begins (stage.Fresh begin) new
+      → IsNamed names (stage.Fresh begin) before new key
+  named_begun begin before key (stage.Fresh kept) is begun = ap names begun
+  named_begun begin before key (stage.Running flow) is begun = is
+  named_begun begin before key stage.Spent is begun = tt
+  named_begun begin before key stage.Answered is begun = absurd begun
+
+  module _ (such : Told V E → Type 0) where
+    -- and stays, however the call goes on
+    pub named_since : (old mid new : Stage A K V E) (before kept : Option K) → IsNamed names old before mid kept → IsNamed names mid kept new kept → CameOnWith eq such begins mid new
+        → IsNamed names old before new kept
+    named_since old mid stage.Spent before kept one two came = tt
+    named_since old (stage.Fresh a) (stage.Fresh b) before kept one two came = two ∙ one
+    named_since old (stage.Fresh a) (stage.Running f) before kept one two came = two ∙ one
+    named_since old (stage.Fresh a) stage.Answered before kept one two came = two ∙ one
+    named_since old (stage.Running e) (stage.Fresh b) before kept one two came = two ∙ one
+    named_since old (stage.Running e) (stage.Running f) before kept one two came = two ∙ one
+    named_since old (stage.Running e) stage.Answered before kept one two came = two ∙ one
+    named_since old stage.Spent (stage.Fresh b) before kept one two came = absurd came
+    named_since old stage.Spent (stage.Running f) before kept one two came = absurd came
+    named_since old stage.Spent stage.Answered before kept one two came = absurd came
+    named_since old stage.Answered (stage.Fresh b) before kept one two came = absurd came
+    named_since old stage.Answered (stage.Running f) before kept one two came = absurd came
+    named_since old stage.Answered stage.Answered before kept one two came = absurd came
+
+    -- so it is that key where the call answers
+    pub named_told : (old mid : Stage A K V E) (before kept : Option K) (answer : Answer K V E) → IsNamed names old before mid kept → AnswersWith eq such begins mid answer
+        → name_in names mid kept ≡ kept → kept ≡ name_in names old before
+    named_told old (stage.Fresh a) before kept answer one by is = sym is ∙ one
+    named_told old (stage.Running f) before kept answer one by is = one
+    named_told old stage.Spent before kept answer one by is = absurd by
+    named_told old stage.Answered before kept answer one by is = absurd by
+
+    -- the same of what a poll answered
+    pub named_answered : {F : Type 0} (old mid : Stage A K V E) (before kept : Option K) (r : Result (Answer K V E) F) (answer : Answer K V E) → r ≡ Ok answer → IsNamed names old before mid kept
+        → IfOk r (λ a. (starts : A → Call K V E) → AnswersWith eq such starts mid a) → OnOk r ((keys : A → Option K) (key : Option K) → name_in keys mid key ≡ key)
+        → kept ≡ name_in names old before
+    named_answered {F} old mid before kept r answer is one answers begun =
+        let by : (starts : A → Call K V E) → AnswersWith eq such starts mid answer =
+        subst (λ (x : Result (Answer K V E) F). IfOk x (λ a. (starts : A → Call K V E) → AnswersWith eq such starts mid a)) is answers in
+        let there : (keys : A → Option K) (key : Option K) → name_in keys mid key ≡ key =
+        subst (λ (x : Result (Answer K V E) F). OnOk x ((keys : A → Option K) (key : Option K) → name_in keys mid key ≡ key)) is begun in
+        named_told old mid before kept answer one (by begins) (there names kept)
+
+    -- and of what left the call open
+    pub named_failed : {T F : Type 0} (old mid new : Stage A K V E) (before kept : Option K) (r : Result T F) (e : F) → r ≡ Err e → IsNamed names old before mid kept
+        → OnErr r ((keys : A → Option K) (key : Option K) → IsNamed keys mid key new key) → OnErr r ((starts : A → Call K V E) → CameOnWith eq such starts mid new)
+        → IsNamed names old before new kept
+    named_failed {T} {F} old mid new before kept r e is one two failed =
+        let same : (keys : A → Option K) (key : Option K) → IsNamed keys mid key new key =
+        subst (λ (x : Result T F). OnErr x ((keys : A → Option K) (key : Option K) → IsNamed keys mid key new key)) is two in
+        let came : (starts : A → Call K V E) → CameOnWith eq such starts mid new =
+        subst (λ (x : Result T F). OnErr x ((starts : A → Call K V E) → CameOnWith eq such starts mid new)) is failed in
+        named_since old mid new before kept one (same names kept) (came begins)

@@ -1,5 +1,6 @@
 -- A call that asks nobody answers as what it was started for may, over all its polls.
-use Rattle.std.proofs.Common.{◌≡◌, ℕ, Bool, true, List, [], ◌∷◌, ◌++◌, map, Result, Ok, OnOk, sym, ap, subst}
+use Rattle.std.proofs.Common.{◌≡◌, ℕ, Bool, true, List, [], ◌∷◌, ◌++◌, map, Option, IsSome, Result, Ok, OnOk, refl, sym, ap, subst}
+use Rattle.std.proofs.lemmas.Bool.{false≢true}
 use Rattle.moka_hist.specs.Next.{Next, answers}
 use Rattle.moka_hist.specs.Run.{fresh_call}
 use Rattle.moka_hist.specs.State.{Call}
@@ -7,15 +8,20 @@ use Rattle.moka_hist.specs.Step.{Access, Gets, access_of}
 use Rattle.moka_hist.specs.declared.accesses.Got.{Got}
 use Rattle.moka_hist.specs.declared.events.Start.{Start}
 use Rattle.moka_hist.specs.declared.events.Told.{Told}
+use Rattle.moka_hist.specs.declared.events.Start.TheVariants as begins
 use Rattle.moka_hist.specs.declared.replies.Answer.{Answer}
+use Rattle.moka_hist.specs.declared.replies.Answer.TheVariants as answer
 use Rattle.moka_hist.specs.declared.rules.Rules.{Rules}
 use Rattle.moka_init.specs.FlowPlan.{call_of}
 use Rattle.moka_laws.specs.Loads.{may_answer}
 use Rattle.moka_laws.specs.Shapes.{Fits, MayGive, MayLead, ShapesFit, asks_nobody}
-use Rattle.moka_cache.specs.Paths.{CameWith, EndedWith, IsGiven, LeadsWith}
+use Rattle.moka_kept.specs.Paths.{CameWith, EndedWith, IsGiven, LeadsWith}
+use Rattle.moka_kept.specs.Taking.{NoAnswer}
+use Rattle.moka_cache.specs.Entries.{entry_in}
 use Rattle.moka_cache.specs.Stages.{AnswersWith, CameOnWith}
 use Rattle.moka_cache.specs.Starts.{called}
-use Rattle.moka_cache.specs.Suits.{IsAnswerOf, Suits}
+use Rattle.moka_cache.specs.Suits.{IsAnswerOf, Suits, Tells}
+use Rattle.moka_kept.proofs.Ways.{ended_on, ended_weaker}
 use Rattle.moka_cache.specs.declared.stage.Stage.{Stage}
 use Rattle.moka_cache.specs.declared.stage.Stage.TheVariants as stage
 
@@ -75,6 +81,47 @@ module _ {A K V E : Type 0} (eq : K → K → Bool) (law : ShapesFit K V E eq) (
   suits_answer (stage.Running old) answer by suits = (suits.0, fits_end eq such old.call (start suits.0) (call_of old) answer suits.1 by)
   suits_answer stage.Spent answer by suits = absurd by
   suits_answer stage.Answered answer by suits = absurd by
+
+-- ---- what is told of answers
+
+module _ {A K V E O : Type 0} (eq : K → K → Bool) (such other : Told V E → Type 0) (weaker : (told : Told V E) → such told → other told) (begins : A → Call K V E)
+    (output : Option K → Answer K V E → Option O) where
+  -- A state still tells of each answer that its call may come to. By then who is asked may give less.
+  pub tells_on : (old new : Stage A K V E) → CameOnWith eq other begins old new → Tells eq other begins output old → Tells eq such begins output new
+  tells_on (stage.Fresh begin) (stage.Fresh kept) came tells named answer by =
+      tells named answer (by.0, ended_weaker eq such other weaker by.0 (begins begin) (answers answer) (subst (λ b. EndedWith eq such by.0 (begins b) (answers answer)) came by.1))
+  tells_on (stage.Fresh begin) (stage.Running flow) came tells named answer by =
+      tells named answer
+      (flow.call, ended_on eq other flow.call (begins begin) (call_of flow) (answers answer) came (ended_weaker eq such other weaker flow.call (call_of flow) (answers answer) by))
+  tells_on (stage.Running old) (stage.Running new) came tells named answer by =
+      tells named answer
+      (ended_on eq other old.call (call_of old) (call_of new) (answers answer) came.1
+      (ended_weaker eq such other weaker old.call (call_of new) (answers answer) (subst (λ n. EndedWith eq such n (call_of new) (answers answer)) came.0 by)))
+  tells_on (stage.Running old) (stage.Fresh kept) came tells named answer by = absurd came
+  tells_on stage.Spent (stage.Fresh kept) came tells named answer by = absurd came
+  tells_on stage.Spent (stage.Running new) came tells named answer by = absurd came
+  tells_on stage.Answered (stage.Fresh kept) came tells named answer by = absurd came
+  tells_on stage.Answered (stage.Running new) came tells named answer by = absurd came
+  tells_on old stage.Spent came tells named answer by = absurd by
+  tells_on old stage.Answered came tells named answer by = absurd by
+
+-- one that has answered has nothing to tell
+pub tells_over : {A K V E O : Type 0} (eq : K → K → Bool) (such : Told V E → Type 0) (begins : A → Call K V E) (output : Option K → Answer K V E → Option O) (new : Stage A K V E) → new ≡ stage.Answered
+    → Tells eq such begins output new
+tells_over eq such begins output new over named answer by = absurd (subst (λ s. AnswersWith eq such begins s answer) over by)
+
+-- what stores a value where there is none answers an entry
+pub or_inserts : {A K V E : Type 0} (key : A → K) (value : A → V) (named : Option K) (given : Answer K V E) → IsAnswerOf (λ begin. begins.OrInsert (key begin) (value begin)) given
+    → IsSome (entry_in named given)
+or_inserts key value named (answer.Loaded v fresh) is = refl
+or_inserts key value named _ is = absurd (false≢true is.1)
+
+-- so a state of it tells of each answer
+pub or_inserts_tell : {A K V E : Type 0} (eq : K → K → Bool) (law : ShapesFit K V E eq) (rules : Rules) (key : A → K) (value : A → V) (made : Stage A K V E) (begin : A) → made ≡ stage.Fresh begin
+    → Tells eq NoAnswer (called rules (λ it. begins.OrInsert (key it) (value it))) entry_in made
+or_inserts_tell {A} {K} {V} {E} eq law rules key value made begin is named given by =
+    let start : A → Start K V = λ it. begins.OrInsert (key it) (value it) in
+    or_inserts key value named given (suits_answer eq law NoAnswer rules start (stage.Fresh begin) given (subst (λ s. AnswersWith eq NoAnswer (called rules start) s given) is by) refl)
 
 -- what an answer leaves
 pub when_ok : {A F : Type 0} (P : Type 0) (r : Result A F) (a : A) → r ≡ Ok a → OnOk r P → P

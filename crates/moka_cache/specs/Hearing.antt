@@ -8,8 +8,8 @@ use Rattle.moka_init.specs.FlowPlan.{call_of}
 use Rattle.moka_init.specs.declared.flow.Flow.{Flow}
 use Rattle.moka_cache.specs.declared.errors.PollError.{PollError}
 use Rattle.moka_cache.specs.declared.errors.PollError.TheVariants as error
-use Rattle.moka_cache.specs.declared.stop.Stop.{Stop}
-use Rattle.moka_cache.specs.declared.stop.Stop.TheVariants as stop
+use Rattle.moka_kept.specs.declared.stop.Stop.{Stop}
+use Rattle.moka_kept.specs.declared.stop.Stop.TheVariants as stop
 
 -- the notices whose polls the listener leaves pending, if there is one
 abbrev pub Unheard : {L : Type 0} → (L → ℕ → Type 0) → Option L → ℕ → Type 0

@@ -1,13 +1,10 @@
 pub mod Settings
-pub mod Kept
+pub mod Keys
 pub mod Asked
 pub mod Loaded
-pub mod Paths
-pub mod Parked
-pub mod Rests
+pub mod Entries
 pub mod Hearing
-pub mod Stops
+pub mod Polls
 pub mod Stages
 pub mod Starts
 pub mod Suits
-pub mod Counts

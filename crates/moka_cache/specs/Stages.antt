@@ -1,17 +1,16 @@
 -- What a poll of a state does, by how far the state is.
 use Rattle.std.specs.Prelude.{◌≡◌, ℕ, Bool, Option, Some, None}
 use Rattle.moka_hist.specs.Next.{answers}
-use Rattle.moka_hist.specs.Run.{last_call}
-use Rattle.moka_hist.specs.SoundDesk.{SoundDesk}
-use Rattle.moka_hist.specs.State.{Call, DeskPart}
+use Rattle.moka_hist.specs.State.{Call}
 use Rattle.moka_hist.specs.declared.replies.Answer.{Answer}
 use Rattle.moka_hist.specs.declared.replies.Answer.TheVariants as answer
 use Rattle.moka_init.specs.FlowPlan.{call_of}
 use Rattle.moka_hist.specs.declared.events.Told.{Told}
-use Rattle.moka_cache.specs.Asked.{NoAnswer}
-use Rattle.moka_cache.specs.Paths.{CameWith, EndedWith}
-use Rattle.moka_cache.specs.Rests.{Rests}
-use Rattle.moka_cache.specs.Stops.{Pends}
+use Rattle.moka_kept.specs.Kept.{NumbersSpent}
+use Rattle.moka_kept.specs.Paths.{CameWith, EndedWith}
+use Rattle.moka_kept.specs.Rests.{Rests}
+use Rattle.moka_kept.specs.Taking.{NoAnswer}
+use Rattle.moka_cache.specs.Polls.{Pends}
 use Rattle.moka_cache.specs.declared.stage.Stage.{Stage}
 use Rattle.moka_cache.specs.declared.stage.Stage.TheVariants as stage
 
@@ -28,10 +27,6 @@ value_in answer.RetriesExhausted = None
 value_in answer.Evicted = None
 value_in answer.Kept = None
 
--- some sound desk has given the greatest number out
-abbrev pub NumbersSpent : (K V E : Type 0) → (K → K → Bool) → Type 0
-NumbersSpent K V E eq = (w : DeskPart K V E) × SoundDesk eq w × (w.last ≡ last_call)
-
 module _ {A K V E : Type 0} where
   -- the state may be polled: it has not answered
   abbrev pub MayPoll : Stage A K V E → Type 0
@@ -44,6 +39,17 @@ module _ {A K V E : Type 0} where
   abbrev pub BeginsWith : Stage A K V E → (A → Type 0) → Type 0
   BeginsWith (stage.Fresh begin) holds = holds begin
   BeginsWith _ holds = ⊥
+
+  -- the key of the entry that the state answers, if the call's own answer has none: kept once its
+  -- call was begun, and before as it begins
+  abbrev pub name_in : (A → Option K) → Stage A K V E → Option K → Option K
+  name_in names (stage.Fresh begin) kept = names begin
+  name_in names _ kept = kept
+
+  -- it stays that key, unless no number was left
+  abbrev pub IsNamed : (A → Option K) → Stage A K V E → Option K → Stage A K V E → Option K → Type 0
+  IsNamed names old before stage.Spent after = Unit {0}
+  IsNamed names old before new after = name_in names new after ≡ name_in names old before
 
   -- A poll that answers nothing brought the state so far, whose call is to begin with this start:
   -- it took no number yet, or none was left; or its call came by accesses to where it is, from

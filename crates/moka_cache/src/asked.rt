@@ -1,11 +1,10 @@
 //! Who is asked where a call asks its caller.
-ghost use Rattle.std.specs.Prelude.{IfSome, IsSomeAnd};
+ghost use Rattle.std.specs.Prelude.{IfSome};
 ghost use Rattle.futures.specs.Poll.{IfReady, OnPending};
 ghost use Rattle.futures.specs.Task.{IsArmed, Keeps};
 ghost use Rattle.moka_hist.specs.declared.events.Told.{Told};
-ghost use Rattle.moka_cache.specs.Asked.{NoAnswer, TellsValue};
+ghost use Rattle.moka_kept.specs.Taking.{NoAnswer};
 
-use crate::init::Init;
 use futures::task::{Context, Poll};
 use moka_hist::Told;
 
@@ -46,33 +45,5 @@ impl<V, E> Asked<V, E> for Nobody {
 
     fn poll(&mut self, _cx: &mut Context<'_>) -> Poll<Option<Told<V, E>>> {
         Poll::Ready(None)
-    }
-}
-
-/// An initializer that is asked for a value. Once it gave one it is gone, so that it is never
-/// polled again.
-#[derive(Drop)]
-pub struct ByInit<I> {
-    pub(crate) init: Option<I>,
-}
-
-impl<V, E, I: Init<V>> Asked<V, E> for ByInit<I> {
-    ghost can_poll = { λ asked. IfSome asked.init I.can_poll };
-
-    ghost gives = { λ asked told. IsSomeAnd asked.init (λ init. TellsValue (I.gives init) told) };
-
-    ghost pends = { λ old new. IsSomeAnd old.init (λ init. IsSomeAnd new.init (I.pends init)) };
-
-    fn poll(&mut self, cx: &mut Context<'_>) -> Poll<Option<Told<V, E>>> {
-        match &mut self.init {
-            Some(init) => match init.poll(cx) {
-                Poll::Ready(value) => {
-                    self.init = None;
-                    Poll::Ready(Some(Told::Value(value)))
-                }
-                Poll::Pending => Poll::Pending,
-            },
-            None => Poll::Ready(None),
-        }
     }
 }

@@ -1,10 +1,37 @@
 //! What the states of a cache's calls differ in.
-ghost use Rattle.std.specs.Prelude.{◌≡◌, IfOk, IfErr};
+ghost use Rattle.std.specs.Prelude.{◌≡◌, Option, Some, None, IsSome, IfOk, IfErr};
 ghost use Rattle.moka_hist.specs.Finite.{IsExact};
 ghost use Rattle.moka_hist.specs.declared.events.Start.{Start};
 ghost use Rattle.moka_hist.specs.declared.replies.Answer.{Answer};
 
 use moka_hist::{Answer, Start};
+
+/// What a call is begun by: its start, and the key of the entry that is to be answered, where the
+/// call's own answer has none.
+#[derive(Drop)]
+pub struct Begun<K, V> {
+    pub start: Start<K, V>,
+    pub named: Option<K>,
+}
+
+impl<K, V> Begun<K, V> {
+    /// A call of this start, whose answer needs no key.
+    pub(crate) fn unnamed(start: Start<K, V>) -> Self
+        ensures { result ≡ record { start = start; named = None } }
+    {
+        Begun { start, named: None }
+    }
+
+    /// A call of this start, whose answer is an entry of this key.
+    pub(crate) fn named(start: Start<K, V>, key: K) -> Self
+        ensures { result ≡ record { start = start; named = Some key } }
+    {
+        Begun {
+            start,
+            named: Some(key),
+        }
+    }
+}
 
 /// What a state begins its call with, and what it tells of the answer.
 pub trait Begin<K: Clone, V, E>: Drop {
@@ -13,16 +40,22 @@ pub trait Begin<K: Clone, V, E>: Drop {
     /// How its call starts.
     ghost start: { Self → Start K V };
 
-    /// What the state answers where its call answers this.
-    ghost output: { Answer K V E → Self.Output };
+    /// The key of the entry that it answers, where the call's own answer has none.
+    ghost named: { Self → Option K };
 
-    /// Gives the start of the call. Without memory for a copy of the key it gives itself back.
-    fn start(self) -> Result<Start<K, V>, Self>
+    /// What the state answers by that key, where its call answers this. None where its call never
+    /// does.
+    ghost output: { Option K → Answer K V E → Option Self.Output };
+
+    /// Gives what the call is begun by. Without memory for copies of the key it gives itself back.
+    fn start(self) -> Result<Begun<K, V>, Self>
         requires keys { IsExact K.is_clone }
-        ensures ok { IfOk result (λ made. made ≡ start self) }
+        ensures ok { IfOk result (λ begun. begun.start ≡ start self) }
+        ensures key { IfOk result (λ begun. begun.named ≡ named self) }
         ensures err { IfErr result (λ kept. kept ≡ self) };
 
     /// Tells the answer.
-    fn output(answer: Answer<K, V, E>) -> Self::Output
-        ensures told { result ≡ output answer };
+    fn output(key: Option<K>, answer: Answer<K, V, E>) -> Self::Output
+        requires { IsSome (output key answer) }
+        ensures told { Some result ≡ output key answer };
 }

@@ -5,10 +5,10 @@ ghost use Rattle.std.specs.Arc.{arc_value};
 ghost use Rattle.std.specs.String.{string_bytes};
 
 use crate::builder::CacheBuilder;
-use crate::kept::Kept;
 use crate::listener::NoListener;
 use moka_engine::Policy;
 use moka_hist::Rules;
+use moka_kept::Kept;
 use std::alloc::{AllocError, Global};
 use std::hash::{BuildHasherDefault, FoldHasher, Hash};
 use std::sync::{Arc, Mutex};

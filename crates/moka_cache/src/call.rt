@@ -1,5 +1,5 @@
 //! A call of a cache, as a state that is polled.
-ghost use Rattle.std.specs.Prelude.{◌≡◌, ◌↔◌, IfOk, IfErr, OnOk, OnErr};
+ghost use Rattle.std.specs.Prelude.{◌≡◌, ◌↔◌, Some, IfOk, IfErr, OnOk, OnErr};
 ghost use Rattle.futures.specs.Poll.{IfReady, OnPending};
 ghost use Rattle.futures.specs.Task.{IsArmed, Keeps};
 ghost use Rattle.moka_hist.specs.Finite.{IsExact};
@@ -7,9 +7,10 @@ ghost use Rattle.moka_hist.specs.declared.replies.Answer.{Answer};
 ghost use Rattle.moka_cache.specs.Hearing.{Unheard};
 ghost use Rattle.moka_cache.specs.Settings.{listener_of, rules_of};
 ghost use Rattle.moka_hist.specs.declared.events.Told.{Told};
-ghost use Rattle.moka_cache.specs.Stages.{AnswersWith, Begins, CameOnWith, MayPoll, StagePends};
+ghost use Rattle.moka_cache.specs.Stages.{AnswersWith, Begins, CameOnWith, IsNamed, MayPoll};
+ghost use Rattle.moka_cache.specs.Stages.{StagePends, name_in};
 ghost use Rattle.moka_cache.specs.Starts.{called};
-ghost use Rattle.moka_cache.specs.Suits.{IsAnswerOf, Suits};
+ghost use Rattle.moka_cache.specs.Suits.{IsAnswerOf, Suits, Tells};
 
 use crate::asked::{Asked, Nobody};
 use crate::begin::Begin;
@@ -33,6 +34,7 @@ use std::sync::Wait;
 pub struct CacheCall<'a, A, K: Eq + Hash, V, E, Q, L = NoListener, S = FixedSeed> {
     cache: &'a Cache<K, V, E, L, S>,
     stage: Stage<A, K, V, E>,
+    named: Option<K>,
     asked: Q,
     nested: Nested<K, V, E>,
 }
@@ -70,38 +72,52 @@ where
         CacheCall {
             cache: self,
             stage: Stage::Fresh(begin),
+            named: None,
             asked,
             nested: PhantomData,
         }
     }
 
-    /// Begins the call of a state that is fresh. Without memory for its key that stays so.
+    /// Begins the call of a state that is fresh, and keeps the key that its answer needs. Without
+    /// memory for its key that stays so.
     pub(crate) fn begin<R: Wait, A: Begin<K, V, E>>(
         &self,
         rt: &R,
         stage: &mut Stage<A, K, V, E>,
+        named: &mut Option<K>,
         moment: u64,
     )
         requires keys { IsExact K.is_clone }
         requires may { MayPoll stage.old }
         ensures begins { Begins K.eq (called (rules_of self.now) A.start) stage.old stage.new }
+        ensures names { IsNamed A.named stage.old named.old stage.new named.new }
         ensures may { MayPoll stage.new }
     {
         match mem::replace(stage, Stage::Spent) {
-            Stage::Fresh(begin) => put(stage, self.begun(rt, begin, moment)),
+            Stage::Fresh(begin) => put(stage, self.begun(rt, begin, named, moment)),
             other => put(stage, other),
         }
     }
 
     // The stage of a call that begins so.
-    fn begun<R: Wait, A: Begin<K, V, E>>(&self, rt: &R, begin: A, moment: u64) -> Stage<A, K, V, E>
+    fn begun<R: Wait, A: Begin<K, V, E>>(
+        &self,
+        rt: &R,
+        begin: A,
+        named: &mut Option<K>,
+        moment: u64,
+    ) -> Stage<A, K, V, E>
         requires keys { IsExact K.is_clone }
         ensures begins { Begins K.eq (called (rules_of self.now) A.start) (Stage.Fresh begin)
             result }
+        ensures names { IsNamed A.named (Stage.Fresh begin) named.old result named.new }
         ensures may { MayPoll result }
     {
         match begin.start() {
-            Ok(start) => self.numbered(rt, start, moment),
+            Ok(begun) => {
+                *named = begun.named;
+                self.numbered(rt, begun.start, moment)
+            }
             Err(kept) => Stage::Fresh(kept),
         }
     }
@@ -157,18 +173,25 @@ where
         requires errors { IsExact E.is_clone }
         requires may { MayPoll self.old.stage }
         requires asks { Q.can_poll self.old.asked }
+        requires tells { Tells K.eq (Q.gives self.old.asked)
+            (called (rules_of self.old.cache.now) A.start) A.output self.old.stage }
         // What was done.
         ensures answers { IfReady result (λ r. IfOk r (λ told. (answer : Answer K V E)
             × AnswersWith K.eq (Q.gives self.old.asked)
             (called (rules_of self.old.cache.now) A.start) self.old.stage answer
             × (Suits K.eq A.start self.old.stage → IsAnswerOf A.start answer)
-            × (told ≡ A.output answer))) }
+            × (Some told ≡ A.output (name_in A.named self.old.stage self.old.named) answer))) }
         ensures failed { IfReady result (λ r. OnErr r
             (CameOnWith K.eq (Q.gives self.old.asked)
             (called (rules_of self.old.cache.now) A.start) self.old.stage self.new.stage)) }
         ensures came { OnPending result
             (CameOnWith K.eq (Q.gives self.old.asked)
             (called (rules_of self.old.cache.now) A.start) self.old.stage self.new.stage) }
+        // The key that its answer needs is kept.
+        ensures names { OnPending result
+            (IsNamed A.named self.old.stage self.old.named self.new.stage self.new.named) }
+        ensures names_on { IfReady result (λ r. OnErr r
+            (IsNamed A.named self.old.stage self.old.named self.new.stage self.new.named)) }
         // Why it answers nothing.
         ensures cause { OnPending result
             (StagePends K.eq Q.pends (Unheard L.pends (listener_of self.old.cache.now))
@@ -180,6 +203,8 @@ where
         ensures again { IfReady result (λ r. OnErr r (MayPoll self.new.stage)) }
         ensures over { IfReady result (λ r. OnOk r (self.new.stage ≡ Stage.Answered)) }
         ensures suits { Suits K.eq A.start self.old.stage → Suits K.eq A.start self.new.stage }
+        ensures tells { Tells K.eq (Q.gives self.new.asked)
+            (called (rules_of self.new.cache.now) A.start) A.output self.new.stage }
         ensures cache { self.new.cache.now ≡ self.old.cache.now }
         // Who is asked can still be polled, and may give no other answer.
         ensures asks { Q.can_poll self.new.asked }
@@ -190,12 +215,13 @@ where
         ensures kept { Keeps cx.old cx.new }
     {
         moka_laws::shapes_fit::<K, V, E>();
-        self.cache.begin(rt, &mut self.stage, moment);
+        self.cache
+            .begin(rt, &mut self.stage, &mut self.named, moment);
         match self
             .cache
             .advance(rt, &mut self.stage, &mut self.asked, cx, moment)
         {
-            Poll::Ready(Ok(answer)) => Poll::Ready(Ok(A::output(answer))),
+            Poll::Ready(Ok(answer)) => Poll::Ready(Ok(A::output(self.named.take(), answer))),
             Poll::Ready(Err(e)) => Poll::Ready(Err(e)),
             Poll::Pending => Poll::Pending,
         }
@@ -207,9 +233,11 @@ where
         let CacheCall {
             cache,
             stage,
+            named,
             asked,
             nested: _,
         } = self;
+        drop(named);
         drop(asked);
         cache.let_go(rt, stage);
     }
@@ -221,9 +249,11 @@ where
         let CacheCall {
             cache: _,
             stage,
+            named,
             asked,
             nested: _,
         } = self;
+        drop(named);
         drop(asked);
         drop(stage);
     }
@@ -243,7 +273,9 @@ where
     type Output = A::Output;
 
     ghost can_poll = { λ call. IsExact K.is_clone × IsExact V.is_clone × IsExact E.is_clone
-        × MayPoll call.stage × Q.can_poll call.asked };
+        × MayPoll call.stage × Q.can_poll call.asked
+        × Tells K.eq (Q.gives call.asked) (called (rules_of call.cache.now) A.start) A.output
+        call.stage };
 
     fn poll(
         &mut self,

@@ -1,17 +1,10 @@
 //! What a cache tells of its records, in one hold of the lock, and by no call.
-ghost use Rattle.std.specs.Prelude.{◌≡◌, ◌≤◌, IfOk, is_some};
-ghost use Rattle.std.specs.HashMap.{hash_map_len};
+ghost use Rattle.std.specs.Prelude.{◌≡◌, ◌≤◌, IfOk};
 ghost use Rattle.moka_hist.specs.Finite.{IsExact};
 ghost use Rattle.moka_hist.specs.State.{World};
-ghost use Rattle.moka_table.specs.Map.{SameMap};
-ghost use Rattle.moka_table.specs.Plain.{map_of, peak_of};
-ghost use Rattle.moka_cache.specs.Counts.{Behind, is_found, sees};
+ghost use Rattle.moka_kept.specs.Counts.{Behind, sees};
 
 use crate::cache::{Cache, Shared};
-use crate::ground::Reach;
-use crate::kept::Kept;
-use moka_hist::{TableAnswer, TableOp, TableTurn};
-use moka_table::{PlainTable, Table};
 use std::alloc::AllocError;
 use std::hash::Hash;
 use std::sync::Wait;
@@ -56,73 +49,5 @@ where
         ensures { Behind K.eq (λ (w : World K V E). result ≡ w.desk.published) }
     {
         self.entry_count(rt)
-    }
-}
-
-impl<K: Eq + Hash + Clone + Drop, V: Clone + Drop, E: Clone + Drop> Kept<K, V, E> {
-    // Whether the table has the key, once the clock has moved on to the moment.
-    fn contains_key(&mut self, key: &K, moment: u64) -> Result<bool, AllocError>
-        requires keys { IsExact K.is_clone }
-        requires values { IsExact V.is_clone }
-        ensures { IfOk result (λ there.
-            Behind K.eq (λ (w : World K V E). (moment ≤ w.desk.clock)
-            × (there ≡ sees w key.now))) }
-    {
-        self.reach.move_clock(moment);
-        self.reach.contains_key(key)
-    }
-
-    // How many records the last turn counted.
-    fn entry_count(&self) -> u64
-        ensures { Behind K.eq (λ (w : World K V E). result ≡ w.desk.published) }
-    {
-        self.reach.layers.desk.published()
-    }
-}
-
-impl<K: Eq + Hash + Clone + Drop, V: Clone + Drop, E: Clone + Drop> Reach<K, V, E> {
-    ghost use Rattle.moka_layers.specs.Layers.{WorldIs};
-    ghost use Rattle.moka_table.specs.Plain.{plain_table};
-    ghost use Rattle.moka_cache.specs.Kept.{IsKept, no_tests};
-
-    // Whether the table has the key, by one look.
-    fn contains_key(&mut self, key: &K) -> Result<bool, AllocError>
-        requires keys { IsExact K.is_clone }
-        requires values { IsExact V.is_clone }
-        requires kept { IsKept K.eq self.old.layers }
-        ensures kept { IsKept K.eq self.new.layers }
-        ensures sees { IfOk result (λ there. (w : World K V E)
-            → WorldIs K.eq (plain_table K.eq) no_tests self.old.layers w → there ≡ sees w key.now) }
-    {
-        has_key(&mut self.layers.table, key)
-    }
-}
-
-// Whether the table has the key, by one look, which changes nothing.
-fn has_key<K: Eq + Hash + Clone + Drop, V: Clone + Drop>(
-    table: &mut PlainTable<K, V>,
-    key: &K,
-) -> Result<bool, AllocError>
-    requires keys { IsExact K.is_clone }
-    requires values { IsExact V.is_clone }
-    ensures there { IfOk result (λ there. there ≡ is_some (map_of K.eq table.old key.now)) }
-    ensures map { SameMap (map_of K.eq table.old) (map_of K.eq table.new) }
-    ensures count { hash_map_len table.new.pairs ≡ hash_map_len table.old.pairs }
-    ensures peak { peak_of table.new ≡ peak_of table.old }
-{
-    let key = key.clone()?;
-    let mut look = table.begin(TableOp::Get { key });
-    let turn = table.step(&mut look)?;
-    Ok(is_found(turn))
-}
-
-// Whether a look that has decided found a record.
-fn is_found<K: Drop, V: Drop>(turn: TableTurn<K, V>) -> bool
-    ensures { result ≡ is_found turn }
-{
-    match turn {
-        TableTurn::Decided(TableAnswer::Some { key: _, stored: _ }) => true,
-        TableTurn::Decided(TableAnswer::None) => false,
-        TableTurn::Going => false,
     }
 }

@@ -1,25 +1,22 @@
 //! The polls of all states: steps under the lock, hold by hold.
-ghost use Rattle.std.specs.Prelude.{◌≡◌, ◌⊎◌, ◌↔◌, Some, IfOk, IfErr, IfNone, IfSome, OnOk, OnErr};
+ghost use Rattle.std.specs.Prelude.{◌≡◌, ◌⊎◌, ◌↔◌, Option, Some, IfOk, IfErr, IfNone, IfSome, OnOk, OnErr};
 ghost use Rattle.futures.specs.Poll.{IfReady, OnPending};
 ghost use Rattle.futures.specs.Task.{IsArmed, Keeps};
 ghost use Rattle.moka_hist.specs.Finite.{IsExact};
 ghost use Rattle.moka_hist.specs.declared.events.Told.{Told};
-ghost use Rattle.moka_cache.specs.Rests.{Rests};
-ghost use Rattle.moka_cache.specs.Stages.{NumbersSpent};
-ghost use Rattle.moka_cache.specs.Stops.{StopIs};
+ghost use Rattle.moka_kept.specs.Kept.{NumbersSpent};
+ghost use Rattle.moka_kept.specs.Rests.{Rests};
+ghost use Rattle.moka_kept.specs.Stops.{StopIs};
 
 use crate::asked::Asked;
 use crate::cache::{Cache, Shared};
 use crate::errors::PollError;
-use crate::hearing::Heard;
 use crate::listener::Listener;
-use crate::parked::Wakers;
-use crate::reaching::is_asking;
 use crate::stage::Stage;
-use crate::stop::Stop;
 use futures::task::{Context, Poll};
 use moka_hist::{Answer, Start, Told};
 use moka_init::Flow;
+use moka_kept::{Heard, Stop, Wakers, is_asking};
 use std::collections::LinkedList;
 use std::hash::Hash;
 use std::mem;
@@ -36,10 +33,12 @@ where
     ghost use Rattle.moka_hist.specs.Run.{fresh_call};
     ghost use Rattle.moka_init.specs.FlowPlan.{call_of};
     ghost use Rattle.moka_hist.specs.State.{Call};
+    ghost use Rattle.moka_kept.specs.Stops.{Waits};
     ghost use Rattle.moka_cache.specs.Hearing.{Awaits, Unheard};
+    ghost use Rattle.moka_cache.specs.Polls.{Pends, PollIs, TurnIs};
     ghost use Rattle.moka_cache.specs.Settings.{listener_of, rules_of};
-    ghost use Rattle.moka_cache.specs.Stages.{AnswersWith, CameOnWith, MayPoll, StagePends};
-    ghost use Rattle.moka_cache.specs.Stops.{Pends, PollIs, TurnIs, Waits};
+    ghost use Rattle.moka_cache.specs.Stages.{AnswersWith, CameOnWith, IsNamed, MayPoll};
+    ghost use Rattle.moka_cache.specs.Stages.{StagePends, name_in};
 
     /// Moves the clock on to the moment, where that is later, and gives the call of this start the
     /// next number. Answers None where the greatest one was given out.
@@ -90,6 +89,13 @@ where
         ensures pending { OnPending result (MayPoll stage.new) }
         ensures again { IfReady result (λ r. OnErr r (MayPoll stage.new)) }
         ensures over { IfReady result (λ r. OnOk r (stage.new ≡ Stage.Answered)) }
+        // It was begun before, where its call goes on.
+        ensures names { OnPending result ((names : A → Option K) (kept : Option K)
+            → IsNamed names stage.old kept stage.new kept) }
+        ensures names_on { IfReady result (λ r. OnErr r ((names : A → Option K) (kept : Option K)
+            → IsNamed names stage.old kept stage.new kept)) }
+        ensures begun { IfReady result (λ r. OnOk r ((names : A → Option K) (kept : Option K)
+            → name_in names stage.old kept ≡ kept)) }
         // Who is asked can still be polled, and may give no other answer.
         ensures asks { Q.can_poll asked.new }
         ensures same { (told : Told V E) → Q.gives asked.new told → Q.gives asked.old told }

@@ -13,3 +13,13 @@ pub enum PollError {
 /// Why a load answers no value: the owners that it waited for were dropped 200 times.
 #[derive(Clone, Copy, PartialEq, Eq, Debug)]
 pub struct RetriesExhausted;
+
+/// Why a load that may fail answers no value.
+#[derive(Clone, PartialEq, Debug, Drop)]
+pub enum LoadError<E> {
+    /// The initializer that was run for it gave this error: its own, or that of the load for which
+    /// it waited.
+    Init(E),
+    /// The owners that it waited for were dropped 200 times.
+    RetriesExhausted,
+}

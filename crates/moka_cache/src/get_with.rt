@@ -1,30 +1,32 @@
 //! Loading a value.
 ghost use Rattle.std.specs.Prelude.{◌≡◌, Some, None};
 ghost use Rattle.moka_hist.specs.declared.events.Start.TheVariants as Start;
+ghost use Rattle.moka_cache.specs.Keys.{key_of};
 ghost use Rattle.moka_cache.specs.Loaded.{loaded_in};
 ghost use Rattle.moka_cache.specs.Stages.{BeginsWith, MayPoll};
 
-use crate::asked::ByInit;
-use crate::begin::Begin;
+use crate::begin::{Begin, Begun};
+use crate::by_init::ByInit;
 use crate::cache::{Cache, FixedSeed};
 use crate::call::CacheCall;
 use crate::errors::RetriesExhausted;
 use crate::get::value_in;
 use crate::init::Init;
+use crate::key::CallKey;
 use crate::listener::{Listener, NoListener};
 use moka_hist::{Answer, Start};
 use std::hash::Hash;
 
 /// What a load looks up, and stores where it is absent.
 #[derive(Drop)]
-pub struct ToLoad<K> {
-    key: K,
+pub struct ToLoad<'a, K> {
+    key: CallKey<'a, K>,
 }
 
 /// Looks the value of a key up, or loads it, polled until it is there.
 pub type GetWith<'a, K, V, E, I, L = NoListener, S = FixedSeed> = CacheCall<
     'a,
-    ToLoad<K>,
+    ToLoad<'a, K>,
     K,
     V,
     E,
@@ -33,22 +35,24 @@ pub type GetWith<'a, K, V, E, I, L = NoListener, S = FixedSeed> = CacheCall<
     S,
 >;
 
-impl<K: Clone + Drop, V: Drop, E: Drop> Begin<K, V, E> for ToLoad<K> {
+impl<K: Clone + Drop, V: Drop, E: Drop> Begin<K, V, E> for ToLoad<'_, K> {
     type Output = Result<V, RetriesExhausted>;
 
-    ghost start = { λ load. Start.GetWith load.key None };
+    ghost start = { λ load. Start.GetWith (key_of load.key) None };
 
-    ghost output = { loaded_in };
+    ghost named = { λ load. None };
 
-    fn start(self) -> Result<Start<K, V>, Self> {
-        Ok(Start::GetWith {
-            key: self.key,
-            replace: None,
-        })
+    ghost output = { λ named answer. Some (loaded_in answer) };
+
+    fn start(self) -> Result<Begun<K, V>, Self> {
+        match self.key.into_key() {
+            Ok(key) => Ok(Begun::unnamed(Start::GetWith { key, replace: None })),
+            Err(key) => Err(ToLoad { key }),
+        }
     }
 
-    fn output(answer: Answer<K, V, E>) -> Result<V, RetriesExhausted>
-        ensures told { result ≡ loaded_in answer }
+    fn output(_key: Option<K>, answer: Answer<K, V, E>) -> Result<V, RetriesExhausted>
+        ensures told { Some result ≡ Some (loaded_in answer) }
     {
         value_in(answer).ok_or(RetriesExhausted)
     }
@@ -66,11 +70,27 @@ where
     /// another load of the key, for which it waits. Answers the value, or `RetriesExhausted` once
     /// 200 owners of such a load were dropped. `init` is polled only where this call is the owner.
     pub fn get_with<'a, I: Init<V>>(&'a self, key: K, init: I) -> GetWith<'a, K, V, E, I, L, S>
-        ensures fresh { BeginsWith result.stage (λ load. load.key ≡ key) }
+        ensures fresh { BeginsWith result.stage (λ load. key_of load.key ≡ key) }
         ensures may { MayPoll result.stage }
         ensures init { result.asked.init ≡ Some init }
         ensures cache { result.cache.now ≡ self.now }
     {
+        let key = CallKey::Owned(key);
+        self.call_asking(ToLoad { key }, ByInit { init: Some(init) })
+    }
+
+    /// The same by a key that is lent, which the first poll copies.
+    pub fn get_with_by_ref<'a, I: Init<V>>(
+        &'a self,
+        key: &'a K,
+        init: I,
+    ) -> GetWith<'a, K, V, E, I, L, S>
+        ensures fresh { BeginsWith result.stage (λ load. key_of load.key ≡ key.now) }
+        ensures may { MayPoll result.stage }
+        ensures init { result.asked.init ≡ Some init }
+        ensures cache { result.cache.now ≡ self.now }
+    {
+        let key = CallKey::Lent(key);
         self.call_asking(ToLoad { key }, ByInit { init: Some(init) })
     }
 }

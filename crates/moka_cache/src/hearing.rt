@@ -6,19 +6,12 @@ ghost use Rattle.moka_cache.specs.Hearing.{Awaits, Follows, MayPend, Unheard};
 
 use crate::cache::Shared;
 use crate::errors::PollError;
-use crate::listener::{Listener, ListenerEnd};
-use crate::stop::Stop;
+use crate::listener::Listener;
 use futures::task::{Context, Poll};
 use moka_hist::{Answer, Ask, Cause};
 use moka_init::Flow;
+use moka_kept::{Heard, Stop};
 use std::hash::Hash;
-
-/// The end of a notice, as the listener gave it. The next hold of the lock tells it.
-#[derive(Clone, Copy)]
-pub(crate) struct Heard {
-    pub(crate) notice: u64,
-    pub(crate) end: ListenerEnd,
-}
 
 impl<K, V, E, L, S> Shared<K, V, E, L, S>
 where

@@ -1,11 +1,11 @@
 //! Storing a value.
-ghost use Rattle.std.specs.Prelude.{◌≡◌};
+ghost use Rattle.std.specs.Prelude.{◌≡◌, Some, None};
 ghost use Rattle.moka_hist.specs.declared.events.Start.TheVariants as Start;
 ghost use Rattle.moka_cache.specs.Suits.{Suits};
 ghost use Rattle.moka_cache.specs.Stages.{BeginsWith, MayPoll};
 
 use crate::asked::Nobody;
-use crate::begin::Begin;
+use crate::begin::{Begin, Begun};
 use crate::cache::{Cache, FixedSeed};
 use crate::call::CacheCall;
 use crate::listener::{Listener, NoListener};
@@ -36,15 +36,17 @@ impl<K: Clone + Drop, V: Drop, E: Drop> Begin<K, V, E> for ToInsert<K, V> {
 
     ghost start = { λ insert. Start.Insert insert.key insert.value };
 
-    ghost output = { λ answer. tt };
+    ghost named = { λ insert. None };
 
-    fn start(self) -> Result<Start<K, V>, Self> {
+    ghost output = { λ named answer. Some tt };
+
+    fn start(self) -> Result<Begun<K, V>, Self> {
         let ToInsert { key, value } = self;
-        Ok(Start::Insert { key, value })
+        Ok(Begun::unnamed(Start::Insert { key, value }))
     }
 
-    fn output(answer: Answer<K, V, E>)
-        ensures told { result ≡ tt }
+    fn output(_key: Option<K>, answer: Answer<K, V, E>)
+        ensures told { Some result ≡ Some tt }
     {
         drop(answer);
     }

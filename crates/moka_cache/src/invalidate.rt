@@ -1,11 +1,11 @@
 //! Invalidating a key.
-ghost use Rattle.std.specs.Prelude.{◌≡◌};
+ghost use Rattle.std.specs.Prelude.{◌≡◌, Some, None};
 ghost use Rattle.moka_hist.specs.declared.events.Start.TheVariants as Start;
 ghost use Rattle.moka_cache.specs.Suits.{Suits};
 ghost use Rattle.moka_cache.specs.Stages.{BeginsWith, MayPoll};
 
 use crate::asked::Nobody;
-use crate::begin::Begin;
+use crate::begin::{Begin, Begun};
 use crate::cache::{Cache, FixedSeed};
 use crate::call::CacheCall;
 use crate::listener::{Listener, NoListener};
@@ -35,17 +35,19 @@ impl<K: Clone + Drop, V: Drop, E: Drop> Begin<K, V, E> for ToInvalidate<'_, K> {
 
     ghost start = { λ invalidate. Start.Invalidate invalidate.key.now };
 
-    ghost output = { λ answer. tt };
+    ghost named = { λ invalidate. None };
 
-    fn start(self) -> Result<Start<K, V>, Self> {
+    ghost output = { λ named answer. Some tt };
+
+    fn start(self) -> Result<Begun<K, V>, Self> {
         match self.key.clone() {
-            Ok(key) => Ok(Start::Invalidate { key }),
+            Ok(key) => Ok(Begun::unnamed(Start::Invalidate { key })),
             Err(_) => Err(self),
         }
     }
 
-    fn output(answer: Answer<K, V, E>)
-        ensures told { result ≡ tt }
+    fn output(_key: Option<K>, answer: Answer<K, V, E>)
+        ensures told { Some result ≡ Some tt }
     {
         drop(answer);
     }

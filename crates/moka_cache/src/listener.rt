@@ -5,15 +5,7 @@ ghost use Rattle.futures.specs.Task.{IsArmed, Keeps};
 
 use futures::task::{Context, Poll};
 use moka_hist::Cause;
-
-/// How a listener ends a notice.
-#[derive(Clone, Copy, PartialEq, Eq, Debug)]
-pub enum ListenerEnd {
-    /// It has heard.
-    Done,
-    /// It has heard, and is to hear of no further record.
-    Off,
-}
+use moka_kept::ListenerEnd;
 
 /// A listener, which hears of each record that a write replaced or a call took out, by a notice
 /// that has the number of that call. All threads share it. It is called without the lock.

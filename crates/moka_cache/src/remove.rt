@@ -1,11 +1,11 @@
 //! Removing a key, with its value.
-ghost use Rattle.std.specs.Prelude.{◌≡◌};
+ghost use Rattle.std.specs.Prelude.{◌≡◌, Some, None};
 ghost use Rattle.moka_hist.specs.declared.events.Start.TheVariants as Start;
 ghost use Rattle.moka_cache.specs.Suits.{Suits};
 ghost use Rattle.moka_cache.specs.Stages.{BeginsWith, MayPoll, value_in};
 
 use crate::asked::Nobody;
-use crate::begin::Begin;
+use crate::begin::{Begin, Begun};
 use crate::cache::{Cache, FixedSeed};
 use crate::call::CacheCall;
 use crate::get::value_in;
@@ -36,17 +36,19 @@ impl<K: Clone + Drop, V: Drop, E: Drop> Begin<K, V, E> for ToRemove<'_, K> {
 
     ghost start = { λ remove. Start.Remove remove.key.now };
 
-    ghost output = { value_in };
+    ghost named = { λ remove. None };
 
-    fn start(self) -> Result<Start<K, V>, Self> {
+    ghost output = { λ named answer. Some (value_in answer) };
+
+    fn start(self) -> Result<Begun<K, V>, Self> {
         match self.key.clone() {
-            Ok(key) => Ok(Start::Remove { key }),
+            Ok(key) => Ok(Begun::unnamed(Start::Remove { key })),
             Err(_) => Err(self),
         }
     }
 
-    fn output(answer: Answer<K, V, E>) -> Option<V>
-        ensures told { result ≡ value_in answer }
+    fn output(_key: Option<K>, answer: Answer<K, V, E>) -> Option<V>
+        ensures told { Some result ≡ Some (value_in answer) }
     {
         value_in(answer)
     }

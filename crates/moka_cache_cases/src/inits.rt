@@ -6,18 +6,18 @@ use futures::task::{Context, Poll};
 use moka_cache::Init;
 use std::sync::atomic::{AtomicBool, AtomicU64, Ordering};
 
-/// Gives a value once it was polled so often, or the flag is set, and counts its polls.
+/// Gives its output once it was polled so often, or the flag is set, and counts its polls.
 #[derive(Drop)]
-pub struct After<'a> {
+pub struct After<'a, T = u32> {
     pub polls: u64,
     pub flag: Option<&'a AtomicBool>,
-    pub value: u32,
+    pub value: T,
     pub polled: &'a AtomicU64,
 }
 
-impl<'a> After<'a> {
+impl<'a, T> After<'a, T> {
     /// One without a flag.
-    pub fn polls(polls: u64, value: u32, polled: &'a AtomicU64) -> After<'a> {
+    pub fn polls(polls: u64, value: T, polled: &'a AtomicU64) -> After<'a, T> {
         After {
             polls,
             flag: None,
@@ -35,8 +35,8 @@ impl<'a> After<'a> {
     }
 }
 
-impl Init<u32> for After<'_> {
-    fn poll(&mut self, cx: &mut Context<'_>) -> Poll<u32> {
+impl<T: Copy + Drop> Init<T> for After<'_, T> {
+    fn poll(&mut self, cx: &mut Context<'_>) -> Poll<T> {
         self.polled.fetch_add(1, Ordering::SeqCst);
         if self.polls == 0 || self.is_set() {
             return Poll::Ready(self.value);

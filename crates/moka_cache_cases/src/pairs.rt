@@ -12,13 +12,17 @@ use std::sync::Wait;
 use std::sync::atomic::AtomicBool;
 
 /// Runs both to their end.
-pub fn both<R: Wait + RandomSource + AllocGlobal, S: State<R, Output: Drop>>(
+pub fn both<R, S, T>(
     rt: &R,
     one: S,
-    other: S,
-) -> io::Result<(Result<S::Output, PollError>, Result<S::Output, PollError>)>
+    other: T,
+) -> io::Result<(Result<S::Output, PollError>, Result<T::Output, PollError>)>
+where
+    R: Wait + RandomSource + AllocGlobal,
+    S: State<R, Output: Drop>,
+    T: State<R, Output: Drop>,
     requires one { S.can_poll one }
-    requires other { S.can_poll other }
+    requires other { T.can_poll other }
 {
     let one = Polled::new(rt, one, At(0));
     let other = Polled::new(rt, other, At(0));

@@ -1,21 +1,17 @@
 //! The works on a cache.
 
 use crate::asked::{Shares, Work};
-use crate::calls::{Begins, Calls};
-use futures::executor::block_on;
-use futures::task::{Context, Poll};
-use moka_cache::{Cache, Get, GetWith, Init, Insert};
+use crate::calls::{Begins, make_calls};
+use crate::turns::{Gives, Turn, in_turn};
+use moka_cache::{Cache, Get, GetWith, Insert, Listener, NoListener};
 use std::alloc::{AllocError, AllocGlobal, Global};
 use std::random::RandomSource;
 use std::sync::Wait;
 use std::thread::Threads;
 use std::{io, thread};
 
-/// A cache of numbers.
-pub(crate) type Numbers = Cache<u64, u64, u64>;
-
-/// The keys that are stored over and over.
-pub(crate) const FEW_KEYS: u64 = 1000;
+/// A cache of numbers, with this listener.
+pub(crate) type Numbers<L = NoListener> = Cache<u64, u64, u64, L>;
 
 /// The place of the key of a thread's call: each call's is another, far from the one before.
 pub(crate) fn place_of(thread: u64, call: u64, keys: u64) -> u64 {
@@ -25,31 +21,32 @@ pub(crate) fn place_of(thread: u64, call: u64, keys: u64) -> u64 {
 
 /// Looks keys up.
 #[derive(Drop)]
-struct Gets<'a> {
-    cache: &'a Numbers,
+struct Gets<'a, L> {
+    cache: &'a Numbers<L>,
     keys: &'a [u64],
     other: &'a u64,
     thread: u64,
 }
 
-impl<'a, R: Wait> Begins<R, Get<'a, u64, u64, u64>> for Gets<'a> {
-    fn begin(&self, call: u64) -> Get<'a, u64, u64, u64> {
+impl<'a, R: Wait, L: Listener<u64, u64>> Begins<R, Get<'a, u64, u64, u64, L>> for Gets<'a, L> {
+    fn begin(&self, call: u64) -> Get<'a, u64, u64, u64, L> {
         let place = place_of(self.thread, call, self.keys.len() as u64);
         self.cache
             .get(self.keys.get(place as usize).unwrap_or(self.other))
     }
 }
 
-/// Stores values under few keys.
+/// Stores values under keys below a number.
 #[derive(Drop)]
-struct Inserts<'a> {
-    cache: &'a Numbers,
+struct Inserts<'a, L> {
+    cache: &'a Numbers<L>,
     keys: u64,
     thread: u64,
 }
 
-impl<'a, R: Wait> Begins<R, Insert<'a, u64, u64, u64>> for Inserts<'a> {
-    fn begin(&self, call: u64) -> Insert<'a, u64, u64, u64> {
+impl<'a, R: Wait, L: Listener<u64, u64>> Begins<R, Insert<'a, u64, u64, u64, L>>
+    for Inserts<'a, L> {
+    fn begin(&self, call: u64) -> Insert<'a, u64, u64, u64, L> {
         self.cache
             .insert(place_of(self.thread, call, self.keys), call)
     }
@@ -57,30 +54,21 @@ impl<'a, R: Wait> Begins<R, Insert<'a, u64, u64, u64>> for Inserts<'a> {
 
 /// Loads a key for each call, the same in each thread.
 #[derive(Drop)]
-struct Loads<'a> {
-    cache: &'a Numbers,
+struct Loads<'a, L> {
+    cache: &'a Numbers<L>,
 }
 
-impl<'a, R: Wait> Begins<R, GetWith<'a, u64, u64, u64, Gives>> for Loads<'a> {
-    fn begin(&self, call: u64) -> GetWith<'a, u64, u64, u64, Gives> {
+impl<'a, R: Wait, L: Listener<u64, u64>> Begins<R, GetWith<'a, u64, u64, u64, Gives, L>>
+    for Loads<'a, L> {
+    fn begin(&self, call: u64) -> GetWith<'a, u64, u64, u64, Gives, L> {
         self.cache.get_with(call, Gives(call))
     }
 }
 
-/// Gives this value at once.
-#[derive(Drop)]
-struct Gives(u64);
-
-impl Init<u64> for Gives {
-    fn poll(&mut self, _cx: &mut Context<'_>) -> Poll<u64> {
-        Poll::Ready(self.0)
-    }
-}
-
 /// Stores each of the keys once.
-pub(crate) fn fill<R: Wait + RandomSource + AllocGlobal>(
+pub(crate) fn fill<R: Wait + RandomSource + AllocGlobal, L: Listener<u64, u64>>(
     rt: &R,
-    cache: &Numbers,
+    cache: &Numbers<L>,
     keys: &[u64],
 ) -> io::Result<u64> {
     let keys = keys.len() as u64;
@@ -88,14 +76,18 @@ pub(crate) fn fill<R: Wait + RandomSource + AllocGlobal>(
 }
 
 /// Makes each thread's calls, and tells how many answered.
-pub(crate) fn work<R: Threads + Wait + RandomSource + AllocGlobal + Sync>(
+pub(crate) fn work<R, L>(
     rt: &R,
     alloc: Global,
-    cache: &Numbers,
+    cache: &Numbers<L>,
     keys: &[u64],
     work: Work,
     shares: Shares,
-) -> Result<u64, AllocError> {
+) -> Result<u64, AllocError>
+where
+    R: Threads + Wait + RandomSource + AllocGlobal + Sync,
+    L: Listener<u64, u64> + Send + Sync,
+{
     let answered = thread::map_indices(
         rt,
         alloc,
@@ -110,9 +102,9 @@ pub(crate) fn work<R: Threads + Wait + RandomSource + AllocGlobal + Sync>(
 }
 
 /// Makes the calls of this thread.
-fn work_as<R: Wait + RandomSource + AllocGlobal>(
+fn work_as<R: Wait + RandomSource + AllocGlobal, L: Listener<u64, u64>>(
     rt: &R,
-    cache: &Numbers,
+    cache: &Numbers<L>,
     keys: &[u64],
     work: Work,
     thread: u64,
@@ -120,14 +112,32 @@ fn work_as<R: Wait + RandomSource + AllocGlobal>(
 ) -> io::Result<u64> {
     match work {
         Work::Get => get(rt, cache, keys, thread, calls),
-        Work::Insert => insert(rt, cache, FEW_KEYS, thread, calls),
+        Work::Insert => insert(rt, cache, keys.len() as u64, thread, calls),
         Work::Load => load(rt, cache, calls),
+        Work::Remove => in_turn(rt, cache, keys, &REMOVED, thread, calls),
+        Work::See => in_turn(rt, cache, keys, &SEEN, thread, calls),
+        Work::Cancel => in_turn(rt, cache, keys, &CANCELLED, thread, calls),
     }
 }
 
-fn get<R: Wait + RandomSource + AllocGlobal>(
+/// The turns with a key that is stored and taken out.
+const REMOVED: [Turn; 2] = [Turn::Store, Turn::Take];
+
+/// The turns with a key that is stored and looked up.
+const SEEN: [Turn; 2] = [Turn::Store, Turn::Look];
+
+/// The turns with a key of which three loads become owners, the first to be dropped.
+const CANCELLED: [Turn; 5] = [
+    Turn::Abandon,
+    Turn::Load,
+    Turn::Take,
+    Turn::Load,
+    Turn::Take,
+];
+
+fn get<R: Wait + RandomSource + AllocGlobal, L: Listener<u64, u64>>(
     rt: &R,
-    cache: &Numbers,
+    cache: &Numbers<L>,
     keys: &[u64],
     thread: u64,
     calls: u64,
@@ -138,12 +148,13 @@ fn get<R: Wait + RandomSource + AllocGlobal>(
         other: &0,
         thread,
     };
-    block_on(rt, Calls::new(rt, gets, calls))
+    make_calls(rt, gets, calls)
 }
 
-fn insert<R: Wait + RandomSource + AllocGlobal>(
+/// Stores values under so many keys.
+pub(crate) fn insert<R: Wait + RandomSource + AllocGlobal, L: Listener<u64, u64>>(
     rt: &R,
-    cache: &Numbers,
+    cache: &Numbers<L>,
     keys: u64,
     thread: u64,
     calls: u64,
@@ -153,13 +164,13 @@ fn insert<R: Wait + RandomSource + AllocGlobal>(
         keys,
         thread,
     };
-    block_on(rt, Calls::new(rt, inserts, calls))
+    make_calls(rt, inserts, calls)
 }
 
-fn load<R: Wait + RandomSource + AllocGlobal>(
+fn load<R: Wait + RandomSource + AllocGlobal, L: Listener<u64, u64>>(
     rt: &R,
-    cache: &Numbers,
+    cache: &Numbers<L>,
     calls: u64,
 ) -> io::Result<u64> {
-    block_on(rt, Calls::new(rt, Loads { cache }, calls))
+    make_calls(rt, Loads { cache }, calls)
 }

@@ -4,8 +4,12 @@ ghost use Rattle.futures.specs.Poll.{OnPending};
 ghost use Rattle.futures.specs.Task.{IsArmed, Keeps};
 
 use futures::Future;
+use futures::executor::block_on;
 use futures::task::{Context, Poll};
 use moka_cache::State;
+use std::alloc::AllocGlobal;
+use std::io;
+use std::random::RandomSource;
 use std::sync::Wait;
 
 /// Where the calls of a task come from.
@@ -15,8 +19,18 @@ pub(crate) trait Begins<R: Wait, S: State<R>>: Drop {
         ensures { S.can_poll result };
 }
 
+/// Makes so many calls that come from there, and tells how many answered.
+pub(crate) fn make_calls<R, S, B>(rt: &R, begins: B, calls: u64) -> io::Result<u64>
+where
+    R: Wait + RandomSource + AllocGlobal,
+    S: State<R, Output: Drop>,
+    B: Begins<R, S>,
+{
+    block_on(rt, Calls::new(rt, begins, calls))
+}
+
 /// A future that makes calls one after the other. It gives how many answered.
-pub(crate) struct Calls<'a, R: Wait, S: State<R>, B: Begins<R, S>> {
+struct Calls<'a, R: Wait, S: State<R>, B: Begins<R, S>> {
     rt: &'a R,
     begins: B,
     waits: Option<S>,
@@ -27,7 +41,7 @@ pub(crate) struct Calls<'a, R: Wait, S: State<R>, B: Begins<R, S>> {
 
 impl<'a, R: Wait, S: State<R>, B: Begins<R, S>> Calls<'a, R, S, B> {
     /// Makes so many calls that come from there.
-    pub(crate) fn new(rt: &'a R, begins: B, calls: u64) -> Self
+    fn new(rt: &'a R, begins: B, calls: u64) -> Self
         ensures { result.waits ≡ None }
     {
         Calls {

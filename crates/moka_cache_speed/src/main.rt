@@ -1,17 +1,23 @@
-//! The program: times threads that look keys of one cache up, store them, or load them, beside
-//! std's map under a lock.
+//! The program: times threads that make calls of one cache, of one with a listener, and of std's
+//! map under a lock, and makes the calls whose memory is measured.
 //!
-//! `moka_cache_speed PEER WORK CALLS THREADS` shares the calls among the threads. Standard output
-//! has how many calls answered, standard error how long they took.
+//! `moka_cache_speed PEER WORK CALLS THREADS KEYS` shares the calls among the threads. Standard
+//! output has how many calls answered, standard error how long they took.
 #![tactic(auto)]
 
 mod asked;
+mod burst;
 mod cached;
 mod calls;
+mod crowd;
+mod heard;
 mod mapped;
+mod turns;
 
-use asked::{Asked, Work};
-use moka_cache::Cache;
+use asked::{Asked, BURSTS, Burst, PEERS, Peer, WORKS, Work};
+use burst::come_and_store;
+use cached::Numbers;
+use moka_cache::{Cache, Listener};
 use std::alloc::{AllocError, AllocGlobal, Global};
 use std::collections::HashMap;
 use std::process::ExitCode;
@@ -20,9 +26,6 @@ use std::rt::Clock;
 use std::sync::{Mutex, Wait};
 use std::thread::Threads;
 use std::time::Instant;
-
-/// The keys that are looked up.
-const KEYS: u64 = 100_000;
 
 fn main(rt: HostRuntime) -> ExitCode {
     let Ok(asked) = Asked::read(&rt) else {
@@ -34,19 +37,93 @@ fn main(rt: HostRuntime) -> ExitCode {
     }
 }
 
+/// Makes each work that is asked for with each peer.
 fn measure<R: Threads + Wait + RandomSource + AllocGlobal + Clock + Print + Eprint + Sync>(
     rt: &R,
     alloc: Global,
     asked: Asked,
 ) -> anyhow::Result<()> {
-    let keys = keys_below(alloc, KEYS)?;
-    for work in [Work::Get, Work::Insert, Work::Load] {
-        if asked.is_asked(work) {
-            time_cache(rt, alloc, asked, work, keys.as_slice())?;
-            time_map(rt, alloc, asked, work, keys.as_slice())?;
+    for peer in PEERS {
+        if asked.is_peer(peer) {
+            measure_peer(rt, alloc, asked, peer)?;
         }
     }
     Ok(())
+}
+
+fn measure_peer<R: Threads + Wait + RandomSource + AllocGlobal + Clock + Print + Eprint + Sync>(
+    rt: &R,
+    alloc: Global,
+    asked: Asked,
+    peer: Peer,
+) -> anyhow::Result<()> {
+    for work in WORKS {
+        if asked.is_asked(work) {
+            make_work(rt, alloc, asked, peer, work)?;
+        }
+    }
+    for burst in BURSTS {
+        if asked.is_burst(burst) {
+            make_burst(rt, alloc, asked, peer, burst)?;
+        }
+    }
+    Ok(())
+}
+
+/// Makes the work with a peer of its own.
+fn make_work<R: Threads + Wait + RandomSource + AllocGlobal + Clock + Print + Eprint + Sync>(
+    rt: &R,
+    alloc: Global,
+    asked: Asked,
+    peer: Peer,
+    work: Work,
+) -> anyhow::Result<()> {
+    match peer {
+        Peer::Cache => {
+            let cache = unheard(alloc, Some(u64::MAX))?;
+            time_cache(rt, alloc, &cache, asked, peer, work)
+        }
+        Peer::Unbounded => {
+            let cache = unheard(alloc, None)?;
+            time_cache(rt, alloc, &cache, asked, peer, work)
+        }
+        Peer::Heard => {
+            let cache = heard::empty(alloc)?;
+            time_cache(rt, alloc, &cache, asked, peer, work)
+        }
+        Peer::Map => time_map(rt, alloc, asked, work),
+    }
+}
+
+/// Makes the burst in a cache of its own. A map has none.
+fn make_burst<R: Wait + RandomSource + AllocGlobal + Print>(
+    rt: &R,
+    alloc: Global,
+    asked: Asked,
+    peer: Peer,
+    burst: Burst,
+) -> anyhow::Result<()> {
+    let (many, few) = (asked.calls, asked.few_keys());
+    match peer {
+        Peer::Cache => {
+            let cache = unheard(alloc, Some(u64::MAX))?;
+            come_and_store(rt, alloc, &cache, burst, many, few)
+        }
+        Peer::Unbounded => {
+            let cache = unheard(alloc, None)?;
+            come_and_store(rt, alloc, &cache, burst, many, few)
+        }
+        Peer::Heard => {
+            let cache = heard::empty(alloc)?;
+            come_and_store(rt, alloc, &cache, burst, many, few)
+        }
+        Peer::Map => Ok(()),
+    }
+}
+
+/// Makes an empty cache without a listener.
+fn unheard(alloc: Global, max_capacity: Option<u64>) -> Result<Numbers, AllocError> {
+    Cache::starting_after(alloc, None, max_capacity, 0)
 }
 
 fn keys_below(alloc: Global, count: u64) -> Result<Vec<u64>, AllocError> {
@@ -57,57 +134,56 @@ fn keys_below(alloc: Global, count: u64) -> Result<Vec<u64>, AllocError> {
     Ok(keys)
 }
 
-/// Times the work on a cache, where that is asked for.
-fn time_cache<R: Threads + Wait + RandomSource + AllocGlobal + Clock + Print + Eprint + Sync>(
+/// Times the work on an empty cache, of which a get finds each key.
+fn time_cache<R, L>(
     rt: &R,
     alloc: Global,
+    cache: &Numbers<L>,
     asked: Asked,
+    peer: Peer,
     work: Work,
-    keys: &[u64],
-) -> anyhow::Result<()> {
-    if !asked.cache {
-        return Ok(());
-    }
-    let cache = Cache::new(alloc, u64::MAX)?;
+) -> anyhow::Result<()>
+where
+    R: Threads + Wait + RandomSource + AllocGlobal + Clock + Print + Eprint + Sync,
+    L: Listener<u64, u64> + Send + Sync,
+{
+    let keys = keys_below(alloc, asked.keys_of(work))?;
     if work == Work::Get {
-        cached::fill(rt, &cache, keys)?;
+        cached::fill(rt, cache, keys.as_slice())?;
     }
     let start = Instant::now(rt)?;
-    let answered = cached::work(rt, alloc, &cache, keys, work, asked.shares())?;
-    told(rt, "cache", work, answered, asked, start)
+    let answered = cached::work(rt, alloc, cache, keys.as_slice(), work, asked.shares())?;
+    told(rt, peer, work, answered, asked, start)
 }
 
-/// Times the work on a map under a lock, where that is asked for.
+/// Times the work on a map under a lock.
 fn time_map<R: Threads + Wait + Clock + Print + Eprint + Sync>(
     rt: &R,
     alloc: Global,
     asked: Asked,
     work: Work,
-    keys: &[u64],
 ) -> anyhow::Result<()> {
-    if !asked.map {
-        return Ok(());
-    }
+    let keys = keys_below(alloc, asked.keys_of(work))?;
     let map = Mutex::new(HashMap::new(alloc));
     if work == Work::Get {
-        mapped::fill(rt, &map, keys);
+        mapped::fill(rt, &map, keys.as_slice());
     }
     let start = Instant::now(rt)?;
-    let answered = mapped::work(rt, alloc, &map, keys, work, asked.shares())?;
-    told(rt, "map", work, answered, asked, start)
+    let answered = mapped::work(rt, alloc, &map, keys.as_slice(), work, asked.shares())?;
+    told(rt, Peer::Map, work, answered, asked, start)
 }
 
 /// Prints how many of the calls answered, and how long they took.
 fn told<R: Clock + Print + Eprint>(
     rt: &R,
-    peer: &str,
+    peer: Peer,
     work: Work,
     answered: u64,
     asked: Asked,
     start: Instant,
 ) -> anyhow::Result<()> {
     let nanos = start.elapsed(rt)?.as_nanos();
-    let name = work.name();
+    let (peer, name) = (peer.name(), work.name());
     println!(rt; "{peer} {name} {answered}")?;
     let each = nanos / u128::from(asked.shares().calls.max(1));
     let rate = 1_000_000_000 * u128::from(asked.calls) / nanos.max(1);

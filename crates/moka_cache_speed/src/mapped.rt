@@ -1,7 +1,7 @@
 //! The works on std's map under a lock.
 
 use crate::asked::{Shares, Work};
-use crate::cached::{FEW_KEYS, place_of};
+use crate::cached::place_of;
 use std::alloc::{AllocError, Global};
 use std::collections::HashMap;
 use std::sync::{Mutex, Wait};
@@ -45,14 +45,27 @@ pub(crate) fn work<R: Threads + Wait + Sync>(
 fn work_as<R: Wait>(rt: &R, map: &Map, keys: u64, work: Work, thread: u64, calls: u64) -> u64 {
     let mut answered = 0u64;
     for call in 0..calls {
-        let done = match work {
-            Work::Get => get(rt, map, place_of(thread, call, keys)),
-            Work::Insert => insert(rt, map, place_of(thread, call, FEW_KEYS), call),
-            Work::Load => load(rt, map, call),
-        };
+        let done = make(rt, map, keys, work, thread, call);
         answered = answered.wrapping_add(u64::from(done));
     }
     answered
+}
+
+/// Makes one call. Two that come one after the other have one key where they are of two kinds.
+fn make<R: Wait>(rt: &R, map: &Map, keys: u64, work: Work, thread: u64, call: u64) -> bool {
+    let (key, pair) = (
+        place_of(thread, call, keys),
+        place_of(thread, call / 2, keys),
+    );
+    match (work, call % 2 == 0) {
+        (Work::Get, _) => get(rt, map, key),
+        (Work::Insert, _) => insert(rt, map, key, call),
+        (Work::Load, _) => load(rt, map, call),
+        (Work::Remove | Work::See, true) => insert(rt, map, pair, call),
+        (Work::Cancel, true) => load(rt, map, pair),
+        (Work::See, false) => get(rt, map, pair),
+        (Work::Remove | Work::Cancel, false) => take(rt, map, pair),
+    }
 }
 
 fn get<R: Wait>(rt: &R, map: &Map, key: u64) -> bool {
@@ -67,4 +80,10 @@ fn insert<R: Wait>(rt: &R, map: &Map, key: u64, value: u64) -> bool {
 fn load<R: Wait>(rt: &R, map: &Map, key: u64) -> bool {
     let mut locked = map.lock(rt);
     locked.contains_key(&key) || locked.insert(key, key).is_ok()
+}
+
+/// Takes the key out.
+fn take<R: Wait>(rt: &R, map: &Map, key: u64) -> bool {
+    let _ = map.lock(rt).remove(&key);
+    true
 }

@@ -7,6 +7,7 @@ ghost use Rattle.std.specs.HashMap.{get, spare, hash_map_len};
 
 use crate::maps::put;
 use moka_hist::{Takes, Told};
+use moka_room::map_room;
 use moka_sync::{CallList, WaitPlace};
 use std::alloc::{AllocError, Global};
 use std::collections::HashMap;
@@ -67,8 +68,9 @@ impl<V: Drop, E: Drop> Asks<V, E> {
         ensures still { OnErr result ((n : ℕ) → is_told self.new n ≡ is_told self.old n) }
     {
         let place = WaitPlace::new(self.alloc)?;
-        self.told.reserve(self.open_asks.len() + 1)?;
-        self.open_asks.insert(call, OpenAsk { takes, place })?;
+        map_room::reserve(&mut self.told, self.open_asks.len() + 1)?;
+        map_room::reserve(&mut self.open_asks, 1)?;
+        put(&mut self.open_asks, call, OpenAsk { takes, place });
         let _ = self.told.remove(&call);
         Ok(())
     }

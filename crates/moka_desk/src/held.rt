@@ -1,6 +1,6 @@
 //! The writes that are held or owed, by the numbers of the calls that made them.
 
-ghost use Rattle.std.specs.Prelude.{◌≡◌, ℕ, ◌+◌, ◌≤◌, ◌<◌, ◌==◌, ◌||◌, true, false, cond, Option, Some, None, is_some, nat_eq, OnOk, if◌then◌else◌};
+ghost use Rattle.std.specs.Prelude.{◌≡◌, ℕ, ◌+◌, ◌≤◌, ◌<◌, ◌==◌, ◌||◌, true, false, cond, min, Option, Some, None, is_some, nat_eq, OnOk, if◌then◌else◌};
 ghost use Rattle.std.specs.HashMap.{get, spare, hash_map_len};
 ghost use Rattle.moka_hist.specs.Visits.{number_of as written_by};
 ghost use Rattle.moka_desk.specs.Held.{decided_holding, held_by, held_count, holding_room, holds_number, is_holder, owed_at};
@@ -8,6 +8,7 @@ ghost use Rattle.moka_desk.specs.Held.{decided_holding, held_by, held_count, hol
 use crate::holdings::Holdings;
 use crate::maps::{put, replace};
 use moka_hist::{Holding, Write};
+use moka_room::map_room;
 use std::alloc::{AllocError, Global};
 use std::collections::HashMap;
 
@@ -53,17 +54,19 @@ impl Held {
         self.holders.contains_key(&number)
     }
 
-    /// Makes room for so many writes that are held, and for one more that is held or owed.
+    /// Makes room for so many writes that are held, and for one more that is held or owed. Room that
+    /// is far more than that is given back.
     pub(crate) fn reserve(&mut self, room: usize) -> Result<(), AllocError>
         ensures same { (n : ℕ) → held_by self.new.holdings n ≡ held_by self.old.holdings n }
         ensures holders { (n : ℕ) → get nat_eq self.new.holders n ≡ get nat_eq self.old.holders n }
         ensures places { hash_map_len self.new.holders ≡ hash_map_len self.old.holders }
         ensures count { held_count self.new.holdings ≡ held_count self.old.holdings }
-        ensures kept { holding_room self.old.holdings ≤ holding_room self.new.holdings }
+        ensures kept { min room (holding_room self.old.holdings)
+            ≤ holding_room self.new.holdings }
         ensures room { OnOk result ((room ≤ holding_room self.new.holdings)
             × (0 < spare self.new.holders)) }
     {
-        self.holders.reserve(1)?;
+        map_room::reserve(&mut self.holders, 1)?;
         self.holdings.reserve(room)
     }
 

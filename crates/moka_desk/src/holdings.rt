@@ -1,11 +1,12 @@
 //! What each call holds of writes, by the call.
 
-ghost use Rattle.std.specs.Prelude.{◌≡◌, ℕ, ◌+◌, ◌≤◌, ◌<◌, ◌==◌, true, cond, length, Option, Some, None, is_some, nat_eq, vec_capacity, OnOk, if◌then◌else◌};
+ghost use Rattle.std.specs.Prelude.{◌≡◌, ℕ, ◌+◌, ◌≤◌, ◌<◌, ◌==◌, true, cond, length, min, Option, Some, None, is_some, nat_eq, vec_capacity, OnOk, if◌then◌else◌};
 ghost use Rattle.std.specs.Map.{lookup};
 ghost use Rattle.std.specs.HashMap.{get, hash_map_len};
 ghost use Rattle.moka_desk.specs.Held.{held_by, held_count, holding_room, decided_holding, others_of};
 
 use moka_hist::Holding;
+use moka_room::{map_room, vec_room};
 use std::alloc::{AllocError, Global};
 use std::collections::HashMap;
 
@@ -41,14 +42,16 @@ impl Holdings {
         }
     }
 
-    /// Makes room for so many calls that hold something.
+    /// Makes room for so many calls that hold something. Room that is far more than that is given
+    /// back.
     pub(crate) fn reserve(&mut self, room: usize) -> Result<(), AllocError>
         ensures same { (n : ℕ) → held_by self.new n ≡ held_by self.old n }
         ensures count { held_count self.new ≡ held_count self.old }
-        ensures kept { holding_room self.old ≤ holding_room self.new }
+        ensures kept { min room (holding_room self.old) ≤ holding_room self.new }
         ensures room { OnOk result (room ≤ holding_room self.new) }
     {
-        self.rest.reserve(room)
+        map_room::give_back(&mut self.by_call, 0);
+        vec_room::reserve(&mut self.rest, room)
     }
 
     /// The call, which holds nothing, holds this from then on. There is room for it.

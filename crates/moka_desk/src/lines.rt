@@ -6,6 +6,7 @@ ghost use Rattle.moka_sync.specs.Waiting.{waits, without};
 ghost use Rattle.moka_desk.specs.Lines.{calls_in, is_at, line_at, with_call};
 
 use crate::maps::put;
+use moka_room::map_room;
 use moka_sync::{CallList, WaitList};
 use std::alloc::{AllocError, Global};
 use std::collections::HashMap;
@@ -49,7 +50,7 @@ impl Lines {
             is_out self.new c ≡ all_but call (is_out self.old) c) }
         ensures still { OnErr result ((c : ℕ) → is_out self.new c ≡ is_out self.old c) }
     {
-        self.places.reserve(1)?;
+        map_room::reserve(&mut self.places, 1)?;
         add_to(self.alloc, &mut self.lists, number, call)?;
         let before = self.places.get(&call).copied();
         move_off(&mut self.lists, before, number, call);
@@ -162,7 +163,8 @@ fn add_to(
     }
     let mut list = WaitList::new(alloc);
     list.add(call)?;
-    lists.insert(number, list)?;
+    map_room::reserve(lists, 1)?;
+    put(lists, number, list);
     Ok(())
 }
 

@@ -9,6 +9,7 @@ ghost use Rattle.moka_desk.specs.Readers.{waiting_for};
 
 use crate::maps::{put, replace};
 use moka_hist::{Claim, Load, Settled};
+use moka_room::map_room;
 use std::alloc::{AllocError, Global};
 use std::collections::HashMap;
 use std::hash::Hash;
@@ -112,8 +113,8 @@ impl<K: Eq + Hash + Clone + Drop, V: Drop, E: Drop> Loads<K, V, E> {
             }) self.new) }
         ensures err { OnErr result (LoadsStay K.eq self.old self.new) }
     {
-        self.joined.reserve(1)?;
-        self.readers.reserve(1)?;
+        map_room::reserve(&mut self.joined, 1)?;
+        map_room::reserve(&mut self.readers, 1)?;
         let waiting = self.readers_of(owner) + 1;
         put(&mut self.readers, owner, waiting);
         put(&mut self.joined, call, owner);
@@ -148,9 +149,9 @@ impl<K: Eq + Hash + Clone + Drop, V: Drop, E: Drop> Loads<K, V, E> {
             → get (load_eq K.eq) self.new.owners l ≡ get (load_eq K.eq) self.old.owners l }
         ensures owning { (n : ℕ) → get nat_eq self.new.owning n ≡ get nat_eq self.old.owning n }
     {
-        self.settled.reserve(self.owning.len() + 1)?;
-        self.owners.reserve(1)?;
-        self.owning.reserve(1)
+        map_room::reserve(&mut self.settled, self.owning.len() + 1)?;
+        map_room::reserve(&mut self.owners, 1)?;
+        map_room::reserve(&mut self.owning, 1)
     }
 
     /// Reads how the owner ended that the call waits for: NotYet where it has not, or the call

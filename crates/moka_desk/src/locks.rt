@@ -6,6 +6,7 @@ ghost use Rattle.std.specs.HashMap.{get, spare};
 ghost use Rattle.moka_hist.specs.Finite.{IsExact};
 
 use crate::maps::put;
+use moka_room::map_room;
 use std::alloc::{AllocError, Global};
 use std::collections::HashMap;
 use std::hash::Hash;
@@ -52,8 +53,8 @@ impl<K: Eq + Hash + Clone + Drop> Locks<K> {
     {
         let held = copy_of(key)?;
         let own = copy_of(key)?;
-        self.holders.reserve(1)?;
-        self.locked.reserve(1)?;
+        map_room::reserve(&mut self.holders, 1)?;
+        map_room::reserve(&mut self.locked, 1)?;
         put(&mut self.holders, held, call);
         put(&mut self.locked, call, own);
         Ok(())

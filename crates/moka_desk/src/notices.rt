@@ -6,6 +6,7 @@ ghost use Rattle.moka_hist.specs.Finite.{IsExact};
 
 use crate::maps::put;
 use moka_hist::{Cause, Notice, NoticeState};
+use moka_room::map_room;
 use std::alloc::{AllocError, Global};
 use std::collections::HashMap;
 
@@ -137,7 +138,7 @@ impl<K: Drop, V: Drop> Notices<K, V> {
         ensures running { OnOk result (0 < spare self.new.running) }
         ensures room { OnOk result (self.new.history ≡ true → HasRoom self.new) }
     {
-        self.running.reserve(1)?;
+        map_room::reserve(&mut self.running, 1)?;
         self.make_room_in_history()
     }
 

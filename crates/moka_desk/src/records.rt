@@ -1,6 +1,6 @@
 //! The records that stand by the writes that were applied.
 
-ghost use Rattle.std.specs.Prelude.{◌≡◌, ℕ, ◌+◌, ◌≤◌, ◌<◌, ◌==◌, Bool, false, not, ◌||◌, ◌&&◌, cond, [], ◌∷◌, ◌++◌, List, Option, nat_eq, OnOk, if◌then◌else◌};
+ghost use Rattle.std.specs.Prelude.{◌≡◌, ℕ, ◌+◌, ◌≤◌, ◌<◌, ◌==◌, Bool, false, not, ◌||◌, ◌&&◌, cond, [], ◌∷◌, ◌++◌, List, Option, min, nat_eq, OnOk, if◌then◌else◌};
 ghost use Rattle.std.specs.HashSet as hash_set;
 ghost use Rattle.moka_hist.specs.Visits.{is_replaced, number_of, standing};
 ghost use Rattle.moka_hist.specs.declared.writes.Write.{Write as write_of};
@@ -9,6 +9,7 @@ ghost use Rattle.moka_desk.specs.Records.{and_this, is_made, RecordsAre, Records
 
 use crate::maps::add;
 use moka_hist::Write;
+use moka_room::set_room;
 use std::alloc::{AllocError, Global};
 use std::collections::HashSet;
 
@@ -47,16 +48,17 @@ impl Records {
         self.standing.contains(&stamp)
     }
 
-    /// Makes room for so many writes that are applied.
+    /// Makes room for so many writes that are applied. Room that is far more than that is given back.
     pub(crate) fn reserve(&mut self, room: usize) -> Result<(), AllocError>
         ensures same { RecordsStay self.old self.new }
-        ensures standing { hash_set.spare self.old.standing ≤ hash_set.spare self.new.standing }
-        ensures early { hash_set.spare self.old.early ≤ hash_set.spare self.new.early }
+        ensures standing { min room (hash_set.spare self.old.standing)
+            ≤ hash_set.spare self.new.standing }
+        ensures early { min room (hash_set.spare self.old.early) ≤ hash_set.spare self.new.early }
         ensures room { OnOk result ((room ≤ hash_set.spare self.new.standing)
             × (room ≤ hash_set.spare self.new.early)) }
     {
-        self.standing.reserve(room)?;
-        self.early.reserve(room)
+        set_room::reserve(&mut self.standing, room)?;
+        set_room::reserve(&mut self.early, room)
     }
 
     /// Applies the write, whose number made no record before. There is room for it.

@@ -79,6 +79,7 @@ impl<K: Eq + Hash + Clone + Drop, V: Drop, E: Drop> Desk<K, V, E> {
     ) -> Result<Self, AllocError>
         ensures stands { IfOk result (λ desk. (tests : ℕ → K → V → Bool)
             → StandsFor K.eq desk (record (fresh_desk K V E rules log tests) { last = last })) }
+        ensures history { IfOk result (λ desk. keeps_history desk ≡ false) }
         ensures misses { IfOk result (λ desk. (w : DeskPart K V E) → ListedMiss desk w) }
         ensures unwoken { IfOk result (λ desk. (call : ℕ) → is_on (wake_list desk) call ≡ false) }
     {
@@ -96,7 +97,7 @@ impl<K: Eq + Hash + Clone + Drop, V: Drop, E: Drop> Desk<K, V, E> {
     ) -> Result<Self, AllocError>
         ensures stands { IfOk result (λ desk. (tests : ℕ → K → V → Bool)
             → StandsFor K.eq desk (record (fresh_desk K V E rules log tests) { last = last })) }
-        ensures history { IfOk result (λ desk. history ≡ true → keeps_history desk ≡ true) }
+        ensures history { IfOk result (λ desk. keeps_history desk ≡ history) }
         ensures misses { IfOk result (λ desk. (w : DeskPart K V E) → ListedMiss desk w) }
         ensures unwoken { IfOk result (λ desk. (call : ℕ) → is_on (wake_list desk) call ≡ false) }
     {

@@ -13,6 +13,7 @@ use crate::applied::Applied;
 use crate::held::Held;
 use crate::maps::add;
 use moka_hist::{Holding, Owed, Write};
+use moka_room::{deque_room, set_room};
 use std::alloc::{AllocError, Global};
 use std::collections::{HashSet, VecDeque};
 
@@ -105,8 +106,8 @@ impl Writes {
     {
         let room = self.applied.room.checked_add(1).ok_or(AllocError)?;
         self.held.reserve(room)?;
-        self.owed.reserve(room)?;
-        self.posted.reserve(room)?;
+        deque_room::reserve(&mut self.owed, room)?;
+        set_room::reserve(&mut self.posted, room)?;
         self.applied.reserve()?;
         self.held.stamp(call, moment);
         Ok(())

@@ -13,6 +13,7 @@ ghost use Rattle.moka_table.specs.Plain.{map_of, peak_of, plain_first, plain_lef
 
 use crate::{EntryList, Table};
 use moka_hist::{Stored, TableAnswer, TableOp, TableTurn};
+use moka_room::map_room;
 use std::alloc::{AllocError, Global};
 use std::cmp;
 use std::collections::HashMap;
@@ -55,14 +56,14 @@ impl<K: Eq + Hash + Clone + Drop, V: Clone + Drop> PlainTable<K, V> {
         }
     }
 
-    // Room for one more key.
+    // Room for one more key. Room that is far more than that is given back.
     fn make_room(&mut self) -> Result<(), AllocError>
         ensures ok { OnOk result (0 < spare self.new.pairs) }
         ensures same { SameMap (map_of K.eq self.old) (map_of K.eq self.new) }
         ensures count { hash_map_len self.new.pairs ≡ hash_map_len self.old.pairs }
         ensures most { self.new.most ≡ self.old.most }
     {
-        self.pairs.reserve(1)
+        map_room::reserve(&mut self.pairs, 1)
     }
 
     // Puts the pair under its key, and gives the one that was there. There is room, so it can't

@@ -1,7 +1,7 @@
 -- The notice is that which the flow awaits.
 use Rattle.std.proofs.Common.{sym, ◌∙◌}
 use Rattle.std.proofs.lemmas.Option.{same_Some}
-use Rattle.moka_cache.proofs.Stopping.{pending_is}
+use Rattle.moka_cache.proofs.Turning.{pending_is}
 use Rattle.moka_cache.proofs.hearing.hear_by.Goals as goal
 
 pub returns-in-Some-clause-cause : goal.returns-in-Some-clause-cause

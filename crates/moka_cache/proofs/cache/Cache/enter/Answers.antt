@@ -1,5 +1,5 @@
 -- A fresh flow rests.
-use Rattle.moka_cache.proofs.Reached.{fresh_none}
+use Rattle.moka_kept.proofs.Reached.{fresh_none}
 use Rattle.moka_cache.proofs.cache.Cache.enter.Goals as goal
 
 pub returns-clause-rests : goal.returns-clause-rests

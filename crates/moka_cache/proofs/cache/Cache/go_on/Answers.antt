@@ -1,6 +1,7 @@
 -- Turn after turn.
 use Rattle.std.proofs.Common.{Some}
-use Rattle.moka_cache.proofs.Stopping.{came_here, came_to_on, came_to_weaker, polls_on, turns_weaker}
+use Rattle.moka_kept.proofs.Stopping.{came_here, came_to_on, came_to_weaker}
+use Rattle.moka_cache.proofs.Turning.{polls_on, turns_weaker}
 use Rattle.moka_cache.proofs.cache.Cache.go_on.Goals as goal
 
 pub loop-init : goal.loop-init

@@ -1,6 +1,6 @@
 use Rattle.futures.specs.Task.{Keeps}
 use Rattle.moka_hist.specs.declared.events.Told.{Told}
-use Rattle.moka_cache.specs.Stops.{CameTo}
+use Rattle.moka_kept.specs.Stops.{CameTo}
 use Rattle.moka_cache.proofs.cache.Cache.go_on.Given as goal
 
 abbrev pub invariant-loop : goal.invariant-loop

@@ -1,8 +1,8 @@
 -- A hold of the lock, and what follows it.
 use Rattle.std.proofs.Common.{◌≡◌, ◌⊎◌, Some, subst}
 use Rattle.moka_cache.specs.Hearing.{Awaits, Unheard}
-use Rattle.moka_cache.specs.declared.stop.Stop.TheVariants as stop
-use Rattle.moka_cache.proofs.Stopping.{pending_by, turned, waits_still}
+use Rattle.moka_kept.specs.declared.stop.Stop.TheVariants as stop
+use Rattle.moka_cache.proofs.Turning.{pending_by, turned, waits_still}
 use Rattle.moka_cache.proofs.cache.Cache.round.Goals as goal
 
 pub returns-clause-turns : goal.returns-clause-turns

@@ -1,7 +1,7 @@
 -- A turn is left as its round leaves it, or as who is asked does.
 use Rattle.std.proofs.Common.{◌≡◌, Some, None, IfSome, subst}
 use Rattle.std.proofs.lemmas.Option.{none-some, same_Some}
-use Rattle.moka_cache.proofs.Stopping.{pends_by, turns_weaker}
+use Rattle.moka_cache.proofs.Turning.{pends_by, turns_weaker}
 use Rattle.moka_cache.proofs.cache.Cache.turn.Goals as goal
 
 pub returns-then-not-is_asking-clause-turns : goal.returns-then-not-is_asking-clause-turns

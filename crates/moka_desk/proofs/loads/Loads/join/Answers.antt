@@ -10,8 +10,8 @@ invariant_of-self-3-clause-all_are_counted g c = λ n.
     let s = c.args.self.now in
     let call = c.args.call in
     let owner = c.args.owner in
-    let joined = c.reserve.new.self in
-    let readers = c.reserve-2.new.self in
+    let joined = c.reserve.new.map in
+    let readers = c.reserve-2.new.map in
     let count : ℕ → ℕ = λ m. unwrap_or (get nat_eq s.readers m) 0 in
     let same : (m : ℕ) → unwrap_or (get nat_eq readers m) 0 ≡ count m = λ m.
     ap (λ o. unwrap_or o 0) (c.reserve-2.ensures.entries.2 m) in

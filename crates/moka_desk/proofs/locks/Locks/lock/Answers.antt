@@ -13,8 +13,8 @@ returns-clause-ok g c = λ p h free none.
     let copy : c.in_ok-held.held ≡ key = c.in_ok-held.ensures in
     let own : c.in_ok-own.own ≡ key = c.in_ok-own.ensures in
     record {
-      holders = λ k. c.put.ensures.updates.0 k ∙ ap (λ q. cond (eq q k) (Some call) (get eq c.reserve.new.self k)) copy ∙ ap (λ o. cond (eq key k) (Some call) o) (c.reserve.ensures.entries.2 k ∙ h.holders k);
-      locked = λ n. c.put-2.ensures.updates.0 n ∙ ap (λ q. cond (call == n) (Some q) (get nat_eq c.reserve-2.new.self n)) own ∙ ap (λ o. cond (call == n) (Some key) o) (c.reserve-2.ensures.entries.2 n ∙ h.locked n);
+      holders = λ k. c.put.ensures.updates.0 k ∙ ap (λ q. cond (eq q k) (Some call) (get eq c.reserve.new.map k)) copy ∙ ap (λ o. cond (eq key k) (Some call) o) (c.reserve.ensures.entries.2 k ∙ h.holders k);
+      locked = λ n. c.put-2.ensures.updates.0 n ∙ ap (λ q. cond (call == n) (Some q) (get nat_eq c.reserve-2.new.map n)) own ∙ ap (λ o. cond (call == n) (Some key) o) (c.reserve-2.ensures.entries.2 n ∙ h.locked n);
       holds = owns_more eq p.locks p.locked call key none h.holds;
       held = owned_more eq p.locks p.locked call key (laws.refl key) free (λ l s. sym (h.holders key) ∙ same_at eq laws c.args.self.now.holders key l s ∙ h.holders l) h.held;
     }

@@ -1,7 +1,12 @@
-use Rattle.std.proofs.Common.{None, ◌||◌, refl, ap, ◌∙◌}
+use Rattle.std.proofs.Common.{None, Bool, true, false, ◌≡◌, ◌&&◌, ◌||◌, refl, ap, ◌∙◌}
 use Rattle.moka_desk.specs.Woken.{is_told}
 use Rattle.moka_desk.proofs.Misses.{answers_miss, nobody_listed, nothing_asked}
 use Rattle.moka_desk.proofs.state.Desk.made.Goals as goal
+
+-- three that are alike hold together exactly where one does
+thrice : (b : Bool) → (b && (b && b)) ≡ b
+thrice true = refl
+thrice false = refl
 
 pub returns-clause-stands : goal.returns-clause-stands
 returns-clause-stands g c = λ tests. record {
@@ -32,4 +37,4 @@ returns-clause-unwoken g c = λ call.
     ap (λ b. b || is_told c.new-6.result call) (c.new-7.ensures.unwoken call) ∙ c.new-6.ensures.unwoken call
 
 pub returns-clause-history : goal.returns-clause-history
-returns-clause-history g c = λ whole. rw (c.in_ok-new.ensures.kind, c.new-5.ensures.kind, whole) refl
+returns-clause-history g c = rw (c.in_ok-new.ensures.kind, c.new-5.ensures.kind) (thrice c.args.history)

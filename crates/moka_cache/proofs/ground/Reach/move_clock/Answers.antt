@@ -1,9 +1,0 @@
--- The clock moves on in the world that is kept, or stays.
-use Rattle.moka_cache.proofs.Keeping.{clock_at, kept_at}
-use Rattle.moka_cache.proofs.ground.Reach.move_clock.Goals as goal
-
-pub returns-clause-kept : goal.returns-clause-kept
-returns-clause-kept g c = kept_at g.K.PartialEq.eq c.args.self.now.layers c.at.new.self c.args.moment c.clock_keeps_sound.ensures.sound c.at.ensures.makes c.requires
-
-pub returns-clause-clock : goal.returns-clause-clock
-returns-clause-clock g c = λ w stands. clock_at g.K.PartialEq.eq c.args.self.now.layers c.at.new.self c.args.moment c.at.ensures.makes c.requires w stands

@@ -1,0 +1,32 @@
+-- What the states answer whose answers are entries.
+use Rattle.std.specs.Prelude.{false, Option, Some, None, Result, Ok, Err, ok_or}
+use Rattle.moka_hist.specs.declared.entries.Entry.{Entry}
+use Rattle.moka_hist.specs.declared.replies.Answer.{Answer}
+use Rattle.moka_hist.specs.declared.replies.Answer.TheVariants as answer
+use Rattle.moka_cache.specs.declared.errors.LoadError.{LoadError}
+use Rattle.moka_cache.specs.declared.errors.LoadError.TheVariants as error
+use Rattle.moka_cache.specs.declared.errors.RetriesExhausted.{RetriesExhausted}
+
+module _ {K V E : Type 0} where
+  -- the entry of this key with the value of a load: fresh where the load is, and never replaced
+  abbrev pub entry_in : Option K → Answer K V E → Option (Entry K V)
+  entry_in named (answer.Loaded value fresh) =
+      Some (record { key = named; value = value; fresh = fresh; replaced = false })
+  entry_in named _ = None
+
+  -- what a load answers by it, or else that the owners which it waited for were dropped too often
+  abbrev pub loaded_entry_in : Option K → Answer K V E → Result (Entry K V) RetriesExhausted
+  loaded_entry_in named answer = ok_or (entry_in named answer) (record {})
+
+  -- the same of a load that may find nothing
+  abbrev pub optionally_loaded_entry_in : Option K → Answer K V E
+      → Result (Option (Entry K V)) RetriesExhausted
+  optionally_loaded_entry_in named answer.Nothing = Ok None
+  optionally_loaded_entry_in named (answer.Loaded value fresh) =
+      Ok (entry_in named (answer.Loaded value fresh))
+  optionally_loaded_entry_in named _ = Err (record {})
+
+  -- the same of a load that may fail
+  abbrev pub try_loaded_entry_in : Option K → Answer K V E → Result (Entry K V) (LoadError E)
+  try_loaded_entry_in named (answer.InitErr gave) = Err (error.Init gave)
+  try_loaded_entry_in named answer = ok_or (entry_in named answer) error.RetriesExhausted

@@ -1,0 +1,38 @@
+-- How a turn of a poll leaves a call, and why a poll is pending.
+use Rattle.std.specs.Prelude.{◌≡◌, ℕ, Bool, true, Option, Some, None, Result, Ok, Err, ◌⊎◌}
+use Rattle.futures.specs.declared.task.Poll.{Poll}
+use Rattle.futures.specs.declared.task.Poll.TheVariants.{Ready, Pending}
+use Rattle.moka_hist.specs.declared.replies.Answer.{Answer}
+use Rattle.moka_hist.specs.declared.events.Told.{Told}
+use Rattle.moka_init.specs.Grounds.{access_at}
+use Rattle.moka_init.specs.declared.flow.Flow.{Flow}
+use Rattle.moka_kept.specs.Stops.{AnswersFrom, CameTo, Waits}
+use Rattle.moka_kept.specs.Taking.{is_taking}
+use Rattle.moka_cache.specs.Hearing.{Awaits}
+use Rattle.moka_cache.specs.declared.errors.PollError.{PollError}
+use Rattle.moka_cache.specs.declared.errors.PollError.TheVariants as error
+
+module _ {K V E : Type 0} where
+  -- The poll's answer follows from the last of the accesses that the call made since; or the call
+  -- came to where its flow stands.
+  abbrev pub PollIs : (K → K → Bool) → (Told V E → Type 0) → Flow K V E
+      → Poll (Result (Answer K V E) PollError) → Flow K V E → Type 0
+  PollIs eq such old (Ready (Ok answer)) new = AnswersFrom eq such old answer
+  PollIs eq such old (Ready (Err e)) new = (e ≡ error.Memory) × CameTo eq such old new
+  PollIs eq such old Pending new = CameTo eq such old new
+
+  -- the same of one turn of a poll, after which the call may go on
+  abbrev pub TurnIs : (K → K → Bool) → (Told V E → Type 0) → Flow K V E
+      → Option (Poll (Result (Answer K V E) PollError)) → Flow K V E → Type 0
+  TurnIs eq such old None new = CameTo eq such old new
+  TurnIs eq such old (Some poll) new = PollIs eq such old poll new
+
+  -- Why a poll is pending: the last access left its call waiting; or its own ask is open, and who
+  -- is asked answered Pending, and is as that poll left it; or it awaits the end of a notice, whose
+  -- poll the listener left pending.
+  abbrev pub Pends : {Q : Type 0} → (K → K → Bool) → (Q → Q → Type 0) → (ℕ → Type 0) → Q
+      → Flow K V E → Type 0
+  Pends {Q} eq pends unheard asked flow =
+      Waits eq flow
+      ⊎ (((is_taking (access_at flow) ≡ true) × ((before : Q) × pends before asked))
+      ⊎ Awaits unheard flow)

@@ -1,0 +1,67 @@
+//! Calls by an entry of a key.
+ghost use Rattle.std.specs.Prelude.{◌≡◌};
+ghost use Rattle.moka_cache.specs.Keys.{key_of};
+
+use crate::cache::{Cache, FixedSeed};
+use crate::key::CallKey;
+use crate::listener::{Listener, NoListener};
+use std::hash::Hash;
+
+/// A key of a cache that a call is to be made for. Each of its calls takes it, and gives the state of
+/// the call. What a call answers has this key, also where an equal one is stored.
+#[derive(Drop)]
+pub struct EntrySelector<'a, K: Eq + Hash, V, E, L = NoListener, S = FixedSeed> {
+    pub(crate) cache: &'a Cache<K, V, E, L, S>,
+    pub(crate) key: CallKey<'a, K>,
+}
+
+/// One by a key of its own.
+pub type OwnedKeyEntrySelector<'a, K, V, E, L = NoListener, S = FixedSeed> = EntrySelector<
+    'a,
+    K,
+    V,
+    E,
+    L,
+    S,
+>;
+
+/// One by a key that is lent, which its call copies.
+pub type RefKeyEntrySelector<'a, K, V, E, L = NoListener, S = FixedSeed> = EntrySelector<
+    'a,
+    K,
+    V,
+    E,
+    L,
+    S,
+>;
+
+impl<K, V, E, L, S> Cache<K, V, E, L, S>
+where
+    K: Eq + Hash + Clone + Drop,
+    V: Clone + Drop,
+    E: Clone + Drop,
+    L: Listener<K, V>,
+    S: Drop,
+{
+    /// Selects the entry of the key. That does nothing.
+    pub fn entry<'a>(&'a self, key: K) -> OwnedKeyEntrySelector<'a, K, V, E, L, S>
+        ensures key { key_of result.key ≡ key }
+        ensures cache { result.cache.now ≡ self.now }
+    {
+        EntrySelector {
+            cache: self,
+            key: CallKey::Owned(key),
+        }
+    }
+
+    /// The same by a key that is lent.
+    pub fn entry_by_ref<'a>(&'a self, key: &'a K) -> RefKeyEntrySelector<'a, K, V, E, L, S>
+        ensures key { key_of result.key ≡ key.now }
+        ensures cache { result.cache.now ≡ self.now }
+    {
+        EntrySelector {
+            cache: self,
+            key: CallKey::Lent(key),
+        }
+    }
+}

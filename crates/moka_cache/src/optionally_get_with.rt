@@ -1,0 +1,109 @@
+//! Loading a value that there may be.
+ghost use Rattle.std.specs.Prelude.{◌≡◌, Some, None};
+ghost use Rattle.moka_hist.specs.declared.events.Start.TheVariants as Start;
+ghost use Rattle.moka_cache.specs.Keys.{key_of};
+ghost use Rattle.moka_cache.specs.Loaded.{optionally_loaded_in};
+ghost use Rattle.moka_cache.specs.Stages.{BeginsWith, MayPoll};
+
+use crate::begin::{Begin, Begun};
+use crate::by_init::ByOptionalInit;
+use crate::cache::{Cache, FixedSeed};
+use crate::call::CacheCall;
+use crate::errors::RetriesExhausted;
+use crate::init::Init;
+use crate::key::CallKey;
+use crate::listener::{Listener, NoListener};
+use moka_hist::{Answer, Start};
+use std::hash::Hash;
+
+/// What an optional load looks up, and stores where it is absent and its initializer gives it.
+#[derive(Drop)]
+pub struct ToLoadOptionally<'a, K> {
+    key: CallKey<'a, K>,
+}
+
+/// Looks the value of a key up, or loads it, if there is one, polled until that is known.
+pub type OptionallyGetWith<'a, K, V, E, I, L = NoListener, S = FixedSeed> = CacheCall<
+    'a,
+    ToLoadOptionally<'a, K>,
+    K,
+    V,
+    E,
+    ByOptionalInit<I>,
+    L,
+    S,
+>;
+
+impl<K: Clone + Drop, V: Drop, E: Drop> Begin<K, V, E> for ToLoadOptionally<'_, K> {
+    type Output = Result<Option<V>, RetriesExhausted>;
+
+    ghost start = { λ load. Start.Optional (key_of load.key) };
+
+    ghost named = { λ load. None };
+
+    ghost output = { λ named answer. Some (optionally_loaded_in answer) };
+
+    fn start(self) -> Result<Begun<K, V>, Self> {
+        match self.key.into_key() {
+            Ok(key) => Ok(Begun::unnamed(Start::Optional { key })),
+            Err(key) => Err(ToLoadOptionally { key }),
+        }
+    }
+
+    fn output(_key: Option<K>, answer: Answer<K, V, E>) -> Result<Option<V>, RetriesExhausted>
+        ensures told { Some result ≡ Some (optionally_loaded_in answer) }
+    {
+        match answer {
+            Answer::Loaded { value, fresh: _ } => Ok(Some(value)),
+            Answer::Nothing => Ok(None),
+            _ => Err(RetriesExhausted),
+        }
+    }
+}
+
+impl<K, V, E, L, S> Cache<K, V, E, L, S>
+where
+    K: Eq + Hash + Clone + Drop,
+    V: Clone + Drop,
+    E: Clone + Drop,
+    L: Listener<K, V>,
+    S: Drop,
+{
+    /// Looks the key up, or loads its value, as `get_with` does, by an initializer that may give
+    /// none. Then nothing is stored, and all loads of this kind that wait for it answer None too;
+    /// the next one asks anew. Loads of other kinds don't wait for it.
+    pub fn optionally_get_with<'a, I: Init<Option<V>>>(
+        &'a self,
+        key: K,
+        init: I,
+    ) -> OptionallyGetWith<'a, K, V, E, I, L, S>
+        ensures fresh { BeginsWith result.stage (λ load. key_of load.key ≡ key) }
+        ensures may { MayPoll result.stage }
+        ensures init { result.asked.init ≡ Some init }
+        ensures cache { result.cache.now ≡ self.now }
+    {
+        let key = CallKey::Owned(key);
+        self.call_asking(
+            ToLoadOptionally { key },
+            ByOptionalInit { init: Some(init) },
+        )
+    }
+
+    /// The same by a key that is lent, which the first poll copies.
+    pub fn optionally_get_with_by_ref<'a, I: Init<Option<V>>>(
+        &'a self,
+        key: &'a K,
+        init: I,
+    ) -> OptionallyGetWith<'a, K, V, E, I, L, S>
+        ensures fresh { BeginsWith result.stage (λ load. key_of load.key ≡ key.now) }
+        ensures may { MayPoll result.stage }
+        ensures init { result.asked.init ≡ Some init }
+        ensures cache { result.cache.now ≡ self.now }
+    {
+        let key = CallKey::Lent(key);
+        self.call_asking(
+            ToLoadOptionally { key },
+            ByOptionalInit { init: Some(init) },
+        )
+    }
+}

@@ -1,0 +1,95 @@
+//! Loading an entry.
+ghost use Rattle.std.specs.Prelude.{◌≡◌, Some, None, false};
+ghost use Rattle.moka_hist.specs.declared.events.Start.TheVariants as Start;
+ghost use Rattle.moka_cache.specs.Entries.{loaded_entry_in};
+ghost use Rattle.moka_cache.specs.Keys.{key_of};
+ghost use Rattle.moka_cache.specs.Stages.{BeginsWith, MayPoll};
+
+use crate::begin::{Begin, Begun};
+use crate::by_init::ByInit;
+use crate::cache::FixedSeed;
+use crate::call::CacheCall;
+use crate::entry::EntrySelector;
+use crate::errors::RetriesExhausted;
+use crate::init::Init;
+use crate::key::CallKey;
+use crate::listener::{Listener, NoListener};
+use moka_hist::{Answer, Entry, Start};
+use std::hash::Hash;
+
+/// What a load of an entry looks up, and stores where it is absent.
+#[derive(Drop)]
+pub struct ToLoadEntry<'a, K> {
+    key: CallKey<'a, K>,
+}
+
+/// Looks the value of a key up, or loads it, polled until it is there.
+pub type OrInsertWith<'a, K, V, E, I, L = NoListener, S = FixedSeed> = CacheCall<
+    'a,
+    ToLoadEntry<'a, K>,
+    K,
+    V,
+    E,
+    ByInit<I>,
+    L,
+    S,
+>;
+
+impl<K: Clone + Drop, V: Drop, E: Drop> Begin<K, V, E> for ToLoadEntry<'_, K> {
+    type Output = Result<Entry<K, V>, RetriesExhausted>;
+
+    ghost start = { λ load. Start.GetWith (key_of load.key) None };
+
+    ghost named = { λ load. Some (key_of load.key) };
+
+    ghost output = { λ named answer. Some (loaded_entry_in named answer) };
+
+    fn start(self) -> Result<Begun<K, V>, Self> {
+        match self.key.into_two() {
+            Ok((key, named)) => Ok(Begun::named(Start::GetWith { key, replace: None }, named)),
+            Err(key) => Err(ToLoadEntry { key }),
+        }
+    }
+
+    fn output(key: Option<K>, answer: Answer<K, V, E>) -> Result<Entry<K, V>, RetriesExhausted>
+        ensures told { Some result ≡ Some (loaded_entry_in key answer) }
+    {
+        match answer {
+            Answer::Loaded { value, fresh } => Ok(loaded_entry(key, value, fresh)),
+            _ => Err(RetriesExhausted),
+        }
+    }
+}
+
+impl<'a, K, V, E, L, S> EntrySelector<'a, K, V, E, L, S>
+where
+    K: Eq + Hash + Clone + Drop,
+    V: Clone + Drop,
+    E: Clone + Drop,
+    L: Listener<K, V>,
+    S: Drop,
+{
+    /// Looks the key up, or loads its value, as `get_with` does. The entry is fresh where the
+    /// initializer of this call gave the value.
+    pub fn or_insert_with<I: Init<V>>(self, init: I) -> OrInsertWith<'a, K, V, E, I, L, S>
+        ensures fresh { BeginsWith result.stage (λ load. load.key ≡ self.entry.key) }
+        ensures may { MayPoll result.stage }
+        ensures init { result.asked.init ≡ Some init }
+        ensures cache { result.cache.now ≡ self.entry.cache.now }
+    {
+        let EntrySelector { cache, key } = self;
+        cache.call_asking(ToLoadEntry { key }, ByInit { init: Some(init) })
+    }
+}
+
+/// The entry of this key with the value of a load, which is never said to replace another.
+pub(crate) fn loaded_entry<K, V>(named: Option<K>, value: V, fresh: bool) -> Entry<K, V>
+    ensures { result ≡ record { key = named; value = value; fresh = fresh; replaced = false } }
+{
+    Entry {
+        key: named,
+        value,
+        fresh,
+        replaced: false,
+    }
+}

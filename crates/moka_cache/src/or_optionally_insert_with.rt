@@ -1,0 +1,94 @@
+//! Loading an entry that there may be.
+ghost use Rattle.std.specs.Prelude.{◌≡◌, Some};
+ghost use Rattle.moka_hist.specs.declared.events.Start.TheVariants as Start;
+ghost use Rattle.moka_cache.specs.Entries.{optionally_loaded_entry_in};
+ghost use Rattle.moka_cache.specs.Keys.{key_of};
+ghost use Rattle.moka_cache.specs.Stages.{BeginsWith, MayPoll};
+
+use crate::begin::{Begin, Begun};
+use crate::by_init::ByOptionalInit;
+use crate::cache::FixedSeed;
+use crate::call::CacheCall;
+use crate::entry::EntrySelector;
+use crate::errors::RetriesExhausted;
+use crate::init::Init;
+use crate::key::CallKey;
+use crate::listener::{Listener, NoListener};
+use crate::or_insert_with::loaded_entry;
+use moka_hist::{Answer, Entry, Start};
+use std::hash::Hash;
+
+/// What an optional load of an entry looks up, and stores where it is absent and its initializer gives it.
+#[derive(Drop)]
+pub struct ToLoadEntryOptionally<'a, K> {
+    key: CallKey<'a, K>,
+}
+
+/// Looks the value of a key up, or loads it, if there is one, polled until that is known.
+pub type OrOptionallyInsertWith<'a, K, V, E, I, L = NoListener, S = FixedSeed> = CacheCall<
+    'a,
+    ToLoadEntryOptionally<'a, K>,
+    K,
+    V,
+    E,
+    ByOptionalInit<I>,
+    L,
+    S,
+>;
+
+impl<K: Clone + Drop, V: Drop, E: Drop> Begin<K, V, E> for ToLoadEntryOptionally<'_, K> {
+    type Output = Result<Option<Entry<K, V>>, RetriesExhausted>;
+
+    ghost start = { λ load. Start.Optional (key_of load.key) };
+
+    ghost named = { λ load. Some (key_of load.key) };
+
+    ghost output = { λ named answer. Some (optionally_loaded_entry_in named answer) };
+
+    fn start(self) -> Result<Begun<K, V>, Self> {
+        match self.key.into_two() {
+            Ok((key, named)) => Ok(Begun::named(Start::Optional { key }, named)),
+            Err(key) => Err(ToLoadEntryOptionally { key }),
+        }
+    }
+
+    fn output(
+        key: Option<K>,
+        answer: Answer<K, V, E>,
+    ) -> Result<Option<Entry<K, V>>, RetriesExhausted>
+        ensures told { Some result ≡ Some (optionally_loaded_entry_in key answer) }
+    {
+        match answer {
+            Answer::Loaded { value, fresh } => Ok(Some(loaded_entry(key, value, fresh))),
+            Answer::Nothing => Ok(None),
+            _ => Err(RetriesExhausted),
+        }
+    }
+}
+
+impl<'a, K, V, E, L, S> EntrySelector<'a, K, V, E, L, S>
+where
+    K: Eq + Hash + Clone + Drop,
+    V: Clone + Drop,
+    E: Clone + Drop,
+    L: Listener<K, V>,
+    S: Drop,
+{
+    /// The same as `optionally_get_with`. The entry is fresh where the initializer of this call gave
+    /// the value.
+    pub fn or_optionally_insert_with<I: Init<Option<V>>>(
+        self,
+        init: I,
+    ) -> OrOptionallyInsertWith<'a, K, V, E, I, L, S>
+        ensures fresh { BeginsWith result.stage (λ load. load.key ≡ self.entry.key) }
+        ensures may { MayPoll result.stage }
+        ensures init { result.asked.init ≡ Some init }
+        ensures cache { result.cache.now ≡ self.entry.cache.now }
+    {
+        let EntrySelector { cache, key } = self;
+        cache.call_asking(
+            ToLoadEntryOptionally { key },
+            ByOptionalInit { init: Some(init) },
+        )
+    }
+}

@@ -1,0 +1,88 @@
+//! Loading an entry, which may fail.
+ghost use Rattle.std.specs.Prelude.{◌≡◌, Some};
+ghost use Rattle.moka_hist.specs.declared.events.Start.TheVariants as Start;
+ghost use Rattle.moka_cache.specs.Entries.{try_loaded_entry_in};
+ghost use Rattle.moka_cache.specs.Keys.{key_of};
+ghost use Rattle.moka_cache.specs.Stages.{BeginsWith, MayPoll};
+
+use crate::begin::{Begin, Begun};
+use crate::by_init::ByTryInit;
+use crate::cache::FixedSeed;
+use crate::call::CacheCall;
+use crate::entry::EntrySelector;
+use crate::errors::LoadError;
+use crate::init::Init;
+use crate::key::CallKey;
+use crate::listener::{Listener, NoListener};
+use crate::or_insert_with::loaded_entry;
+use moka_hist::{Answer, Entry, Start};
+use std::hash::Hash;
+
+/// What a load of an entry looks up that may fail, and stores where it is absent and its initializer gives it.
+#[derive(Drop)]
+pub struct ToTryLoadEntry<'a, K> {
+    key: CallKey<'a, K>,
+}
+
+/// Looks the value of a key up, or loads it, polled until it is there, or the load has failed.
+pub type OrTryInsertWith<'a, K, V, E, I, L = NoListener, S = FixedSeed> = CacheCall<
+    'a,
+    ToTryLoadEntry<'a, K>,
+    K,
+    V,
+    E,
+    ByTryInit<I>,
+    L,
+    S,
+>;
+
+impl<K: Clone + Drop, V: Drop, E: Drop> Begin<K, V, E> for ToTryLoadEntry<'_, K> {
+    type Output = Result<Entry<K, V>, LoadError<E>>;
+
+    ghost start = { λ load. Start.Try (key_of load.key) };
+
+    ghost named = { λ load. Some (key_of load.key) };
+
+    ghost output = { λ named answer. Some (try_loaded_entry_in named answer) };
+
+    fn start(self) -> Result<Begun<K, V>, Self> {
+        match self.key.into_two() {
+            Ok((key, named)) => Ok(Begun::named(Start::Try { key }, named)),
+            Err(key) => Err(ToTryLoadEntry { key }),
+        }
+    }
+
+    fn output(key: Option<K>, answer: Answer<K, V, E>) -> Result<Entry<K, V>, LoadError<E>>
+        ensures told { Some result ≡ Some (try_loaded_entry_in key answer) }
+    {
+        match answer {
+            Answer::Loaded { value, fresh } => Ok(loaded_entry(key, value, fresh)),
+            Answer::InitErr(error) => Err(LoadError::Init(error)),
+            _ => Err(LoadError::RetriesExhausted),
+        }
+    }
+}
+
+impl<'a, K, V, E, L, S> EntrySelector<'a, K, V, E, L, S>
+where
+    K: Eq + Hash + Clone + Drop,
+    V: Clone + Drop,
+    E: Clone + Drop,
+    L: Listener<K, V>,
+    S: Drop,
+{
+    /// The same as `try_get_with`. The entry is fresh where the initializer of this call gave the
+    /// value.
+    pub fn or_try_insert_with<I: Init<Result<V, E>>>(
+        self,
+        init: I,
+    ) -> OrTryInsertWith<'a, K, V, E, I, L, S>
+        ensures fresh { BeginsWith result.stage (λ load. load.key ≡ self.entry.key) }
+        ensures may { MayPoll result.stage }
+        ensures init { result.asked.init ≡ Some init }
+        ensures cache { result.cache.now ≡ self.entry.cache.now }
+    {
+        let EntrySelector { cache, key } = self;
+        cache.call_asking(ToTryLoadEntry { key }, ByTryInit { init: Some(init) })
+    }
+}

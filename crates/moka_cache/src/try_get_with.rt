@@ -1,0 +1,103 @@
+//! Loading a value, which may fail.
+ghost use Rattle.std.specs.Prelude.{◌≡◌, Some, None};
+ghost use Rattle.moka_hist.specs.declared.events.Start.TheVariants as Start;
+ghost use Rattle.moka_cache.specs.Keys.{key_of};
+ghost use Rattle.moka_cache.specs.Loaded.{try_loaded_in};
+ghost use Rattle.moka_cache.specs.Stages.{BeginsWith, MayPoll};
+
+use crate::begin::{Begin, Begun};
+use crate::by_init::ByTryInit;
+use crate::cache::{Cache, FixedSeed};
+use crate::call::CacheCall;
+use crate::errors::LoadError;
+use crate::init::Init;
+use crate::key::CallKey;
+use crate::listener::{Listener, NoListener};
+use moka_hist::{Answer, Start};
+use std::hash::Hash;
+
+/// What a load that may fail looks up, and stores where it is absent and its initializer gives it.
+#[derive(Drop)]
+pub struct ToTryLoad<'a, K> {
+    key: CallKey<'a, K>,
+}
+
+/// Looks the value of a key up, or loads it, polled until it is there, or the load has failed.
+pub type TryGetWith<'a, K, V, E, I, L = NoListener, S = FixedSeed> = CacheCall<
+    'a,
+    ToTryLoad<'a, K>,
+    K,
+    V,
+    E,
+    ByTryInit<I>,
+    L,
+    S,
+>;
+
+impl<K: Clone + Drop, V: Drop, E: Drop> Begin<K, V, E> for ToTryLoad<'_, K> {
+    type Output = Result<V, LoadError<E>>;
+
+    ghost start = { λ load. Start.Try (key_of load.key) };
+
+    ghost named = { λ load. None };
+
+    ghost output = { λ named answer. Some (try_loaded_in answer) };
+
+    fn start(self) -> Result<Begun<K, V>, Self> {
+        match self.key.into_key() {
+            Ok(key) => Ok(Begun::unnamed(Start::Try { key })),
+            Err(key) => Err(ToTryLoad { key }),
+        }
+    }
+
+    fn output(_key: Option<K>, answer: Answer<K, V, E>) -> Result<V, LoadError<E>>
+        ensures told { Some result ≡ Some (try_loaded_in answer) }
+    {
+        match answer {
+            Answer::Loaded { value, fresh: _ } => Ok(value),
+            Answer::InitErr(error) => Err(LoadError::Init(error)),
+            _ => Err(LoadError::RetriesExhausted),
+        }
+    }
+}
+
+impl<K, V, E, L, S> Cache<K, V, E, L, S>
+where
+    K: Eq + Hash + Clone + Drop,
+    V: Clone + Drop,
+    E: Clone + Drop,
+    L: Listener<K, V>,
+    S: Drop,
+{
+    /// Looks the key up, or loads its value, as `get_with` does, by an initializer that may give an
+    /// error. Then nothing is stored, and all loads of this kind that wait for it answer that error
+    /// too; the next one asks anew. Loads of other kinds don't wait for it.
+    pub fn try_get_with<'a, I: Init<Result<V, E>>>(
+        &'a self,
+        key: K,
+        init: I,
+    ) -> TryGetWith<'a, K, V, E, I, L, S>
+        ensures fresh { BeginsWith result.stage (λ load. key_of load.key ≡ key) }
+        ensures may { MayPoll result.stage }
+        ensures init { result.asked.init ≡ Some init }
+        ensures cache { result.cache.now ≡ self.now }
+    {
+        let key = CallKey::Owned(key);
+        self.call_asking(ToTryLoad { key }, ByTryInit { init: Some(init) })
+    }
+
+    /// The same by a key that is lent, which the first poll copies.
+    pub fn try_get_with_by_ref<'a, I: Init<Result<V, E>>>(
+        &'a self,
+        key: &'a K,
+        init: I,
+    ) -> TryGetWith<'a, K, V, E, I, L, S>
+        ensures fresh { BeginsWith result.stage (λ load. key_of load.key ≡ key.now) }
+        ensures may { MayPoll result.stage }
+        ensures init { result.asked.init ≡ Some init }
+        ensures cache { result.cache.now ≡ self.now }
+    {
+        let key = CallKey::Lent(key);
+        self.call_asking(ToTryLoad { key }, ByTryInit { init: Some(init) })
+    }
+}

@@ -1,0 +1,122 @@
+//! Loads of a cache that are all under way at once.
+ghost use Rattle.futures.specs.Task.{Keeps};
+
+use crate::cached::Numbers;
+use crate::calls::Begins;
+use crate::turns::{Never, Still};
+use futures::Future;
+use futures::executor::block_on;
+use futures::task::{Context, Poll};
+use moka_cache::{GetWith, Listener, Polled, State};
+use std::alloc::{AllocError, AllocGlobal, Global};
+use std::io;
+use std::marker::PhantomData;
+use std::random::RandomSource;
+use std::sync::Wait;
+
+/// Loads keys below a number, by initializers that never give a value.
+#[derive(Drop)]
+struct Loads<'a, L> {
+    cache: &'a Numbers<L>,
+    keys: u64,
+}
+
+impl<'a, R: Wait, L: Listener<u64, u64>> Begins<R, GetWith<'a, u64, u64, u64, Never, L>>
+    for Loads<'a, L> {
+    fn begin(&self, call: u64) -> GetWith<'a, u64, u64, u64, Never, L> {
+        self.cache
+            .get_with(call.checked_rem(self.keys).unwrap_or(0), Never)
+    }
+}
+
+/// Calls that were polled once.
+type UnderWay<'a, R, S> = Vec<Polled<'a, R, S, Still>>;
+
+/// Makes so many loads over so many keys, polls each once, and cancels them. Prints how many there
+/// are while they are under way, and once they are cancelled.
+pub(crate) fn load_at_once<R: Wait + RandomSource + AllocGlobal + Print, L: Listener<u64, u64>>(
+    rt: &R,
+    alloc: Global,
+    cache: &Numbers<L>,
+    keys: u64,
+    calls: u64,
+) -> anyhow::Result<()> {
+    let begun = begin_all(rt, alloc, Loads { cache, keys }, calls)??;
+    let count = begun.len();
+    println!(rt; "under way {count}")?;
+    drop(begun);
+    println!(rt; "cancelled {count}")?;
+    Ok(())
+}
+
+/// Makes so many calls that come from there, and polls each once.
+fn begin_all<'a, R, S, B>(
+    rt: &'a R,
+    alloc: Global,
+    begins: B,
+    calls: u64,
+) -> io::Result<Result<UnderWay<'a, R, S>, AllocError>>
+where
+    R: Wait + RandomSource + AllocGlobal,
+    S: State<R, Output: Drop>,
+    B: Begins<R, S>,
+{
+    let crowd = Crowd {
+        rt,
+        alloc,
+        begins,
+        calls,
+        state: PhantomData,
+    };
+    block_on(rt, crowd)
+}
+
+/// A future that makes calls, polls each once, and gives them.
+struct Crowd<'a, R: Wait, S: State<R>, B: Begins<R, S>> {
+    rt: &'a R,
+    alloc: Global,
+    begins: B,
+    calls: u64,
+    state: PhantomData<S>,
+}
+
+impl<R: Wait, S: State<R>, B: Begins<R, S>> Drop for Crowd<'_, R, S, B> {
+    fn drop(self) {
+        let Self {
+            rt: _,
+            alloc: _,
+            begins: _,
+            calls: _,
+            state: _,
+        } = self;
+    }
+}
+
+impl<'a, R: Wait, S: State<R, Output: Drop>, B: Begins<R, S>> Future for Crowd<'a, R, S, B> {
+    type Output = Result<UnderWay<'a, R, S>, AllocError>;
+
+    fn poll(&mut self, cx: &mut Context<'_>) -> Poll<Self::Output> {
+        let mut begun = Vec::new(self.alloc);
+        for call in 0..self.calls {
+            let state = self.begins.begin(call);
+            if begun.push(polled_once(self.rt, state, cx)).is_err() {
+                return Poll::Ready(Err(AllocError));
+            }
+        }
+        Poll::Ready(Ok(begun))
+    }
+}
+
+/// Polls the call once.
+fn polled_once<'a, R: Wait, S: State<R, Output: Drop>>(
+    rt: &'a R,
+    state: S,
+    cx: &mut Context<'_>,
+) -> Polled<'a, R, S, Still>
+    requires { S.can_poll state }
+    ensures { Keeps cx.old cx.new }
+{
+    let mut call = Polled::new(rt, state, Still);
+    drop(call.poll(cx));
+    call
+}

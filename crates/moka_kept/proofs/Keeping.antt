@@ -1,0 +1,133 @@
+-- What happens to the desk alone leaves a world that is kept.
+use Rattle.std.proofs.Common.{◌≡◌, ◌≤◌, ◌<◌, ◌+◌, ◌==◌, ℕ, Bool, true, false, cond, nat_lt, Option, Some, None, MatchOption, IfNone, OnSome, is_some, refl, sym, ap, ◌∙◌, subst, arith}
+use Rattle.std.specs.declared.cmp.PartialEq as PartialEq
+use Rattle.std.specs.declared.hash.Hash as Hash
+use Rattle.std.specs.Option.{option_map}
+use Rattle.std.proofs.lemmas.Bool.{ltb-true}
+use Rattle.moka_hist.specs.Conditions.{MayLeave}
+use Rattle.moka_hist.specs.Dropping.{left}
+use Rattle.moka_hist.specs.Run.{last_call}
+use Rattle.moka_hist.specs.SoundDesk.{SoundDesk}
+use Rattle.moka_hist.specs.State.{DeskPart}
+use Rattle.moka_hist.specs.declared.writes.Owed.{Owed}
+use Rattle.moka_desk.specs.StandsFor.{StandsFor}
+use Rattle.moka_desk.specs.declared.state.Desk.{Desk}
+use Rattle.moka_hist.specs.Telling.{told}
+use Rattle.moka_hist.specs.declared.events.Told.{Told}
+use Rattle.moka_hist.specs.declared.events.Told.TheVariants as tells
+use Rattle.std.proofs.lemmas.Bool.{eqb-true, false≢true}
+use Rattle.std.proofs.lemmas.Option.{none-some}
+use Rattle.moka_laws.specs.Sound.{ClockKeepsSound, EnteringKeepsSound, LeavingKeepsSound, TellingKeepsSound}
+use Rattle.moka_laws.proofs.Counting.{put_here}
+use Rattle.moka_kept.specs.Taking.{is_of_call}
+use Rattle.moka_kept.specs.Kept.{CacheLayers, IsKept, IsToldTo}
+use Rattle.moka_kept.specs.Kept.{NumbersSpent}
+
+-- what a call was told is there to be taken
+there_at : {K V E : Type 0} (w : DeskPart K V E) (call : ℕ) (answer : Told V E) → is_of_call answer ≡ true → (told w call answer).told call ≡ Some answer
+there_at w call (tells.Value value) own = put_here w.told call (Some (tells.Value value))
+there_at w call tells.Nothing own = put_here w.told call (Some tells.Nothing)
+there_at w call (tells.Err error) own = put_here w.told call (Some (tells.Err error))
+there_at w call (tells.Op op) own = put_here w.told call (Some (tells.Op op))
+there_at w call tells.Done own = absurd (false≢true own)
+there_at w call tells.Off own = absurd (false≢true own)
+
+module _ {K V E : Type 0} {same : PartialEq.Ghosts K} {hash : Hash.Ghosts K} (eq : K → K → Bool) where
+  -- the world with a sound desk that the new one stands for is kept
+  with_desk_at : (layers : CacheLayers K V E same hash) (desk : Desk K V E same hash) (w : DeskPart K V E) (kept : IsKept eq layers) → StandsFor eq desk w → SoundDesk eq w → w.size ≡ kept.world.desk.size → kept.world.desk.tests ≡ w.tests
+      → kept.world.desk.last ≤ w.last → (after : IsKept eq (record layers { desk = desk })) × (after.world.desk ≡ w)
+  with_desk_at layers desk w kept stands sound size tests last =
+      let stay = kept.stands.stay in (
+        record {
+          world = record kept.world { desk = w };
+          stands = record { table = kept.stands.table; desk = stands; tests = kept.stands.tests ∙ tests; stay = omega (arith, stay, last) };
+          sound = sound;
+          log = subst (λ n. 0 < n) (sym size) kept.log;
+          decided = kept.decided;
+          none_begun = kept.none_begun;
+        },
+        refl,
+      )
+
+  with_desk : (layers : CacheLayers K V E same hash) (desk : Desk K V E same hash) (w : DeskPart K V E) (kept : IsKept eq layers) → StandsFor eq desk w → SoundDesk eq w → w.size ≡ kept.world.desk.size → kept.world.desk.tests ≡ w.tests
+      → kept.world.desk.last ≤ w.last → IsKept eq (record layers { desk = desk })
+  with_desk layers desk w kept stands sound size tests last = (with_desk_at layers desk w kept stands sound size tests last).0
+
+  -- the clock moves on, or stays
+  pub kept_at : (layers : CacheLayers K V E same hash) (desk : Desk K V E same hash) (moment : ℕ) → ClockKeepsSound K V E eq
+      → ((w : DeskPart K V E) → StandsFor eq layers.desk w → StandsFor eq desk (cond (nat_lt moment w.clock) w (record w { clock = moment })))
+      → IsKept eq layers → IsKept eq (record layers { desk = desk })
+  kept_at layers desk moment law makes kept = by (nat_lt moment kept.world.desk.clock) (makes kept.world.desk kept.stands.desk) where
+    by : (b : Bool) → StandsFor eq desk (cond b kept.world.desk (record kept.world.desk { clock = moment })) → IsKept eq (record layers { desk = desk })
+    by true stands = with_desk layers desk kept.world.desk kept stands kept.sound refl refl (omega arith)
+    by false stands = with_desk layers desk (record kept.world.desk { clock = moment }) kept stands (law kept.world.desk moment kept.sound) refl refl (omega arith)
+
+  -- it is at the moment or later then
+  pub clock_at : (layers : CacheLayers K V E same hash) (desk : Desk K V E same hash) (moment : ℕ)
+      → ((w : DeskPart K V E) → StandsFor eq layers.desk w → StandsFor eq desk (cond (nat_lt moment w.clock) w (record w { clock = moment })))
+      → IsKept eq layers → (w : DeskPart K V E) → StandsFor eq desk w → moment ≤ w.clock
+  clock_at layers desk moment makes kept w stands = by (nat_lt moment kept.world.desk.clock) refl (makes kept.world.desk kept.stands.desk) where
+    by : (b : Bool) → nat_lt moment kept.world.desk.clock ≡ b → StandsFor eq desk (cond b kept.world.desk (record kept.world.desk { clock = moment })) → moment ≤ w.clock
+    by true e at = let is : kept.world.desk.clock ≡ w.clock = sym at.clock ∙ stands.clock in let before = ltb-true moment kept.world.desk.clock e in omega (arith, before, is)
+    by false e at = let is : moment ≡ w.clock = sym at.clock ∙ stands.clock in omega (arith, is)
+
+  -- a number is given out, or none is left
+  pub kept_entered : (layers : CacheLayers K V E same hash) (desk : Desk K V E same hash) (r : Option ℕ) → EnteringKeepsSound K V E eq
+      → ((w : DeskPart K V E) → StandsFor eq layers.desk w → r ≡ cond (w.last == last_call) None (Some (w.last + 1)))
+      → ((w : DeskPart K V E) → StandsFor eq layers.desk w → MatchOption r (StandsFor eq desk w) (λ n. StandsFor eq desk (record w { last = n })))
+      → IsKept eq layers → IsKept eq (record layers { desk = desk })
+  kept_entered layers desk None law finds makes kept = with_desk layers desk kept.world.desk kept (makes kept.world.desk kept.stands.desk) kept.sound refl refl (omega arith)
+  kept_entered layers desk (Some n) law finds makes kept =
+      with_desk layers desk (record kept.world.desk { last = n }) kept (makes kept.world.desk kept.stands.desk) (law kept.world.desk n kept.sound) refl refl
+      (next (kept.world.desk.last == last_call) (finds kept.world.desk kept.stands.desk))
+    where
+      next : (b : Bool) → Some n ≡ cond b None (Some (kept.world.desk.last + 1)) → kept.world.desk.last ≤ n
+      next true e = absurd (cc)
+      next false e = let is : n ≡ kept.world.desk.last + 1 = cc in omega (arith, is)
+
+  -- where none is left, the greatest was given out
+  pub spent_entered : (layers : CacheLayers K V E same hash) (r : Option ℕ)
+      → ((w : DeskPart K V E) → StandsFor eq layers.desk w → r ≡ cond (w.last == last_call) None (Some (w.last + 1)))
+      → IsKept eq layers → IfNone r (NumbersSpent K V E eq)
+  spent_entered layers (Some n) finds kept = tt
+  spent_entered layers None finds kept = by (kept.world.desk.last == last_call) refl (finds kept.world.desk kept.stands.desk) where
+    by : (b : Bool) → (kept.world.desk.last == last_call) ≡ b → None ≡ cond b None (Some (kept.world.desk.last + 1)) → NumbersSpent K V E eq
+    by true is found = (kept.world.desk, kept.sound, eqb-true kept.world.desk.last last_call is)
+    by false is found = absurd (none-some (kept.world.desk.last + 1) found)
+
+  -- a call leaves
+  pub kept_left : (layers : CacheLayers K V E same hash) (desk : Desk K V E same hash) (call : ℕ) (held : Option Owed) → LeavingKeepsSound K V E eq
+      → ((w : DeskPart K V E) → StandsFor eq layers.desk w → MayLeave w call (option_map (λ o. o.write) held) → StandsFor eq desk (left w call held))
+      → (kept : IsKept eq layers) → MayLeave kept.world.desk call (option_map (λ o. o.write) held) → IsKept eq (record layers { desk = desk })
+  kept_left layers desk call held law makes kept may =
+      with_desk layers desk (left kept.world.desk call held) kept (makes kept.world.desk kept.stands.desk may) (law kept.world.desk call held kept.sound may) refl refl (omega arith)
+
+  -- a call is told an answer, and it is there to be taken then
+  told_at : (layers : CacheLayers K V E same hash) (desk : Desk K V E same hash) (call : ℕ) (answer : Told V E) → TellingKeepsSound K V E eq
+      → (kept : IsKept eq layers) → StandsFor eq desk (told kept.world.desk call answer)
+      → (after : IsKept eq (record layers { desk = desk })) × (after.world.desk ≡ told kept.world.desk call answer)
+  told_at layers desk call answer law kept stands = by answer stands (law kept.world.desk call answer kept.sound) where
+    by : (t : Told V E) → StandsFor eq desk (told kept.world.desk call t) → SoundDesk eq (told kept.world.desk call t)
+        → (after : IsKept eq (record layers { desk = desk })) × (after.world.desk ≡ told kept.world.desk call t)
+    by (tells.Value value) stands sound = with_desk_at layers desk (told kept.world.desk call (tells.Value value)) kept stands sound refl refl (omega arith)
+    by tells.Nothing stands sound = with_desk_at layers desk (told kept.world.desk call tells.Nothing) kept stands sound refl refl (omega arith)
+    by (tells.Err error) stands sound = with_desk_at layers desk (told kept.world.desk call (tells.Err error)) kept stands sound refl refl (omega arith)
+    by (tells.Op op) stands sound = with_desk_at layers desk (told kept.world.desk call (tells.Op op)) kept stands sound refl refl (omega arith)
+    by tells.Done stands sound = with_desk_at layers desk (told kept.world.desk call tells.Done) kept stands sound refl refl (omega arith)
+    by tells.Off stands sound = with_desk_at layers desk (told kept.world.desk call tells.Off) kept stands sound refl refl (omega arith)
+
+  pub kept_told : {A : Type 0} (layers : CacheLayers K V E same hash) (desk : Desk K V E same hash) (call : ℕ) (answer : Told V E) (r : Option A) → TellingKeepsSound K V E eq
+      → ((w : DeskPart K V E) → StandsFor eq layers.desk w → StandsFor eq desk (cond (is_some r) (told w call answer) w))
+      → IsKept eq layers → IsKept eq (record layers { desk = desk })
+  kept_told layers desk call answer (Some a) law makes kept = (told_at layers desk call answer law kept (makes kept.world.desk kept.stands.desk)).0
+  kept_told layers desk call answer None law makes kept = with_desk layers desk kept.world.desk kept (makes kept.world.desk kept.stands.desk) kept.sound refl refl (omega arith)
+
+  pub told_there : {A : Type 0} (layers : CacheLayers K V E same hash) (desk : Desk K V E same hash) (call : ℕ) (answer : Told V E) (r : Option A) → TellingKeepsSound K V E eq
+      → ((w : DeskPart K V E) → StandsFor eq layers.desk w → StandsFor eq desk (cond (is_some r) (told w call answer) w))
+      → IsKept eq layers → is_of_call answer ≡ true → OnSome r (IsToldTo eq (record layers { desk = desk }) call answer)
+  told_there layers desk call answer (Some a) law makes kept own =
+      let after = told_at layers desk call answer law kept (makes kept.world.desk kept.stands.desk) in record {
+        kept = after.0;
+        there = ap (λ (w : DeskPart K V E). w.told call) after.1 ∙ there_at kept.world.desk call answer own;
+      }
+  told_there layers desk call answer None law makes kept own = tt

@@ -1,0 +1,6 @@
+pub mod Ways
+pub mod Reached
+pub mod Wanting
+pub mod Keeping
+pub mod Stopping
+pub mod Looks

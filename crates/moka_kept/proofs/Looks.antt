@@ -1,0 +1,69 @@
+-- What a look finds in the table, and in the world that is kept; and that it changes nothing.
+use Rattle.std.proofs.Common.{◌≡◌, ◌≢◌, ℕ, Bool, false, Option, Some, None, is_some, refl, ap, ◌∙◌, arith}
+use Rattle.std.specs.HashMap.{hash_map_len}
+use Rattle.std.specs.Option.{option_map_or}
+use Rattle.std.specs.declared.cmp.PartialEq as PartialEq
+use Rattle.std.specs.declared.hash.Hash as Hash
+use Rattle.moka_hist.specs.State.{World}
+use Rattle.moka_hist.specs.Tables.{answer_of}
+use Rattle.moka_hist.specs.Visits.{is_seen}
+use Rattle.moka_hist.specs.declared.records.Stored.{Stored}
+use Rattle.moka_hist.specs.declared.tables.TableAnswer.{TableAnswer}
+use Rattle.moka_hist.specs.declared.tables.TableOp.TheVariants as op
+use Rattle.moka_hist.specs.declared.tables.TableTurn.{TableTurn}
+use Rattle.moka_hist.specs.declared.tables.TableTurn.TheVariants as turn
+use Rattle.moka_layers.specs.Layers.{WorldIs}
+use Rattle.moka_table.specs.Map.{Moves, Pairs, SameMap}
+use Rattle.moka_table.specs.Plain.{map_of, peak_of, plain_table}
+use Rattle.moka_table.specs.declared.plain.PlainTable.{PlainTable}
+use Rattle.moka_kept.specs.Counts.{is_found, sees}
+use Rattle.moka_kept.specs.Kept.{CacheLayers, IsKept, no_tests}
+
+module _ {K V : Type 0} (eq : K → K → Bool) where
+  -- the step of a look left the map
+  pub looked_same : (key : K) (old new : Pairs K V) (keys count : ℕ) (t : TableTurn K V) → Moves eq (op.Get key) old keys t new count → SameMap old new
+  looked_same key old new keys count turn.Going moves = moves.0
+  looked_same key old new keys count (turn.Decided a) moves = moves.1
+
+  pub looked_count : (key : K) (old new : Pairs K V) (keys count : ℕ) (t : TableTurn K V) → Moves eq (op.Get key) old keys t new count → count ≡ keys
+  looked_count key old new keys count turn.Going moves = moves.1
+  looked_count key old new keys count (turn.Decided a) moves = moves.2
+
+  answered : (o : Option (K × Stored V)) (a : TableAnswer K V) → a ≡ answer_of o → is_found (turn.Decided a) ≡ is_some o
+  answered None a e = ap (λ (x : TableAnswer K V). is_found (turn.Decided x)) e
+  answered (Some pair) a e = ap (λ (x : TableAnswer K V). is_found (turn.Decided x)) e
+
+  -- it found what the map has there
+  pub looked_found : (key : K) (old new : Pairs K V) (keys count : ℕ) (t : TableTurn K V) → t ≢ turn.Going → Moves eq (op.Get key) old keys t new count → is_found t ≡ is_some (old key)
+  looked_found key old new keys count turn.Going apart moves = absurd (apart refl)
+  looked_found key old new keys count (turn.Decided a) apart moves = answered (old key) a moves.0
+
+-- a call without a replace test sees each record that is there
+seen : {K V E : Type 0} (w : World K V E) (o : Option (K × Stored V)) → is_some o ≡ option_map_or (λ pair. is_seen w.desk None pair.0 pair.1) o false
+seen w None = refl
+seen w (Some pair) = refl
+
+module _ {K V E : Type 0} {same : PartialEq.Ghosts K} {hash : Hash.Ghosts K} (eq : K → K → Bool) where
+  -- a table that is as it was leaves the world that is kept
+  pub kept_table : (layers : CacheLayers K V E same hash) (table : PlainTable K V) → SameMap (map_of eq layers.table) (map_of eq table)
+      → hash_map_len table.pairs ≡ hash_map_len layers.table.pairs → peak_of table ≡ peak_of layers.table → IsKept eq layers → IsKept eq (record layers { table = table })
+  kept_table layers table map count peak kept =
+      let there = kept.stands.table in
+      let most = there.peak in
+      record {
+        world = kept.world;
+        stands = record {
+          table = record { map = λ q. map q ∙ there.map q; keys = count ∙ there.keys; peak = omega (arith, peak, most); first = there.first };
+          desk = kept.stands.desk;
+          tests = kept.stands.tests;
+          stay = kept.stands.stay;
+        };
+        sound = kept.sound;
+        log = kept.log;
+        decided = kept.decided;
+        none_begun = kept.none_begun;
+      }
+
+  -- where the layers stand for a world, their table has a key where the world's has
+  pub sees_there : (layers : CacheLayers K V E same hash) (w : World K V E) (key : K) → WorldIs eq (plain_table eq) no_tests layers w → is_some (map_of eq layers.table key) ≡ sees w key
+  sees_there layers w key stands = ap is_some (stands.table.map key) ∙ seen w (w.table.stored key)

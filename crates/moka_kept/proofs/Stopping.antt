@@ -1,0 +1,96 @@
+-- How steps of a flow, one after another, leave its call.
+use Rattle.std.proofs.Common.{◌≡◌, Bool, false, Some, None, Result, Ok, Err, IfOk, OnErr, refl, sym, ◌∙◌, subst}
+use Rattle.moka_hist.specs.Next.{answers}
+use Rattle.moka_hist.specs.State.{Call}
+use Rattle.moka_hist.specs.declared.accesses.Turn.{Turn}
+use Rattle.moka_hist.specs.declared.accesses.Turn.TheVariants as turn
+use Rattle.moka_hist.specs.declared.events.Told.{Told}
+use Rattle.moka_hist.specs.declared.replies.Answer.{Answer}
+use Rattle.moka_init.specs.FlowPlan.{IsLive, Leaves, StandsStill, call_of, is_over, next_in}
+use Rattle.moka_init.specs.Grounds.{HasBegun}
+use Rattle.moka_init.specs.declared.flow.Flow.{Flow}
+use Rattle.moka_kept.specs.Paths.{CameWith, EndedWith, Waited}
+use Rattle.moka_kept.specs.Rests.{Rests}
+use Rattle.moka_kept.specs.Stops.{CameTo, StopIs, Waits, stop_after, stop_of}
+use Rattle.moka_kept.specs.declared.stop.Stop.{Stop}
+use Rattle.moka_kept.specs.declared.stop.Stop.TheVariants as stop
+use Rattle.moka_kept.proofs.Ways.{came_on, came_same, came_weaker, ended_came, ended_on, ended_weaker}
+
+module _ {K V E : Type 0} (eq : K → K → Bool) (such : Told V E → Type 0) where
+  -- a flow that stands still is where it was
+  pub stays : (old new : Flow K V E) → Rests old → HasBegun None new → StandsStill old new → CameTo eq such old new
+  stays old new rests begun still = record {
+    number = still.number;
+    came = came_same eq such old.call (call_of old) (call_of new) still.call;
+    rests = record {
+      live = subst (λ (c : Call K V E). is_over c.plan ≡ false) (sym still.call) rests.live;
+      begun = begun;
+    };
+  }
+
+  -- a step that leaves its call live brings it to where its flow stands
+  came_by : (old new : Flow K V E) (t : Turn K V E) → new.call ≡ old.call → HasBegun None new → IsLive new
+      → EndedWith eq such old.call (call_of old) (record { left = Some (call_of new); turn = t }) → CameTo eq such old new
+  came_by old new t number begun live end = record {
+    number = number;
+    came = ended_came eq such old.call (call_of old) (record { left = Some (call_of new); turn = t }) (call_of new) end refl;
+    rests = record { live = live; begun = begun };
+  }
+
+  -- one that waits left it waiting
+  waits_by : (old new : Flow K V E) → new.call ≡ old.call
+      → EndedWith eq such old.call (call_of old) (record { left = Some (call_of new); turn = turn.Wait }) → Waits eq new
+  waits_by old new number end =
+      subst (λ n. Waited eq n (call_of new)) (sym number) (record { call = end.call; given = end.given; last = end.last; follows = end.follows })
+
+  -- a step that is followed by this turn stops its call so
+  pub stops : (old : Flow K V E) (t : Turn K V E) (new : Flow K V E) → new.call ≡ old.call → HasBegun None new → Leaves t new
+      → EndedWith eq such old.call (call_of old) (next_in t new) → StopIs eq such old (stop_of t) new
+  stops old turn.Going new number begun live end = came_by old new turn.Going number begun live end
+  stops old turn.Wait new number begun live end = (came_by old new turn.Wait number begun live end, waits_by old new number end)
+  stops old (turn.Ask ask) new number begun live end = came_by old new (turn.Ask ask) number begun live end
+  stops old (turn.Answer answer) new number begun live end = end
+
+  -- so does a step that may find no memory
+  pub stops_made : {F : Type 0} (old : Flow K V E) (r : Result (Turn K V E) F) (new : Flow K V E) → Rests old → new.call ≡ old.call → HasBegun None new → IfOk r (λ t. Leaves t new)
+      → IfOk r (λ t. EndedWith eq such old.call (call_of old) (next_in t new)) → OnErr r (StandsStill old new) → StopIs eq such old (stop_after r) new
+  stops_made old (Ok t) new rests number begun leaves end still = stops old t new number begun leaves end
+  stops_made old (Err e) new rests number begun leaves end still = stays old new rests begun still
+
+  -- steps after steps
+  pub came_to_on : (a b c : Flow K V E) → CameTo eq such a b → CameTo eq such b c → CameTo eq such a c
+  came_to_on a b c before after = record {
+    number = after.number ∙ before.number;
+    came = came_on eq such a.call (call_of a) (call_of b) (call_of c) before.came
+        (subst (λ n. CameWith eq such n (call_of b) (call_of c)) before.number after.came);
+    rests = after.rests;
+  }
+
+  pub answers_on : (a b : Flow K V E) (answer : Answer K V E) → CameTo eq such a b → EndedWith eq such b.call (call_of b) (answers answer)
+      → EndedWith eq such a.call (call_of a) (answers answer)
+  answers_on a b answer before end =
+      ended_on eq such a.call (call_of a) (call_of b) (answers answer) before.came (subst (λ n. EndedWith eq such n (call_of b) (answers answer)) before.number end)
+
+  pub stops_on : (a b : Flow K V E) (s : Stop K V E) (c : Flow K V E) → CameTo eq such a b → StopIs eq such b s c → StopIs eq such a s c
+  stops_on a b (stop.Answers answer) c before end = answers_on a b answer before end
+  stops_on a b stop.Going c before after = came_to_on a b c before after
+  stops_on a b stop.Waits c before after = (came_to_on a b c before after.0, after.1)
+  stops_on a b (stop.Asks ask) c before after = came_to_on a b c before after
+  stops_on a b stop.Memory c before after = came_to_on a b c before after
+
+  -- a flow that rests is where it is
+  pub came_here : (flow : Flow K V E) → Rests flow → CameTo eq such flow flow
+  came_here flow rests = record { number = refl; came = came_same eq such flow.call (call_of flow) (call_of flow) refl; rests = rests }
+
+module _ {K V E : Type 0} (eq : K → K → Bool) (such other : Told V E → Type 0) (weaker : (told : Told V E) → such told → other told) where
+  pub came_to_weaker : (old new : Flow K V E) → CameTo eq such old new → CameTo eq other old new
+  came_to_weaker old new came =
+      record { number = came.number; came = came_weaker eq such other weaker old.call (call_of old) (call_of new) came.came; rests = came.rests }
+
+  -- less is known of the answers that are taken
+  pub stops_weaker : (old : Flow K V E) (s : Stop K V E) (new : Flow K V E) → StopIs eq such old s new → StopIs eq other old s new
+  stops_weaker old (stop.Answers answer) new end = ended_weaker eq such other weaker old.call (call_of old) (answers answer) end
+  stops_weaker old stop.Going new after = came_to_weaker old new after
+  stops_weaker old stop.Waits new after = (came_to_weaker old new after.0, after.1)
+  stops_weaker old (stop.Asks ask) new after = came_to_weaker old new after
+  stops_weaker old stop.Memory new after = came_to_weaker old new after

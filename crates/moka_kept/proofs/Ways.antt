@@ -1,0 +1,65 @@
+-- How the accesses of polls follow one another.
+use Rattle.std.proofs.Common.{◌≡◌, ℕ, Bool, List, [], ◌∷◌, ◌++◌, Option, Some, None, IfSome, refl, sym, ap, ◌∙◌, subst}
+use Rattle.moka_hist.specs.Next.{Next}
+use Rattle.moka_hist.specs.State.{Call}
+use Rattle.moka_hist.specs.Step.{Access, access_of, next_of}
+use Rattle.moka_hist.specs.declared.accesses.Got.{Got}
+use Rattle.moka_hist.specs.declared.events.Told.{Told}
+use Rattle.moka_kept.specs.Taking.{told_in}
+use Rattle.moka_kept.specs.Paths.{CameWith, EndedWith, LeadsWith}
+
+module _ {K V E : Type 0} (eq : K → K → Bool) (such : Told V E → Type 0) (n : ℕ) where
+  leads_on : (c : Call K V E) (path : List (Access K V E × Got K V E)) (d : Call K V E) (more : List (Access K V E × Got K V E)) (e : Call K V E)
+      → LeadsWith eq such n c path d → LeadsWith eq such n d more e → LeadsWith eq such n c (path ++ more) e
+  leads_on c [] d more e first then = subst (λ (x : Call K V E). LeadsWith eq such n x more e) first then
+  leads_on c (made ∷ path) d more e first then = (first.0, first.1, first.2, first.3, first.4, leads_on first.0 path d more e first.5 then)
+
+  -- one way after another
+  pub came_on : (c d e : Call K V E) → CameWith eq such n c d → CameWith eq such n d e → CameWith eq such n c e
+  came_on c d e before after = (before.0 ++ after.0, leads_on c before.0 d after.0 e before.1 after.1)
+
+  -- a call is where it is
+  pub came_same : (c d : Call K V E) → d ≡ c → CameWith eq such n c d
+  came_same c d e = ([], e)
+
+  -- an end after a way
+  pub ended_on : (c d : Call K V E) (next : Next K V E) → CameWith eq such n c d → EndedWith eq such n d next → EndedWith eq such n c next
+  ended_on c d next before end = record {
+    call = end.call;
+    came = came_on c d end.call before end.came;
+    given = end.given;
+    last = end.last;
+    took = end.took;
+    follows = end.follows;
+  }
+
+  -- what the last access leaves of the call is where it came
+  pub ended_came : (c : Call K V E) (next : Next K V E) (d : Call K V E) → EndedWith eq such n c next → next.left ≡ Some d → CameWith eq such n c d
+  ended_came c next d end left =
+      let made : Access K V E × Got K V E = (access_of n end.call, end.given) in
+      let leads : (next_of n end.call end.given).left ≡ Some d = sym (ap (λ (x : Next K V E). x.left) end.follows) ∙ left in
+      came_on c end.call d end.came (made ∷ [], (d, refl, end.last, leads, end.took, refl))
+
+some_weaker : {A : Type 0} {P Q : A → Type 0} (o : Option A) → ((a : A) → P a → Q a) → IfSome o P → IfSome o Q
+some_weaker (Some a) h p = h a p
+some_weaker None h p = tt
+
+module _ {K V E : Type 0} (eq : K → K → Bool) (such other : Told V E → Type 0) (weaker : (told : Told V E) → such told → other told) (n : ℕ) where
+  leads_weaker : (c : Call K V E) (path : List (Access K V E × Got K V E)) (d : Call K V E) → LeadsWith eq such n c path d → LeadsWith eq other n c path d
+  leads_weaker c [] d leads = leads
+  leads_weaker c (made ∷ path) d leads =
+      (leads.0, leads.1, leads.2, leads.3, some_weaker (told_in made.1) weaker leads.4, leads_weaker leads.0 path d leads.5)
+
+  -- a way on which less is known of the answers that are taken
+  pub came_weaker : (c d : Call K V E) → CameWith eq such n c d → CameWith eq other n c d
+  came_weaker c d came = (came.0, leads_weaker c came.0 d came.1)
+
+  pub ended_weaker : (c : Call K V E) (next : Next K V E) → EndedWith eq such n c next → EndedWith eq other n c next
+  ended_weaker c next end = record {
+    call = end.call;
+    came = came_weaker c end.call end.came;
+    given = end.given;
+    last = end.last;
+    took = some_weaker (told_in end.given) weaker end.took;
+    follows = end.follows;
+  }

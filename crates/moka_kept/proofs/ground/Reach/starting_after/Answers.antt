@@ -1,0 +1,27 @@
+-- A desk where nothing has happened but that numbers were given out, and an empty table, are those
+-- of a sound world.
+use Rattle.std.proofs.Common.{false, refl, arith}
+use Rattle.moka_hist.specs.State.{empty_table, fresh_desk}
+use Rattle.moka_kept.proofs.ground.Reach.starting_after.Goals as goal
+
+pub returns : goal.returns
+returns g c =
+    let empty = c.new.ensures.empty in
+    let none = empty.peak in
+    record {
+      world = record {
+        table = empty_table g.row.K.Denot g.row.V.Denot;
+        desk = record (fresh_desk g.row.K.Denot g.row.V.Denot g.row.E.Denot c.args.rules 384 (λ test key value. false)) { last = c.args.last };
+        stay = record { call = 0; times = 0 };
+      };
+      stands = record {
+        table = record { map = empty.map; keys = empty.count; peak = omega (arith, none); first = empty.first };
+        desk = c.in_ok-desk.ensures.stands (λ test key value. false);
+        tests = refl;
+        stay = omega arith;
+      };
+      sound = c.entering_keeps_sound.ensures.sound _ c.args.last (c.fresh_is_sound.ensures.sound c.args.rules 384 (λ test key value. false));
+      log = omega arith;
+      decided = refl;
+      none_begun = refl;
+    }

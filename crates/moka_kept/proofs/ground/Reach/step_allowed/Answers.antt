@@ -1,0 +1,65 @@
+-- The step is made in the world that is kept.
+use Rattle.std.proofs.Common.{◌≡◌, ◌≤◌, sym, subst}
+use Rattle.std.proofs.lemmas.Result.{IfOk-weaker}
+use Rattle.moka_init.specs.FlowPlan.{call_of, next_in}
+use Rattle.moka_init.specs.Grounds.{access_at}
+use Rattle.moka_kept.specs.Taking.{NoAnswer}
+use Rattle.moka_kept.specs.Kept.{MayMake}
+use Rattle.moka_kept.proofs.Reached.{allowing, fits_on, is_on, may_of, none_on, reached_by, step_ends, step_keeps}
+use Rattle.moka_kept.proofs.Wanting.{of_call, took_none, took_told}
+use Rattle.moka_kept.proofs.ground.Reach.step_allowed.Goals as goal
+
+pub step-requires-clause-live : goal.step-requires-clause-live
+step-requires-clause-live g c = c.requires.rests.live
+
+pub step-requires-clause-on : goal.step-requires-clause-on
+step-requires-clause-on g c =
+    is_on g.K.PartialEq.eq c.args.self.now.layers c.number-self.result c.args.flow.now c.number-self.ensures c.requires.kept.none_begun c.requires.rests.begun
+
+pub step-requires-clause-fits : goal.step-requires-clause-fits
+step-requires-clause-fits g c =
+    let before = c.requires.kept in
+    let may = c.requires.may before.world.desk before.stands.desk in
+    let kept = allowing g.K.PartialEq.eq c.args.self.now.layers before (λ v. MayMake v (access_at c.args.flow.now)) may.1 in
+    fits_on g.K.PartialEq.eq c.args.self.now.layers c.number-self.result c.args.flow.now kept (subst (λ n. n ≤ kept.world.desk.last) (sym c.number-self.ensures) may.0) c.requires.rests.begun
+    (may_of kept.world (access_at c.args.flow.now) may.1.holds)
+
+pub returns-clause-kept : goal.returns-clause-kept
+returns-clause-kept g c =
+    let before = c.requires.kept in
+    let may = c.requires.may before.world.desk before.stands.desk in
+    let kept = allowing g.K.PartialEq.eq c.args.self.now.layers before (λ v. MayMake v (access_at c.args.flow.now)) may.1 in
+    step_keeps g.K.PartialEq.eq c.step.result (λ turn. next_in turn c.step.new.flow) _ c.step.new.ground.layers c.args.flow.now kept.world
+    (reached_by g.K.PartialEq.eq c.args.self.now.layers c.number-self.result kept (subst (λ n. n ≤ kept.world.desk.last) (sym c.number-self.ensures) may.0))
+    (may_of kept.world (access_at c.args.flow.now) may.1.holds) c.step.ensures.moves c.step.ensures.err_stands (c.step.ensures.keeps.1 kept.none_begun)
+
+pub returns-clause-untaken : goal.returns-clause-untaken
+returns-clause-untaken g c = λ untaken.
+    let flow = c.args.flow.now in
+    let before = c.requires.kept in
+    let may = c.requires.may before.world.desk before.stands.desk in
+    let kept = allowing g.K.PartialEq.eq c.args.self.now.layers before (λ v. MayMake v (access_at c.args.flow.now)) may.1 in
+    IfOk-weaker c.step.result _ _ (λ turn moves.
+    step_ends g.K.PartialEq.eq NoAnswer _ c.step.new.ground.layers flow (next_in turn c.step.new.flow) kept.world
+    (reached_by g.K.PartialEq.eq c.args.self.now.layers c.number-self.result kept (subst (λ n. n ≤ kept.world.desk.last) (sym c.number-self.ensures) may.0))
+    (may_of kept.world (access_at c.args.flow.now) may.1.holds)
+    (λ given after gets. took_none g.K.PartialEq.eq flow.call kept.world (access_at flow) given after untaken gets) moves)
+    c.step.ensures.moves
+
+pub returns-clause-taken : goal.returns-clause-taken
+returns-clause-taken g c = λ told there.
+    let flow = c.args.flow.now in
+    let before = there.kept in
+    let may = c.requires.may before.world.desk before.stands.desk in
+    let kept = allowing g.K.PartialEq.eq c.args.self.now.layers before (λ v. MayMake v (access_at c.args.flow.now)) may.1 in
+    IfOk-weaker c.step.result _ _ (λ turn moves.
+    step_ends g.K.PartialEq.eq (λ t. t ≡ told) _ c.step.new.ground.layers flow (next_in turn c.step.new.flow) kept.world
+    (reached_by g.K.PartialEq.eq c.args.self.now.layers c.number-self.result kept (subst (λ n. n ≤ kept.world.desk.last) (sym c.number-self.ensures) may.0))
+    (may_of kept.world (access_at c.args.flow.now) may.1.holds)
+    (λ given after gets. took_told g.K.PartialEq.eq flow.call kept.world told (access_at flow) given after (of_call flow.call (call_of flow)) there.there gets) moves)
+    c.step.ensures.moves
+
+pub returns-clause-begun : goal.returns-clause-begun
+returns-clause-begun g c =
+    none_on g.K.PartialEq.eq c.step.result c.step.new.ground.layers c.args.flow.now c.step.new.flow c.requires.rests.begun (c.step.ensures.keeps.1 c.requires.kept.none_begun)
+    c.step.ensures.on c.step.ensures.err

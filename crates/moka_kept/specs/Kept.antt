@@ -1,0 +1,70 @@
+-- What lies under the lock of a cache.
+use Rattle.std.specs.Prelude.{◌≡◌, ◌<◌, ℕ, Bool, false, Some, None}
+use Rattle.std.specs.declared.cmp.PartialEq as PartialEq
+use Rattle.std.specs.declared.hash.Hash as Hash
+use Rattle.moka_hist.specs.Run.{last_call}
+use Rattle.moka_hist.specs.SoundDesk.{SoundDesk}
+use Rattle.moka_hist.specs.Conditions.{MayVisit}
+use Rattle.moka_hist.specs.State.{DeskPart, World}
+use Rattle.moka_hist.specs.Step.{Access, On_table, On_desk}
+use Rattle.moka_hist.specs.declared.accesses.Want.{Want}
+use Rattle.moka_hist.specs.declared.events.Told.{Told}
+use Rattle.moka_init.specs.Grounds.{MayWant}
+use Rattle.moka_layers.specs.Layers.{GroundIs, WorldIs, operation_in}
+use Rattle.moka_layers.specs.declared.layers.Layers.{Layers}
+use Rattle.moka_table.specs.Plain.{plain_table}
+use Rattle.moka_table.specs.declared.plain.PlainCall.{PlainCall}
+use Rattle.moka_table.specs.declared.plain.PlainTable.{PlainTable}
+use Rattle.moka_hist.specs.declared.record_tests.Tests as Tests
+use Rattle.moka_kept.specs.declared.no_tests.NoTests.{NoTests}
+
+-- no record is tested
+abbrev pub no_tests : {K V : Type 0} → Tests.Ghosts NoTests K V
+no_tests = record { answers = λ it test key value. false }
+
+-- the layers of a cache: over the plain table, and with no tests
+abbrev pub CacheLayers : (K V E : Type 0) → PartialEq.Ghosts K → Hash.Ghosts K → Type 0
+CacheLayers K V E same hash =
+    Layers K V E (PlainTable K V) (PlainCall K V) NoTests same hash
+
+-- Some sound world is that of the layers. Its log has room for a write once it is empty, and no
+-- operation of its table is begun or stayed undecided.
+pub record IsKept {K V E : Type 0} {same : PartialEq.Ghosts K} {hash : Hash.Ghosts K}
+    (eq : K → K → Bool) (layers : CacheLayers K V E same hash) : Type 0 where
+  pub world : World K V E
+  pub stands : WorldIs eq (plain_table eq) no_tests layers world
+  pub sound : SoundDesk eq world.desk
+  pub log : 0 < world.desk.size
+  pub decided : world.stay.times ≡ 0
+  pub none_begun : layers.begun ≡ None
+
+-- It is so, and the answer is there to be taken by the call of this number.
+pub record IsToldTo {K V E : Type 0} {same : PartialEq.Ghosts K} {hash : Hash.Ghosts K}
+    (eq : K → K → Bool) (layers : CacheLayers K V E same hash) (n : ℕ) (told : Told V E) : Type 0
+  where
+    pub kept : IsKept eq layers
+    pub there : kept.world.desk.told n ≡ Some told
+
+-- What the ground of a poll stands for: a world as above, as the call of this number reaches it.
+pub record ReachIs {K V E : Type 0} {same : PartialEq.Ghosts K} {hash : Hash.Ghosts K}
+    (eq : K → K → Bool) (layers : CacheLayers K V E same hash) (w : World K V E) : Type 0 where
+  pub ground : GroundIs eq (plain_table eq) no_tests layers w
+  pub sound : SoundDesk eq w.desk
+  pub log : 0 < w.desk.size
+  pub decided : w.stay.times ≡ 0
+
+-- some such world allows what is wanted
+abbrev pub MayReach : {K V E : Type 0} {same : PartialEq.Ghosts K} {hash : Hash.Ghosts K} →
+    (K → K → Bool) → CacheLayers K V E same hash → Want K V E → Type 0
+MayReach {K} {V} {E} eq layers wish =
+    (w : World K V E) × ReachIs eq layers w
+    × MayWant w (operation_in (plain_table eq) layers.begun) wish
+
+-- the desk has what the access needs, if it is a visit
+abbrev pub MayMake : {K V E : Type 0} → DeskPart K V E → Access K V E → Type 0
+MayMake w (On_table operation) = Unit {0}
+MayMake w (On_desk made) = MayVisit w made
+
+-- some sound desk has given the greatest number out
+abbrev pub NumbersSpent : (K V E : Type 0) → (K → K → Bool) → Type 0
+NumbersSpent K V E eq = (w : DeskPart K V E) × SoundDesk eq w × (w.last ≡ last_call)

@@ -1,0 +1,60 @@
+-- The accesses that a poll makes.
+use Rattle.std.specs.Prelude.{◌≡◌, ℕ, Bool, List, [], ◌∷◌, Some, IfSome}
+use Rattle.moka_hist.specs.Next.{Next}
+use Rattle.moka_hist.specs.SoundDesk.{SoundDesk}
+use Rattle.moka_hist.specs.State.{Call, World}
+use Rattle.moka_hist.specs.Step.{Access, Gets, May, access_of, next_of}
+use Rattle.moka_hist.specs.declared.accesses.Got.{Got}
+use Rattle.moka_hist.specs.declared.accesses.Turn.TheVariants as turn
+use Rattle.moka_hist.specs.declared.events.Told.{Told}
+use Rattle.moka_kept.specs.Taking.{NoAnswer, told_in}
+
+module _ {K V E : Type 0} where
+  -- some sound world gave the call of this number this for the access, and allowed it
+  pub record IsGiven (eq : K → K → Bool) (n : ℕ) (access : Access K V E) (given : Got K V E)
+      : Type 0 where
+    pub world : World K V E
+    pub after : World K V E
+    pub sound : SoundDesk eq world.desk
+    pub may : May world access
+    pub gets : Gets eq n world access given after
+
+  -- The accesses with what they gave lead the call of this number from c to d: each is the one at
+  -- which the call stood, and was given so; what it gave left the call as the next one finds it,
+  -- going, waiting or asking; and each answer to its own ask that the call took by them is such.
+  abbrev pub LeadsWith : (K → K → Bool) → (Told V E → Type 0) → ℕ → Call K V E
+      → List (Access K V E × Got K V E) → Call K V E → Type 0
+  LeadsWith eq such n c [] d = d ≡ c
+  LeadsWith eq such n c (made ∷ more) d =
+      (mid : Call K V E) × (made.0 ≡ access_of n c) × IsGiven eq n made.0 made.1
+      × ((next_of n c made.1).left ≡ Some mid) × IfSome (told_in made.1) such
+      × LeadsWith eq such n mid more d
+
+  -- a poll that answers nothing yet led the call so, by some accesses or none
+  abbrev pub CameWith : (K → K → Bool) → (Told V E → Type 0) → ℕ → Call K V E → Call K V E → Type 0
+  CameWith eq such n c d =
+      (path : List (Access K V E × Got K V E)) × LeadsWith eq such n c path d
+
+  -- it led the call up to an access after which this follows
+  pub record EndedWith (eq : K → K → Bool) (such : Told V E → Type 0) (n : ℕ) (c : Call K V E)
+      (next : Next K V E) : Type 0 where
+    pub call : Call K V E
+    pub came : CameWith eq such n c call
+    pub given : Got K V E
+    pub last : IsGiven eq n (access_of n call) given
+    pub took : IfSome (told_in given) such
+    pub follows : next ≡ next_of n call given
+
+  -- the same of a call that takes no answer to an own ask
+  abbrev pub Came : (K → K → Bool) → ℕ → Call K V E → Call K V E → Type 0
+  Came eq n c d = CameWith eq NoAnswer n c d
+
+  abbrev pub Ended : (K → K → Bool) → ℕ → Call K V E → Next K V E → Type 0
+  Ended eq n c next = EndedWith eq NoAnswer n c next
+
+  -- Its last access left the call waiting: something was missing in the world that gave it.
+  pub record Waited (eq : K → K → Bool) (n : ℕ) (left : Call K V E) : Type 0 where
+    pub call : Call K V E
+    pub given : Got K V E
+    pub last : IsGiven eq n (access_of n call) given
+    pub follows : record { left = Some left; turn = turn.Wait } ≡ next_of n call given

@@ -1,0 +1,80 @@
+//! Table and desk, as a poll reaches them under the lock.
+ghost use Rattle.std.specs.Prelude.{◌≡◌, None, IfOk, OnErr};
+ghost use Rattle.std.proofs.Common.{◌∙◌, refl};
+ghost use Rattle.moka_hist.specs.Finite.{IsExact};
+ghost use Rattle.moka_layers.specs.Counted.{counted};
+ghost use Rattle.moka_kept.specs.Kept.{ReachIs, MayReach, no_tests};
+
+use crate::no_tests::NoTests;
+use moka_hist::{Got, Want};
+use moka_init::{Alone, Ground};
+use moka_layers::Layers;
+use moka_sync::CallList;
+use moka_table::{PlainCall, PlainTable};
+use std::alloc::AllocError;
+use std::hash::Hash;
+
+/// Table and desk of a cache, and the calls that the last visit handed out, if it is one that does.
+/// Each access to this table decides, so no operation stays begun.
+#[derive(Drop)]
+pub(crate) struct Reach<K: Eq + Hash, V, E> {
+    pub(crate) layers: Layers<K, V, E, PlainTable<K, V>, PlainCall<K, V>, NoTests>,
+    pub(crate) woken: Option<CallList>,
+}
+
+impl<K: Eq + Hash + Clone + Drop, V: Clone + Drop, E: Clone + Drop> Ground<K, V, E>
+    for Reach<K, V, E> {
+    ghost use Rattle.moka_hist.specs.State.{World};
+    ghost use Rattle.moka_init.specs.Grounds.{Accesses, Gives, Lacks, NeedsMemory, OfWanted};
+    ghost use Rattle.moka_layers.specs.Layers.{account_of};
+    ghost use Rattle.moka_table.specs.Plain.{plain_table};
+
+    ghost stands = { λ r w. ReachIs K.eq r.layers w };
+
+    ghost fits = { λ r want. MayReach K.eq r.layers want };
+
+    ghost account = { λ r. account_of (plain_table K.eq) r.layers };
+
+    ghost needs = { NeedsMemory };
+
+    ghost keeps = { λ old new. (new.layers.call ≡ old.layers.call)
+        × (old.layers.begun ≡ None → new.layers.begun ≡ None) };
+
+    ghost allows = { λ r w want stands may. (w, stands, may) };
+
+    ghost keeps_same = { λ r. (refl, λ none. none) };
+
+    ghost keeps_on = { λ a b c before after.
+        (after.0 ∙ before.0, λ none. after.1 (before.1 none)) };
+
+    ghost counts = { λ r w stands. counted (plain_table K.eq) no_tests K.eq r.layers w stands.ground };
+
+    fn access(&mut self, want: Want<K, V, E>) -> Result<Got<K, V, E>, AllocError>
+        requires keys { IsExact K.is_clone }
+        requires values { IsExact V.is_clone }
+        requires errors { IsExact E.is_clone }
+        requires fits { MayReach K.eq self.old.layers want }
+        // What it gives, and what is told then.
+        ensures gives { IfOk result (λ given.
+            OfWanted (account_of (plain_table K.eq) self.old.layers) want (λ access.
+            Gives K.eq self.old.layers.call (ReachIs K.eq self.old.layers) access given
+            (ReachIs K.eq self.new.layers))) }
+        ensures tells { IfOk result (λ given.
+            OfWanted (account_of (plain_table K.eq) self.old.layers) want (λ access.
+            Accesses (account_of (plain_table K.eq) self.old.layers) access given
+            (account_of (plain_table K.eq) self.new.layers))) }
+        ensures keeps { (self.new.layers.call ≡ self.old.layers.call)
+            × (self.old.layers.begun ≡ None → self.new.layers.begun ≡ None) }
+        // Without memory.
+        ensures err { OnErr result (account_of (plain_table K.eq) self.new.layers
+            ≡ account_of (plain_table K.eq) self.old.layers) }
+        ensures err_stands { OnErr result ((w : World K V E) → ReachIs K.eq self.old.layers w
+            → ReachIs K.eq self.new.layers w) }
+        ensures err_needs { OnErr result
+            (OfWanted (account_of (plain_table K.eq) self.old.layers) want
+            (Lacks (ReachIs K.eq self.old.layers) NeedsMemory)) }
+    {
+        moka_laws::visits_keep_sound::<K, V, E>();
+        self.layers.access_waking(want, &mut self.woken)
+    }
+}

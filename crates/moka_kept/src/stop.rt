@@ -1,0 +1,18 @@
+//! How a hold of the lock leaves a call.
+
+use moka_hist::{Answer, Ask};
+
+/// How a hold of the lock left the call.
+#[derive(Drop)]
+pub enum Stop<K, V, E> {
+    /// It goes on, by another hold.
+    Going,
+    /// Something is missing; the task is parked there, or asked to be polled again.
+    Waits,
+    /// It asks its caller, or the listener.
+    Asks(Ask<K, V>),
+    /// It has answered.
+    Answers(Answer<K, V, E>),
+    /// Memory was wanting, or the desk did not allow the visit.
+    Memory,
+}

@@ -1,0 +1,110 @@
+//! Loads of entries.
+
+use futures::executor::block_on;
+use moka_cache::{Cache, LoadError, PollError, Polled, RetriesExhausted};
+use moka_cache_cases::at::{At, Numbers, get};
+use moka_cache_cases::inits::After;
+use moka_cache_cases::pairs::both;
+use moka_hist::Entry;
+use std::alloc::AllocGlobal;
+use std::io;
+use std::random::RandomSource;
+use std::sync::Wait;
+use std::sync::atomic::AtomicU64;
+use std::test::Fail;
+
+/// What loads of entries answer, those that may find nothing, and those that may fail.
+type Loaded = Result<Result<Entry<u32, u32>, RetriesExhausted>, PollError>;
+
+type Found = Result<Result<Option<Entry<u32, u32>>, RetriesExhausted>, PollError>;
+
+type Tried = Result<Result<Entry<u32, u32>, LoadError<u32>>, PollError>;
+
+// The entry of key 1 with this value.
+fn entry(value: u32, fresh: bool) -> Entry<u32, u32> {
+    Entry {
+        key: Some(1),
+        value,
+        fresh,
+        replaced: false,
+    }
+}
+
+// Loads the entry of key 1 twice, in one task.
+fn load_twice<'a, R: Wait + RandomSource + AllocGlobal>(
+    rt: &'a R,
+    cache: &'a Numbers,
+    one: After<'a>,
+    other: After<'a>,
+) -> io::Result<(Loaded, Loaded)> {
+    let other = cache.entry_by_ref(&1).or_insert_with(other);
+    both(rt, cache.entry(1).or_insert_with(one), other)
+}
+
+// Loads the entry of key 1 by an initializer that may find nothing, and by one that may fail.
+fn load_both<'a, R: Wait + RandomSource + AllocGlobal>(
+    rt: &'a R,
+    cache: &'a Numbers,
+    one: After<'a, Option<u32>>,
+    other: After<'a, Result<u32, u32>>,
+) -> io::Result<(Found, Tried)> {
+    let other = cache.entry_by_ref(&1).or_try_insert_with(other);
+    both(rt, cache.entry(1).or_optionally_insert_with(one), other)
+}
+
+// Stores the value under key 1, where there is none.
+fn or_insert<'a, R: Wait + RandomSource + AllocGlobal>(
+    rt: &'a R,
+    cache: &'a Numbers,
+    value: u32,
+) -> io::Result<Result<Entry<u32, u32>, PollError>> {
+    let state = cache.entry(1).or_insert(value);
+    block_on(rt, Polled::new(rt, state, At(0)))
+}
+
+// The same with the default value.
+fn or_default<'a, R: Wait + RandomSource + AllocGlobal>(
+    rt: &'a R,
+    cache: &'a Numbers,
+) -> io::Result<Result<Entry<u32, u32>, PollError>> {
+    let state = cache.entry_by_ref(&1).or_default();
+    block_on(rt, Polled::new(rt, state, At(0)))
+}
+
+#[test]
+fn the_entry_of_the_owner_is_fresh(rt: HostRuntime) -> Result<(), Fail> {
+    let cache: Numbers = Cache::new(rt.alloc(), 100)?;
+    let polled = AtomicU64::new(0);
+    let one = After::polls(2, 5, &polled);
+    let other = After::polls(0, 6, &polled);
+    let (a, b) = load_twice(&rt, &cache, one, other)?;
+    assert_eq!(rt; a, Ok(Ok(entry(5, true))));
+    assert_eq!(rt; b, Ok(Ok(entry(5, false))));
+    Ok(())
+}
+
+#[test]
+fn entries_tell_nothing_and_errors(rt: HostRuntime) -> Result<(), Fail> {
+    let cache: Numbers = Cache::new(rt.alloc(), 100)?;
+    let polled = AtomicU64::new(0);
+    let nothing = After::polls(0, None, &polled);
+    let error = After::polls(0, Err(3), &polled);
+    let (a, b) = load_both(&rt, &cache, nothing, error)?;
+    assert_eq!(rt; a, Ok(Ok(None)));
+    assert_eq!(rt; b, Ok(Err(LoadError::Init(3))));
+    let found = After::polls(0, Some(5), &polled);
+    let unasked = After::polls(0, Ok(6), &polled);
+    let (a, b) = load_both(&rt, &cache, found, unasked)?;
+    assert_eq!(rt; a, Ok(Ok(Some(entry(5, true)))));
+    assert_eq!(rt; b, Ok(Ok(entry(5, false))));
+    Ok(())
+}
+
+#[test]
+fn a_value_is_stored_where_there_is_none(rt: HostRuntime) -> Result<(), Fail> {
+    let cache: Numbers = Cache::new(rt.alloc(), 100)?;
+    assert_eq!(rt; or_default(&rt, &cache)?, Ok(entry(0, true)));
+    assert_eq!(rt; or_insert(&rt, &cache, 6)?, Ok(entry(0, false)));
+    assert_eq!(rt; get(&rt, &cache, 1)?, Ok(Some(0)));
+    Ok(())
+}

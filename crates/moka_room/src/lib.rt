@@ -1,0 +1,26 @@
+//! Room of std's collections: made as it is asked for, and given back once few places are in use.
+#![tactic(auto)]
+
+ghost use Rattle.std.specs.Prelude.{◌≡◌, ◌≤◌, ◌+◌, ◌*◌, IfSome, IfNone};
+
+pub mod deque_room;
+pub mod map_room;
+pub mod set_room;
+#[cfg(test)]
+mod tests;
+pub mod vec_room;
+
+/// A collection of no more places than this keeps them all.
+const FEW: usize = 1024;
+
+/// How many places are to stay of many, where so many are in use or wanted: twice these, if they are
+/// under an eighth of all; None if all stay.
+fn fewer(places: usize, needed: usize) -> Option<usize>
+    ensures fewer { IfSome result (λ fewer. (fewer ≡ needed + needed) × (fewer ≤ places)) }
+    ensures stay { IfNone result (places ≤ 8 * needed + 7) }
+{
+    if needed < places / 8 {
+        return Some(needed * 2);
+    }
+    None
+}

@@ -1,0 +1,47 @@
+//! The room of a hash set.
+
+ghost use Rattle.std.specs.Prelude.{◌≤◌, min, OnOk};
+ghost use Rattle.std.specs.HashSet.{spare, IsReordered};
+
+use crate::{FEW, fewer};
+use std::alloc::AllocError;
+use std::collections::HashSet;
+use std::hash::Hash;
+
+/// Makes room for so many more keys, and gives back what is far more than that.
+#[inline(always)]
+pub fn reserve<K: Eq + Hash>(set: &mut HashSet<K>, room: usize) -> Result<(), AllocError>
+    ensures keys { IsReordered K.eq set.old set.new }
+    ensures ok { OnOk result (room ≤ spare set.new) }
+    ensures kept { min room (spare set.old) ≤ spare set.new }
+{
+    set.reserve(room)?;
+    give_back(set, room);
+    Ok(())
+}
+
+/// Gives places back where there are many, and under an eighth of them is in use or wanted for so
+/// many more keys: twice as many as that stay. Where there is no memory for the smaller set it
+/// stays as it is.
+#[inline(always)]
+pub fn give_back<K: Eq + Hash>(set: &mut HashSet<K>, room: usize)
+    requires { room ≤ spare set.old }
+    ensures keys { IsReordered K.eq set.old set.new }
+    ensures room { room ≤ spare set.new }
+{
+    if set.capacity() > FEW && set.len() + room < set.capacity() / 8 {
+        shrink(set, room);
+    }
+}
+
+// The same, of a set of many places.
+#[inline(never)]
+fn shrink<K: Eq + Hash>(set: &mut HashSet<K>, room: usize)
+    requires { room ≤ spare set.old }
+    ensures keys { IsReordered K.eq set.old set.new }
+    ensures room { room ≤ spare set.new }
+{
+    if let Some(places) = fewer(set.capacity(), set.len() + room) {
+        set.shrink_to(places);
+    }
+}
