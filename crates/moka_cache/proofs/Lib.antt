@@ -1,3 +1,5 @@
 pub mod Turning
 pub mod Staging
 pub mod Suiting
+pub mod Taking
+pub mod Telling

@@ -1,16 +1,19 @@
 -- How a state goes on once it was begun.
-use Rattle.std.proofs.Common.{◌≡◌, Bool, Option, Result, Ok, Err, IfOk, OnOk, OnErr, refl, sym, ap, ◌∙◌, subst}
+use Rattle.std.proofs.Common.{◌≡◌, ℕ, Bool, Option, Result, Ok, Err, IfOk, OnOk, OnErr, refl, sym, ap, ◌∙◌, subst}
+use Rattle.futures.specs.Poll.{OnPending}
+use Rattle.futures.specs.declared.task.Poll.{Poll}
+use Rattle.futures.specs.declared.task.Poll.TheVariants.{Ready, Pending}
 use Rattle.moka_hist.specs.State.{Call}
 use Rattle.moka_hist.specs.Next.{answers}
 use Rattle.moka_hist.specs.declared.replies.Answer.{Answer}
-use Rattle.moka_hist.specs.declared.events.Told.{Told}
 use Rattle.moka_init.specs.FlowPlan.{call_of}
 use Rattle.moka_kept.specs.Paths.{CameWith, EndedWith}
-use Rattle.moka_cache.specs.Stages.{AnswersWith, Begins, CameOnWith, IsNamed, name_in}
+use Rattle.moka_kept.specs.Taking.{Taken}
+use Rattle.moka_cache.specs.Stages.{AnswersWith, Begins, CameOnWith, IsNamed, StagePends, name_in}
 use Rattle.moka_cache.specs.declared.stage.Stage.{Stage}
 use Rattle.moka_cache.specs.declared.stage.Stage.TheVariants as stage
 
-module _ {A K V E : Type 0} (eq : K → K → Bool) (such : Told V E → Type 0) (begins : A → Call K V E) where
+module _ {A K V E : Type 0} (eq : K → K → Bool) (such : Taken V E → Type 0) (begins : A → Call K V E) where
   -- what a begun state came to, it came to from where it was before
   pub came_since : (old mid new : Stage A K V E) → Begins eq begins old mid → CameOnWith eq such begins mid new → CameOnWith eq such begins old new
   came_since (stage.Fresh a) (stage.Fresh b) (stage.Fresh c) begun came = came ∙ begun
@@ -75,7 +78,7 @@ module _ {A K V E : Type 0} (names : A → Option K) (eq : K → K → Bool) (be
   named_begun begin before key stage.Spent is begun = tt
   named_begun begin before key stage.Answered is begun = absurd begun
 
-  module _ (such : Told V E → Type 0) where
+  module _ (such : Taken V E → Type 0) where
     -- and stays, however the call goes on
     pub named_since : (old mid new : Stage A K V E) (before kept : Option K) → IsNamed names old before mid kept → IsNamed names mid kept new kept → CameOnWith eq such begins mid new
         → IsNamed names old before new kept
@@ -122,3 +125,11 @@ module _ {A K V E : Type 0} (names : A → Option K) (eq : K → K → Bool) (be
         let came : (starts : A → Call K V E) → CameOnWith eq such starts mid new =
         subst (λ (x : Result T F). OnErr x ((starts : A → Call K V E) → CameOnWith eq such starts mid new)) is failed in
         named_since old mid new before kept one (same names kept) (came begins)
+
+-- ---- why it is pending
+
+module _ {A K V E Q T : Type 0} (eq : K → K → Bool) (pends : Q → Q → Type 0) (unheard : ℕ → Type 0) (asked : Q) where
+  -- a state whose poll is pending has a number
+  pub numbered_by : (poll : Poll T) (s : Stage A K V E) → OnPending poll (StagePends eq pends unheard asked s) → OnPending poll (s ≡ stage.Spent → ⊥)
+  numbered_by (Ready r) s pends_so = tt
+  numbered_by Pending s pends_so = λ is. subst (λ (x : Stage A K V E). StagePends eq pends unheard asked x) is pends_so

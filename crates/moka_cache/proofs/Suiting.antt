@@ -7,7 +7,6 @@ use Rattle.moka_hist.specs.State.{Call}
 use Rattle.moka_hist.specs.Step.{Access, Gets, access_of}
 use Rattle.moka_hist.specs.declared.accesses.Got.{Got}
 use Rattle.moka_hist.specs.declared.events.Start.{Start}
-use Rattle.moka_hist.specs.declared.events.Told.{Told}
 use Rattle.moka_hist.specs.declared.events.Start.TheVariants as begins
 use Rattle.moka_hist.specs.declared.replies.Answer.{Answer}
 use Rattle.moka_hist.specs.declared.replies.Answer.TheVariants as answer
@@ -16,7 +15,8 @@ use Rattle.moka_init.specs.FlowPlan.{call_of}
 use Rattle.moka_laws.specs.Loads.{may_answer}
 use Rattle.moka_laws.specs.Shapes.{Fits, MayGive, MayLead, ShapesFit, asks_nobody}
 use Rattle.moka_kept.specs.Paths.{CameWith, EndedWith, IsGiven, LeadsWith}
-use Rattle.moka_kept.specs.Taking.{NoAnswer}
+use Rattle.moka_kept.specs.Taking.{NoAnswer, Taken}
+use Rattle.moka_cache.specs.Asked.{Accords, Untested}
 use Rattle.moka_cache.specs.Entries.{entry_in}
 use Rattle.moka_cache.specs.Stages.{AnswersWith, CameOnWith}
 use Rattle.moka_cache.specs.Starts.{called}
@@ -26,7 +26,7 @@ use Rattle.moka_cache.specs.declared.stage.Stage.{Stage}
 use Rattle.moka_cache.specs.declared.stage.Stage.TheVariants as stage
 
 -- what the accesses of a way gave
-abbrev what_gave : {K V E : Type 0} → List (Access K V E × Got K V E) → List (Got K V E)
+abbrev pub what_gave : {K V E : Type 0} → List (Access K V E × Got K V E) → List (Got K V E)
 what_gave path = map (λ made. made.1) path
 
 module _ {K V E : Type 0} (eq : K → K → Bool) (n : ℕ) where
@@ -38,8 +38,8 @@ module _ {K V E : Type 0} (eq : K → K → Bool) (n : ℕ) where
   may_give : (c : Call K V E) (access : Access K V E) (given : Got K V E) → access ≡ access_of n c → IsGiven eq n access given → MayGive eq n c given
   may_give c access given is by = record { world = by.world; after = by.after; gets = subst (λ a. Gets eq n by.world a given by.after) is by.gets }
 
-module _ {K V E : Type 0} (eq : K → K → Bool) (such : Told V E → Type 0) (n : ℕ) where
-  may_lead : (c : Call K V E) (path : List (Access K V E × Got K V E)) (d : Call K V E) → LeadsWith eq such n c path d → MayLead eq n c (what_gave path) d
+module _ {K V E : Type 0} (eq : K → K → Bool) (such : Taken V E → Type 0) (n : ℕ) where
+  pub may_lead : (c : Call K V E) (path : List (Access K V E × Got K V E)) (d : Call K V E) → LeadsWith eq such n c path d → MayLead eq n c (what_gave path) d
   may_lead c [] d led = led
   may_lead c (made ∷ more) d led = (led.0, may_give eq n c made.0 made.1 led.1 led.2, led.3, may_lead led.0 more d led.5)
 
@@ -54,7 +54,7 @@ module _ {K V E : Type 0} (eq : K → K → Bool) (such : Told V E → Type 0) (
       fits (what_gave end.came.0) end.call end.given a (may_lead c end.came.0 end.call end.came.1)
       (record { world = end.last.world; after = end.last.after; gets = end.last.gets }) (sym (ap (λ (x : Next K V E). x.turn) end.follows))
 
-module _ {A K V E : Type 0} (eq : K → K → Bool) (law : ShapesFit K V E eq) (such : Told V E → Type 0) (rules : Rules) (start : A → Start K V) where
+module _ {A K V E : Type 0} (eq : K → K → Bool) (law : ShapesFit K V E eq) (such : Taken V E → Type 0) (rules : Rules) (start : A → Start K V) where
   pub suits_on : (old new : Stage A K V E) → CameOnWith eq such (called rules start) old new → Suits eq start old → Suits eq start new
   suits_on (stage.Fresh begin) (stage.Fresh kept) came suits = subst (λ b. asks_nobody (start b) ≡ true) (sym came) suits
   suits_on (stage.Fresh begin) (stage.Running flow) came suits =
@@ -84,7 +84,7 @@ module _ {A K V E : Type 0} (eq : K → K → Bool) (law : ShapesFit K V E eq) (
 
 -- ---- what is told of answers
 
-module _ {A K V E O : Type 0} (eq : K → K → Bool) (such other : Told V E → Type 0) (weaker : (told : Told V E) → such told → other told) (begins : A → Call K V E)
+module _ {A K V E O : Type 0} (eq : K → K → Bool) (such other : Taken V E → Type 0) (weaker : (taken : Taken V E) → such taken → other taken) (begins : A → Call K V E)
     (output : Option K → Answer K V E → Option O) where
   -- A state still tells of each answer that its call may come to. By then who is asked may give less.
   pub tells_on : (old new : Stage A K V E) → CameOnWith eq other begins old new → Tells eq other begins output old → Tells eq such begins output new
@@ -106,7 +106,7 @@ module _ {A K V E O : Type 0} (eq : K → K → Bool) (such other : Told V E →
   tells_on old stage.Answered came tells named answer by = absurd by
 
 -- one that has answered has nothing to tell
-pub tells_over : {A K V E O : Type 0} (eq : K → K → Bool) (such : Told V E → Type 0) (begins : A → Call K V E) (output : Option K → Answer K V E → Option O) (new : Stage A K V E) → new ≡ stage.Answered
+pub tells_over : {A K V E O : Type 0} (eq : K → K → Bool) (such : Taken V E → Type 0) (begins : A → Call K V E) (output : Option K → Answer K V E → Option O) (new : Stage A K V E) → new ≡ stage.Answered
     → Tells eq such begins output new
 tells_over eq such begins output new over named answer by = absurd (subst (λ s. AnswersWith eq such begins s answer) over by)
 
@@ -118,10 +118,11 @@ or_inserts key value named _ is = absurd (false≢true is.1)
 
 -- so a state of it tells of each answer
 pub or_inserts_tell : {A K V E : Type 0} (eq : K → K → Bool) (law : ShapesFit K V E eq) (rules : Rules) (key : A → K) (value : A → V) (made : Stage A K V E) (begin : A) → made ≡ stage.Fresh begin
-    → Tells eq NoAnswer (called rules (λ it. begins.OrInsert (key it) (value it))) entry_in made
+    → Tells eq (Accords NoAnswer Untested) (called rules (λ it. begins.OrInsert (key it) (value it))) entry_in made
 or_inserts_tell {A} {K} {V} {E} eq law rules key value made begin is named given by =
     let start : A → Start K V = λ it. begins.OrInsert (key it) (value it) in
-    or_inserts key value named given (suits_answer eq law NoAnswer rules start (stage.Fresh begin) given (subst (λ s. AnswersWith eq NoAnswer (called rules start) s given) is by) refl)
+    let such : Taken V E → Type 0 = Accords NoAnswer Untested in
+    or_inserts key value named given (suits_answer eq law such rules start (stage.Fresh begin) given (subst (λ s. AnswersWith eq such (called rules start) s given) is by) refl)
 
 -- what an answer leaves
 pub when_ok : {A F : Type 0} (P : Type 0) (r : Result A F) (a : A) → r ≡ Ok a → OnOk r P → P

@@ -1,23 +1,30 @@
 -- How turns of a poll, one after another, leave its call.
-use Rattle.std.proofs.Common.{◌≡◌, Bool, Option, Some, None, Result, Ok, Err, IfSome, ◌⊎◌, inl, inr, refl, sym, subst}
+use Rattle.std.proofs.Common.{◌≡◌, Bool, true, Option, Some, None, IsSome, Result, Ok, Err, IfSome, ◌⊎◌, inl, inr, refl, sym, ◌∙◌, subst}
 use Rattle.futures.specs.Poll.{OnPending}
 use Rattle.futures.specs.declared.task.Poll.{Poll}
 use Rattle.futures.specs.declared.task.Poll.TheVariants.{Ready, Pending}
 use Rattle.moka_hist.specs.Next.{answers}
-use Rattle.moka_hist.specs.declared.events.Told.{Told}
+use Rattle.moka_hist.specs.declared.entries.Entry.{Entry}
 use Rattle.moka_hist.specs.declared.replies.Answer.{Answer}
-use Rattle.moka_init.specs.FlowPlan.{call_of}
+use Rattle.moka_hist.specs.declared.replies.Ask.TheVariants as ask
+use Rattle.moka_init.specs.FlowPlan.{call_of, tested_in}
+use Rattle.moka_init.specs.Grounds.{access_at}
 use Rattle.moka_init.specs.declared.flow.Flow.{Flow}
+use Rattle.moka_kept.specs.Rests.{Rests}
+use Rattle.moka_kept.specs.Taking.{Taken, is_taking}
 use Rattle.moka_kept.specs.Stops.{CameTo, StopIs, Waits}
+use Rattle.moka_kept.specs.declared.brought.Brought.{Brought}
 use Rattle.moka_kept.specs.declared.stop.Stop.{Stop}
 use Rattle.moka_kept.specs.declared.stop.Stop.TheVariants as stop
-use Rattle.moka_kept.proofs.Stopping.{answers_on, came_to_on, came_to_weaker}
+use Rattle.moka_kept.proofs.Stopping.{answers_on, came_here, came_to_on, came_to_weaker}
 use Rattle.moka_kept.proofs.Ways.{ended_weaker}
+use Rattle.moka_cache.specs.Asked.{BegunBy, IsAskedFor}
 use Rattle.moka_cache.specs.Hearing.{Follows, MayPend}
-use Rattle.moka_cache.specs.Polls.{PollIs, TurnIs}
+use Rattle.moka_cache.specs.Polls.{CameToAsk, PollIs, TurnIs}
 use Rattle.moka_cache.specs.declared.errors.PollError.{PollError}
+use Rattle.moka_cache.proofs.Taking.{unasked_then}
 
-module _ {K V E : Type 0} (eq : K → K → Bool) (such : Told V E → Type 0) where
+module _ {K V E : Type 0} (eq : K → K → Bool) (such : Taken V E → Type 0) where
   -- a turn that goes on, or is pending
   may_pend : (old : Flow K V E) (t : Option (Poll (Result (Answer K V E) PollError))) (new : Flow K V E) → CameTo eq such old new → MayPend t → TurnIs eq such old t new
   may_pend old t new came (inl none) = subst (λ u. TurnIs eq such old u new) (sym none) came
@@ -36,6 +43,38 @@ module _ {K V E : Type 0} (eq : K → K → Bool) (such : Told V E → Type 0) w
   pub waits_still : (A : Type 0) (old : Flow K V E) (s : Stop K V E) (new : Flow K V E) → StopIs eq such old s new → (s ≡ stop.Waits) ⊎ A → Waits eq new ⊎ A
   waits_still A old s new stops (inl waits) = inl (subst (λ x. StopIs eq such old x new) waits stops).1
   waits_still A old s new stops (inr other) = inr other
+
+  -- who is asked is as it was, or began where the call came to its own ask
+  pub begun_at : {Q : Type 0} (begins : Q → Option (Entry K V) → Q → Type 0) (old : Flow K V E) (s : Stop K V E) (new : Flow K V E) (before after : Q) → StopIs eq such old s new
+      → BegunBy begins (is_taking (access_at new)) s before after → (after ≡ before) ⊎ CameToAsk eq such old
+  begun_at begins old stop.Going new before after stops begun = inl begun
+  begun_at begins old stop.Waits new before after stops begun = inl begun
+  begun_at begins old (stop.Answers answer) new before after stops begun = inl begun
+  begun_at begins old stop.Memory new before after stops begun = inl begun
+  begun_at begins old (stop.Asks (ask.Listener key value cause)) new before after stops begun = inl begun
+  begun_at begins old (stop.Asks ask.Init) new before after stops begun = inl begun
+  begun_at begins old (stop.Asks (ask.Compute found)) new before after stops (inl same) = inl same
+  begun_at begins old (stop.Asks (ask.Compute found)) new before after stops (inr begun) = inr (new, stops, inl begun.0)
+
+  -- or was asked its test there
+  pub unasked_or : {Q : Type 0} (tests : Q → V → Bool → Q → Type 0) (flow : Flow K V E) → Rests flow → (first before after : Q) (b : Brought V E)
+      → IsAskedFor tests (tested_in (call_of flow).plan) first b before → (after ≡ before) ⊎ CameToAsk eq such flow → (after ≡ first) ⊎ CameToAsk eq such flow
+  unasked_or tests flow rests first before after b once (inr asks) = inr asks
+  unasked_or {Q} tests flow rests first before after b once (inl same) = by (tested_in (call_of flow).plan) refl where
+    by : (o : Option V) → tested_in (call_of flow).plan ≡ o → (after ≡ first) ⊎ CameToAsk eq such flow
+    by (Some value) is = inr (flow, came_here eq such flow rests, inr (subst IsSome (sym is) refl))
+    by None is = inl (same ∙ unasked_then tests first before (tested_in (call_of flow).plan) b once is)
+
+  -- it may be another where its own ask is open
+  pub asked_here : {Q : Type 0} (flow : Flow K V E) → Rests flow → is_taking (access_at flow) ≡ true → (first after : Q) → (after ≡ first) ⊎ CameToAsk eq such flow
+  asked_here flow rests taking first after = inr (flow, came_here eq such flow rests, inl taking)
+
+  -- it is so over several turns
+  pub asked_on : {Q : Type 0} (a b : Flow K V E) (first before after : Q) → CameTo eq such a b → (before ≡ first) ⊎ CameToAsk eq such a → (after ≡ before) ⊎ CameToAsk eq such b
+      → (after ≡ first) ⊎ CameToAsk eq such a
+  asked_on a b first before after came one (inr asks) = inr (asks.0, came_to_on eq such a b asks.0 came asks.1, asks.2)
+  asked_on a b first before after came (inr asks) (inl same) = inr asks
+  asked_on a b first before after came (inl is) (inl same) = inl (same ∙ is)
 
   -- turns after turns
   pub polls_on : (a b : Flow K V E) (poll : Poll (Result (Answer K V E) PollError)) (c : Flow K V E) → CameTo eq such a b → PollIs eq such b poll c → PollIs eq such a poll c
@@ -62,10 +101,14 @@ pends_by P Q R (Some Pending) h = wider h where
   wider (inl p) = inl p
   wider (inr r) = inr (inr r)
 
-module _ {K V E : Type 0} (eq : K → K → Bool) (such other : Told V E → Type 0) (weaker : (told : Told V E) → such told → other told) where
+module _ {K V E : Type 0} (eq : K → K → Bool) (such other : Taken V E → Type 0) (weaker : (taken : Taken V E) → such taken → other taken) where
   -- less is known of the answers that are taken
   pub turns_weaker : (old : Flow K V E) (t : Option (Poll (Result (Answer K V E) PollError))) (new : Flow K V E) → TurnIs eq such old t new → TurnIs eq other old t new
   turns_weaker old None new after = came_to_weaker eq such other weaker old new after
   turns_weaker old (Some (Ready (Ok answer))) new end = ended_weaker eq such other weaker old.call (call_of old) (answers answer) end
   turns_weaker old (Some (Ready (Err e))) new after = (after.0, came_to_weaker eq such other weaker old new after.1)
   turns_weaker old (Some Pending) new after = came_to_weaker eq such other weaker old new after
+
+  pub asks_weaker : (A : Type 0) (old : Flow K V E) → A ⊎ CameToAsk eq such old → A ⊎ CameToAsk eq other old
+  asks_weaker A old (inl same) = inl same
+  asks_weaker A old (inr asks) = inr (asks.0, came_to_weaker eq such other weaker old asks.0 asks.1, asks.2)

@@ -1,5 +1,7 @@
--- What the states answer whose answers are entries.
+-- What the states answer whose answers are entries, or what a compute has done.
 use Rattle.std.specs.Prelude.{false, Option, Some, None, Result, Ok, Err, ok_or}
+use Rattle.moka_hist.specs.declared.entries.CompResult.{CompResult}
+use Rattle.moka_hist.specs.declared.entries.CompResult.TheVariants as done
 use Rattle.moka_hist.specs.declared.entries.Entry.{Entry}
 use Rattle.moka_hist.specs.declared.replies.Answer.{Answer}
 use Rattle.moka_hist.specs.declared.replies.Answer.TheVariants as answer
@@ -30,3 +32,24 @@ module _ {K V E : Type 0} where
   abbrev pub try_loaded_entry_in : Option K → Answer K V E → Result (Entry K V) (LoadError E)
   try_loaded_entry_in named (answer.InitErr gave) = Err (error.Init gave)
   try_loaded_entry_in named answer = ok_or (entry_in named answer) error.RetriesExhausted
+
+  -- what a compute has done that is never told an error
+  abbrev pub computed_in : Answer K V E → Option (CompResult K V)
+  computed_in (answer.Computed done) = Some done
+  computed_in _ = None
+
+  -- what one has done that may be, or the error
+  abbrev pub try_computed_in : Answer K V E → Option (Result (CompResult K V) E)
+  try_computed_in (answer.Computed done) = Some (Ok done)
+  try_computed_in (answer.ComputeErr error) = Some (Err error)
+  try_computed_in _ = None
+
+-- the entry that a compute has stored, if it did
+abbrev pub stored_by : {K V : Type 0} → CompResult K V → Option (Entry K V)
+stored_by (done.Inserted entry) = Some entry
+stored_by (done.ReplacedWith entry) = Some entry
+stored_by _ = None
+
+abbrev pub stored_in : {K V E : Type 0} → Answer K V E → Option (Entry K V)
+stored_in (answer.Computed done) = stored_by done
+stored_in _ = None

@@ -8,12 +8,19 @@ use Rattle.moka_init.specs.FlowPlan.{call_of}
 use Rattle.moka_init.specs.declared.flow.Flow.{Flow}
 use Rattle.moka_cache.specs.declared.errors.PollError.{PollError}
 use Rattle.moka_cache.specs.declared.errors.PollError.TheVariants as error
+use Rattle.moka_cache.specs.declared.hearing.Turned.{Turned}
+use Rattle.moka_cache.specs.declared.hearing.Turned.TheVariants as turned
 use Rattle.moka_kept.specs.declared.stop.Stop.{Stop}
 use Rattle.moka_kept.specs.declared.stop.Stop.TheVariants as stop
 
 -- the notices whose polls the listener leaves pending, if there is one
 abbrev pub Unheard : {L : Type 0} → (L → ℕ → Type 0) → Option L → ℕ → Type 0
 Unheard pends listener notice = IsSomeAnd listener (λ l. pends l notice)
+
+-- what the poll is over with, if it is over after that turn
+abbrev pub over_in : {A : Type 0} → Turned A → Option (Poll A)
+over_in (turned.On heard) = None
+over_in (turned.Over poll) = Some poll
 
 -- the turn goes on, or is pending
 abbrev pub MayPend : {A : Type 0} → Option (Poll A) → Type 0

@@ -1,13 +1,13 @@
 -- How a turn of a poll leaves a call, and why a poll is pending.
-use Rattle.std.specs.Prelude.{◌≡◌, ℕ, Bool, true, Option, Some, None, Result, Ok, Err, ◌⊎◌}
+use Rattle.std.specs.Prelude.{◌≡◌, ℕ, Bool, true, Option, Some, None, IsSome, Result, Ok, Err, ◌⊎◌}
 use Rattle.futures.specs.declared.task.Poll.{Poll}
 use Rattle.futures.specs.declared.task.Poll.TheVariants.{Ready, Pending}
 use Rattle.moka_hist.specs.declared.replies.Answer.{Answer}
-use Rattle.moka_hist.specs.declared.events.Told.{Told}
+use Rattle.moka_init.specs.FlowPlan.{call_of, tested_in}
 use Rattle.moka_init.specs.Grounds.{access_at}
 use Rattle.moka_init.specs.declared.flow.Flow.{Flow}
 use Rattle.moka_kept.specs.Stops.{AnswersFrom, CameTo, Waits}
-use Rattle.moka_kept.specs.Taking.{is_taking}
+use Rattle.moka_kept.specs.Taking.{Taken, is_taking}
 use Rattle.moka_cache.specs.Hearing.{Awaits}
 use Rattle.moka_cache.specs.declared.errors.PollError.{PollError}
 use Rattle.moka_cache.specs.declared.errors.PollError.TheVariants as error
@@ -15,14 +15,14 @@ use Rattle.moka_cache.specs.declared.errors.PollError.TheVariants as error
 module _ {K V E : Type 0} where
   -- The poll's answer follows from the last of the accesses that the call made since; or the call
   -- came to where its flow stands.
-  abbrev pub PollIs : (K → K → Bool) → (Told V E → Type 0) → Flow K V E
+  abbrev pub PollIs : (K → K → Bool) → (Taken V E → Type 0) → Flow K V E
       → Poll (Result (Answer K V E) PollError) → Flow K V E → Type 0
   PollIs eq such old (Ready (Ok answer)) new = AnswersFrom eq such old answer
   PollIs eq such old (Ready (Err e)) new = (e ≡ error.Memory) × CameTo eq such old new
   PollIs eq such old Pending new = CameTo eq such old new
 
   -- the same of one turn of a poll, after which the call may go on
-  abbrev pub TurnIs : (K → K → Bool) → (Told V E → Type 0) → Flow K V E
+  abbrev pub TurnIs : (K → K → Bool) → (Taken V E → Type 0) → Flow K V E
       → Option (Poll (Result (Answer K V E) PollError)) → Flow K V E → Type 0
   TurnIs eq such old None new = CameTo eq such old new
   TurnIs eq such old (Some poll) new = PollIs eq such old poll new
@@ -36,3 +36,12 @@ module _ {K V E : Type 0} where
       Waits eq flow
       ⊎ (((is_taking (access_at flow) ≡ true) × ((before : Q) × pends before asked))
       ⊎ Awaits unheard flow)
+
+  -- who is asked is to be asked where the flow stands: its own ask is open, which its next visit
+  -- takes the answer to; or that judges a record by the replace test
+  abbrev pub IsToAsk : Flow K V E → Type 0
+  IsToAsk flow = (is_taking (access_at flow) ≡ true) ⊎ IsSome (tested_in (call_of flow).plan)
+
+  -- the call came there from where the flow stands
+  abbrev pub CameToAsk : (K → K → Bool) → (Taken V E → Type 0) → Flow K V E → Type 0
+  CameToAsk eq such old = (flow : Flow K V E) × CameTo eq such old flow × IsToAsk flow

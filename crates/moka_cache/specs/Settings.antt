@@ -9,7 +9,7 @@ use Rattle.moka_cache.specs.declared.cache.Cache.{Cache}
 module _ {K V E L S : Type 0} where
   -- the rules of the cache
   abbrev pub rules_of : Cache K V E L S → Rules
-  rules_of cache = (arc_value cache.shared).rules
+  rules_of cache = (arc_value cache.shared).guarded.rules
 
   -- its name, as bytes
   abbrev pub name_of : Cache K V E L S → Option (List ℕ)

@@ -5,12 +5,11 @@ use Rattle.moka_hist.specs.State.{Call}
 use Rattle.moka_hist.specs.declared.replies.Answer.{Answer}
 use Rattle.moka_hist.specs.declared.replies.Answer.TheVariants as answer
 use Rattle.moka_init.specs.FlowPlan.{call_of}
-use Rattle.moka_hist.specs.declared.events.Told.{Told}
 use Rattle.moka_kept.specs.Kept.{NumbersSpent}
 use Rattle.moka_kept.specs.Paths.{CameWith, EndedWith}
 use Rattle.moka_kept.specs.Rests.{Rests}
-use Rattle.moka_kept.specs.Taking.{NoAnswer}
-use Rattle.moka_cache.specs.Polls.{Pends}
+use Rattle.moka_kept.specs.Taking.{NoAnswer, Taken}
+use Rattle.moka_cache.specs.Polls.{CameToAsk, Pends}
 use Rattle.moka_cache.specs.declared.stage.Stage.{Stage}
 use Rattle.moka_cache.specs.declared.stage.Stage.TheVariants as stage
 
@@ -53,8 +52,8 @@ module _ {A K V E : Type 0} where
 
   -- A poll that answers nothing brought the state so far, whose call is to begin with this start:
   -- it took no number yet, or none was left; or its call came by accesses to where it is, from
-  -- where it was or from its fresh flow. Each answer to its own ask that it took is such.
-  abbrev pub CameOnWith : (K → K → Bool) → (Told V E → Type 0) → (A → Call K V E) → Stage A K V E
+  -- where it was or from its fresh flow. Each answer of who is asked that it took is such.
+  abbrev pub CameOnWith : (K → K → Bool) → (Taken V E → Type 0) → (A → Call K V E) → Stage A K V E
       → Stage A K V E → Type 0
   CameOnWith eq such begins (stage.Fresh begin) (stage.Fresh kept) = kept ≡ begin
   CameOnWith eq such begins (stage.Fresh begin) stage.Spent = NumbersSpent K V E eq
@@ -66,7 +65,7 @@ module _ {A K V E : Type 0} where
   CameOnWith eq such begins _ _ = ⊥
 
   -- the poll's answer follows from the last of its accesses
-  abbrev pub AnswersWith : (K → K → Bool) → (Told V E → Type 0) → (A → Call K V E) → Stage A K V E
+  abbrev pub AnswersWith : (K → K → Bool) → (Taken V E → Type 0) → (A → Call K V E) → Stage A K V E
       → Answer K V E → Type 0
   AnswersWith eq such begins (stage.Fresh begin) answer =
       (n : ℕ) × EndedWith eq such n (begins begin) (answers answer)
@@ -75,7 +74,7 @@ module _ {A K V E : Type 0} where
   AnswersWith eq such begins stage.Spent answer = ⊥
   AnswersWith eq such begins stage.Answered answer = ⊥
 
-  -- the same of a call that takes no answer to an own ask
+  -- the same of a call that takes no answer of who is asked
   abbrev pub CameOn : (K → K → Bool) → (A → Call K V E) → Stage A K V E → Stage A K V E → Type 0
   CameOn eq begins old new = CameOnWith eq NoAnswer begins old new
 
@@ -87,6 +86,11 @@ module _ {A K V E : Type 0} where
       → Stage A K V E → Type 0
   StagePends eq pends unheard asked (stage.Running flow) = Pends eq pends unheard asked flow
   StagePends eq pends unheard asked _ = ⊥
+
+  -- the state's call came, from where it was, to where who is asked is to be asked
+  abbrev pub StageAsks : (K → K → Bool) → (Taken V E → Type 0) → Stage A K V E → Type 0
+  StageAsks eq such (stage.Running flow) = CameToAsk eq such flow
+  StageAsks eq such _ = ⊥
 
   -- A state is begun: its call is as its start says, and rests; no number was left for it; or its
   -- key was not copied. One that was begun before is as it was.

@@ -1,11 +1,13 @@
 //! Initializers that are asked what a load gives.
-ghost use Rattle.std.specs.Prelude.{IfSome, IsSomeAnd};
-ghost use Rattle.moka_cache.specs.Asked.{TellsOption, TellsResult, TellsValue};
+ghost use Rattle.std.specs.Prelude.{◌≡◌, IfSome, IsSomeAnd};
+ghost use Rattle.std.specs.Fn.{CalledAt};
+ghost use Rattle.moka_cache.specs.Asked.{AsksNothing, MayAnswer, TellsOption, TellsResult};
+ghost use Rattle.moka_cache.specs.Asked.{TellsValue, Untested};
 
 use crate::asked::Asked;
 use crate::init::Init;
 use futures::task::{Context, Poll};
-use moka_hist::Told;
+use moka_hist::{Entry, Told};
 
 /// An initializer that is asked for a value. Once it gave one it is gone, so that it is never
 /// polled again.
@@ -14,12 +16,28 @@ pub struct ByInit<I> {
     pub(crate) init: Option<I>,
 }
 
-impl<V, E, I: Init<V>> Asked<V, E> for ByInit<I> {
+impl<K, V, E, I: Init<V>> Asked<K, V, E> for ByInit<I> {
     ghost can_poll = { λ asked. IfSome asked.init I.can_poll };
 
     ghost gives = { λ asked told. IsSomeAnd asked.init (λ init. TellsValue (I.gives init) told) };
 
     ghost pends = { λ old new. IsSomeAnd old.init (λ init. IsSomeAnd new.init (I.pends init)) };
+
+    ghost begins = { λ old found new. new ≡ old };
+
+    fn is_somebody(&self) -> bool {
+        true
+    }
+
+    fn begin(&mut self, _found: Option<&Entry<K, V>>) {}
+
+    ghost tests = { λ asked. Untested };
+
+    ghost asks = { AsksNothing };
+
+    fn replaces(&mut self, _value: &V) -> bool {
+        false
+    }
 
     fn poll(&mut self, cx: &mut Context<'_>) -> Poll<Option<Told<V, E>>> {
         match &mut self.init {
@@ -41,12 +59,28 @@ pub struct ByOptionalInit<I> {
     pub(crate) init: Option<I>,
 }
 
-impl<V, E, I: Init<Option<V>>> Asked<V, E> for ByOptionalInit<I> {
+impl<K, V, E, I: Init<Option<V>>> Asked<K, V, E> for ByOptionalInit<I> {
     ghost can_poll = { λ asked. IfSome asked.init I.can_poll };
 
     ghost gives = { λ asked told. IsSomeAnd asked.init (λ init. TellsOption (I.gives init) told) };
 
     ghost pends = { λ old new. IsSomeAnd old.init (λ init. IsSomeAnd new.init (I.pends init)) };
+
+    ghost begins = { λ old found new. new ≡ old };
+
+    fn is_somebody(&self) -> bool {
+        true
+    }
+
+    fn begin(&mut self, _found: Option<&Entry<K, V>>) {}
+
+    ghost tests = { λ asked. Untested };
+
+    ghost asks = { AsksNothing };
+
+    fn replaces(&mut self, _value: &V) -> bool {
+        false
+    }
 
     fn poll(&mut self, cx: &mut Context<'_>) -> Poll<Option<Told<V, E>>> {
         match &mut self.init {
@@ -72,12 +106,28 @@ pub struct ByTryInit<I> {
     pub(crate) init: Option<I>,
 }
 
-impl<V, E, I: Init<Result<V, E>>> Asked<V, E> for ByTryInit<I> {
+impl<K, V, E, I: Init<Result<V, E>>> Asked<K, V, E> for ByTryInit<I> {
     ghost can_poll = { λ asked. IfSome asked.init I.can_poll };
 
     ghost gives = { λ asked told. IsSomeAnd asked.init (λ init. TellsResult (I.gives init) told) };
 
     ghost pends = { λ old new. IsSomeAnd old.init (λ init. IsSomeAnd new.init (I.pends init)) };
+
+    ghost begins = { λ old found new. new ≡ old };
+
+    fn is_somebody(&self) -> bool {
+        true
+    }
+
+    fn begin(&mut self, _found: Option<&Entry<K, V>>) {}
+
+    ghost tests = { λ asked. Untested };
+
+    ghost asks = { AsksNothing };
+
+    fn replaces(&mut self, _value: &V) -> bool {
+        false
+    }
 
     fn poll(&mut self, cx: &mut Context<'_>) -> Poll<Option<Told<V, E>>> {
         match &mut self.init {
@@ -94,5 +144,45 @@ impl<V, E, I: Init<Result<V, E>>> Asked<V, E> for ByTryInit<I> {
             },
             None => Poll::Ready(None),
         }
+    }
+}
+
+/// An initializer that is asked for a value, beside a replace test: a record on whose value that
+/// holds is loaded again.
+#[derive(Drop)]
+pub struct ByInitIf<I, F> {
+    pub(crate) init: ByInit<I>,
+    pub(crate) replace_if: F,
+}
+
+impl<K, V, E, I: Init<V>, F: FnMut(&V) -> bool + Drop> Asked<K, V, E> for ByInitIf<I, F> {
+    ghost can_poll = { λ asked. IfSome asked.init.init I.can_poll
+        × F.IsAlwaysCallable asked.replace_if };
+
+    ghost gives = { λ asked told.
+        IsSomeAnd asked.init.init (λ init. TellsValue (I.gives init) told) };
+
+    ghost pends = { λ old new.
+        IsSomeAnd old.init.init (λ init. IsSomeAnd new.init.init (I.pends init)) };
+
+    ghost begins = { λ old found new. new ≡ old };
+
+    fn is_somebody(&self) -> bool {
+        true
+    }
+
+    fn begin(&mut self, _found: Option<&Entry<K, V>>) {}
+
+    ghost tests = { λ asked. MayAnswer (CalledAt F.FnMut) asked.replace_if };
+
+    ghost asks = { λ old value replaced new. (new.init ≡ old.init)
+        × CalledAt F.FnMut old.replace_if value replaced new.replace_if };
+
+    fn replaces(&mut self, value: &V) -> bool {
+        (self.replace_if)(value)
+    }
+
+    fn poll(&mut self, cx: &mut Context<'_>) -> Poll<Option<Told<V, E>>> {
+        Asked::<K, V, E>::poll(&mut self.init, cx)
     }
 }

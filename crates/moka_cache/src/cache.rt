@@ -8,18 +8,16 @@ use crate::builder::CacheBuilder;
 use crate::listener::NoListener;
 use moka_engine::Policy;
 use moka_hist::Rules;
-use moka_kept::Kept;
+use moka_kept::Guarded;
 use std::alloc::{AllocError, Global};
 use std::hash::{BuildHasherDefault, FoldHasher, Hash};
-use std::sync::{Arc, Mutex};
+use std::sync::Arc;
 
 // What the clones of a cache share.
 #[derive(Drop)]
 pub(crate) struct Shared<K: Eq + Hash, V, E, L, S> {
-    pub(crate) alloc: Global,
     pub(crate) name: Option<String>,
-    pub(crate) rules: Rules,
-    pub(crate) kept: Mutex<Kept<K, V, E>>,
+    pub(crate) guarded: Guarded<K, V, E>,
     pub(crate) listener: Option<L>,
     pub(crate) hasher: S,
 }
@@ -113,14 +111,12 @@ where
             listener: listener.is_some(),
             closures: false,
         };
-        let kept = Mutex::new(Kept::starting_after(alloc, rules, last)?);
+        let guarded = Guarded::starting_after(alloc, rules, last)?;
         let shared = Arc::new(
             alloc,
             Shared {
-                alloc,
                 name,
-                rules,
-                kept,
+                guarded,
                 listener,
                 hasher,
             },
@@ -145,7 +141,7 @@ where
     {
         let shared: &Shared<K, V, E, L, S> = &self.shared;
         Policy {
-            rules: shared.rules,
+            rules: shared.guarded.rules,
         }
     }
 }

@@ -1,9 +1,10 @@
 //! A call of a cache, as a state that is polled.
-ghost use Rattle.std.specs.Prelude.{◌≡◌, ◌↔◌, Some, IfOk, IfErr, OnOk, OnErr};
+ghost use Rattle.std.specs.Prelude.{◌≡◌, ◌↔◌, Bool, Some, IfOk, IfErr, OnOk, OnErr};
 ghost use Rattle.futures.specs.Poll.{IfReady, OnPending};
 ghost use Rattle.futures.specs.Task.{IsArmed, Keeps};
 ghost use Rattle.moka_hist.specs.Finite.{IsExact};
 ghost use Rattle.moka_hist.specs.declared.replies.Answer.{Answer};
+ghost use Rattle.moka_cache.specs.Asked.{Accords};
 ghost use Rattle.moka_cache.specs.Hearing.{Unheard};
 ghost use Rattle.moka_cache.specs.Settings.{listener_of, rules_of};
 ghost use Rattle.moka_hist.specs.declared.events.Told.{Told};
@@ -60,7 +61,7 @@ where
     }
 
     /// The same of a call whose own ask is answered by this one.
-    pub(crate) fn call_asking<'a, A: Begin<K, V, E>, Q: Asked<V, E>>(
+    pub(crate) fn call_asking<'a, A: Begin<K, V, E>, Q: Asked<K, V, E>>(
         &'a self,
         begin: A,
         asked: Q,
@@ -93,49 +94,75 @@ where
         ensures names { IsNamed A.named stage.old named.old stage.new named.new }
         ensures may { MayPoll stage.new }
     {
-        match mem::replace(stage, Stage::Spent) {
-            Stage::Fresh(begin) => put(stage, self.begun(rt, begin, named, moment)),
-            other => put(stage, other),
+        match stage {
+            Stage::Fresh(_) => self.begin_fresh(rt, stage, named, moment),
+            Stage::Running(_) => {}
+            Stage::Spent => {}
+            Stage::Answered => {}
         }
     }
 
-    // The stage of a call that begins so.
-    fn begun<R: Wait, A: Begin<K, V, E>>(
+    // The same of a state that is fresh.
+    fn begin_fresh<R: Wait, A: Begin<K, V, E>>(
+        &self,
+        rt: &R,
+        stage: &mut Stage<A, K, V, E>,
+        named: &mut Option<K>,
+        moment: u64,
+    )
+        requires keys { IsExact K.is_clone }
+        requires fresh { (begin : A) × (stage.old ≡ Stage.Fresh begin) }
+        ensures begins { Begins K.eq (called (rules_of self.now) A.start) stage.old stage.new }
+        ensures names { IsNamed A.named stage.old named.old stage.new named.new }
+        ensures may { MayPoll stage.new }
+    {
+        match mem::replace(stage, Stage::Spent) {
+            Stage::Fresh(begin) => self.begin_so(rt, begin, stage, named, moment),
+            _ => unreachable!(),
+        }
+    }
+
+    // Begins a call so. Its stage is made in its place, since a flow is large.
+    fn begin_so<R: Wait, A: Begin<K, V, E>>(
         &self,
         rt: &R,
         begin: A,
+        stage: &mut Stage<A, K, V, E>,
         named: &mut Option<K>,
         moment: u64,
-    ) -> Stage<A, K, V, E>
+    )
         requires keys { IsExact K.is_clone }
+        requires spent { stage.old ≡ Stage.Spent }
         ensures begins { Begins K.eq (called (rules_of self.now) A.start) (Stage.Fresh begin)
-            result }
-        ensures names { IsNamed A.named (Stage.Fresh begin) named.old result named.new }
-        ensures may { MayPoll result }
+            stage.new }
+        ensures names { IsNamed A.named (Stage.Fresh begin) named.old stage.new named.new }
+        ensures may { MayPoll stage.new }
     {
         match begin.start() {
             Ok(begun) => {
                 *named = begun.named;
-                self.numbered(rt, begun.start, moment)
+                self.number(rt, begun.start, stage, moment);
             }
-            Err(kept) => Stage::Fresh(kept),
+            Err(kept) => put(stage, Stage::Fresh(kept)),
         }
     }
 
-    // The stage of a call of this start, which gets a number if one is left.
-    fn numbered<R: Wait, A: Begin<K, V, E>>(
+    // Gives a call of this start a number, if one is left.
+    fn number<R: Wait, A: Begin<K, V, E>>(
         &self,
         rt: &R,
         start: Start<K, V>,
+        stage: &mut Stage<A, K, V, E>,
         moment: u64,
-    ) -> Stage<A, K, V, E>
+    )
+        requires { stage.old ≡ Stage.Spent }
         ensures begins { (begin : A) → start ≡ A.start begin
-            → Begins K.eq (called (rules_of self.now) A.start) (Stage.Fresh begin) result }
-        ensures may { MayPoll result }
+            → Begins K.eq (called (rules_of self.now) A.start) (Stage.Fresh begin) stage.new }
+        ensures may { MayPoll stage.new }
     {
-        match self.enter(rt, start, moment) {
-            Some(flow) => Stage::Running(flow),
-            None => Stage::Spent,
+        match self.enter(rt, moment) {
+            Some(number) => put(stage, Stage::Running(self.flow_of(number, start))),
+            None => drop(start),
         }
     }
 
@@ -152,7 +179,7 @@ where
 impl<A, K, V, E, Q, L, S> CacheCall<'_, A, K, V, E, Q, L, S>
 where
     A: Begin<K, V, E>,
-    Q: Asked<V, E>,
+    Q: Asked<K, V, E>,
     K: Eq + Hash + Clone + Drop,
     V: Clone + Drop,
     E: Clone + Drop,
@@ -173,19 +200,19 @@ where
         requires errors { IsExact E.is_clone }
         requires may { MayPoll self.old.stage }
         requires asks { Q.can_poll self.old.asked }
-        requires tells { Tells K.eq (Q.gives self.old.asked)
+        requires tells { Tells K.eq (Accords (Q.gives self.old.asked) (Q.tests self.old.asked))
             (called (rules_of self.old.cache.now) A.start) A.output self.old.stage }
         // What was done.
         ensures answers { IfReady result (λ r. IfOk r (λ told. (answer : Answer K V E)
-            × AnswersWith K.eq (Q.gives self.old.asked)
+            × AnswersWith K.eq (Accords (Q.gives self.old.asked) (Q.tests self.old.asked))
             (called (rules_of self.old.cache.now) A.start) self.old.stage answer
             × (Suits K.eq A.start self.old.stage → IsAnswerOf A.start answer)
             × (Some told ≡ A.output (name_in A.named self.old.stage self.old.named) answer))) }
         ensures failed { IfReady result (λ r. OnErr r
-            (CameOnWith K.eq (Q.gives self.old.asked)
+            (CameOnWith K.eq (Accords (Q.gives self.old.asked) (Q.tests self.old.asked))
             (called (rules_of self.old.cache.now) A.start) self.old.stage self.new.stage)) }
         ensures came { OnPending result
-            (CameOnWith K.eq (Q.gives self.old.asked)
+            (CameOnWith K.eq (Accords (Q.gives self.old.asked) (Q.tests self.old.asked))
             (called (rules_of self.old.cache.now) A.start) self.old.stage self.new.stage) }
         // The key that its answer needs is kept.
         ensures names { OnPending result
@@ -203,13 +230,15 @@ where
         ensures again { IfReady result (λ r. OnErr r (MayPoll self.new.stage)) }
         ensures over { IfReady result (λ r. OnOk r (self.new.stage ≡ Stage.Answered)) }
         ensures suits { Suits K.eq A.start self.old.stage → Suits K.eq A.start self.new.stage }
-        ensures tells { Tells K.eq (Q.gives self.new.asked)
+        ensures tells { Tells K.eq (Accords (Q.gives self.new.asked) (Q.tests self.new.asked))
             (called (rules_of self.new.cache.now) A.start) A.output self.new.stage }
         ensures cache { self.new.cache.now ≡ self.old.cache.now }
         // Who is asked can still be polled, and may give no other answer.
         ensures asks { Q.can_poll self.new.asked }
         ensures same { (told : Told V E) → Q.gives self.new.asked told
             → Q.gives self.old.asked told }
+        ensures tested { (value : V) (replaced : Bool) → Q.tests self.new.asked value replaced
+            → Q.tests self.old.asked value replaced }
         // The task is woken.
         ensures armed { OnPending result (IsArmed cx.new) }
         ensures kept { Keeps cx.old cx.new }
@@ -263,19 +292,23 @@ impl<R, A, K, V, E, Q, L, S> State<R> for CacheCall<'_, A, K, V, E, Q, L, S>
 where
     R: Wait,
     A: Begin<K, V, E>,
-    Q: Asked<V, E>,
+    Q: Asked<K, V, E>,
     K: Eq + Hash + Clone + Drop,
     V: Clone + Drop,
     E: Clone + Drop,
     L: Listener<K, V>,
     S: Drop,
 {
+    ghost use Rattle.moka_cache.specs.declared.stage.Stage.TheVariants as Stage;
+
     type Output = A::Output;
 
     ghost can_poll = { λ call. IsExact K.is_clone × IsExact V.is_clone × IsExact E.is_clone
         × MayPoll call.stage × Q.can_poll call.asked
-        × Tells K.eq (Q.gives call.asked) (called (rules_of call.cache.now) A.start) A.output
-        call.stage };
+        × Tells K.eq (Accords (Q.gives call.asked) (Q.tests call.asked))
+        (called (rules_of call.cache.now) A.start) A.output call.stage };
+
+    ghost is_spent = { λ call. call.stage ≡ Stage.Spent };
 
     fn poll(
         &mut self,

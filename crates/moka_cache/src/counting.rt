@@ -28,9 +28,7 @@ where
             × (there ≡ sees w key.now))) }
     {
         let shared: &Shared<K, V, E, L, S> = &self.shared;
-        let mut guard = shared.kept.lock(rt);
-        let kept = &mut *guard;
-        kept.contains_key(key, moment)
+        shared.guarded.contains_key(rt, key, moment)
     }
 
     /// How many records the cache has, as the last turn of maintenance counted them. Writes that
@@ -39,9 +37,7 @@ where
         ensures { Behind K.eq (λ (w : World K V E). result ≡ w.desk.published) }
     {
         let shared: &Shared<K, V, E, L, S> = &self.shared;
-        let mut guard = shared.kept.lock(rt);
-        let kept = &mut *guard;
-        kept.entry_count()
+        shared.guarded.entry_count(rt)
     }
 
     /// What the records weigh, as the last turn of maintenance counted them: each weighs 1.

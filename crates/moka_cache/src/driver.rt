@@ -1,23 +1,26 @@
 //! The polls of all states: steps under the lock, hold by hold.
-ghost use Rattle.std.specs.Prelude.{◌≡◌, ◌⊎◌, ◌↔◌, Option, Some, IfOk, IfErr, IfNone, IfSome, OnOk, OnErr};
+ghost use Rattle.std.specs.Prelude.{◌≡◌, ◌⊎◌, ◌↔◌, Bool, Option, IfOk, IfErr, IfNone, IfSome};
+ghost use Rattle.std.specs.Prelude.{OnOk, OnErr};
 ghost use Rattle.futures.specs.Poll.{IfReady, OnPending};
 ghost use Rattle.futures.specs.Task.{IsArmed, Keeps};
 ghost use Rattle.moka_hist.specs.Finite.{IsExact};
 ghost use Rattle.moka_hist.specs.declared.events.Told.{Told};
+ghost use Rattle.moka_init.specs.FlowPlan.{call_of, tested_in};
 ghost use Rattle.moka_kept.specs.Kept.{NumbersSpent};
 ghost use Rattle.moka_kept.specs.Rests.{Rests};
-ghost use Rattle.moka_kept.specs.Stops.{StopIs};
+ghost use Rattle.moka_kept.specs.Taking.{Brings, Taken};
+ghost use Rattle.moka_cache.specs.Asked.{Accords, IsAskedFor};
 
-use crate::asked::Asked;
+use crate::asked::{Asked, is_polled};
 use crate::cache::{Cache, Shared};
 use crate::errors::PollError;
+use crate::hearing::Turned;
 use crate::listener::Listener;
 use crate::stage::Stage;
 use futures::task::{Context, Poll};
-use moka_hist::{Answer, Start, Told};
+use moka_hist::{Answer, Start};
 use moka_init::Flow;
-use moka_kept::{Heard, Stop, Wakers, is_asking};
-use std::collections::LinkedList;
+use moka_kept::{Brought, Heard, Number};
 use std::hash::Hash;
 use std::mem;
 use std::sync::Wait;
@@ -31,36 +34,35 @@ where
     S: Drop,
 {
     ghost use Rattle.moka_hist.specs.Run.{fresh_call};
-    ghost use Rattle.moka_init.specs.FlowPlan.{call_of};
     ghost use Rattle.moka_hist.specs.State.{Call};
     ghost use Rattle.moka_kept.specs.Stops.{Waits};
-    ghost use Rattle.moka_cache.specs.Hearing.{Awaits, Unheard};
-    ghost use Rattle.moka_cache.specs.Polls.{Pends, PollIs, TurnIs};
+    ghost use Rattle.moka_cache.specs.Hearing.{Awaits, Unheard, over_in};
+    ghost use Rattle.moka_cache.specs.Polls.{CameToAsk, Pends, PollIs, TurnIs};
     ghost use Rattle.moka_cache.specs.Settings.{listener_of, rules_of};
     ghost use Rattle.moka_cache.specs.Stages.{AnswersWith, CameOnWith, IsNamed, MayPoll};
-    ghost use Rattle.moka_cache.specs.Stages.{StagePends, name_in};
+    ghost use Rattle.moka_cache.specs.Stages.{StageAsks, StagePends, name_in};
 
-    /// Moves the clock on to the moment, where that is later, and gives the call of this start the
-    /// next number. Answers None where the greatest one was given out.
-    pub(crate) fn enter<R: Wait>(
-        &self,
-        rt: &R,
-        start: Start<K, V>,
-        moment: u64,
-    ) -> Option<Flow<K, V, E>>
-        ensures fresh { IfSome result (λ flow.
-            call_of flow ≡ fresh_call (rules_of self.now) start) }
-        ensures rests { IfSome result Rests }
-        ensures spent { IfNone result (NumbersSpent K V E K.eq) }
+    /// Moves the clock on to the moment, where that is later, and gives the next call number out.
+    /// Answers None where the greatest one was given out.
+    pub(crate) fn enter<R: Wait>(&self, rt: &R, moment: u64) -> Option<Number>
+        ensures { IfNone result (NumbersSpent K V E K.eq) }
     {
         let shared: &Shared<K, V, E, L, S> = &self.shared;
-        let call = shared.next_call(rt, moment)?;
-        Some(Flow::new(start, call, shared.rules))
+        shared.guarded.enter(rt, moment)
+    }
+
+    /// The fresh flow of the call of this start and number.
+    pub(crate) fn flow_of(&self, number: Number, start: Start<K, V>) -> Flow<K, V, E>
+        ensures fresh { call_of result ≡ fresh_call (rules_of self.now) start }
+        ensures rests { Rests result }
+    {
+        let shared: &Shared<K, V, E, L, S> = &self.shared;
+        number.begin(start, shared.guarded.rules)
     }
 
     /// Goes on with a state at the moment, if its call was begun. One that is still fresh found no
     /// memory for its key. Where its own ask is open who answers it is polled.
-    pub(crate) fn advance<R: Wait, A: Drop, Q: Asked<V, E>>(
+    pub(crate) fn advance<R: Wait, A: Drop, Q: Asked<K, V, E>>(
         &self,
         rt: &R,
         stage: &mut Stage<A, K, V, E>,
@@ -75,16 +77,22 @@ where
         requires asks { Q.can_poll asked.old }
         // What was done.
         ensures answers { IfReady result (λ r. IfOk r (λ answer. (begins : A → Call K V E)
-            → AnswersWith K.eq (Q.gives asked.old) begins stage.old answer)) }
+            → AnswersWith K.eq (Accords (Q.gives asked.old) (Q.tests asked.old))
+            begins stage.old answer)) }
         ensures failed { IfReady result (λ r. OnErr r ((begins : A → Call K V E)
-            → CameOnWith K.eq (Q.gives asked.old) begins stage.old stage.new)) }
+            → CameOnWith K.eq (Accords (Q.gives asked.old) (Q.tests asked.old))
+            begins stage.old stage.new)) }
         ensures came { OnPending result ((begins : A → Call K V E)
-            → CameOnWith K.eq (Q.gives asked.old) begins stage.old stage.new) }
+            → CameOnWith K.eq (Accords (Q.gives asked.old) (Q.tests asked.old))
+            begins stage.old stage.new) }
         // Why it isn't ready.
         ensures cause { OnPending result (StagePends K.eq Q.pends
             (Unheard L.pends (listener_of self.now)) asked.new stage.new) }
         ensures spent { IfReady result (λ r. IfErr r (λ e.
             (e ≡ PollError.CallsSpent) ↔ (stage.new ≡ Stage.Spent))) }
+        // Who is asked is begun, polled, or asked its test, only where the call came to that.
+        ensures unasked { (asked.new ≡ asked.old)
+            ⊎ StageAsks K.eq (Accords (Q.gives asked.old) (Q.tests asked.old)) stage.old }
         // It can be polled again, until it has answered.
         ensures pending { OnPending result (MayPoll stage.new) }
         ensures again { IfReady result (λ r. OnErr r (MayPoll stage.new)) }
@@ -99,6 +107,8 @@ where
         // Who is asked can still be polled, and may give no other answer.
         ensures asks { Q.can_poll asked.new }
         ensures same { (told : Told V E) → Q.gives asked.new told → Q.gives asked.old told }
+        ensures tested { (value : V) (replaced : Bool) → Q.tests asked.new value replaced
+            → Q.tests asked.old value replaced }
         // The task is woken.
         ensures armed { OnPending result (IsArmed cx.new) }
         ensures kept { Keeps cx.old cx.new }
@@ -120,7 +130,7 @@ where
 
     // Goes on with the call of the flow at the moment, up to where it waits, answers, or finds no
     // memory. What was done stands.
-    fn go_on<R: Wait, Q: Asked<V, E>>(
+    fn go_on<R: Wait, Q: Asked<K, V, E>>(
         &self,
         rt: &R,
         flow: &mut Flow<K, V, E>,
@@ -133,168 +143,167 @@ where
         requires errors { IsExact E.is_clone }
         requires rests { Rests flow.old }
         requires asks { Q.can_poll asked.old }
-        ensures polled { PollIs K.eq (Q.gives asked.old) flow.old result flow.new }
+        ensures polled { PollIs K.eq (Accords (Q.gives asked.old) (Q.tests asked.old))
+            flow.old result flow.new }
+        // Who is asked is begun, polled, or asked its test, only where the call came to that.
+        ensures unasked { (asked.new ≡ asked.old)
+            ⊎ CameToAsk K.eq (Accords (Q.gives asked.old) (Q.tests asked.old)) flow.old }
         ensures cause { OnPending result (Pends K.eq Q.pends
             (Unheard L.pends (listener_of self.now)) asked.new flow.new) }
         ensures asks { Q.can_poll asked.new }
         ensures same { (told : Told V E) → Q.gives asked.new told → Q.gives asked.old told }
+        ensures tested { (value : V) (replaced : Bool) → Q.tests asked.new value replaced
+            → Q.tests asked.old value replaced }
         ensures armed { OnPending result (IsArmed cx.new) }
         ensures kept { Keeps cx.old cx.new }
     {
         let mut heard = None;
         for _ in rt.forever() {
-            match self.turn(rt, flow, asked, &mut heard, cx, moment) {
-                Some(poll) => return poll,
-                None => {}
+            match self.turn(rt, flow, asked, heard, cx, moment) {
+                Turned::Over(poll) => return poll,
+                Turned::On(next) => heard = next,
             }
         }
         unreachable!()
     }
 
-    // Polls who is asked, where the own ask of the flow is open; once that has answered, or where
-    // none is open, makes steps in one hold of the lock, and what follows it. What the listener has
-    // answered, in `heard`, is told first, and what it answers comes there. None where the call goes
-    // on.
-    fn turn<R: Wait, Q: Asked<V, E>>(
+    // Makes a turn. What the listener has answered is told first, and who is asked is polled in a turn
+    // that has nothing to tell.
+    fn turn<R: Wait, Q: Asked<K, V, E>>(
         &self,
         rt: &R,
         flow: &mut Flow<K, V, E>,
         asked: &mut Q,
-        heard: &mut Option<Heard>,
+        heard: Option<Heard>,
         cx: &mut Context<'_>,
         moment: u64,
-    ) -> Option<Poll<Result<Answer<K, V, E>, PollError>>>
+    ) -> Turned<Result<Answer<K, V, E>, PollError>>
         requires keys { IsExact K.is_clone }
         requires values { IsExact V.is_clone }
         requires errors { IsExact E.is_clone }
         requires rests { Rests flow.old }
         requires asks { Q.can_poll asked.old }
-        ensures turns { TurnIs K.eq (Q.gives asked.old) flow.old result flow.new }
-        ensures cause { IfSome result (λ poll. OnPending poll (Pends K.eq Q.pends
+        ensures turns { TurnIs K.eq (Accords (Q.gives asked.old) (Q.tests asked.old))
+            flow.old (over_in result) flow.new }
+        ensures unasked { (asked.new ≡ asked.old)
+            ⊎ CameToAsk K.eq (Accords (Q.gives asked.old) (Q.tests asked.old)) flow.old }
+        ensures cause { IfSome (over_in result) (λ poll. OnPending poll (Pends K.eq Q.pends
             (Unheard L.pends (listener_of self.now)) asked.new flow.new)) }
         ensures asks { Q.can_poll asked.new }
         ensures same { (told : Told V E) → Q.gives asked.new told → Q.gives asked.old told }
-        ensures armed { IfSome result (λ poll. OnPending poll (IsArmed cx.new)) }
+        ensures tested { (value : V) (replaced : Bool) → Q.tests asked.new value replaced
+            → Q.tests asked.old value replaced }
+        ensures armed { IfSome (over_in result) (λ poll. OnPending poll (IsArmed cx.new)) }
         ensures kept { Keeps cx.old cx.new }
     {
-        if !is_asking(flow) {
-            return self.round(rt, flow, None, heard, cx, moment);
-        }
-        match asked.poll(cx) {
-            Poll::Ready(Some(answer)) => self.round(rt, flow, Some(answer), heard, cx, moment),
-            Poll::Ready(None) => Some(Poll::Ready(Err(PollError::Memory))),
-            Poll::Pending => Some(Poll::Pending),
+        match heard {
+            Some(heard) => self.round(rt, flow, asked, Brought::Nothing, Some(heard), cx, moment),
+            None => self.ask(rt, flow, asked, cx, moment),
         }
     }
 
-    // Makes steps in one hold of the lock, and what follows it. Where the flow is told the answer to
-    // its own ask, the first step takes that.
-    fn round<R: Wait>(
+    // Polls who is asked, where the own ask of the flow is open, and asks its replace test, where the
+    // next visit judges a record by that; once the own ask is answered, or where none is open, makes
+    // steps in one hold of the lock, and what follows it.
+    fn ask<R: Wait, Q: Asked<K, V, E>>(
         &self,
         rt: &R,
         flow: &mut Flow<K, V, E>,
-        told: Option<Told<V, E>>,
-        heard: &mut Option<Heard>,
+        asked: &mut Q,
         cx: &mut Context<'_>,
         moment: u64,
-    ) -> Option<Poll<Result<Answer<K, V, E>, PollError>>>
+    ) -> Turned<Result<Answer<K, V, E>, PollError>>
         requires keys { IsExact K.is_clone }
         requires values { IsExact V.is_clone }
         requires errors { IsExact E.is_clone }
         requires rests { Rests flow.old }
-        ensures turns { TurnIs K.eq (λ t. told ≡ Some t) flow.old result flow.new }
-        ensures cause { IfSome result (λ poll. OnPending poll (Waits K.eq flow.new
+        requires asks { Q.can_poll asked.old }
+        ensures turns { TurnIs K.eq (Accords (Q.gives asked.old) (Q.tests asked.old))
+            flow.old (over_in result) flow.new }
+        ensures unasked { (asked.new ≡ asked.old)
+            ⊎ CameToAsk K.eq (Accords (Q.gives asked.old) (Q.tests asked.old)) flow.old }
+        ensures cause { IfSome (over_in result) (λ poll. OnPending poll (Pends K.eq Q.pends
+            (Unheard L.pends (listener_of self.now)) asked.new flow.new)) }
+        ensures asks { Q.can_poll asked.new }
+        ensures same { (told : Told V E) → Q.gives asked.new told → Q.gives asked.old told }
+        ensures tested { (value : V) (replaced : Bool) → Q.tests asked.new value replaced
+            → Q.tests asked.old value replaced }
+        ensures armed { IfSome (over_in result) (λ poll. OnPending poll (IsArmed cx.new)) }
+        ensures kept { Keeps cx.old cx.new }
+    {
+        if !is_polled(asked, flow) {
+            let brought = ask_test(asked, flow);
+            return self.round(rt, flow, asked, brought, None, cx, moment);
+        }
+        match asked.poll(cx) {
+            Poll::Ready(Some(answer)) => {
+                self.round(rt, flow, asked, Brought::Told(answer), None, cx, moment)
+            }
+            Poll::Ready(None) => Turned::Over(Poll::Ready(Err(PollError::Memory))),
+            Poll::Pending => Turned::Over(Poll::Pending),
+        }
+    }
+
+    // Makes steps in one hold of the lock, and what follows it. Where an answer of who is asked was
+    // brought, the first step goes by that. Where the ask of a compute is opened who is asked begins.
+    #[inline(always)]
+    fn round<R: Wait, Q: Asked<K, V, E>>(
+        &self,
+        rt: &R,
+        flow: &mut Flow<K, V, E>,
+        asked: &mut Q,
+        brought: Brought<V, E>,
+        heard: Option<Heard>,
+        cx: &mut Context<'_>,
+        moment: u64,
+    ) -> Turned<Result<Answer<K, V, E>, PollError>>
+        requires keys { IsExact K.is_clone }
+        requires values { IsExact V.is_clone }
+        requires errors { IsExact E.is_clone }
+        requires rests { Rests flow.old }
+        requires asks { Q.can_poll asked.old }
+        ensures turns { TurnIs K.eq (Brings (tested_in (call_of flow.old).plan) brought)
+            flow.old (over_in result) flow.new }
+        ensures unasked { (asked.new ≡ asked.old)
+            ⊎ CameToAsk K.eq (Brings (tested_in (call_of flow.old).plan) brought) flow.old }
+        ensures cause { IfSome (over_in result) (λ poll. OnPending poll (Waits K.eq flow.new
             ⊎ Awaits (Unheard L.pends (listener_of self.now)) flow.new)) }
-        ensures armed { IfSome result (λ poll. OnPending poll (IsArmed cx.new)) }
+        ensures asks { Q.can_poll asked.new }
+        ensures same { (told : Told V E) → Q.gives asked.new told → Q.gives asked.old told }
+        ensures tested { (value : V) (replaced : Bool) → Q.tests asked.new value replaced
+            → Q.tests asked.old value replaced }
+        ensures armed { IfSome (over_in result) (λ poll. OnPending poll (IsArmed cx.new)) }
         ensures kept { Keeps cx.old cx.new }
     {
         let shared: &Shared<K, V, E, L, S> = &self.shared;
-        let stop = shared.hold(rt, flow, told, heard.take(), cx, moment);
-        shared.after(flow, stop, heard, cx)
+        let stop = shared.guarded.hold(rt, flow, brought, heard, cx, moment);
+        shared.after(flow, stop, asked, cx)
     }
 
     /// Lets the call of the flow leave, where it stands, and wakes those that wait for it.
     pub(crate) fn leave<R: Wait>(&self, rt: &R, flow: Flow<K, V, E>) {
         let shared: &Shared<K, V, E, L, S> = &self.shared;
-        let mut woken = LinkedList::new(shared.alloc);
-        shared.let_leave(rt, &flow, &mut woken);
-        drop(flow);
+        shared.guarded.leave(rt, flow);
     }
 }
 
-impl<K, V, E, L, S> Shared<K, V, E, L, S>
-where
-    K: Eq + Hash + Clone + Drop,
-    V: Clone + Drop,
-    E: Clone + Drop,
-    L: Listener<K, V>,
-    S: Drop,
+// What the next hold is brought where no ask of the call is open: the answer of its replace test,
+// where its next visit judges a record by that. A call that waits for another is never asked.
+fn ask_test<K, V, E, Q: Asked<K, V, E>>(asked: &mut Q, flow: &Flow<K, V, E>) -> Brought<V, E>
+    requires { Q.can_poll asked.old }
+    ensures brings { (taken : Taken V E)
+        → Brings (tested_in (call_of flow.now).plan) result taken
+        → Accords (Q.gives asked.old) (Q.tests asked.old) taken }
+    ensures once { IsAskedFor Q.asks (tested_in (call_of flow.now).plan) asked.old result
+        asked.new }
+    ensures asks { Q.can_poll asked.new }
+    ensures same { (told : Told V E) → Q.gives asked.new told → Q.gives asked.old told }
+    ensures tested { (value : V) (replaced : Bool) → Q.tests asked.new value replaced
+        → Q.tests asked.old value replaced }
 {
-    // The next call number, once the clock has moved on to the moment.
-    fn next_call<R: Wait>(&self, rt: &R, moment: u64) -> Option<u64>
-        ensures { IfNone result (NumbersSpent K V E K.eq) }
-    {
-        let mut guard = self.kept.lock(rt);
-        let kept = &mut *guard;
-        kept.enter(moment)
-    }
-
-    // Makes steps of the flow in one hold of the lock; where it is told the answer to its own ask,
-    // the first takes that. Before them it tells the end of a notice that was heard. Once the lock
-    // is free it wakes all that the visits and that end handed out.
-    fn hold<R: Wait>(
-        &self,
-        rt: &R,
-        flow: &mut Flow<K, V, E>,
-        told: Option<Told<V, E>>,
-        heard: Option<Heard>,
-        cx: &mut Context<'_>,
-        moment: u64,
-    ) -> Stop<K, V, E>
-        requires keys { IsExact K.is_clone }
-        requires values { IsExact V.is_clone }
-        requires errors { IsExact E.is_clone }
-        requires rests { Rests flow.old }
-        ensures stops { StopIs K.eq (λ t. told ≡ Some t) flow.old result flow.new }
-        ensures armed { result ≡ Stop.Waits → IsArmed cx.new }
-        ensures kept { Keeps cx.old cx.new }
-    {
-        let mut woken = LinkedList::new(self.alloc);
-        self.make_steps(rt, flow, told, heard, cx, moment, &mut woken)
-    }
-
-    // The same. The wakers of all that are handed out come to those in `woken`.
-    fn make_steps<R: Wait>(
-        &self,
-        rt: &R,
-        flow: &mut Flow<K, V, E>,
-        told: Option<Told<V, E>>,
-        heard: Option<Heard>,
-        cx: &mut Context<'_>,
-        moment: u64,
-        woken: &mut Wakers,
-    ) -> Stop<K, V, E>
-        requires keys { IsExact K.is_clone }
-        requires values { IsExact V.is_clone }
-        requires errors { IsExact E.is_clone }
-        requires rests { Rests flow.old }
-        ensures stops { StopIs K.eq (λ t. told ≡ Some t) flow.old result flow.new }
-        ensures armed { result ≡ Stop.Waits → IsArmed cx.new }
-        ensures kept { Keeps cx.old cx.new }
-    {
-        let mut guard = self.kept.lock(rt);
-        let kept = &mut *guard;
-        kept.move_clock(moment);
-        kept.hear(heard, woken);
-        kept.go(flow, told, cx, woken)
-    }
-
-    // Lets the call of the flow leave under the lock. The wakers of all that it hands out come to
-    // those in `woken`.
-    fn let_leave<R: Wait>(&self, rt: &R, flow: &Flow<K, V, E>, woken: &mut Wakers) {
-        let mut guard = self.kept.lock(rt);
-        let kept = &mut *guard;
-        kept.leave(flow, woken);
+    match flow.tested() {
+        Some(value) => Brought::Tested(asked.replaces(value)),
+        None => Brought::Nothing,
     }
 }
 

@@ -1,12 +1,12 @@
 //! Loading a value.
-ghost use Rattle.std.specs.Prelude.{◌≡◌, Some, None};
+ghost use Rattle.std.specs.Prelude.{◌≡◌, Some, None, IsSome};
 ghost use Rattle.moka_hist.specs.declared.events.Start.TheVariants as Start;
 ghost use Rattle.moka_cache.specs.Keys.{key_of};
 ghost use Rattle.moka_cache.specs.Loaded.{loaded_in};
 ghost use Rattle.moka_cache.specs.Stages.{BeginsWith, MayPoll};
 
 use crate::begin::{Begin, Begun};
-use crate::by_init::ByInit;
+use crate::by_init::{ByInit, ByInitIf};
 use crate::cache::{Cache, FixedSeed};
 use crate::call::CacheCall;
 use crate::errors::RetriesExhausted;
@@ -21,6 +21,8 @@ use std::hash::Hash;
 #[derive(Drop)]
 pub struct ToLoad<'a, K> {
     key: CallKey<'a, K>,
+    /// The number of its replace test, if it has one.
+    replace: Option<u64>,
 }
 
 /// Looks the value of a key up, or loads it, polled until it is there.
@@ -35,19 +37,32 @@ pub type GetWith<'a, K, V, E, I, L = NoListener, S = FixedSeed> = CacheCall<
     S,
 >;
 
+/// The same, or loads it anew where a replace test holds on the value that is there.
+pub type GetWithIf<'a, K, V, E, I, F, L = NoListener, S = FixedSeed> = CacheCall<
+    'a,
+    ToLoad<'a, K>,
+    K,
+    V,
+    E,
+    ByInitIf<I, F>,
+    L,
+    S,
+>;
+
 impl<K: Clone + Drop, V: Drop, E: Drop> Begin<K, V, E> for ToLoad<'_, K> {
     type Output = Result<V, RetriesExhausted>;
 
-    ghost start = { λ load. Start.GetWith (key_of load.key) None };
+    ghost start = { λ load. Start.GetWith (key_of load.key) load.replace };
 
     ghost named = { λ load. None };
 
     ghost output = { λ named answer. Some (loaded_in answer) };
 
     fn start(self) -> Result<Begun<K, V>, Self> {
-        match self.key.into_key() {
-            Ok(key) => Ok(Begun::unnamed(Start::GetWith { key, replace: None })),
-            Err(key) => Err(ToLoad { key }),
+        let ToLoad { key, replace } = self;
+        match key.into_key() {
+            Ok(key) => Ok(Begun::unnamed(Start::GetWith { key, replace })),
+            Err(key) => Err(ToLoad { key, replace }),
         }
     }
 
@@ -70,13 +85,15 @@ where
     /// another load of the key, for which it waits. Answers the value, or `RetriesExhausted` once
     /// 200 owners of such a load were dropped. `init` is polled only where this call is the owner.
     pub fn get_with<'a, I: Init<V>>(&'a self, key: K, init: I) -> GetWith<'a, K, V, E, I, L, S>
-        ensures fresh { BeginsWith result.stage (λ load. key_of load.key ≡ key) }
+        ensures fresh { BeginsWith result.stage
+            (λ load. (key_of load.key ≡ key) × (load.replace ≡ None)) }
         ensures may { MayPoll result.stage }
         ensures init { result.asked.init ≡ Some init }
         ensures cache { result.cache.now ≡ self.now }
     {
         let key = CallKey::Owned(key);
-        self.call_asking(ToLoad { key }, ByInit { init: Some(init) })
+        let replace = None;
+        self.call_asking(ToLoad { key, replace }, ByInit { init: Some(init) })
     }
 
     /// The same by a key that is lent, which the first poll copies.
@@ -85,12 +102,38 @@ where
         key: &'a K,
         init: I,
     ) -> GetWith<'a, K, V, E, I, L, S>
-        ensures fresh { BeginsWith result.stage (λ load. key_of load.key ≡ key.now) }
+        ensures fresh { BeginsWith result.stage
+            (λ load. (key_of load.key ≡ key.now) × (load.replace ≡ None)) }
         ensures may { MayPoll result.stage }
         ensures init { result.asked.init ≡ Some init }
         ensures cache { result.cache.now ≡ self.now }
     {
         let key = CallKey::Lent(key);
-        self.call_asking(ToLoad { key }, ByInit { init: Some(init) })
+        let replace = None;
+        self.call_asking(ToLoad { key, replace }, ByInit { init: Some(init) })
+    }
+
+    /// Looks the key up, and loads its value as `get_with` does where it is absent, or where
+    /// `replace_if` holds on the value that is there. That is asked without the lock: of what the
+    /// first look found, and again, by the owner of the load, of what its own look found; never
+    /// while the load waits for another. A value that the owner of another load got is answered
+    /// without being tested. Where a poll found no memory to go on, the next asks again.
+    pub fn get_with_if<'a, I: Init<V>, F: FnMut(&V) -> bool + Drop>(
+        &'a self,
+        key: K,
+        init: I,
+        replace_if: F,
+    ) -> GetWithIf<'a, K, V, E, I, F, L, S>
+        ensures fresh { BeginsWith result.stage
+            (λ load. (key_of load.key ≡ key) × IsSome load.replace) }
+        ensures may { MayPoll result.stage }
+        ensures init { result.asked.init.init ≡ Some init }
+        ensures test { result.asked.replace_if ≡ replace_if }
+        ensures cache { result.cache.now ≡ self.now }
+    {
+        let key = CallKey::Owned(key);
+        let replace = Some(0);
+        let init = ByInit { init: Some(init) };
+        self.call_asking(ToLoad { key, replace }, ByInitIf { init, replace_if })
     }
 }

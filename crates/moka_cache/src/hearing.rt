@@ -1,17 +1,33 @@
-//! What follows a hold of the lock, without it: the listener is started, and polled.
-ghost use Rattle.std.specs.Prelude.{◌≡◌, ◌⊎◌, Some, None};
+//! What follows a hold of the lock, without it: who is asked begins, and the listener is started, and
+//! polled.
+ghost use Rattle.std.specs.Prelude.{◌≡◌, ◌⊎◌, Bool, Some, None};
 ghost use Rattle.futures.specs.Poll.{OnPending};
 ghost use Rattle.futures.specs.Task.{IsArmed, Keeps};
-ghost use Rattle.moka_cache.specs.Hearing.{Awaits, Follows, MayPend, Unheard};
+ghost use Rattle.moka_hist.specs.Finite.{IsExact};
+ghost use Rattle.moka_hist.specs.declared.events.Told.{Told};
+ghost use Rattle.moka_init.specs.Grounds.{access_at};
+ghost use Rattle.moka_kept.specs.Taking.{is_taking};
+ghost use Rattle.moka_cache.specs.Asked.{BegunBy, BegunFor, IsBegun, entry_of};
+ghost use Rattle.moka_cache.specs.Hearing.{Awaits, Follows, MayPend, Unheard, over_in};
 
+use crate::asked::{Asked, is_polled};
 use crate::cache::Shared;
 use crate::errors::PollError;
 use crate::listener::Listener;
 use futures::task::{Context, Poll};
-use moka_hist::{Answer, Ask, Cause};
+use moka_hist::{Answer, Ask, Cause, Entry};
 use moka_init::Flow;
 use moka_kept::{Heard, Stop};
 use std::hash::Hash;
+
+/// How a turn of a poll leaves its call. It has no `Drop`, so that no end of a notice is let go.
+pub(crate) enum Turned<T> {
+    /// The call goes on. If the listener gave the end of its notice the next hold of the lock tells
+    /// it.
+    On(Option<Heard>),
+    /// The poll is over, and answers this.
+    Over(Poll<T>),
+}
 
 impl<K, V, E, L, S> Shared<K, V, E, L, S>
 where
@@ -21,51 +37,65 @@ where
     L: Listener<K, V>,
     S: Drop,
 {
-    /// What follows a hold that left the call of the flow so: a listener that it asks is started;
-    /// and where the call awaits the end of a notice, which runs, that is polled. None where the
-    /// call goes on, with the end of its notice in `heard`, if the listener gave it.
-    pub(crate) fn after(
+    /// What follows a hold that left the call of the flow so: a listener that it asks is started; who
+    /// answers its own ask begins, where that is of a compute; and where the call awaits the end of a
+    /// notice, which runs, that is polled.
+    pub(crate) fn after<Q: Asked<K, V, E>>(
         &self,
         flow: &Flow<K, V, E>,
         stop: Stop<K, V, E>,
-        heard: &mut Option<Heard>,
+        asked: &mut Q,
         cx: &mut Context<'_>,
-    ) -> Option<Poll<Result<Answer<K, V, E>, PollError>>>
-        requires { stop ≡ Stop.Waits → IsArmed cx.old }
-        ensures follows { Follows stop result }
-        ensures cause { result ≡ Some Poll.Pending
+    ) -> Turned<Result<Answer<K, V, E>, PollError>>
+        requires keys { IsExact K.is_clone }
+        requires waits { stop ≡ Stop.Waits → IsArmed cx.old }
+        requires asks { Q.can_poll asked.old }
+        ensures begun { BegunBy Q.begins (is_taking (access_at flow.now)) stop asked.old asked.new }
+        ensures asks { Q.can_poll asked.new }
+        ensures same { (told : Told V E) → Q.gives asked.new told → Q.gives asked.old told }
+        ensures tested { (value : V) (replaced : Bool) → Q.tests asked.new value replaced
+            → Q.tests asked.old value replaced }
+        ensures follows { Follows stop (over_in result) }
+        ensures cause { over_in result ≡ Some Poll.Pending
             → (stop ≡ Stop.Waits) ⊎ Awaits (Unheard L.pends self.now.listener) flow.now }
-        ensures armed { result ≡ Some Poll.Pending → IsArmed cx.new }
+        ensures armed { over_in result ≡ Some Poll.Pending → IsArmed cx.new }
         ensures kept { Keeps cx.old cx.new }
     {
         match stop {
-            Stop::Going => None,
-            Stop::Asks(ask) => self.after_ask(flow, ask, heard, cx),
-            Stop::Waits => self.after_wait(flow, heard, cx),
-            Stop::Answers(answer) => Some(Poll::Ready(Ok(answer))),
-            Stop::Memory => Some(Poll::Ready(Err(PollError::Memory))),
+            Stop::Going => Turned::On(None),
+            Stop::Asks(ask) => self.after_ask(flow, ask, asked, cx),
+            Stop::Waits => self.after_wait(flow, cx),
+            Stop::Answers(answer) => Turned::Over(Poll::Ready(Ok(answer))),
+            Stop::Memory => Turned::Over(Poll::Ready(Err(PollError::Memory))),
         }
     }
 
-    // The call asks. If it asks the listener, that is started, and polled for the first time; its
-    // own ask is for the next turn.
-    fn after_ask(
+    // The call asks. If it asks the listener, that is started, and polled for the first time; who
+    // answers its own ask is polled in the next turn.
+    fn after_ask<Q: Asked<K, V, E>>(
         &self,
         flow: &Flow<K, V, E>,
         ask: Ask<K, V>,
-        heard: &mut Option<Heard>,
+        asked: &mut Q,
         cx: &mut Context<'_>,
-    ) -> Option<Poll<Result<Answer<K, V, E>, PollError>>>
-        ensures pends { MayPend result }
-        ensures cause { result ≡ Some Poll.Pending
+    ) -> Turned<Result<Answer<K, V, E>, PollError>>
+        requires keys { IsExact K.is_clone }
+        requires asks { Q.can_poll asked.old }
+        ensures begun { BegunFor Q.begins (is_taking (access_at flow.now)) ask asked.old asked.new }
+        ensures asks { Q.can_poll asked.new }
+        ensures same { (told : Told V E) → Q.gives asked.new told → Q.gives asked.old told }
+        ensures tested { (value : V) (replaced : Bool) → Q.tests asked.new value replaced
+            → Q.tests asked.old value replaced }
+        ensures pends { MayPend (over_in result) }
+        ensures cause { over_in result ≡ Some Poll.Pending
             → Awaits (Unheard L.pends self.now.listener) flow.now }
-        ensures armed { result ≡ Some Poll.Pending → IsArmed cx.new }
+        ensures armed { over_in result ≡ Some Poll.Pending → IsArmed cx.new }
         ensures kept { Keeps cx.old cx.new }
     {
-        self.start(flow.number(), ask);
+        self.start(flow, ask, asked);
         match self.hear(flow, cx) {
-            Some(poll) => go_with(heard, poll),
-            None => None,
+            Some(poll) => go_with(poll),
+            None => Turned::On(None),
         }
     }
 
@@ -73,24 +103,32 @@ where
     fn after_wait(
         &self,
         flow: &Flow<K, V, E>,
-        heard: &mut Option<Heard>,
         cx: &mut Context<'_>,
-    ) -> Option<Poll<Result<Answer<K, V, E>, PollError>>>
-        ensures pends { MayPend result }
+    ) -> Turned<Result<Answer<K, V, E>, PollError>>
+        ensures pends { MayPend (over_in result) }
         ensures kept { Keeps cx.old cx.new }
     {
         match self.hear(flow, cx) {
-            Some(poll) => go_with(heard, poll),
-            None => Some(Poll::Pending),
+            Some(poll) => go_with(poll),
+            None => Turned::Over(Poll::Pending),
         }
     }
 
-    // Starts the listener with the notice of this number, if it is the listener that is asked.
-    fn start(&self, notice: u64, ask: Ask<K, V>) {
+    // Starts the listener with the call's notice, if it is the listener that is asked; or begins who
+    // answers the call's own ask, if that is of a compute.
+    fn start<Q: Asked<K, V, E>>(&self, flow: &Flow<K, V, E>, ask: Ask<K, V>, asked: &mut Q)
+        requires keys { IsExact K.is_clone }
+        requires asks { Q.can_poll asked.old }
+        ensures begun { BegunFor Q.begins (is_taking (access_at flow.now)) ask asked.old asked.new }
+        ensures asks { Q.can_poll asked.new }
+        ensures same { (told : Told V E) → Q.gives asked.new told → Q.gives asked.old told }
+        ensures tested { (value : V) (replaced : Bool) → Q.tests asked.new value replaced
+            → Q.tests asked.old value replaced }
+    {
         match ask {
-            Ask::Listener { key, value, cause } => self.open(notice, &key, &value, cause),
+            Ask::Listener { key, value, cause } => self.open(flow.number(), &key, &value, cause),
             Ask::Init => {}
-            Ask::Compute(_) => {}
+            Ask::Compute(found) => begin_at(flow, asked, found),
         }
     }
 
@@ -112,6 +150,54 @@ where
             Some(listener) => hear_by(listener, flow, cx),
             None => None,
         }
+    }
+}
+
+// Who answers the own ask of the flow begins with the pair that its look found, if it found one. The
+// flow stands at that ask, and to tell so takes no memory there.
+fn begin_at<K: Clone + Drop, V: Drop, E: Drop, Q: Asked<K, V, E>>(
+    flow: &Flow<K, V, E>,
+    asked: &mut Q,
+    found: Option<(K, V)>,
+)
+    requires keys { IsExact K.is_clone }
+    requires asks { Q.can_poll asked.old }
+    ensures begun { IsBegun Q.begins (is_taking (access_at flow.now)) found asked.old asked.new }
+    ensures asks { Q.can_poll asked.new }
+    ensures same { (told : Told V E) → Q.gives asked.new told → Q.gives asked.old told }
+    ensures tested { (value : V) (replaced : Bool) → Q.tests asked.new value replaced
+        → Q.tests asked.old value replaced }
+{
+    if is_polled(asked, flow) {
+        begin_with::<K, V, E, Q>(asked, found);
+    }
+}
+
+// It begins with this pair, if there is one.
+fn begin_with<K: Drop, V: Drop, E, Q: Asked<K, V, E>>(asked: &mut Q, found: Option<(K, V)>)
+    requires { Q.can_poll asked.old }
+    ensures begun { Q.begins asked.old (entry_of found) asked.new }
+    ensures asks { Q.can_poll asked.new }
+    ensures same { (told : Told V E) → Q.gives asked.new told → Q.gives asked.old told }
+    ensures tested { (value : V) (replaced : Bool) → Q.tests asked.new value replaced
+        → Q.tests asked.old value replaced }
+{
+    let entry = entry_of(found);
+    asked.begin(entry.as_ref());
+}
+
+// The pair as an entry, if there is one: with the stored key, and neither flag.
+fn entry_of<K, V>(found: Option<(K, V)>) -> Option<Entry<K, V>>
+    ensures { result ≡ entry_of found }
+{
+    match found {
+        Some((key, value)) => Some(Entry {
+            key: Some(key),
+            value,
+            fresh: false,
+            replaced: false,
+        }),
+        None => None,
     }
 }
 
@@ -142,21 +228,18 @@ fn poll_notice<K, V, L: Listener<K, V>>(
     ensures kept { Keeps cx.old cx.new }
 {
     match listener.poll(notice, cx) {
-        Poll::Ready(end) => Poll::Ready(Heard { notice, end }),
+        Poll::Ready(end) => Poll::Ready(Heard::new(notice, end)),
         Poll::Pending => Poll::Pending,
     }
 }
 
 // Once the listener gave the end of a notice, the call goes on with that.
-fn go_with<T>(heard: &mut Option<Heard>, poll: Poll<Heard>) -> Option<Poll<T>>
-    ensures pends { MayPend result }
-    ensures same { result ≡ Some Poll.Pending → poll ≡ Poll.Pending }
+fn go_with<T>(poll: Poll<Heard>) -> Turned<T>
+    ensures pends { MayPend (over_in result) }
+    ensures same { over_in result ≡ Some Poll.Pending → poll ≡ Poll.Pending }
 {
     match poll {
-        Poll::Ready(end) => {
-            *heard = Some(end);
-            None
-        }
-        Poll::Pending => Some(Poll::Pending),
+        Poll::Ready(heard) => Turned::On(Some(heard)),
+        Poll::Pending => Turned::Over(Poll::Pending),
     }
 }

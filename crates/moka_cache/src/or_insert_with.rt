@@ -1,12 +1,12 @@
 //! Loading an entry.
-ghost use Rattle.std.specs.Prelude.{◌≡◌, Some, None, false};
+ghost use Rattle.std.specs.Prelude.{◌≡◌, Some, None, IsSome, false};
 ghost use Rattle.moka_hist.specs.declared.events.Start.TheVariants as Start;
 ghost use Rattle.moka_cache.specs.Entries.{loaded_entry_in};
 ghost use Rattle.moka_cache.specs.Keys.{key_of};
 ghost use Rattle.moka_cache.specs.Stages.{BeginsWith, MayPoll};
 
 use crate::begin::{Begin, Begun};
-use crate::by_init::ByInit;
+use crate::by_init::{ByInit, ByInitIf};
 use crate::cache::FixedSeed;
 use crate::call::CacheCall;
 use crate::entry::EntrySelector;
@@ -21,6 +21,8 @@ use std::hash::Hash;
 #[derive(Drop)]
 pub struct ToLoadEntry<'a, K> {
     key: CallKey<'a, K>,
+    /// The number of its replace test, if it has one.
+    replace: Option<u64>,
 }
 
 /// Looks the value of a key up, or loads it, polled until it is there.
@@ -35,19 +37,32 @@ pub type OrInsertWith<'a, K, V, E, I, L = NoListener, S = FixedSeed> = CacheCall
     S,
 >;
 
+/// The same, or loads it anew where a replace test holds on the value that is there.
+pub type OrInsertWithIf<'a, K, V, E, I, F, L = NoListener, S = FixedSeed> = CacheCall<
+    'a,
+    ToLoadEntry<'a, K>,
+    K,
+    V,
+    E,
+    ByInitIf<I, F>,
+    L,
+    S,
+>;
+
 impl<K: Clone + Drop, V: Drop, E: Drop> Begin<K, V, E> for ToLoadEntry<'_, K> {
     type Output = Result<Entry<K, V>, RetriesExhausted>;
 
-    ghost start = { λ load. Start.GetWith (key_of load.key) None };
+    ghost start = { λ load. Start.GetWith (key_of load.key) load.replace };
 
     ghost named = { λ load. Some (key_of load.key) };
 
     ghost output = { λ named answer. Some (loaded_entry_in named answer) };
 
     fn start(self) -> Result<Begun<K, V>, Self> {
-        match self.key.into_two() {
-            Ok((key, named)) => Ok(Begun::named(Start::GetWith { key, replace: None }, named)),
-            Err(key) => Err(ToLoadEntry { key }),
+        let ToLoadEntry { key, replace } = self;
+        match key.into_two() {
+            Ok((key, named)) => Ok(Begun::named(Start::GetWith { key, replace }, named)),
+            Err(key) => Err(ToLoadEntry { key, replace }),
         }
     }
 
@@ -72,13 +87,35 @@ where
     /// Looks the key up, or loads its value, as `get_with` does. The entry is fresh where the
     /// initializer of this call gave the value.
     pub fn or_insert_with<I: Init<V>>(self, init: I) -> OrInsertWith<'a, K, V, E, I, L, S>
-        ensures fresh { BeginsWith result.stage (λ load. load.key ≡ self.entry.key) }
+        ensures fresh { BeginsWith result.stage
+            (λ load. (load.key ≡ self.entry.key) × (load.replace ≡ None)) }
         ensures may { MayPoll result.stage }
         ensures init { result.asked.init ≡ Some init }
         ensures cache { result.cache.now ≡ self.entry.cache.now }
     {
         let EntrySelector { cache, key } = self;
-        cache.call_asking(ToLoadEntry { key }, ByInit { init: Some(init) })
+        let replace = None;
+        cache.call_asking(ToLoadEntry { key, replace }, ByInit { init: Some(init) })
+    }
+
+    /// Looks the key up, or loads its value, as `get_with_if` does. The entry is fresh where the
+    /// initializer of this call gave the value.
+    pub fn or_insert_with_if<I: Init<V>, F: FnMut(&V) -> bool + Drop>(
+        self,
+        init: I,
+        replace_if: F,
+    ) -> OrInsertWithIf<'a, K, V, E, I, F, L, S>
+        ensures fresh { BeginsWith result.stage
+            (λ load. (load.key ≡ self.entry.key) × IsSome load.replace) }
+        ensures may { MayPoll result.stage }
+        ensures init { result.asked.init.init ≡ Some init }
+        ensures test { result.asked.replace_if ≡ replace_if }
+        ensures cache { result.cache.now ≡ self.entry.cache.now }
+    {
+        let EntrySelector { cache, key } = self;
+        let replace = Some(0);
+        let init = ByInit { init: Some(init) };
+        cache.call_asking(ToLoadEntry { key, replace }, ByInitIf { init, replace_if })
     }
 }
 

@@ -1,5 +1,5 @@
 //! A future over a state.
-ghost use Rattle.std.specs.Prelude.{◌≡◌, IsSome, IfSome, IfOk, OnErr};
+ghost use Rattle.std.specs.Prelude.{◌≡◌, ◌↔◌, IsSome, IfSome, IfErr, IfOk, OnErr};
 ghost use Rattle.futures.specs.Poll.{IfReady, OnPending};
 ghost use Rattle.futures.specs.Task.{IsArmed, Keeps};
 
@@ -22,7 +22,11 @@ pub trait State<R: Wait> {
     /// It has not answered.
     ghost can_poll: { Self → Type 0 };
 
+    /// No number was left for its call.
+    ghost is_spent: { Self → Type 0 };
+
     /// Goes on at `moment`, in nanoseconds; one before the cache's clock counts as the clock.
+    /// `CallsSpent` comes where no number was left, and no poll of it is pending then.
     fn poll(
         &mut self,
         rt: &R,
@@ -32,6 +36,9 @@ pub trait State<R: Wait> {
         requires { can_poll self.old }
         ensures pending { OnPending result (can_poll self.new) }
         ensures failed { IfReady result (λ r. OnErr r (can_poll self.new)) }
+        ensures spent { IfReady result (λ r. IfErr r (λ e.
+            (e ≡ PollError.CallsSpent) ↔ is_spent self.new)) }
+        ensures numbered { OnPending result (is_spent self.new → ⊥) }
         ensures armed { OnPending result (IsArmed cx.new) }
         ensures kept { Keeps cx.old cx.new };
 
@@ -97,6 +104,7 @@ fn poll_again<R: Wait, S: State<R>>(
 ) -> Poll<Result<S::Output, PollError>>
     requires { S.can_poll state.old }
     ensures pending { OnPending result (S.can_poll state.new) }
+    ensures numbered { OnPending result (S.is_spent state.new → ⊥) }
     ensures armed { OnPending result (IsArmed cx.new) }
     ensures kept { Keeps cx.old cx.new }
 {

@@ -1,5 +1,6 @@
 //! What the command line asks for.
 
+use crate::kinds::{KINDS, Kind, WAYS, Way};
 use std::env;
 
 /// What the calls are made of.
@@ -45,9 +46,11 @@ pub(crate) enum Work {
     See,
     /// Loads keys and takes them out, where every third owner of a load is cancelled.
     Cancel,
+    /// Makes calls of this kind, in this way.
+    Calls(Kind, Way),
 }
 
-/// Each of them.
+/// Each of them but the calls by kind.
 pub(crate) const WORKS: [Work; 6] = [
     Work::Get,
     Work::Insert,
@@ -67,6 +70,15 @@ impl Work {
             Work::Remove => "remove",
             Work::See => "see",
             Work::Cancel => "cancel",
+            Work::Calls(kind, _) => kind.name(),
+        }
+    }
+
+    /// The word of its way, and what stands before it.
+    pub(crate) fn way(self) -> (&'static str, &'static str) {
+        match self {
+            Work::Calls(_, way) => (" ", way.name()),
+            _ => ("", ""),
         }
     }
 
@@ -107,10 +119,11 @@ impl Burst {
     }
 }
 
-/// The works and bursts that are asked for.
+/// The works, kinds of calls and bursts that are asked for.
 #[derive(Clone, Copy, PartialEq, Eq)]
 enum Works {
     One(Work),
+    Kind(Kind),
     Burst(Burst),
     Each,
 }
@@ -130,10 +143,12 @@ pub(crate) struct Asked {
     pub(crate) calls: u64,
     pub(crate) threads: u64,
     keys: Option<u64>,
+    way: Option<Way>,
 }
 
 impl Asked {
-    /// Reads the command line: a peer, a work, how many calls, how many threads, and how many keys.
+    /// Reads the command line: a peer, a work, how many calls, how many threads, how many keys, and
+    /// a way.
     pub(crate) fn read(rt: &HostRuntime) -> anyhow::Result<Asked> {
         Ok(Asked {
             peer: read_peer(rt)?,
@@ -141,6 +156,7 @@ impl Asked {
             calls: read_number(rt, 3)?.unwrap_or(1000),
             threads: read_number(rt, 4)?.unwrap_or(1).max(1),
             keys: read_number(rt, 5)?,
+            way: read_way(rt)?,
         })
     }
 
@@ -156,15 +172,32 @@ impl Asked {
     pub(crate) fn is_asked(self, work: Work) -> bool {
         match self.works {
             Works::One(asked) => asked == work,
-            Works::Burst(_) => false,
+            Works::Kind(_) | Works::Burst(_) => false,
             Works::Each => true,
+        }
+    }
+
+    /// Whether calls of this kind are to be made in this way.
+    pub(crate) fn is_kind(self, kind: Kind, way: Way) -> bool {
+        match self.works {
+            Works::One(_) | Works::Burst(_) => false,
+            Works::Kind(asked) => asked == kind && self.is_way(way),
+            Works::Each => self.is_way(way),
+        }
+    }
+
+    // Whether this way is asked for.
+    fn is_way(self, way: Way) -> bool {
+        match self.way {
+            Some(asked) => asked == way,
+            None => true,
         }
     }
 
     /// Whether this burst is to be made.
     pub(crate) fn is_burst(self, burst: Burst) -> bool {
         match self.works {
-            Works::One(_) => false,
+            Works::One(_) | Works::Kind(_) => false,
             Works::Burst(asked) => asked == burst,
             Works::Each => true,
         }
@@ -207,11 +240,16 @@ fn read_peer(rt: &HostRuntime) -> anyhow::Result<Option<Peer>> {
     Ok(None)
 }
 
-/// The work or burst on the command line, or each.
+/// The work, kind or burst on the command line, or each.
 fn read_works(rt: &HostRuntime) -> anyhow::Result<Works> {
     for work in WORKS {
         if is_word(rt, 2, work.name())? {
             return Ok(Works::One(work));
+        }
+    }
+    for kind in KINDS {
+        if is_word(rt, 2, kind.name())? {
+            return Ok(Works::Kind(kind));
         }
     }
     for burst in BURSTS {
@@ -220,6 +258,16 @@ fn read_works(rt: &HostRuntime) -> anyhow::Result<Works> {
         }
     }
     Ok(Works::Each)
+}
+
+/// The way on the command line, if it is one.
+fn read_way(rt: &HostRuntime) -> anyhow::Result<Option<Way>> {
+    for way in WAYS {
+        if is_word(rt, 6, way.name())? {
+            return Ok(Some(way));
+        }
+    }
+    Ok(None)
 }
 
 /// The number that stands there on the command line, if one does.

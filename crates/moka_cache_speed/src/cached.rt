@@ -2,7 +2,10 @@
 
 use crate::asked::{Shares, Work};
 use crate::calls::{Begins, make_calls};
-use crate::turns::{Gives, Turn, in_turn};
+use crate::kinds::Way;
+use crate::later::Later;
+use crate::turns::{Turn, in_turn};
+use crate::ways::{Rounds, make_kind};
 use moka_cache::{Cache, Get, GetWith, Insert, Listener, NoListener};
 use std::alloc::{AllocError, AllocGlobal, Global};
 use std::random::RandomSource;
@@ -58,10 +61,10 @@ struct Loads<'a, L> {
     cache: &'a Numbers<L>,
 }
 
-impl<'a, R: Wait, L: Listener<u64, u64>> Begins<R, GetWith<'a, u64, u64, u64, Gives, L>>
+impl<'a, R: Wait, L: Listener<u64, u64>> Begins<R, GetWith<'a, u64, u64, u64, Later<u64>, L>>
     for Loads<'a, L> {
-    fn begin(&self, call: u64) -> GetWith<'a, u64, u64, u64, Gives, L> {
-        self.cache.get_with(call, Gives(call))
+    fn begin(&self, call: u64) -> GetWith<'a, u64, u64, u64, Later<u64>, L> {
+        self.cache.get_with(call, Later::at_once(call))
     }
 }
 
@@ -117,6 +120,19 @@ fn work_as<R: Wait + RandomSource + AllocGlobal, L: Listener<u64, u64>>(
         Work::Remove => in_turn(rt, cache, keys, &REMOVED, thread, calls),
         Work::See => in_turn(rt, cache, keys, &SEEN, thread, calls),
         Work::Cancel => in_turn(rt, cache, keys, &CANCELLED, thread, calls),
+        Work::Calls(kind, way) => {
+            make_kind(rt, cache, kind, rounds(way, thread, keys.len(), calls))
+        }
+    }
+}
+
+/// So many rounds of a thread over so many keys.
+fn rounds(way: Way, thread: u64, keys: usize, count: u64) -> Rounds {
+    Rounds {
+        way,
+        thread,
+        keys: keys as u64,
+        count,
     }
 }
 

@@ -1,7 +1,7 @@
 //! The program: times threads that make calls of one cache, of one with a listener, and of std's
 //! map under a lock, and makes the calls whose memory is measured.
 //!
-//! `moka_cache_speed PEER WORK CALLS THREADS KEYS` shares the calls among the threads. Standard
+//! `moka_cache_speed PEER WORK CALLS THREADS KEYS WAY` shares the calls among the threads. Standard
 //! output has how many calls answered, standard error how long they took.
 #![tactic(auto)]
 
@@ -11,12 +11,18 @@ mod cached;
 mod calls;
 mod crowd;
 mod heard;
+mod keyed;
+mod kinds;
+mod later;
 mod mapped;
+mod tested;
 mod turns;
+mod ways;
 
 use asked::{Asked, BURSTS, Burst, PEERS, Peer, WORKS, Work};
 use burst::come_and_store;
 use cached::Numbers;
+use kinds::{KINDS, Kind, WAYS};
 use moka_cache::{Cache, Listener};
 use std::alloc::{AllocError, AllocGlobal, Global};
 use std::collections::HashMap;
@@ -62,9 +68,28 @@ fn measure_peer<R: Threads + Wait + RandomSource + AllocGlobal + Clock + Print +
             make_work(rt, alloc, asked, peer, work)?;
         }
     }
+    for kind in KINDS {
+        measure_kind(rt, alloc, asked, peer, kind)?;
+    }
     for burst in BURSTS {
         if asked.is_burst(burst) {
             make_burst(rt, alloc, asked, peer, burst)?;
+        }
+    }
+    Ok(())
+}
+
+/// Makes calls of the kind in each way that is asked for.
+fn measure_kind<R: Threads + Wait + RandomSource + AllocGlobal + Clock + Print + Eprint + Sync>(
+    rt: &R,
+    alloc: Global,
+    asked: Asked,
+    peer: Peer,
+    kind: Kind,
+) -> anyhow::Result<()> {
+    for way in WAYS {
+        if asked.is_kind(kind, way) && peer != Peer::Map {
+            make_work(rt, alloc, asked, peer, Work::Calls(kind, way))?;
         }
     }
     Ok(())
@@ -183,11 +208,13 @@ fn told<R: Clock + Print + Eprint>(
     start: Instant,
 ) -> anyhow::Result<()> {
     let nanos = start.elapsed(rt)?.as_nanos();
-    let (peer, name) = (peer.name(), work.name());
-    println!(rt; "{peer} {name} {answered}")?;
+    let (peer, name, (space, way)) = (peer.name(), work.name(), work.way());
+    println!(rt; "{peer} {name}{space}{way} {answered}")?;
     let each = nanos / u128::from(asked.shares().calls.max(1));
     let rate = 1_000_000_000 * u128::from(asked.calls) / nanos.max(1);
     let threads = asked.threads;
-    eprintln!(rt; "{peer} {name}: {threads} threads, {each} ns a call, {rate} calls a second")?;
+    eprintln!(rt;
+        "{peer} {name}{space}{way}: {threads} threads, {each} ns a call, {rate} calls a second"
+    )?;
     Ok(())
 }

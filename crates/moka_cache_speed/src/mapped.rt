@@ -61,6 +61,7 @@ fn make<R: Wait>(rt: &R, map: &Map, keys: u64, work: Work, thread: u64, call: u6
         (Work::Get, _) => get(rt, map, key),
         (Work::Insert, _) => insert(rt, map, key, call),
         (Work::Load, _) => load(rt, map, call),
+        (Work::Calls(_, _), _) => load(rt, map, key),
         (Work::Remove | Work::See, true) => insert(rt, map, pair, call),
         (Work::Cancel, true) => load(rt, map, pair),
         (Work::See, false) => get(rt, map, pair),

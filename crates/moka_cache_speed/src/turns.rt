@@ -1,6 +1,7 @@
 //! Works that make calls of several kinds in turn.
 
 use crate::cached::{Numbers, place_of};
+use crate::later::Later;
 use futures::FutureExt;
 use futures::executor::block_on;
 use futures::task::{Context, Poll};
@@ -28,16 +29,6 @@ pub(crate) struct Still;
 impl Moments for Still {
     fn moment(&mut self) -> u64 {
         0
-    }
-}
-
-/// Gives this value at once.
-#[derive(Drop)]
-pub(crate) struct Gives(pub(crate) u64);
-
-impl Init<u64> for Gives {
-    fn poll(&mut self, _cx: &mut Context<'_>) -> Poll<u64> {
-        Poll::Ready(self.0)
     }
 }
 
@@ -134,10 +125,10 @@ fn load<'a, R: Wait + RandomSource + AllocGlobal, L: Listener<u64, u64>>(
     cache: &'a Numbers<L>,
     key: u64,
 ) -> io::Result<bool> {
-    finish(rt, cache.get_with(key, Gives(key)))
+    finish(rt, cache.get_with(key, Later::at_once(key)))
 }
 
-fn take<'a, R: Wait + RandomSource + AllocGlobal, L: Listener<u64, u64>>(
+pub(crate) fn take<'a, R: Wait + RandomSource + AllocGlobal, L: Listener<u64, u64>>(
     rt: &'a R,
     cache: &'a Numbers<L>,
     key: &'a u64,
@@ -154,7 +145,7 @@ fn load_dropped<'a, R: Wait + RandomSource + AllocGlobal, L: Listener<u64, u64>>
 }
 
 /// Runs the call to its end, and tells whether it answered.
-fn finish<R: Wait + RandomSource + AllocGlobal, S: State<R, Output: Drop>>(
+pub(crate) fn finish<R: Wait + RandomSource + AllocGlobal, S: State<R, Output: Drop>>(
     rt: &R,
     call: S,
 ) -> io::Result<bool>
@@ -164,7 +155,7 @@ fn finish<R: Wait + RandomSource + AllocGlobal, S: State<R, Output: Drop>>(
 }
 
 /// Polls the call once, and drops it where it waits. It is over then.
-fn poll_once<R: Wait + RandomSource + AllocGlobal, S: State<R, Output: Drop>>(
+pub(crate) fn poll_once<R: Wait + RandomSource + AllocGlobal, S: State<R, Output: Drop>>(
     rt: &R,
     call: S,
 ) -> io::Result<bool>

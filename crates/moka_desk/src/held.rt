@@ -6,7 +6,7 @@ ghost use Rattle.moka_hist.specs.Visits.{number_of as written_by};
 ghost use Rattle.moka_desk.specs.Held.{decided_holding, held_by, held_count, holding_room, holds_number, is_holder, owed_at};
 
 use crate::holdings::Holdings;
-use crate::maps::{put, replace};
+use crate::maps::{at, put, replace};
 use moka_hist::{Holding, Write};
 use moka_room::map_room;
 use std::alloc::{AllocError, Global};
@@ -51,7 +51,7 @@ impl Held {
     pub(crate) fn contains(&self, number: u64) -> bool
         ensures { result ≡ is_some (get nat_eq self.now.holders number) }
     {
-        self.holders.contains_key(&number)
+        at(&self.holders, number).is_some()
     }
 
     /// Makes room for so many writes that are held, and for one more that is held or owed. Room that

@@ -5,6 +5,7 @@ ghost use Rattle.std.specs.Map.{lookup};
 ghost use Rattle.std.specs.HashMap.{get, hash_map_len};
 ghost use Rattle.moka_desk.specs.Held.{held_by, held_count, holding_room, decided_holding, others_of};
 
+use crate::maps::at;
 use moka_hist::Holding;
 use moka_room::{map_room, vec_room};
 use std::alloc::{AllocError, Global};
@@ -36,7 +37,7 @@ impl Holdings {
     pub(crate) fn get(&self, call: u64) -> Option<Holding>
         ensures { result ≡ held_by self.now call }
     {
-        match self.by_call.get(&call).copied() {
+        match at(&self.by_call, call).copied() {
             Some(holding) => Some(holding),
             None => find_in(&self.rest, call),
         }

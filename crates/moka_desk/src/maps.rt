@@ -1,6 +1,8 @@
-//! Writes to hash maps and sets that take no memory.
+//! Hash maps and sets of numbers: writes that take no memory, and looks that cost little where there
+//! is nothing.
 
-ghost use Rattle.std.specs.Prelude.{◌≡◌, ℕ, ◌+◌, ◌≤◌, ◌<◌, ◌==◌, cond, Some, IsSome, is_some, nat_eq, ◌||◌, if◌then◌else◌};
+ghost use Rattle.std.specs.Prelude.{◌≡◌, ℕ, ◌+◌, ◌≤◌, ◌<◌, ◌==◌, false, cond, Some, IsSome, is_some, nat_eq, option_copied, ◌||◌, if◌then◌else◌};
+ghost use Rattle.std.specs.Bool.{OnFalse};
 ghost use Rattle.std.specs.HashSet as hash_set;
 ghost use Rattle.std.specs.HashMap.{get, spare, hash_map_len, PutsEntry, Updates};
 
@@ -48,4 +50,33 @@ pub(crate) fn add(set: &mut HashSet<u64>, number: u64)
         Ok(_) => {}
         Err(_) => unreachable!(),
     }
+}
+
+/// The value at the number, if it has one. Nothing is hashed where the map is empty.
+#[inline(always)]
+pub(crate) fn at<T>(map: &HashMap<u64, T>, number: u64) -> Option<&T>
+    ensures { option_copied result ≡ get nat_eq map.now number }
+{
+    if map.is_empty() {
+        return None;
+    }
+    map.get(&number)
+}
+
+/// Takes the number out of the set, and tells whether it was there. Nothing is hashed where the set
+/// is empty.
+#[inline(always)]
+pub(crate) fn take_out(set: &mut HashSet<u64>, number: u64) -> bool
+    ensures test { result ≡ hash_set.contains nat_eq set.old number }
+    ensures has { (n : ℕ) → hash_set.contains nat_eq set.new n
+        ≡ cond (number == n) false (hash_set.contains nat_eq set.old n) }
+    ensures unchanged { OnFalse result (hash_set.keys set.new ≡ hash_set.keys set.old) }
+    ensures len { hash_set.hash_set_len set.new + (if result then 1 else 0)
+        ≡ hash_set.hash_set_len set.old }
+    ensures spare { hash_set.spare set.old ≤ hash_set.spare set.new }
+{
+    if set.is_empty() {
+        return false;
+    }
+    set.remove(&number)
 }

@@ -7,7 +7,7 @@ ghost use Rattle.moka_hist.specs.declared.writes.Write.{Write as write_of};
 ghost use Rattle.moka_hist.specs.declared.writes.Write.TheVariants.{Upsert as upsert};
 ghost use Rattle.moka_desk.specs.Records.{and_this, is_made, RecordsAre, RecordsStay};
 
-use crate::maps::add;
+use crate::maps::{add, take_out};
 use moka_hist::Write;
 use moka_room::set_room;
 use std::alloc::{AllocError, Global};
@@ -105,7 +105,7 @@ impl Records {
             ≤ hash_set.spare self.new.standing + 1 }
         ensures early { hash_set.spare self.old.early ≤ hash_set.spare self.new.early }
     {
-        if !self.early.remove(&number) {
+        if !take_out(&mut self.early, number) {
             add(&mut self.standing, number);
         }
     }

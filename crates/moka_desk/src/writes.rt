@@ -107,7 +107,7 @@ impl Writes {
         let room = self.applied.room.checked_add(1).ok_or(AllocError)?;
         self.held.reserve(room)?;
         deque_room::reserve(&mut self.owed, room)?;
-        set_room::reserve(&mut self.posted, room)?;
+        set_room::reserve(&mut self.posted, self.held.holders.len() + 1)?;
         self.applied.reserve()?;
         self.held.stamp(call, moment);
         Ok(())

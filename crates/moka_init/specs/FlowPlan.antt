@@ -4,7 +4,7 @@ use Rattle.std.specs.Option.{option_map}
 use Rattle.moka_hist.specs.State.{Call}
 use Rattle.moka_hist.specs.Plan.{Item, held_by, hearing}
 use Rattle.moka_hist.specs.Next.{Next}
-use Rattle.moka_hist.specs.Step.{going_as}
+use Rattle.moka_hist.specs.Step.{going_as, replace_of}
 use Rattle.moka_hist.specs.declared.records.Mode.TheVariants as mode
 use Rattle.moka_hist.specs.Plan as plan
 use Rattle.moka_hist.specs.declared.writes.Owed.{Owed}
@@ -43,6 +43,12 @@ module _ {K V E : Type 0} where
   opening n (plan.Notice key old cause upsert ∷ rest) =
       Some (visit.OpenNotice n key old.value old.stamp old.modified cause upsert)
   opening n _ = None
+
+  -- the value on which the plan's first item asks its call's replace test, if it does
+  abbrev pub tested_in : List (Item K V E) → Option V
+  tested_in (plan.Judge aim key found ∷ rest) =
+      option_map (λ test. found.value) (replace_of aim)
+  tested_in _ = None
 
   -- the visit that opens the notice of the flow's call, where that is due
   abbrev pub due_of : Flow K V E → Option (Visit K V E)

@@ -1,14 +1,16 @@
 //! What a call tells of itself: how far it is, what it holds, and the notice that is due.
 ghost use Rattle.std.specs.Prelude.{◌≡◌, false, IfOk};
 ghost use Rattle.moka_hist.specs.Finite.{IsExact};
-ghost use Rattle.moka_hist.specs.Step.{access_for, On_desk};
+ghost use Rattle.moka_hist.specs.Step.{access_for, On_desk, replace_of};
 ghost use Rattle.moka_hist.specs.Plan as plan;
 ghost use Rattle.moka_hist.specs.Plan.{hearing};
-ghost use Rattle.moka_init.specs.PointPlan.{posting_plan, listening_plan};
-ghost use Rattle.moka_init.specs.FlowPlan.{opening, owed_in};
+ghost use Rattle.std.specs.Option.{option_map};
+ghost use Rattle.moka_init.specs.PointPlan.{aim_of, looking_plan, posting_plan, listening_plan};
+ghost use Rattle.moka_init.specs.FlowPlan.{opening, owed_in, tested_in};
 
+use crate::copies::replace_of;
 use crate::flow::Flow;
-use crate::points::{Listening, Point, Posting};
+use crate::points::{Listening, Look, Looking, Point, Posting};
 use moka_hist::{Cause, Mode, Owed, Rules, Start, Stored, Visit, Write};
 use std::alloc::AllocError;
 
@@ -59,6 +61,16 @@ impl<K, V, E> Flow<K, V, E> {
     {
         match &self.point {
             Point::Listening(listening) => self.notice_in_listening(listening),
+            _ => None,
+        }
+    }
+
+    /// The value on which the call's next visit asks its replace test, where it does.
+    pub fn tested(&self) -> Option<&V>
+        ensures { option_map (λ value. value.now) result ≡ tested_in (call_of self.now).plan }
+    {
+        match &self.point {
+            Point::Looking(looking) => tested_in_looking::<K, V, E>(looking),
             _ => None,
         }
     }
@@ -204,6 +216,32 @@ pub(crate) fn open_notice<K: Clone + Drop, V: Clone + Drop, E>(
         cause,
         upsert,
     })
+}
+
+// The value on which a call that looks asks its replace test next, where it does.
+fn tested_in_looking<K, V, E>(looking: &Looking<K, V>) -> Option<&V>
+    ensures { option_map (λ value. value.now) result
+        ≡ tested_in {E = E} (looking_plan looking.now) }
+{
+    match looking {
+        Looking::Judge {
+            look,
+            key: _,
+            stored,
+        } => tested_by(look, stored),
+        Looking::Get(_) => None,
+    }
+}
+
+// The value of the record, where the look has a replace test.
+fn tested_by<'a, K, V>(look: &Look<K, V>, stored: &'a Stored<V>) -> Option<&'a V>
+    ensures { option_map (λ value. value.now) result
+        ≡ option_map (λ test. stored.now.value) (replace_of (aim_of look.now)) }
+{
+    match replace_of(look) {
+        Some(_) => Some(&stored.value),
+        None => None,
+    }
 }
 
 // A write of whose notice nothing is to be heard.

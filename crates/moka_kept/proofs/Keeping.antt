@@ -85,6 +85,18 @@ module _ {K V E : Type 0} {same : PartialEq.Ghosts K} {hash : Hash.Ghosts K} (eq
       next true e = absurd (cc)
       next false e = let is : n ≡ kept.world.desk.last + 1 = cc in omega (arith, is)
 
+  -- the number that is given out is the next, and the last one from then on
+  pub next_entered : (layers : CacheLayers K V E same hash) (desk : Desk K V E same hash) (n m : ℕ) → m ≡ n
+      → ((w : DeskPart K V E) → StandsFor eq layers.desk w → Some n ≡ cond (w.last == last_call) None (Some (w.last + 1)))
+      → ((w : DeskPart K V E) → StandsFor eq layers.desk w → StandsFor eq desk (record w { last = n }))
+      → (w : DeskPart K V E) → StandsFor eq layers.desk w → (m ≡ w.last + 1) × StandsFor eq desk (record w { last = m })
+  next_entered layers desk n m is finds makes w stands =
+      (is ∙ next (w.last == last_call) (finds w stands), subst (λ x. StandsFor eq desk (record w { last = x })) (sym is) (makes w stands))
+    where
+      next : (b : Bool) → Some n ≡ cond b None (Some (w.last + 1)) → n ≡ w.last + 1
+      next true e = absurd (cc)
+      next false e = cc
+
   -- where none is left, the greatest was given out
   pub spent_entered : (layers : CacheLayers K V E same hash) (r : Option ℕ)
       → ((w : DeskPart K V E) → StandsFor eq layers.desk w → r ≡ cond (w.last == last_call) None (Some (w.last + 1)))

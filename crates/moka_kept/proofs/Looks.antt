@@ -17,7 +17,7 @@ use Rattle.moka_table.specs.Map.{Moves, Pairs, SameMap}
 use Rattle.moka_table.specs.Plain.{map_of, peak_of, plain_table}
 use Rattle.moka_table.specs.declared.plain.PlainTable.{PlainTable}
 use Rattle.moka_kept.specs.Counts.{is_found, sees}
-use Rattle.moka_kept.specs.Kept.{CacheLayers, IsKept, no_tests}
+use Rattle.moka_kept.specs.Kept.{CacheLayers, IsKept, in_hand}
 
 module _ {K V : Type 0} (eq : K → K → Bool) where
   -- the step of a look left the map
@@ -65,5 +65,5 @@ module _ {K V E : Type 0} {same : PartialEq.Ghosts K} {hash : Hash.Ghosts K} (eq
       }
 
   -- where the layers stand for a world, their table has a key where the world's has
-  pub sees_there : (layers : CacheLayers K V E same hash) (w : World K V E) (key : K) → WorldIs eq (plain_table eq) no_tests layers w → is_some (map_of eq layers.table key) ≡ sees w key
+  pub sees_there : (layers : CacheLayers K V E same hash) (w : World K V E) (key : K) → WorldIs eq (plain_table eq) in_hand layers w → is_some (map_of eq layers.table key) ≡ sees w key
   sees_there layers w key stands = ap is_some (stands.table.map key) ∙ seen w (w.table.stored key)

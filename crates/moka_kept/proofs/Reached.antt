@@ -10,7 +10,6 @@ use Rattle.moka_hist.specs.Step.{Access, Gets, May, On_table, On_desk, access_of
 use Rattle.moka_hist.specs.declared.accesses.Got.{Got}
 use Rattle.moka_hist.specs.declared.accesses.Got.TheVariants as got
 use Rattle.moka_hist.specs.declared.accesses.Want.{Want}
-use Rattle.moka_hist.specs.declared.events.Told.{Told}
 use Rattle.moka_hist.specs.declared.tables.TableTurn.TheVariants as table
 use Rattle.moka_bound.proofs.Size.{access_size}
 use Rattle.moka_init.specs.FlowPlan.{StandsStill, call_of}
@@ -23,8 +22,8 @@ use Rattle.moka_layers.specs.Layers.{AlwaysDecides, BegunIs, Decides, GroundIs, 
 use Rattle.moka_layers.proofs.Wanted.{none_begun}
 use Rattle.moka_table.specs.Plain.{plain_left, plain_table}
 use Rattle.moka_table.specs.declared.plain.PlainCall.{PlainCall}
-use Rattle.moka_kept.specs.Kept.{CacheLayers, IsKept, MayMake, MayReach, ReachIs, no_tests}
-use Rattle.moka_kept.specs.Taking.{told_in}
+use Rattle.moka_kept.specs.Kept.{CacheLayers, IsKept, MayMake, MayReach, ReachIs, in_hand}
+use Rattle.moka_kept.specs.Taking.{Taken, taken_in}
 use Rattle.moka_kept.specs.Paths.{EndedWith}
 
 none_so_often : (stay : Stay) (call : ℕ) → stay.times ≡ 0 → times_of stay call ≡ 0
@@ -99,7 +98,7 @@ module _ {K V E : Type 0} {same : PartialEq.Ghosts K} {hash : Hash.Ghosts K} (eq
 
   -- an access keeps all of it
   pub gives_reach : VisitsKeepSound K V E eq → (old new : CacheLayers K V E same hash) (access : Access K V E) (given : Got K V E)
-      → Serves eq (plain_table eq) no_tests old access given new → given ≢ got.Table table.Going
+      → Serves eq (plain_table eq) in_hand old access given new → given ≢ got.Table table.Going
       → (w : World K V E) → ReachIs eq old w → May w access
       → (after : World K V E) × Gets eq old.call w access given after × ReachIs eq new after
   gives_reach law old new access given serves decided w reach may =
@@ -130,7 +129,7 @@ module _ {K V E : Type 0} {same : PartialEq.Ghosts K} {hash : Hash.Ghosts K} (eq
       settled (On_desk v) (got.Desk f) after gets apart = ap (λ (x : World K V E). x.stay.times) gets.1 ∙ reach.decided
 
   pub gives_all : {F : Type 0} → VisitsKeepSound K V E eq → (old new : CacheLayers K V E same hash) (wish : Want K V E) (r : Result (Got K V E) F)
-      → IfOk r (λ given. OfWanted (account_of (plain_table eq) old) wish (λ access. Serves eq (plain_table eq) no_tests old access given new))
+      → IfOk r (λ given. OfWanted (account_of (plain_table eq) old) wish (λ access. Serves eq (plain_table eq) in_hand old access given new))
       → IfOk r (λ given. Decides (plain_table eq) given new)
       → IfOk r (λ given. OfWanted (account_of (plain_table eq) old) wish (λ access. Gives eq old.call (ReachIs eq old) access given (ReachIs eq new)))
   gives_all law old new wish (Ok given) serves decides = λ access is w reach may.
@@ -138,12 +137,12 @@ module _ {K V E : Type 0} {same : PartialEq.Ghosts K} {hash : Hash.Ghosts K} (eq
   gives_all law old new wish (Err e) serves decides = tt
 
   -- so does want of memory
-  pub stays_reach : (old new : CacheLayers K V E same hash) → LayersStay eq (plain_table eq) no_tests old new → (w : World K V E) → ReachIs eq old w → ReachIs eq new w
+  pub stays_reach : (old new : CacheLayers K V E same hash) → LayersStay eq (plain_table eq) in_hand old new → (w : World K V E) → ReachIs eq old w → ReachIs eq new w
   stays_reach old new stays w reach = record { ground = (stays w reach.ground).0; sound = reach.sound; log = reach.log; decided = reach.decided }
 
   -- nothing is begun then where nothing was
-  pub none_then : {F : Type 0} (r : Result (Got K V E) F) (old new : CacheLayers K V E same hash) → ((w : World K V E) × GroundIs eq (plain_table eq) no_tests old w)
-      → IfOk r (λ given. Decides (plain_table eq) given new) → OnErr r (LayersStay eq (plain_table eq) no_tests old new)
+  pub none_then : {F : Type 0} (r : Result (Got K V E) F) (old new : CacheLayers K V E same hash) → ((w : World K V E) × GroundIs eq (plain_table eq) in_hand old w)
+      → IfOk r (λ given. Decides (plain_table eq) given new) → OnErr r (LayersStay eq (plain_table eq) in_hand old new)
       → OnErr r (account_of (plain_table eq) new ≡ account_of (plain_table eq) old) → old.begun ≡ None → new.begun ≡ None
   none_then (Ok given) old new some decides stays account none = (decides (plain_decides eq)).1
   none_then (Err e) old new some decides stays account none =
@@ -163,8 +162,8 @@ module _ {K V E : Type 0} {same : PartialEq.Ghosts K} {hash : Hash.Ghosts K} (eq
   fits_on layers call flow kept given has may = (kept.world, reached_by layers call kept given, may_want eq layers.begun flow kept.world kept.none_begun has may)
 
   -- the step of a flow, in a world that the ground stands for
-  pub step_ends : (such : Told V E → Type 0) (old new : CacheLayers K V E same hash) (flow : Flow K V E) (next : Next K V E) (w : World K V E) → ReachIs eq old w → May w (access_at flow)
-      → ((given : Got K V E) (after : World K V E) → Gets eq flow.call w (access_at flow) given after → IfSome (told_in given) such)
+  pub step_ends : (such : Taken V E → Type 0) (old new : CacheLayers K V E same hash) (flow : Flow K V E) (next : Next K V E) (w : World K V E) → ReachIs eq old w → May w (access_at flow)
+      → ((given : Got K V E) (after : World K V E) → Gets eq flow.call w (access_at flow) given after → IfSome (taken_in (access_at flow) given) such)
       → MovesThere eq (ReachIs eq old) flow next (ReachIs eq new) → EndedWith eq such flow.call (call_of flow) next
   step_ends such old new flow next w reach may took moves =
       let m = moves w reach may in record {

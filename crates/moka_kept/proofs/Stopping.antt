@@ -4,19 +4,19 @@ use Rattle.moka_hist.specs.Next.{answers}
 use Rattle.moka_hist.specs.State.{Call}
 use Rattle.moka_hist.specs.declared.accesses.Turn.{Turn}
 use Rattle.moka_hist.specs.declared.accesses.Turn.TheVariants as turn
-use Rattle.moka_hist.specs.declared.events.Told.{Told}
 use Rattle.moka_hist.specs.declared.replies.Answer.{Answer}
 use Rattle.moka_init.specs.FlowPlan.{IsLive, Leaves, StandsStill, call_of, is_over, next_in}
 use Rattle.moka_init.specs.Grounds.{HasBegun}
 use Rattle.moka_init.specs.declared.flow.Flow.{Flow}
 use Rattle.moka_kept.specs.Paths.{CameWith, EndedWith, Waited}
 use Rattle.moka_kept.specs.Rests.{Rests}
+use Rattle.moka_kept.specs.Taking.{Taken}
 use Rattle.moka_kept.specs.Stops.{CameTo, StopIs, Waits, stop_after, stop_of}
 use Rattle.moka_kept.specs.declared.stop.Stop.{Stop}
 use Rattle.moka_kept.specs.declared.stop.Stop.TheVariants as stop
 use Rattle.moka_kept.proofs.Ways.{came_on, came_same, came_weaker, ended_came, ended_on, ended_weaker}
 
-module _ {K V E : Type 0} (eq : K → K → Bool) (such : Told V E → Type 0) where
+module _ {K V E : Type 0} (eq : K → K → Bool) (such : Taken V E → Type 0) where
   -- a flow that stands still is where it was
   pub stays : (old new : Flow K V E) → Rests old → HasBegun None new → StandsStill old new → CameTo eq such old new
   stays old new rests begun still = record {
@@ -57,6 +57,10 @@ module _ {K V E : Type 0} (eq : K → K → Bool) (such : Told V E → Type 0) w
   stops_made old (Ok t) new rests number begun leaves end still = stops old t new number begun leaves end
   stops_made old (Err e) new rests number begun leaves end still = stays old new rests begun still
 
+  -- a step that leaves the call going
+  pub came_going : {F : Type 0} (old : Flow K V E) (r : Result (Turn K V E) F) (new : Flow K V E) → r ≡ Ok turn.Going → StopIs eq such old (stop_after r) new → CameTo eq such old new
+  came_going {F} old r new going stops = subst (λ (x : Result (Turn K V E) F). StopIs eq such old (stop_after x) new) going stops
+
   -- steps after steps
   pub came_to_on : (a b c : Flow K V E) → CameTo eq such a b → CameTo eq such b c → CameTo eq such a c
   came_to_on a b c before after = record {
@@ -82,7 +86,7 @@ module _ {K V E : Type 0} (eq : K → K → Bool) (such : Told V E → Type 0) w
   pub came_here : (flow : Flow K V E) → Rests flow → CameTo eq such flow flow
   came_here flow rests = record { number = refl; came = came_same eq such flow.call (call_of flow) (call_of flow) refl; rests = rests }
 
-module _ {K V E : Type 0} (eq : K → K → Bool) (such other : Told V E → Type 0) (weaker : (told : Told V E) → such told → other told) where
+module _ {K V E : Type 0} (eq : K → K → Bool) (such other : Taken V E → Type 0) (weaker : (taken : Taken V E) → such taken → other taken) where
   pub came_to_weaker : (old new : Flow K V E) → CameTo eq such old new → CameTo eq other old new
   came_to_weaker old new came =
       record { number = came.number; came = came_weaker eq such other weaker old.call (call_of old) (call_of new) came.came; rests = came.rests }

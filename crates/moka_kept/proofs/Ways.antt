@@ -4,11 +4,10 @@ use Rattle.moka_hist.specs.Next.{Next}
 use Rattle.moka_hist.specs.State.{Call}
 use Rattle.moka_hist.specs.Step.{Access, access_of, next_of}
 use Rattle.moka_hist.specs.declared.accesses.Got.{Got}
-use Rattle.moka_hist.specs.declared.events.Told.{Told}
-use Rattle.moka_kept.specs.Taking.{told_in}
+use Rattle.moka_kept.specs.Taking.{Taken, taken_in}
 use Rattle.moka_kept.specs.Paths.{CameWith, EndedWith, LeadsWith}
 
-module _ {K V E : Type 0} (eq : K → K → Bool) (such : Told V E → Type 0) (n : ℕ) where
+module _ {K V E : Type 0} (eq : K → K → Bool) (such : Taken V E → Type 0) (n : ℕ) where
   leads_on : (c : Call K V E) (path : List (Access K V E × Got K V E)) (d : Call K V E) (more : List (Access K V E × Got K V E)) (e : Call K V E)
       → LeadsWith eq such n c path d → LeadsWith eq such n d more e → LeadsWith eq such n c (path ++ more) e
   leads_on c [] d more e first then = subst (λ (x : Call K V E). LeadsWith eq such n x more e) first then
@@ -44,11 +43,11 @@ some_weaker : {A : Type 0} {P Q : A → Type 0} (o : Option A) → ((a : A) → 
 some_weaker (Some a) h p = h a p
 some_weaker None h p = tt
 
-module _ {K V E : Type 0} (eq : K → K → Bool) (such other : Told V E → Type 0) (weaker : (told : Told V E) → such told → other told) (n : ℕ) where
+module _ {K V E : Type 0} (eq : K → K → Bool) (such other : Taken V E → Type 0) (weaker : (taken : Taken V E) → such taken → other taken) (n : ℕ) where
   leads_weaker : (c : Call K V E) (path : List (Access K V E × Got K V E)) (d : Call K V E) → LeadsWith eq such n c path d → LeadsWith eq other n c path d
   leads_weaker c [] d leads = leads
   leads_weaker c (made ∷ path) d leads =
-      (leads.0, leads.1, leads.2, leads.3, some_weaker (told_in made.1) weaker leads.4, leads_weaker leads.0 path d leads.5)
+      (leads.0, leads.1, leads.2, leads.3, some_weaker (taken_in made.0 made.1) weaker leads.4, leads_weaker leads.0 path d leads.5)
 
   -- a way on which less is known of the answers that are taken
   pub came_weaker : (c d : Call K V E) → CameWith eq such n c d → CameWith eq other n c d
@@ -60,6 +59,6 @@ module _ {K V E : Type 0} (eq : K → K → Bool) (such other : Told V E → Typ
     came = came_weaker c end.call end.came;
     given = end.given;
     last = end.last;
-    took = some_weaker (told_in end.given) weaker end.took;
+    took = some_weaker (taken_in (access_of n end.call) end.given) weaker end.took;
     follows = end.follows;
   }

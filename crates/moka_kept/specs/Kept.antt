@@ -1,5 +1,5 @@
 -- What lies under the lock of a cache.
-use Rattle.std.specs.Prelude.{◌≡◌, ◌<◌, ℕ, Bool, false, Some, None}
+use Rattle.std.specs.Prelude.{◌≡◌, ◌<◌, ℕ, Bool, true, false, Some, None}
 use Rattle.std.specs.declared.cmp.PartialEq as PartialEq
 use Rattle.std.specs.declared.hash.Hash as Hash
 use Rattle.moka_hist.specs.Run.{last_call}
@@ -16,23 +16,25 @@ use Rattle.moka_table.specs.Plain.{plain_table}
 use Rattle.moka_table.specs.declared.plain.PlainCall.{PlainCall}
 use Rattle.moka_table.specs.declared.plain.PlainTable.{PlainTable}
 use Rattle.moka_hist.specs.declared.record_tests.Tests as Tests
-use Rattle.moka_kept.specs.declared.no_tests.NoTests.{NoTests}
+use Rattle.moka_kept.specs.declared.brought.Brought.{Brought}
+use Rattle.moka_kept.specs.declared.brought.Brought.TheVariants as brought
+use Rattle.moka_kept.specs.declared.in_hand.InHand.{InHand}
 
--- no record is tested
-abbrev pub no_tests : {K V : Type 0} → Tests.Ghosts NoTests K V
-no_tests = record { answers = λ it test key value. false }
+-- each test answers what is in hand
+abbrev pub in_hand : {K V : Type 0} → Tests.Ghosts InHand K V
+in_hand = record { answers = λ hand test key value. hand.replaced }
 
--- the layers of a cache: over the plain table, and with no tests
+-- the layers of a cache: over the plain table, with the answer of a test in hand
 abbrev pub CacheLayers : (K V E : Type 0) → PartialEq.Ghosts K → Hash.Ghosts K → Type 0
 CacheLayers K V E same hash =
-    Layers K V E (PlainTable K V) (PlainCall K V) NoTests same hash
+    Layers K V E (PlainTable K V) (PlainCall K V) InHand same hash
 
 -- Some sound world is that of the layers. Its log has room for a write once it is empty, and no
 -- operation of its table is begun or stayed undecided.
 pub record IsKept {K V E : Type 0} {same : PartialEq.Ghosts K} {hash : Hash.Ghosts K}
     (eq : K → K → Bool) (layers : CacheLayers K V E same hash) : Type 0 where
   pub world : World K V E
-  pub stands : WorldIs eq (plain_table eq) no_tests layers world
+  pub stands : WorldIs eq (plain_table eq) in_hand layers world
   pub sound : SoundDesk eq world.desk
   pub log : 0 < world.desk.size
   pub decided : world.stay.times ≡ 0
@@ -45,10 +47,19 @@ pub record IsToldTo {K V E : Type 0} {same : PartialEq.Ghosts K} {hash : Hash.Gh
     pub kept : IsKept eq layers
     pub there : kept.world.desk.told n ≡ Some told
 
+-- What was brought is there for the next step of the call of this number, which takes an answer to
+-- its own ask or doesn't.
+abbrev pub IsBrought : {K V E : Type 0} {same : PartialEq.Ghosts K} {hash : Hash.Ghosts K}
+    → (K → K → Bool) → CacheLayers K V E same hash → ℕ → Brought V E → Bool → Type 0
+IsBrought eq layers n brought.Nothing takes = takes ≡ false
+IsBrought eq layers n (brought.Told told) takes = (takes ≡ true) × IsToldTo eq layers n told
+IsBrought eq layers n (brought.Tested replaced) takes =
+    (takes ≡ false) × (layers.tests.replaced ≡ replaced)
+
 -- What the ground of a poll stands for: a world as above, as the call of this number reaches it.
 pub record ReachIs {K V E : Type 0} {same : PartialEq.Ghosts K} {hash : Hash.Ghosts K}
     (eq : K → K → Bool) (layers : CacheLayers K V E same hash) (w : World K V E) : Type 0 where
-  pub ground : GroundIs eq (plain_table eq) no_tests layers w
+  pub ground : GroundIs eq (plain_table eq) in_hand layers w
   pub sound : SoundDesk eq w.desk
   pub log : 0 < w.desk.size
   pub decided : w.stay.times ≡ 0

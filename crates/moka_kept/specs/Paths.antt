@@ -6,8 +6,7 @@ use Rattle.moka_hist.specs.State.{Call, World}
 use Rattle.moka_hist.specs.Step.{Access, Gets, May, access_of, next_of}
 use Rattle.moka_hist.specs.declared.accesses.Got.{Got}
 use Rattle.moka_hist.specs.declared.accesses.Turn.TheVariants as turn
-use Rattle.moka_hist.specs.declared.events.Told.{Told}
-use Rattle.moka_kept.specs.Taking.{NoAnswer, told_in}
+use Rattle.moka_kept.specs.Taking.{NoAnswer, Taken, taken_in}
 
 module _ {K V E : Type 0} where
   -- some sound world gave the call of this number this for the access, and allowed it
@@ -21,31 +20,32 @@ module _ {K V E : Type 0} where
 
   -- The accesses with what they gave lead the call of this number from c to d: each is the one at
   -- which the call stood, and was given so; what it gave left the call as the next one finds it,
-  -- going, waiting or asking; and each answer to its own ask that the call took by them is such.
-  abbrev pub LeadsWith : (K → K → Bool) → (Told V E → Type 0) → ℕ → Call K V E
+  -- going, waiting or asking; and each answer to its own ask, or of its replace test on a value, that
+  -- the call took by them is such.
+  abbrev pub LeadsWith : (K → K → Bool) → (Taken V E → Type 0) → ℕ → Call K V E
       → List (Access K V E × Got K V E) → Call K V E → Type 0
   LeadsWith eq such n c [] d = d ≡ c
   LeadsWith eq such n c (made ∷ more) d =
       (mid : Call K V E) × (made.0 ≡ access_of n c) × IsGiven eq n made.0 made.1
-      × ((next_of n c made.1).left ≡ Some mid) × IfSome (told_in made.1) such
+      × ((next_of n c made.1).left ≡ Some mid) × IfSome (taken_in made.0 made.1) such
       × LeadsWith eq such n mid more d
 
   -- a poll that answers nothing yet led the call so, by some accesses or none
-  abbrev pub CameWith : (K → K → Bool) → (Told V E → Type 0) → ℕ → Call K V E → Call K V E → Type 0
+  abbrev pub CameWith : (K → K → Bool) → (Taken V E → Type 0) → ℕ → Call K V E → Call K V E → Type 0
   CameWith eq such n c d =
       (path : List (Access K V E × Got K V E)) × LeadsWith eq such n c path d
 
   -- it led the call up to an access after which this follows
-  pub record EndedWith (eq : K → K → Bool) (such : Told V E → Type 0) (n : ℕ) (c : Call K V E)
+  pub record EndedWith (eq : K → K → Bool) (such : Taken V E → Type 0) (n : ℕ) (c : Call K V E)
       (next : Next K V E) : Type 0 where
     pub call : Call K V E
     pub came : CameWith eq such n c call
     pub given : Got K V E
     pub last : IsGiven eq n (access_of n call) given
-    pub took : IfSome (told_in given) such
+    pub took : IfSome (taken_in (access_of n call) given) such
     pub follows : next ≡ next_of n call given
 
-  -- the same of a call that takes no answer to an own ask
+  -- the same of a call that takes no answer of who is asked
   abbrev pub Came : (K → K → Bool) → ℕ → Call K V E → Call K V E → Type 0
   Came eq n c d = CameWith eq NoAnswer n c d
 

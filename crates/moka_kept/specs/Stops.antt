@@ -4,11 +4,11 @@ use Rattle.moka_hist.specs.Next.{answers}
 use Rattle.moka_hist.specs.declared.replies.Answer.{Answer}
 use Rattle.moka_hist.specs.declared.accesses.Turn.{Turn}
 use Rattle.moka_hist.specs.declared.accesses.Turn.TheVariants as turn
-use Rattle.moka_hist.specs.declared.events.Told.{Told}
 use Rattle.moka_init.specs.FlowPlan.{call_of}
 use Rattle.moka_init.specs.declared.flow.Flow.{Flow}
 use Rattle.moka_kept.specs.Paths.{CameWith, EndedWith, Waited}
 use Rattle.moka_kept.specs.Rests.{Rests}
+use Rattle.moka_kept.specs.Taking.{Taken}
 use Rattle.moka_kept.specs.declared.stop.Stop.{Stop}
 use Rattle.moka_kept.specs.declared.stop.Stop.TheVariants as stop
 
@@ -26,15 +26,15 @@ module _ {K V E : Type 0} where
   stop_after (Err e) = stop.Memory
 
   -- The call of the old flow came by accesses to where the new one stands, and rests there. Each
-  -- answer to its own ask that it took is such.
-  pub record CameTo (eq : K → K → Bool) (such : Told V E → Type 0) (old new : Flow K V E)
+  -- answer of who is asked that it took is such.
+  pub record CameTo (eq : K → K → Bool) (such : Taken V E → Type 0) (old new : Flow K V E)
       : Type 0 where
     pub number : new.call ≡ old.call
     pub came : CameWith eq such old.call (call_of old) (call_of new)
     pub rests : Rests new
 
   -- the answer follows from the last of the accesses that the call made since
-  abbrev pub AnswersFrom : (K → K → Bool) → (Told V E → Type 0) → Flow K V E → Answer K V E → Type 0
+  abbrev pub AnswersFrom : (K → K → Bool) → (Taken V E → Type 0) → Flow K V E → Answer K V E → Type 0
   AnswersFrom eq such old answer = EndedWith eq such old.call (call_of old) (answers answer)
 
   -- the last access of the flow's call left it waiting
@@ -43,7 +43,7 @@ module _ {K V E : Type 0} where
 
   -- the steps left the call so: its answer follows from the last of its accesses; or it came to
   -- where its flow stands
-  abbrev pub StopIs : (K → K → Bool) → (Told V E → Type 0) → Flow K V E → Stop K V E → Flow K V E
+  abbrev pub StopIs : (K → K → Bool) → (Taken V E → Type 0) → Flow K V E → Stop K V E → Flow K V E
       → Type 0
   StopIs eq such old (stop.Answers answer) new = AnswersFrom eq such old answer
   StopIs eq such old stop.Going new = CameTo eq such old new

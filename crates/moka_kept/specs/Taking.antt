@@ -1,5 +1,6 @@
--- What is told to a call that asks, and which accesses take it.
-use Rattle.std.specs.Prelude.{Bool, true, false, Option, None}
+-- What a call takes of who is asked, and by which accesses.
+use Rattle.std.specs.Prelude.{◌≡◌, Bool, true, false, not, Option, Some, None}
+use Rattle.std.specs.Option.{option_map}
 use Rattle.moka_hist.specs.Step.{Access, On_table, On_desk}
 use Rattle.moka_hist.specs.declared.accesses.Got.{Got}
 use Rattle.moka_hist.specs.declared.accesses.Got.TheVariants as got
@@ -9,14 +10,31 @@ use Rattle.moka_hist.specs.declared.visits.Found.{Found}
 use Rattle.moka_hist.specs.declared.visits.Found.TheVariants as found
 use Rattle.moka_hist.specs.declared.visits.Visit.{Visit}
 use Rattle.moka_hist.specs.declared.visits.Visit.TheVariants as visit
+use Rattle.moka_kept.specs.declared.brought.Brought.{Brought}
+use Rattle.moka_kept.specs.declared.brought.Brought.TheVariants as brought
 use Rattle.moka_needs.specs.declared.needs.Need.{Need}
 use Rattle.moka_needs.specs.declared.needs.Need.TheVariants as need
+use Rattle.moka_kept.specs.declared.heard.ListenerEnd.{ListenerEnd}
+use Rattle.moka_kept.specs.declared.heard.ListenerEnd.TheVariants as end
+
+-- an answer to the call's own ask, or that of its replace test on a value
+pub data Taken (V E : Type 0) : Type 0 where
+  Answered : (told : Told V E) → Taken V E
+  Tested : (value : V) → (replaced : Bool) → Taken V E
+
+-- What a hold may take that is brought this, of a call whose next visit asks its replace test on
+-- this value, if it does.
+abbrev pub Brings : {V E : Type 0} → Option V → Brought V E → Taken V E → Type 0
+Brings value (brought.Told told) taken = taken ≡ Answered told
+Brings (Some value) (brought.Tested replaced) taken = taken ≡ Tested value replaced
+Brings None (brought.Tested replaced) taken = ⊥
+Brings value brought.Nothing taken = ⊥
+
+-- there is no answer
+abbrev pub NoAnswer : {A : Type 0} → A → Type 0
+NoAnswer answer = ⊥
 
 module _ {V E : Type 0} where
-  -- there is no answer
-  abbrev pub NoAnswer : Told V E → Type 0
-  NoAnswer told = ⊥
-
   -- the answer is one for a call, and none that the listener gives
   abbrev pub is_of_call : Told V E → Bool
   is_of_call (answer.Value value) = true
@@ -31,11 +49,30 @@ module _ {V E : Type 0} where
   told_found (found.TakeTold told) = told
   told_found _ = None
 
+  -- the visit has passed over the record that it judged
+  abbrev pub is_passed : Found V E → Bool
+  is_passed (found.Judge seen) = not seen
+  is_passed _ = false
+
 module _ {K V E : Type 0} where
-  -- the same by what its access gave
-  abbrev pub told_in : Got K V E → Option (Told V E)
-  told_in (got.Desk found) = told_found found
-  told_in (got.Table turn) = None
+  -- the value on which the visit asks the call's replace test, if it does
+  abbrev pub tested_made : Visit K V E → Option V
+  tested_made (visit.Judge replace key stored) = option_map (λ test. stored.value) replace
+  tested_made _ = None
+
+  abbrev pub tested_by : Access K V E → Option V
+  tested_by (On_desk made) = tested_made made
+  tested_by (On_table operation) = None
+
+  -- what the call took of who is asked by the visit, which found this
+  abbrev pub taken_made : Visit K V E → Found V E → Option (Taken V E)
+  taken_made (visit.TakeTold n) f = option_map Answered (told_found f)
+  taken_made made f = option_map (λ value. Tested value (is_passed f)) (tested_made made)
+
+  -- the same by the access, which gave this
+  abbrev pub taken_in : Access K V E → Got K V E → Option (Taken V E)
+  taken_in (On_desk made) (got.Desk f) = taken_made made f
+  taken_in _ _ = None
 
   -- the visit takes the answer to the call's own ask
   abbrev pub takes_answer : Visit K V E → Bool
@@ -50,3 +87,8 @@ module _ {K V E : Type 0} where
 abbrev pub needs_answer : {K : Type 0} → Need K → Bool
 needs_answer need.TakeTold = true
 needs_answer _ = false
+
+-- what the desk is told of a notice that the listener ended so
+abbrev pub end_told : {V E : Type 0} → ListenerEnd → Told V E
+end_told end.Done = answer.Done
+end_told end.Off = answer.Off

@@ -3,9 +3,10 @@ ghost use Rattle.std.specs.Prelude.{◌≡◌, None, IfOk, OnErr};
 ghost use Rattle.std.proofs.Common.{◌∙◌, refl};
 ghost use Rattle.moka_hist.specs.Finite.{IsExact};
 ghost use Rattle.moka_layers.specs.Counted.{counted};
-ghost use Rattle.moka_kept.specs.Kept.{ReachIs, MayReach, no_tests};
+ghost use Rattle.moka_kept.specs.Kept.{IsKept, ReachIs, MayReach, in_hand};
 
-use crate::no_tests::NoTests;
+use crate::in_hand::InHand;
+use crate::parked::{HandedOut, Parked, Wakers};
 use moka_hist::{Got, Want};
 use moka_init::{Alone, Ground};
 use moka_layers::Layers;
@@ -18,8 +19,45 @@ use std::hash::Hash;
 /// Each access to this table decides, so no operation stays begun.
 #[derive(Drop)]
 pub(crate) struct Reach<K: Eq + Hash, V, E> {
-    pub(crate) layers: Layers<K, V, E, PlainTable<K, V>, PlainCall<K, V>, NoTests>,
-    pub(crate) woken: Option<CallList>,
+    pub(crate) layers: Layers<K, V, E, PlainTable<K, V>, PlainCall<K, V>, InHand>,
+    woken: Option<CallList>,
+}
+
+impl<K: Eq + Hash + Clone + Drop, V: Clone + Drop, E: Clone + Drop> Reach<K, V, E> {
+    /// Over these layers, whose last visit handed nobody out.
+    pub(crate) fn over(layers: Layers<K, V, E, PlainTable<K, V>, PlainCall<K, V>, InHand>) -> Self
+        ensures { result.layers ≡ layers }
+    {
+        Reach {
+            layers,
+            woken: None,
+        }
+    }
+
+    /// Hands the wakers of those out that the last visit handed out, if it is one that does.
+    pub(crate) fn hand_out(&mut self, parked: &mut Parked, woken: &mut Wakers)
+        requires { IsKept K.eq self.old.layers }
+        ensures { IsKept K.eq self.new.layers }
+    {
+        match self.take_woken() {
+            Some(handed) => parked.hand_out(handed, woken),
+            None => {}
+        }
+    }
+
+    // Gives those that the last visit handed out, if it is one that does.
+    fn take_woken(&mut self) -> Option<HandedOut>
+        requires { IsKept K.eq self.old.layers }
+        ensures { IsKept K.eq self.new.layers }
+    {
+        if self.woken.is_none() {
+            return None;
+        }
+        match self.woken.take() {
+            Some(calls) => Some(HandedOut::of(calls)),
+            None => None,
+        }
+    }
 }
 
 impl<K: Eq + Hash + Clone + Drop, V: Clone + Drop, E: Clone + Drop> Ground<K, V, E>
@@ -47,7 +85,7 @@ impl<K: Eq + Hash + Clone + Drop, V: Clone + Drop, E: Clone + Drop> Ground<K, V,
     ghost keeps_on = { λ a b c before after.
         (after.0 ∙ before.0, λ none. after.1 (before.1 none)) };
 
-    ghost counts = { λ r w stands. counted (plain_table K.eq) no_tests K.eq r.layers w stands.ground };
+    ghost counts = { λ r w stands. counted (plain_table K.eq) in_hand K.eq r.layers w stands.ground };
 
     fn access(&mut self, want: Want<K, V, E>) -> Result<Got<K, V, E>, AllocError>
         requires keys { IsExact K.is_clone }

@@ -1,4 +1,5 @@
 //! What a listener answered, as the next hold of the lock tells it.
+ghost use Rattle.std.specs.Prelude.{◌≡◌};
 
 /// How a listener ends a notice.
 #[derive(Clone, Copy, PartialEq, Eq, Debug)]
@@ -9,11 +10,19 @@ pub enum ListenerEnd {
     Off,
 }
 
-/// The end of a notice, as the listener gave it. The next hold of the lock tells it.
-#[derive(Clone, Copy)]
+/// The end of a notice, as the listener gave it. It has no `Drop`, so nobody can let it go: the next
+/// hold of the lock takes it, and tells it.
 pub struct Heard {
-    /// The number of the notice.
-    pub notice: u64,
-    /// How it ended.
-    pub end: ListenerEnd,
+    pub(crate) notice: u64,
+    pub(crate) end: ListenerEnd,
+}
+
+impl Heard {
+    /// The notice of this number ended so.
+    pub fn new(notice: u64, end: ListenerEnd) -> Heard
+        ensures notice { result.notice ≡ notice }
+        ensures end { result.end ≡ end }
+    {
+        Heard { notice, end }
+    }
 }

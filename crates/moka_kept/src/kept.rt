@@ -1,18 +1,22 @@
 //! What lies under the lock of a cache.
-ghost use Rattle.std.specs.Prelude.{◌≡◌, Some, IfNone};
+ghost use Rattle.std.specs.Prelude.{◌≡◌, None, IfNone};
 ghost use Rattle.moka_hist.specs.Finite.{IsExact};
 ghost use Rattle.moka_kept.specs.Kept.{IsKept};
 
+use crate::brought::Brought;
 use crate::ground::Reach;
 use crate::heard::Heard;
-use crate::parked::{Parked, Wakers};
+use crate::number::Number;
+use crate::parked::{HandedOut, Parked, Wakers};
+use crate::reaching::{goes_on, is_unasked};
 use crate::stop::Stop;
 use futures::task::{Context, Poll};
-use moka_hist::{Answer, Rules, Told, Turn};
+use moka_hist::{Answer, Rules, Turn};
 use moka_init::Flow;
 use std::alloc::{AllocError, Global};
 use std::hash::Hash;
 use std::marker::Model;
+use std::mem;
 
 /// How many steps of a call are made at most while the lock is held once.
 const MOST_STEPS: usize = 32;
@@ -20,7 +24,7 @@ const MOST_STEPS: usize = 32;
 /// Table and desk, and beside them the wakers of the tasks whose calls wait. Nothing is seen of it
 /// but that they stand for a sound world.
 #[derive(Drop)]
-pub struct Kept<K: Eq + Hash, V, E> {
+pub(crate) struct Kept<K: Eq + Hash, V, E> {
     pub(crate) reach: Reach<K, V, E>,
     parked: Parked,
 }
@@ -38,11 +42,16 @@ impl<K: Eq + Hash + Clone + Drop, V: Clone + Drop, E: Clone + Drop> Kept<K, V, E
     ghost use Rattle.moka_kept.specs.Kept.{NumbersSpent};
     ghost use Rattle.moka_kept.specs.Rests.{Rests};
     ghost use Rattle.moka_kept.specs.Stops.{StopIs, stop_after, stop_of};
-    ghost use Rattle.moka_kept.specs.Taking.{NoAnswer};
+    ghost use Rattle.moka_init.specs.FlowPlan.{call_of, tested_in};
+    ghost use Rattle.moka_kept.specs.Taking.{Brings};
 
     /// Nothing is stored. This call number and those before it were given out. It is an error only
     /// where memory is wanting.
-    pub fn starting_after(alloc: Global, rules: Rules, last: u64) -> Result<Self, AllocError> {
+    pub(crate) fn starting_after(
+        alloc: Global,
+        rules: Rules,
+        last: u64,
+    ) -> Result<Self, AllocError> {
         Ok(Kept {
             reach: Reach::starting_after(alloc, rules, last)?,
             parked: Parked::new(alloc),
@@ -51,7 +60,7 @@ impl<K: Eq + Hash + Clone + Drop, V: Clone + Drop, E: Clone + Drop> Kept<K, V, E
 
     /// Moves the clock on to the moment, where that is later, and gives the next call number out.
     /// Answers None where the greatest one was given out.
-    pub fn enter(&mut self, moment: u64) -> Option<u64>
+    pub(crate) fn enter(&mut self, moment: u64) -> Option<Number>
         ensures { IfNone result (NumbersSpent K V E K.eq) }
     {
         self.reach.move_clock(moment);
@@ -59,32 +68,34 @@ impl<K: Eq + Hash + Clone + Drop, V: Clone + Drop, E: Clone + Drop> Kept<K, V, E
     }
 
     /// Moves the clock on to the moment, where that is later.
-    pub fn move_clock(&mut self, moment: u64) {
+    pub(crate) fn move_clock(&mut self, moment: u64) {
         self.reach.move_clock(moment);
     }
 
     /// Tells the end of a notice, if one was heard. The wakers of all that it hands out come to those
     /// in `woken`. Where the notice doesn't run nothing is told.
-    pub fn hear(&mut self, heard: Option<Heard>, woken: &mut Wakers) {
-        if let Some(heard) = heard {
-            self.end_notice(heard, woken);
+    pub(crate) fn hear(&mut self, heard: Option<Heard>, woken: &mut Wakers) {
+        match heard {
+            Some(heard) => self.end_notice(heard, woken),
+            None => {}
         }
     }
 
     // Tells the end of a notice.
     fn end_notice(&mut self, heard: Heard, woken: &mut Wakers) {
-        if let Some(calls) = self.reach.hear(heard.notice, heard.end) {
-            self.parked.hand_out(&calls, woken);
-        }
+        let Heard { notice, end } = heard;
+        let handed = self.reach.hear(notice, end);
+        self.hand_out(handed, woken);
     }
 
-    /// Makes steps of the flow, at most 32 and one. Where it is told the answer to its own ask, the
-    /// first takes that. The wakers of all that the visits hand out come to those in `woken`; where
+    /// Makes steps of the flow, at most 32, and none that judges by a replace test whose answer isn't
+    /// there. The first goes by what was brought: it takes the answer to its own ask, or judges by that
+    /// of its replace test. The wakers of all that the visits hand out come to those in `woken`; where
     /// it waits its task is parked.
-    pub fn go(
+    pub(crate) fn go(
         &mut self,
         flow: &mut Flow<K, V, E>,
-        told: Option<Told<V, E>>,
+        brought: Brought<V, E>,
         cx: &mut Context<'_>,
         woken: &mut Wakers,
     ) -> Stop<K, V, E>
@@ -92,88 +103,51 @@ impl<K: Eq + Hash + Clone + Drop, V: Clone + Drop, E: Clone + Drop> Kept<K, V, E
         requires values { IsExact V.is_clone }
         requires errors { IsExact E.is_clone }
         requires rests { Rests flow.old }
-        ensures stops { StopIs K.eq (λ t. told ≡ Some t) flow.old result flow.new }
+        ensures stops { StopIs K.eq (Brings (tested_in (call_of flow.old).plan) brought)
+            flow.old result flow.new }
         ensures armed { result ≡ Stop.Waits → IsArmed cx.new }
         ensures kept { Keeps cx.old cx.new }
     {
-        let Some(answer) = told else {
-            return self.steps(flow, cx, woken);
-        };
-        match self.take_told(flow, answer, cx, woken) {
-            Stop::Going => self.steps(flow, cx, woken),
-            stop => stop,
-        }
-    }
-
-    // Tells the flow the answer to its own ask, and makes the step that takes it.
-    fn take_told(
-        &mut self,
-        flow: &mut Flow<K, V, E>,
-        answer: Told<V, E>,
-        cx: &mut Context<'_>,
-        woken: &mut Wakers,
-    ) -> Stop<K, V, E>
-        requires keys { IsExact K.is_clone }
-        requires values { IsExact V.is_clone }
-        requires errors { IsExact E.is_clone }
-        requires rests { Rests flow.old }
-        ensures stops { StopIs K.eq (λ t. t ≡ answer) flow.old result flow.new }
-        ensures armed { result ≡ Stop.Waits → IsArmed cx.new }
-        ensures kept { Keeps cx.old cx.new }
-    {
-        let Some(calls) = self.reach.tell(flow.number(), answer) else {
-            return Stop::Memory;
-        };
-        self.parked.hand_out(&calls, woken);
-        let made = self.reach.step(flow, true);
-        self.stop_after(made, flow.number(), cx, woken)
-    }
-
-    // Makes steps of the flow, at most 32, none of which takes an answer.
-    fn steps(
-        &mut self,
-        flow: &mut Flow<K, V, E>,
-        cx: &mut Context<'_>,
-        woken: &mut Wakers,
-    ) -> Stop<K, V, E>
-        requires keys { IsExact K.is_clone }
-        requires values { IsExact V.is_clone }
-        requires errors { IsExact E.is_clone }
-        requires rests { Rests flow.old }
-        ensures stops { StopIs K.eq NoAnswer flow.old result flow.new }
-        ensures armed { result ≡ Stop.Waits → IsArmed cx.new }
-        ensures kept { Keeps cx.old cx.new }
-    {
+        let mut next = brought;
         for _ in 0..MOST_STEPS {
-            match self.one_step(flow, cx, woken) {
-                Stop::Going => {}
-                stop => return stop,
+            if is_unasked(flow, &next) {
+                return Stop::Going;
+            }
+            let made = self.one_step(flow, mem::replace(&mut next, Brought::Nothing), woken);
+            if !goes_on(&made) {
+                return self.stop_after(made, flow.number(), cx, woken);
             }
         }
         Stop::Going
     }
 
-    // Makes one step of the flow, which takes no answer.
+    // Makes one step of the flow, which goes by what was brought. It is an error where memory is
+    // wanting, or the desk doesn't allow the visit.
     fn one_step(
         &mut self,
         flow: &mut Flow<K, V, E>,
-        cx: &mut Context<'_>,
+        brought: Brought<V, E>,
         woken: &mut Wakers,
-    ) -> Stop<K, V, E>
+    ) -> Result<Turn<K, V, E>, AllocError>
         requires keys { IsExact K.is_clone }
         requires values { IsExact V.is_clone }
         requires errors { IsExact E.is_clone }
         requires rests { Rests flow.old }
-        ensures stops { StopIs K.eq NoAnswer flow.old result flow.new }
-        ensures armed { result ≡ Stop.Waits → IsArmed cx.new }
-        ensures kept { Keeps cx.old cx.new }
+        requires untested { brought ≡ Brought.Nothing → tested_in (call_of flow.old).plan ≡ None }
+        ensures stops { StopIs K.eq (Brings (tested_in (call_of flow.old).plan) brought)
+            flow.old (stop_after result) flow.new }
     {
-        let made = self.reach.step(flow, false);
-        self.stop_after(made, flow.number(), cx, woken)
+        match self
+            .reach
+            .bring(flow.number(), brought, &mut self.parked, woken)
+        {
+            Some(takes) => self.reach.step(flow, takes, &mut self.parked, woken),
+            None => Err(AllocError),
+        }
     }
 
-    // How the step of the call of this number stops it. The wakers of all that its visit handed out
-    // come to those in `woken`.
+    // How the step of the call of this number stops it. Where it has answered its waker comes to
+    // those in `woken`, if it is still parked.
     fn stop_after(
         &mut self,
         made: Result<Turn<K, V, E>, AllocError>,
@@ -186,10 +160,7 @@ impl<K: Eq + Hash + Clone + Drop, V: Clone + Drop, E: Clone + Drop> Kept<K, V, E
         ensures kept { Keeps cx.old cx.new }
     {
         match made {
-            Ok(turn) => {
-                self.hand_out(woken);
-                self.stop_of(turn, call, cx, woken)
-            }
+            Ok(turn) => self.stop_of(turn, call, cx, woken),
             Err(_) => Stop::Memory,
         }
     }
@@ -233,19 +204,19 @@ impl<K: Eq + Hash + Clone + Drop, V: Clone + Drop, E: Clone + Drop> Kept<K, V, E
         Stop::Waits
     }
 
-    // Hands the wakers of all out that the last visit handed out.
-    fn hand_out(&mut self, woken: &mut Wakers) {
-        if let Some(calls) = self.reach.woken.take() {
-            self.parked.hand_out(&calls, woken);
+    // Hands the wakers of all out that a visit handed out, if it is one that does.
+    fn hand_out(&mut self, handed: Option<HandedOut>, woken: &mut Wakers) {
+        match handed {
+            Some(handed) => self.parked.hand_out(handed, woken),
+            None => {}
         }
     }
 
     /// Lets the call of a dropped flow leave, with the write that it holds, where the desk allows
     /// it. The wakers of all that it hands out come to those in `woken`. It takes no memory.
-    pub fn leave(&mut self, flow: &Flow<K, V, E>, woken: &mut Wakers) {
+    pub(crate) fn leave(&mut self, flow: &Flow<K, V, E>, woken: &mut Wakers) {
         self.parked.hand_one(flow.number(), woken);
-        if let Some(calls) = self.reach.leave(flow) {
-            self.parked.hand_out(&calls, woken);
-        }
+        let handed = self.reach.leave(flow);
+        self.hand_out(handed, woken);
     }
 }

@@ -2,17 +2,21 @@
 //! world, and the wakers of the tasks whose calls wait.
 #![tactic(auto)]
 
+mod brought;
 mod ground;
+mod guarded;
 mod heard;
+mod in_hand;
 mod kept;
 mod looking;
-mod no_tests;
+mod number;
 mod parked;
 mod reaching;
 mod stop;
 
+pub use brought::Brought;
+pub use guarded::Guarded;
 pub use heard::{Heard, ListenerEnd};
-pub use kept::Kept;
-pub use parked::Wakers;
+pub use number::Number;
 pub use reaching::is_asking;
 pub use stop::Stop;

@@ -18,7 +18,7 @@ impl<K: Eq + Hash + Clone + Drop, V: Clone + Drop, E: Clone + Drop> Kept<K, V, E
     /// Whether the table has the key, once the clock has moved on to the moment. An error comes
     /// where memory is wanting for a copy of the key or of its record, and nothing but the clock has
     /// changed then.
-    pub fn contains_key(&mut self, key: &K, moment: u64) -> Result<bool, AllocError>
+    pub(crate) fn contains_key(&mut self, key: &K, moment: u64) -> Result<bool, AllocError>
         requires keys { IsExact K.is_clone }
         requires values { IsExact V.is_clone }
         ensures { IfOk result (λ there.
@@ -30,7 +30,7 @@ impl<K: Eq + Hash + Clone + Drop, V: Clone + Drop, E: Clone + Drop> Kept<K, V, E
     }
 
     /// How many records the last turn of maintenance counted.
-    pub fn entry_count(&self) -> u64
+    pub(crate) fn entry_count(&self) -> u64
         ensures { Behind K.eq (λ (w : World K V E). result ≡ w.desk.published) }
     {
         self.reach.layers.desk.published()
@@ -40,7 +40,7 @@ impl<K: Eq + Hash + Clone + Drop, V: Clone + Drop, E: Clone + Drop> Kept<K, V, E
 impl<K: Eq + Hash + Clone + Drop, V: Clone + Drop, E: Clone + Drop> Reach<K, V, E> {
     ghost use Rattle.moka_layers.specs.Layers.{WorldIs};
     ghost use Rattle.moka_table.specs.Plain.{plain_table};
-    ghost use Rattle.moka_kept.specs.Kept.{IsKept, no_tests};
+    ghost use Rattle.moka_kept.specs.Kept.{IsKept, in_hand};
 
     // Whether the table has the key, by one look.
     fn contains_key(&mut self, key: &K) -> Result<bool, AllocError>
@@ -49,7 +49,7 @@ impl<K: Eq + Hash + Clone + Drop, V: Clone + Drop, E: Clone + Drop> Reach<K, V, 
         requires kept { IsKept K.eq self.old.layers }
         ensures kept { IsKept K.eq self.new.layers }
         ensures sees { IfOk result (λ there. (w : World K V E)
-            → WorldIs K.eq (plain_table K.eq) no_tests self.old.layers w → there ≡ sees w key.now) }
+            → WorldIs K.eq (plain_table K.eq) in_hand self.old.layers w → there ≡ sees w key.now) }
     {
         has_key(&mut self.layers.table, key)
     }

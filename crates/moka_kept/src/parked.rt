@@ -11,7 +11,22 @@ use std::alloc::{AllocError, Global};
 use std::collections::{HashMap, LinkedList};
 
 /// Wakers that were handed out. Each wakes its task as it is dropped.
-pub type Wakers = LinkedList<Option<Waker>>;
+pub(crate) type Wakers = LinkedList<Option<Waker>>;
+
+/// The calls that a visit handed out, whose wakers are to leave. It has no `Drop`, so nobody can let
+/// it go: `Parked::hand_out` alone takes it.
+pub(crate) struct HandedOut {
+    calls: CallList,
+}
+
+impl HandedOut {
+    /// These calls.
+    pub(crate) fn of(calls: CallList) -> HandedOut
+        ensures { result.calls ≡ calls }
+    {
+        HandedOut { calls }
+    }
+}
 
 /// The wakers of the tasks whose calls wait, each in a list of one node.
 #[derive(Drop)]
@@ -64,7 +79,16 @@ impl Parked {
     }
 
     /// Hands the wakers of these calls out, after those that were handed out before.
-    pub(crate) fn hand_out(&mut self, calls: &CallList, out: &mut Wakers)
+    pub(crate) fn hand_out(&mut self, handed: HandedOut, out: &mut Wakers)
+        ensures { (n : ℕ) →
+            is_parked self.new n ≡ cond (waits n handed.calls) false (is_parked self.old n) }
+    {
+        let HandedOut { calls } = handed;
+        self.hand_each(&calls, out);
+    }
+
+    // Hands the wakers of these calls out, one call after another.
+    fn hand_each(&mut self, calls: &CallList, out: &mut Wakers)
         ensures { (n : ℕ) →
             is_parked self.new n ≡ cond (waits n calls.now) false (is_parked self.old n) }
     {

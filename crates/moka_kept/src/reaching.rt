@@ -1,32 +1,38 @@
 //! Calls and the clock, as they reach table and desk: whatever they do leaves a sound world.
-ghost use Rattle.std.specs.Prelude.{◌≡◌, ◌≤◌, None, Bool, false, true, IfNone, IfOk, OnErr, OnSome};
-ghost use Rattle.std.specs.Bool.{OnTrue};
+ghost use Rattle.std.specs.Prelude.{◌≡◌, ◌≤◌, Some, None, Bool, false, true, IfNone, IfOk, IfSome};
+ghost use Rattle.std.specs.Prelude.{OnErr, OnSome, is_some, ◌+◌};
+ghost use Rattle.std.specs.Bool.{OnFalse, OnTrue};
 ghost use Rattle.std.specs.Option.{option_map};
 ghost use Rattle.moka_hist.specs.Finite.{IsExact};
 ghost use Rattle.moka_hist.specs.State.{DeskPart};
+ghost use Rattle.moka_hist.specs.Telling.{told};
 ghost use Rattle.moka_desk.specs.Past.{AllowsAlike};
 ghost use Rattle.moka_desk.specs.StandsFor.{StandsFor};
-ghost use Rattle.moka_init.specs.FlowPlan.{call_of, next_in, Leaves, StandsStill};
+ghost use Rattle.moka_init.specs.FlowPlan.{call_of, next_in, tested_in, Leaves, StandsStill};
 ghost use Rattle.moka_init.specs.Grounds.{HasBegun, access_at};
 ghost use Rattle.moka_hist.specs.declared.events.Told.{Told};
 ghost use Rattle.moka_hist.specs.declared.visits.Visit.{Visit};
-ghost use Rattle.moka_hist.specs.Conditions.{MayVisit};
+ghost use Rattle.moka_hist.specs.Conditions.{MayLeave, MayVisit};
+ghost use Rattle.moka_hist.specs.Dropping.{left, owed_by};
 ghost use Rattle.moka_needs.specs.Needs.{IsOfCall, need_of};
-ghost use Rattle.moka_kept.specs.Taking.{NoAnswer, is_of_call, is_taking, needs_answer};
-ghost use Rattle.moka_kept.specs.Kept.{IsKept, IsToldTo, MayMake};
+ghost use Rattle.moka_kept.specs.Taking.{Answered, NoAnswer, Tested, end_told, is_of_call};
+ghost use Rattle.moka_kept.specs.Taking.{is_taking, needs_answer};
+ghost use Rattle.moka_kept.specs.Kept.{IsBrought, IsKept, IsToldTo, MayMake};
 ghost use Rattle.moka_kept.specs.Paths.{EndedWith};
 ghost use Rattle.moka_kept.specs.Rests.{Rests};
 ghost use Rattle.moka_kept.specs.Kept.{NumbersSpent};
 
+use crate::brought::Brought;
 use crate::ground::Reach;
 use crate::heard::ListenerEnd;
-use crate::no_tests::NoTests;
+use crate::in_hand::InHand;
+use crate::number::Number;
+use crate::parked::{HandedOut, Parked, Wakers};
 use moka_desk::Desk;
 use moka_hist::{Owed, Rules, Told, Turn, Write};
 use moka_init::{Flow, step};
 use moka_layers::Layers;
 use moka_needs::Need;
-use moka_sync::CallList;
 use moka_table::PlainTable;
 use std::alloc::{AllocError, Global};
 use std::hash::Hash;
@@ -47,12 +53,9 @@ impl<K: Eq + Hash + Clone + Drop, V: Clone + Drop, E: Clone + Drop> Reach<K, V, 
             desk,
             call: 0,
             begun: None,
-            tests: NoTests,
+            tests: InHand { replaced: false },
         };
-        Ok(Reach {
-            layers,
-            woken: None,
-        })
+        Ok(Reach::over(layers))
     }
 
     /// Moves the clock on to the moment, where that is later.
@@ -67,46 +70,111 @@ impl<K: Eq + Hash + Clone + Drop, V: Clone + Drop, E: Clone + Drop> Reach<K, V, 
     }
 
     /// Gives the next call number out. Answers None where the greatest one was given out.
-    pub(crate) fn enter(&mut self) -> Option<u64>
+    pub(crate) fn enter(&mut self) -> Option<Number>
         requires { IsKept K.eq self.old.layers }
         ensures kept { IsKept K.eq self.new.layers }
+        ensures next { IfSome result (λ number. (w : DeskPart K V E)
+            → StandsFor K.eq self.old.layers.desk w → (number.call ≡ w.last + 1)
+            × StandsFor K.eq self.new.layers.desk (record w { last = number.call })) }
         ensures spent { IfNone result (NumbersSpent K V E K.eq) }
     {
         moka_laws::entering_keeps_sound::<K, V, E>();
-        self.layers.desk.enter()
+        match self.layers.desk.enter() {
+            Some(call) => Some(Number::of(call)),
+            None => None,
+        }
     }
 
     /// Tells the call of this number the answer to its own ask, and gives those that it hands out.
     /// Answers None where no ask of it is open that takes the answer; nothing has changed then.
-    pub(crate) fn tell(&mut self, call: u64, answer: Told<V, E>) -> Option<CallList>
+    pub(crate) fn tell(&mut self, call: u64, answer: Told<V, E>) -> Option<HandedOut>
         requires { IsKept K.eq self.old.layers }
         ensures kept { IsKept K.eq self.new.layers }
         ensures told { OnSome result (IsToldTo K.eq self.new.layers call answer) }
     {
         moka_laws::telling_keeps_sound::<K, V, E>();
         match is_for_call(&answer) {
-            true => self.layers.desk.tell(call, answer),
+            true => Some(HandedOut::of(self.layers.desk.tell(call, answer)?)),
             false => None,
         }
     }
 
     /// Tells that the listener has ended the notice of this number, and gives those that it hands
     /// out. Answers None where that doesn't run; nothing has changed then.
-    pub(crate) fn hear(&mut self, notice: u64, end: ListenerEnd) -> Option<CallList>
+    pub(crate) fn hear(&mut self, notice: u64, end: ListenerEnd) -> Option<HandedOut>
         requires { IsKept K.eq self.old.layers }
-        ensures { IsKept K.eq self.new.layers }
+        ensures kept { IsKept K.eq self.new.layers }
+        // That end is told, and no other.
+        ensures told { OnSome result ((w : DeskPart K V E)
+            → StandsFor K.eq self.old.layers.desk w
+            → StandsFor K.eq self.new.layers.desk (told w notice (end_told end))) }
     {
         moka_laws::telling_keeps_sound::<K, V, E>();
-        self.layers.desk.tell(notice, told_by(end))
+        Some(HandedOut::of(self.layers.desk.tell(notice, told_by(end))?))
+    }
+
+    /// Takes the answer of a replace test in hand: each visit that judges by one goes by it.
+    pub(crate) fn hold_answer(&mut self, replaced: bool)
+        requires { IsKept K.eq self.old.layers }
+        ensures kept { IsKept K.eq self.new.layers }
+        ensures held { self.new.layers.tests.replaced ≡ replaced }
+    {
+        self.layers.tests = InHand { replaced };
+    }
+
+    /// Puts what a hold is brought where the next step of the call of this number finds it: tells the
+    /// answer to its own ask, or takes that of its replace test in hand. Gives whether that step takes
+    /// an answer. None where no ask of the call is open that takes it; nothing has changed then. The
+    /// wakers of all that are handed out come to those in `woken`.
+    pub(crate) fn bring(
+        &mut self,
+        call: u64,
+        brought: Brought<V, E>,
+        parked: &mut Parked,
+        woken: &mut Wakers,
+    ) -> Option<bool>
+        requires { IsKept K.eq self.old.layers }
+        ensures kept { IsKept K.eq self.new.layers }
+        ensures brought { IfSome result (IsBrought K.eq self.new.layers call brought) }
+    {
+        match brought {
+            Brought::Nothing => Some(false),
+            Brought::Told(answer) => self.bring_told(call, answer, parked, woken),
+            Brought::Tested(replaced) => {
+                self.hold_answer(replaced);
+                Some(false)
+            }
+        }
+    }
+
+    // Tells the answer to the call's own ask.
+    fn bring_told(
+        &mut self,
+        call: u64,
+        answer: Told<V, E>,
+        parked: &mut Parked,
+        woken: &mut Wakers,
+    ) -> Option<bool>
+        requires { IsKept K.eq self.old.layers }
+        ensures kept { IsKept K.eq self.new.layers }
+        ensures brought { IfSome result
+            (IsBrought K.eq self.new.layers call (Brought.Told answer)) }
+    {
+        let handed = self.tell(call, answer)?;
+        parked.hand_out(handed, woken);
+        Some(true)
     }
 
     /// Makes one step of a flow that rests, where the desk allows its next visit: the visit that
     /// takes the answer to its own ask, if `takes`, and any other, if not. Else, and after want of
-    /// memory, the flow stands where it stood.
+    /// memory, the flow stands where it stood. The wakers of all that the visit handed out come to
+    /// those in `woken`.
     pub(crate) fn step(
         &mut self,
         flow: &mut Flow<K, V, E>,
         takes: bool,
+        parked: &mut Parked,
+        woken: &mut Wakers,
     ) -> Result<Turn<K, V, E>, AllocError>
         requires keys { IsExact K.is_clone }
         requires values { IsExact V.is_clone }
@@ -114,11 +182,17 @@ impl<K: Eq + Hash + Clone + Drop, V: Clone + Drop, E: Clone + Drop> Reach<K, V, 
         requires kept { IsKept K.eq self.old.layers }
         requires rests { Rests flow.old }
         ensures kept { IsKept K.eq self.new.layers }
-        // How it goes on, having taken no answer or the one that it was told.
-        ensures untaken { takes ≡ false → IfOk result (λ turn.
-            EndedWith K.eq NoAnswer flow.old.call (call_of flow.old) (next_in turn flow.new)) }
-        ensures taken { (told : Told V E) → IsToldTo K.eq self.old.layers flow.old.call told
-            → IfOk result (λ turn. EndedWith K.eq (λ t. t ≡ told) flow.old.call
+        // How it goes on, having taken no answer, the one that it was told, or that in hand.
+        ensures untaken { takes ≡ false → tested_in (call_of flow.old).plan ≡ None
+            → IfOk result (λ turn. EndedWith K.eq NoAnswer flow.old.call (call_of flow.old)
+            (next_in turn flow.new)) }
+        ensures taken { takes ≡ true
+            → (told : Told V E) → IsToldTo K.eq self.old.layers flow.old.call told
+            → IfOk result (λ turn. EndedWith K.eq (λ t. t ≡ Answered told) flow.old.call
+            (call_of flow.old) (next_in turn flow.new)) }
+        ensures judged { (value : V) → tested_in (call_of flow.old).plan ≡ Some value
+            → IfOk result (λ turn. EndedWith K.eq
+            (λ t. t ≡ Tested value self.old.layers.tests.replaced) flow.old.call
             (call_of flow.old) (next_in turn flow.new)) }
         ensures leaves { IfOk result (λ turn. Leaves turn flow.new) }
         ensures begun { HasBegun None flow.new }
@@ -126,7 +200,11 @@ impl<K: Eq + Hash + Clone + Drop, V: Clone + Drop, E: Clone + Drop> Reach<K, V, 
         ensures err { OnErr result (StandsStill flow.old flow.new) }
     {
         match may_step(&self.layers.desk, flow, takes) {
-            true => self.step_allowed(flow),
+            true => {
+                let made = self.step_allowed(flow);
+                self.hand_out(parked, woken);
+                made
+            }
             false => Err(AllocError),
         }
     }
@@ -142,10 +220,17 @@ impl<K: Eq + Hash + Clone + Drop, V: Clone + Drop, E: Clone + Drop> Reach<K, V, 
             → (flow.old.call ≤ w.last) × AllowsAlike K.eq self.old.layers.desk w
             (λ v. MayMake v (access_at flow.old)) }
         ensures kept { IsKept K.eq self.new.layers }
-        ensures untaken { is_taking (access_at flow.old) ≡ false → IfOk result (λ turn.
-            EndedWith K.eq NoAnswer flow.old.call (call_of flow.old) (next_in turn flow.new)) }
-        ensures taken { (told : Told V E) → IsToldTo K.eq self.old.layers flow.old.call told
-            → IfOk result (λ turn. EndedWith K.eq (λ t. t ≡ told) flow.old.call
+        ensures untaken { is_taking (access_at flow.old) ≡ false
+            → tested_in (call_of flow.old).plan ≡ None
+            → IfOk result (λ turn. EndedWith K.eq NoAnswer flow.old.call (call_of flow.old)
+            (next_in turn flow.new)) }
+        ensures taken { is_taking (access_at flow.old) ≡ true
+            → (told : Told V E) → IsToldTo K.eq self.old.layers flow.old.call told
+            → IfOk result (λ turn. EndedWith K.eq (λ t. t ≡ Answered told) flow.old.call
+            (call_of flow.old) (next_in turn flow.new)) }
+        ensures judged { (value : V) → tested_in (call_of flow.old).plan ≡ Some value
+            → IfOk result (λ turn. EndedWith K.eq
+            (λ t. t ≡ Tested value self.old.layers.tests.replaced) flow.old.call
             (call_of flow.old) (next_in turn flow.new)) }
         ensures leaves { IfOk result (λ turn. Leaves turn flow.new) }
         ensures begun { HasBegun None flow.new }
@@ -158,15 +243,22 @@ impl<K: Eq + Hash + Clone + Drop, V: Clone + Drop, E: Clone + Drop> Reach<K, V, 
 
     /// Lets the call of a dropped flow leave, with the write that it holds, where the desk allows
     /// it, and gives those that it hands out. It takes no memory.
-    pub(crate) fn leave(&mut self, flow: &Flow<K, V, E>) -> Option<CallList>
+    pub(crate) fn leave(&mut self, flow: &Flow<K, V, E>) -> Option<HandedOut>
         requires { IsKept K.eq self.old.layers }
-        ensures { IsKept K.eq self.new.layers }
+        ensures kept { IsKept K.eq self.new.layers }
+        // What the call holds is left, exactly where the desk allows it.
+        ensures left { OnSome result ((w : DeskPart K V E)
+            → StandsFor K.eq self.old.layers.desk w → StandsFor K.eq self.new.layers.desk
+            (left w flow.now.call (owed_by flow.now.call (call_of flow.now)))) }
+        ensures refused { IfNone result ((w : DeskPart K V E)
+            → StandsFor K.eq self.old.layers.desk w → MayLeave w flow.now.call
+            (option_map (λ o. o.write) (owed_by flow.now.call (call_of flow.now))) → ⊥) }
     {
         moka_laws::leaving_keeps_sound::<K, V, E>();
         let call = flow.number();
         let held = flow.held();
         match self.layers.desk.may_leave(call, write_of(&held)) {
-            true => Some(self.layers.desk.leave(call, held)),
+            true => Some(HandedOut::of(self.layers.desk.leave(call, held))),
             false => None,
         }
     }
@@ -183,7 +275,9 @@ fn write_of(held: &Option<Owed>) -> Option<Write>
 }
 
 // What the desk is told by a listener that ends a notice so.
-fn told_by<V, E>(end: ListenerEnd) -> Told<V, E> {
+fn told_by<V, E>(end: ListenerEnd) -> Told<V, E>
+    ensures { result ≡ end_told end }
+{
     match end {
         ListenerEnd::Done => Told::Done,
         ListenerEnd::Off => Told::Off,
@@ -265,5 +359,38 @@ pub fn is_asking<K: Clone + Drop, V, E>(flow: &Flow<K, V, E>) -> bool
     match flow.need() {
         Ok(Some(need)) => needs_told(&need),
         _ => false,
+    }
+}
+
+// Whether the flow's next visit judges a record by its call's replace test.
+fn is_tested<K, V, E>(flow: &Flow<K, V, E>) -> bool
+    ensures { result ≡ is_some (tested_in (call_of flow.now).plan) }
+{
+    match flow.tested() {
+        Some(_) => true,
+        None => false,
+    }
+}
+
+/// Whether the flow's next visit judges a record by its call's replace test, and nothing was brought
+/// for it.
+pub(crate) fn is_unasked<K, V, E>(flow: &Flow<K, V, E>, brought: &Brought<V, E>) -> bool
+    ensures { OnFalse result (brought.now ≡ Brought.Nothing
+        → tested_in (call_of flow.now).plan ≡ None) }
+{
+    match brought {
+        Brought::Nothing => is_tested(flow),
+        Brought::Told(_) => false,
+        Brought::Tested(_) => false,
+    }
+}
+
+/// Whether a step left its call going.
+pub(crate) fn goes_on<K, V, E>(made: &Result<Turn<K, V, E>, AllocError>) -> bool
+    ensures { OnTrue result (made.now ≡ Ok Turn.Going) }
+{
+    match made {
+        Ok(turn) => turn.is_going(),
+        Err(_) => false,
     }
 }

@@ -202,20 +202,26 @@ module _ {K V E T C Q : Type 0} {same : PartialEq.Ghosts K} {hash : Hash.Ghosts 
   pub visit_serves : (table : T) (tests : Q) (old new : Desk K V E same hash) (n : ℕ) (begun : Option C) (v : Visit K V E) (f : Found V E) → begun ≡ None
       → VisitBy eq (q.answers tests) old v f new
       → Serves eq t q (record { table = table; desk = old; tests = tests; call = n; begun = begun }) (step.On_desk v) (got.Desk f)
-      (record { table = table; desk = new; tests = tests; call = n; begun = None })
-  visit_serves table tests old new n begun v f none is = λ w h may.
-      let m = made_by (q.answers tests) old new v f is w.desk h.world.desk h.world.tests may in
-      let last = last_same eq w.desk v in
-      let stay = h.world.stay in
-      let given = h.given in
-      let patient : times_of w.stay n + most_on t table ≤ most_undecided w.table =
-      subst (λ (b : Option C). times_of w.stay n + left_in t table b ≤ most_undecided w.table) none h.begun.patient in (
-        record w { desk = makes eq w.desk v },
-        (m.0, refl),
-        record {
-          world = record { table = h.world.table; desk = m.1; tests = h.world.tests ∙ sym (tests_same eq w.desk v); stay = omega (arith, stay, last) };
-          begun = record { fits = tt; within = omega arith; patient = patient };
-          given = omega (arith, given, last);
-        },
-        (λ m begun apart stays. stays),
-      )
+      (record { table = table; desk = new; tests = tests; call = n; begun = begun })
+  visit_serves table tests old new n begun v f none is =
+      subst (λ (b : Option C). Serves eq t q (record { table = table; desk = old; tests = tests; call = n; begun = begun }) (step.On_desk v) (got.Desk f)
+      (record { table = table; desk = new; tests = tests; call = n; begun = b })) (sym none) serves
+    where
+      serves : Serves eq t q (record { table = table; desk = old; tests = tests; call = n; begun = begun }) (step.On_desk v) (got.Desk f)
+          (record { table = table; desk = new; tests = tests; call = n; begun = None })
+      serves = λ w h may.
+          let m = made_by (q.answers tests) old new v f is w.desk h.world.desk h.world.tests may in
+          let last = last_same eq w.desk v in
+          let stay = h.world.stay in
+          let given = h.given in
+          let patient : times_of w.stay n + most_on t table ≤ most_undecided w.table =
+          subst (λ (b : Option C). times_of w.stay n + left_in t table b ≤ most_undecided w.table) none h.begun.patient in (
+            record w { desk = makes eq w.desk v },
+            (m.0, refl),
+            record {
+              world = record { table = h.world.table; desk = m.1; tests = h.world.tests ∙ sym (tests_same eq w.desk v); stay = omega (arith, stay, last) };
+              begun = record { fits = tt; within = omega arith; patient = patient };
+              given = omega (arith, given, last);
+            },
+            (λ m begun apart stays. stays),
+          )

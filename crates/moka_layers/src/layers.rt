@@ -163,7 +163,6 @@ impl<
             woken.new ≡ handed_out self.old.desk visit woken.old) }
     {
         let found = make_visit(&mut self.desk, &self.tests, visit, woken)?;
-        self.begun = None;
         Ok(Got::Desk(found))
     }
 

@@ -1,22 +1,28 @@
 -- A hold of the lock, and what follows it.
-use Rattle.std.proofs.Common.{◌≡◌, ◌⊎◌, Some, subst}
-use Rattle.moka_cache.specs.Hearing.{Awaits, Unheard}
+use Rattle.std.proofs.Common.{◌≡◌, ◌⊎◌, subst}
+use Rattle.moka_init.specs.FlowPlan.{call_of, tested_in}
+use Rattle.moka_kept.specs.Taking.{Brings}
+use Rattle.moka_cache.specs.Hearing.{Awaits, Unheard, over_in}
 use Rattle.moka_kept.specs.declared.stop.Stop.TheVariants as stop
-use Rattle.moka_cache.proofs.Turning.{pending_by, turned, waits_still}
+use Rattle.moka_cache.proofs.Turning.{begun_at, pending_by, turned, waits_still}
 use Rattle.moka_cache.proofs.cache.Cache.round.Goals as goal
 
 pub returns-clause-turns : goal.returns-clause-turns
 returns-clause-turns g c =
-    turned g.K.PartialEq.eq (λ t. c.args.told ≡ Some t) c.args.flow.now c.hold-stop.result c.after.result c.hold-stop.new.flow c.hold-stop.ensures.stops c.after.ensures.follows
+    turned g.K.PartialEq.eq (Brings (tested_in (call_of c.args.flow.now).plan) c.args.brought) c.args.flow.now c.hold-stop.result (over_in c.after.result) c.hold-stop.new.flow c.hold-stop.ensures.stops c.after.ensures.follows
 
 pub returns-clause-cause : goal.returns-clause-cause
 returns-clause-cause g c =
-    pending_by _ c.after.result (λ pending.
-    waits_still g.K.PartialEq.eq (λ t. c.args.told ≡ Some t) _ c.args.flow.now c.hold-stop.result c.hold-stop.new.flow c.hold-stop.ensures.stops
+    pending_by _ (over_in c.after.result) (λ pending.
+    waits_still g.K.PartialEq.eq (Brings (tested_in (call_of c.args.flow.now).plan) c.args.brought) _ c.args.flow.now c.hold-stop.result c.hold-stop.new.flow c.hold-stop.ensures.stops
     (subst (λ s. (c.hold-stop.result ≡ stop.Waits) ⊎ Awaits (Unheard g.L.Listener.pends s.listener) c.hold-stop.new.flow) c.deref-shared.ensures (c.after.ensures.cause pending)))
 
 pub returns-clause-armed : goal.returns-clause-armed
-returns-clause-armed g c = pending_by _ c.after.result c.after.ensures.armed
+returns-clause-armed g c = pending_by _ (over_in c.after.result) c.after.ensures.armed
 
 pub returns-clause-kept : goal.returns-clause-kept
 returns-clause-kept g c = λ fact holds. c.after.ensures.kept fact (c.hold-stop.ensures.kept fact holds)
+
+pub returns-clause-unasked : goal.returns-clause-unasked
+returns-clause-unasked g c =
+    begun_at g.K.PartialEq.eq (Brings (tested_in (call_of c.args.flow.now).plan) c.args.brought) g.Q.Asked.begins c.args.flow.now c.hold-stop.result c.hold-stop.new.flow c.args.asked.now c.after.new.asked c.hold-stop.ensures.stops c.after.ensures.begun

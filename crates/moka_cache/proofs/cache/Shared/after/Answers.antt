@@ -10,4 +10,4 @@ pub returns-in-Waits-clause-cause : goal.returns-in-Waits-clause-cause
 returns-in-Waits-clause-cause g c = λ pending. inl c.in-Waits.is
 
 pub returns-in-Waits-clause-armed : goal.returns-in-Waits-clause-armed
-returns-in-Waits-clause-armed g c = λ pending. c.after_wait.ensures.kept Lasting.armed (c.requires c.in-Waits.is)
+returns-in-Waits-clause-armed g c = λ pending. c.after_wait.ensures.kept Lasting.armed (c.requires.waits c.in-Waits.is)

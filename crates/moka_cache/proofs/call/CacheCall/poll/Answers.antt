@@ -1,15 +1,17 @@
 -- What a begun state came to, it came to from where it was; so it still fits what it was started for.
 use Rattle.std.proofs.Common.{sym, ap, ◌∙◌, subst}
+use Rattle.moka_cache.specs.Asked.{Accords}
 use Rattle.moka_cache.specs.Settings.{rules_of}
 use Rattle.moka_cache.specs.Starts.{called}
 use Rattle.moka_cache.specs.Suits.{Suits}
 use Rattle.moka_cache.proofs.Staging.{answered_since, came_since, failed_since, named_answered, named_failed, named_since}
 use Rattle.moka_cache.proofs.Suiting.{suits_answer, suits_on, tells_on, tells_over, when_ok}
+use Rattle.moka_cache.proofs.Taking.{accords_weaker}
 use Rattle.moka_cache.proofs.call.CacheCall.poll.Goals as goal
 
 pub returns-in-Ready-Ok-clause-answers : goal.returns-in-Ready-Ok-clause-answers
 returns-in-Ready-Ok-clause-answers g c =
-    let such = g.Q.Asked.gives c.args.self.now.asked in
+    let such = Accords (g.Q.Asked.gives c.args.self.now.asked) (g.Q.Asked.tests c.args.self.now.asked) in
     let rules = rules_of c.args.self.now.cache.now in
     let start = g.A.Begin.start in
     let by = answered_since g.K.PartialEq.eq such (called rules start) c.args.self.now.stage c.begin.new.stage c.in-Ready-Ok.field-0 c.in-Ready-Ok.answer c.in-Ready-Ok.field-0-is c.begin.ensures.begins
@@ -26,13 +28,13 @@ returns-in-Ready-Ok-clause-answers g c =
 
 pub returns-in-Ready-Err-clause-failed : goal.returns-in-Ready-Err-clause-failed
 returns-in-Ready-Err-clause-failed g c =
-    failed_since g.K.PartialEq.eq (g.Q.Asked.gives c.args.self.now.asked) (called (rules_of c.args.self.now.cache.now) g.A.Begin.start) c.args.self.now.stage c.begin.new.stage c.advance.new.stage c.in-Ready-Err.field-0 c.in-Ready-Err.e c.in-Ready-Err.field-0-is
+    failed_since g.K.PartialEq.eq (Accords (g.Q.Asked.gives c.args.self.now.asked) (g.Q.Asked.tests c.args.self.now.asked)) (called (rules_of c.args.self.now.cache.now) g.A.Begin.start) c.args.self.now.stage c.begin.new.stage c.advance.new.stage c.in-Ready-Err.field-0 c.in-Ready-Err.e c.in-Ready-Err.field-0-is
     c.begin.ensures.begins c.in-Ready-Err.ensures.failed
 
 pub returns-in-Pending-clause-came : goal.returns-in-Pending-clause-came
 returns-in-Pending-clause-came g c =
     let begins = called {E = g.row.E.Denot} (rules_of c.args.self.now.cache.now) g.A.Begin.start in
-    came_since g.K.PartialEq.eq (g.Q.Asked.gives c.args.self.now.asked) begins c.args.self.now.stage c.begin.new.stage c.advance.new.stage c.begin.ensures.begins (c.in-Pending.ensures.came begins)
+    came_since g.K.PartialEq.eq (Accords (g.Q.Asked.gives c.args.self.now.asked) (g.Q.Asked.tests c.args.self.now.asked)) begins c.args.self.now.stage c.begin.new.stage c.advance.new.stage c.begin.ensures.begins (c.in-Pending.ensures.came begins)
 
 pub returns-in-Ready-Ok-clause-suits : goal.returns-in-Ready-Ok-clause-suits
 returns-in-Ready-Ok-clause-suits g c = λ suits.
@@ -42,52 +44,52 @@ returns-in-Ready-Ok-clause-suits g c = λ suits.
 pub returns-in-Ready-Err-clause-suits : goal.returns-in-Ready-Err-clause-suits
 returns-in-Ready-Err-clause-suits g c =
     let rules = rules_of c.args.self.now.cache.now in
-    suits_on g.K.PartialEq.eq c.shapes_fit.ensures.fits (g.Q.Asked.gives c.args.self.now.asked) rules g.A.Begin.start c.args.self.now.stage c.advance.new.stage
-    (failed_since g.K.PartialEq.eq (g.Q.Asked.gives c.args.self.now.asked) (called rules g.A.Begin.start) c.args.self.now.stage c.begin.new.stage c.advance.new.stage c.in-Ready-Err.field-0 c.in-Ready-Err.e
+    suits_on g.K.PartialEq.eq c.shapes_fit.ensures.fits (Accords (g.Q.Asked.gives c.args.self.now.asked) (g.Q.Asked.tests c.args.self.now.asked)) rules g.A.Begin.start c.args.self.now.stage c.advance.new.stage
+    (failed_since g.K.PartialEq.eq (Accords (g.Q.Asked.gives c.args.self.now.asked) (g.Q.Asked.tests c.args.self.now.asked)) (called rules g.A.Begin.start) c.args.self.now.stage c.begin.new.stage c.advance.new.stage c.in-Ready-Err.field-0 c.in-Ready-Err.e
     c.in-Ready-Err.field-0-is c.begin.ensures.begins c.in-Ready-Err.ensures.failed)
 
 pub returns-in-Pending-clause-suits : goal.returns-in-Pending-clause-suits
 returns-in-Pending-clause-suits g c =
     let rules = rules_of c.args.self.now.cache.now in
     let begins = called {E = g.row.E.Denot} rules g.A.Begin.start in
-    suits_on g.K.PartialEq.eq c.shapes_fit.ensures.fits (g.Q.Asked.gives c.args.self.now.asked) rules g.A.Begin.start c.args.self.now.stage c.advance.new.stage
-    (came_since g.K.PartialEq.eq (g.Q.Asked.gives c.args.self.now.asked) begins c.args.self.now.stage c.begin.new.stage c.advance.new.stage c.begin.ensures.begins (c.in-Pending.ensures.came begins))
+    suits_on g.K.PartialEq.eq c.shapes_fit.ensures.fits (Accords (g.Q.Asked.gives c.args.self.now.asked) (g.Q.Asked.tests c.args.self.now.asked)) rules g.A.Begin.start c.args.self.now.stage c.advance.new.stage
+    (came_since g.K.PartialEq.eq (Accords (g.Q.Asked.gives c.args.self.now.asked) (g.Q.Asked.tests c.args.self.now.asked)) begins c.args.self.now.stage c.begin.new.stage c.advance.new.stage c.begin.ensures.begins (c.in-Pending.ensures.came begins))
 
 pub returns-in-Pending-clause-names : goal.returns-in-Pending-clause-names
 returns-in-Pending-clause-names g c =
     let begins = called {E = g.row.E.Denot} (rules_of c.args.self.now.cache.now) g.A.Begin.start in
-    named_since g.A.Begin.named g.K.PartialEq.eq begins (g.Q.Asked.gives c.args.self.now.asked) c.args.self.now.stage c.begin.new.stage c.advance.new.stage c.args.self.now.named c.begin.new.named c.begin.ensures.names
+    named_since g.A.Begin.named g.K.PartialEq.eq begins (Accords (g.Q.Asked.gives c.args.self.now.asked) (g.Q.Asked.tests c.args.self.now.asked)) c.args.self.now.stage c.begin.new.stage c.advance.new.stage c.args.self.now.named c.begin.new.named c.begin.ensures.names
     (c.in-Pending.ensures.names g.A.Begin.named c.begin.new.named) (c.in-Pending.ensures.came begins)
 
 pub returns-in-Pending-clause-tells : goal.returns-in-Pending-clause-tells
 returns-in-Pending-clause-tells g c =
     let begins = called {E = g.row.E.Denot} (rules_of c.args.self.now.cache.now) g.A.Begin.start in
-    tells_on g.K.PartialEq.eq (g.Q.Asked.gives c.advance.new.asked) (g.Q.Asked.gives c.args.self.now.asked) c.advance.ensures.same begins g.A.Begin.output c.args.self.now.stage c.advance.new.stage
-    (came_since g.K.PartialEq.eq (g.Q.Asked.gives c.args.self.now.asked) begins c.args.self.now.stage c.begin.new.stage c.advance.new.stage c.begin.ensures.begins (c.in-Pending.ensures.came begins))
+    tells_on g.K.PartialEq.eq (Accords (g.Q.Asked.gives c.advance.new.asked) (g.Q.Asked.tests c.advance.new.asked)) (Accords (g.Q.Asked.gives c.args.self.now.asked) (g.Q.Asked.tests c.args.self.now.asked)) (accords_weaker _ _ _ _ c.advance.ensures.same c.advance.ensures.tested) begins g.A.Begin.output c.args.self.now.stage c.advance.new.stage
+    (came_since g.K.PartialEq.eq (Accords (g.Q.Asked.gives c.args.self.now.asked) (g.Q.Asked.tests c.args.self.now.asked)) begins c.args.self.now.stage c.begin.new.stage c.advance.new.stage c.begin.ensures.begins (c.in-Pending.ensures.came begins))
     c.requires.tells
 
 pub returns-in-Ready-Err-clause-names_on : goal.returns-in-Ready-Err-clause-names_on
 returns-in-Ready-Err-clause-names_on g c =
     let begins = called {E = g.row.E.Denot} (rules_of c.args.self.now.cache.now) g.A.Begin.start in
-    named_failed g.A.Begin.named g.K.PartialEq.eq begins (g.Q.Asked.gives c.args.self.now.asked) c.args.self.now.stage c.begin.new.stage c.advance.new.stage c.args.self.now.named c.begin.new.named c.in-Ready-Err.field-0 c.in-Ready-Err.e
+    named_failed g.A.Begin.named g.K.PartialEq.eq begins (Accords (g.Q.Asked.gives c.args.self.now.asked) (g.Q.Asked.tests c.args.self.now.asked)) c.args.self.now.stage c.begin.new.stage c.advance.new.stage c.args.self.now.named c.begin.new.named c.in-Ready-Err.field-0 c.in-Ready-Err.e
     c.in-Ready-Err.field-0-is c.begin.ensures.names c.in-Ready-Err.ensures.names_on c.in-Ready-Err.ensures.failed
 
 pub returns-in-Ready-Err-clause-tells : goal.returns-in-Ready-Err-clause-tells
 returns-in-Ready-Err-clause-tells g c =
     let begins = called {E = g.row.E.Denot} (rules_of c.args.self.now.cache.now) g.A.Begin.start in
-    tells_on g.K.PartialEq.eq (g.Q.Asked.gives c.advance.new.asked) (g.Q.Asked.gives c.args.self.now.asked) c.advance.ensures.same begins g.A.Begin.output c.args.self.now.stage c.advance.new.stage
-    (failed_since g.K.PartialEq.eq (g.Q.Asked.gives c.args.self.now.asked) begins c.args.self.now.stage c.begin.new.stage c.advance.new.stage c.in-Ready-Err.field-0 c.in-Ready-Err.e c.in-Ready-Err.field-0-is
+    tells_on g.K.PartialEq.eq (Accords (g.Q.Asked.gives c.advance.new.asked) (g.Q.Asked.tests c.advance.new.asked)) (Accords (g.Q.Asked.gives c.args.self.now.asked) (g.Q.Asked.tests c.args.self.now.asked)) (accords_weaker _ _ _ _ c.advance.ensures.same c.advance.ensures.tested) begins g.A.Begin.output c.args.self.now.stage c.advance.new.stage
+    (failed_since g.K.PartialEq.eq (Accords (g.Q.Asked.gives c.args.self.now.asked) (g.Q.Asked.tests c.args.self.now.asked)) begins c.args.self.now.stage c.begin.new.stage c.advance.new.stage c.in-Ready-Err.field-0 c.in-Ready-Err.e c.in-Ready-Err.field-0-is
     c.begin.ensures.begins c.in-Ready-Err.ensures.failed)
     c.requires.tells
 
 pub returns-in-Ready-Ok-clause-tells : goal.returns-in-Ready-Ok-clause-tells
 returns-in-Ready-Ok-clause-tells g c =
     let begins = called {E = g.row.E.Denot} (rules_of c.args.self.now.cache.now) g.A.Begin.start in
-    tells_over g.K.PartialEq.eq (g.Q.Asked.gives c.advance.new.asked) begins g.A.Begin.output c.advance.new.stage
+    tells_over g.K.PartialEq.eq (Accords (g.Q.Asked.gives c.advance.new.asked) (g.Q.Asked.tests c.advance.new.asked)) begins g.A.Begin.output c.advance.new.stage
     (when_ok _ c.in-Ready-Ok.field-0 c.in-Ready-Ok.answer c.in-Ready-Ok.field-0-is c.in-Ready-Ok.ensures.over)
 
 pub output-requires : goal.output-requires
 output-requires g c =
     c.requires.tells c.take.result c.in-Ready-Ok.answer
-    (answered_since g.K.PartialEq.eq (g.Q.Asked.gives c.args.self.now.asked) (called (rules_of c.args.self.now.cache.now) g.A.Begin.start) c.args.self.now.stage c.begin.new.stage c.in-Ready-Ok.field-0 c.in-Ready-Ok.answer
+    (answered_since g.K.PartialEq.eq (Accords (g.Q.Asked.gives c.args.self.now.asked) (g.Q.Asked.tests c.args.self.now.asked)) (called (rules_of c.args.self.now.cache.now) g.A.Begin.start) c.args.self.now.stage c.begin.new.stage c.in-Ready-Ok.field-0 c.in-Ready-Ok.answer
     c.in-Ready-Ok.field-0-is c.begin.ensures.begins c.in-Ready-Ok.ensures.answers)

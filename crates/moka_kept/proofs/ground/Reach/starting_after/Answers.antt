@@ -1,14 +1,15 @@
 -- A desk where nothing has happened but that numbers were given out, and an empty table, are those
 -- of a sound world.
-use Rattle.std.proofs.Common.{false, refl, arith}
+use Rattle.std.proofs.Common.{false, refl, sym, subst, arith}
 use Rattle.moka_hist.specs.State.{empty_table, fresh_desk}
+use Rattle.moka_kept.specs.Kept.{IsKept}
 use Rattle.moka_kept.proofs.ground.Reach.starting_after.Goals as goal
 
 pub returns : goal.returns
 returns g c =
     let empty = c.new.ensures.empty in
     let none = empty.peak in
-    record {
+    subst (λ layers. IsKept g.K.PartialEq.eq layers) (sym c.over.ensures) (record {
       world = record {
         table = empty_table g.row.K.Denot g.row.V.Denot;
         desk = record (fresh_desk g.row.K.Denot g.row.V.Denot g.row.E.Denot c.args.rules 384 (λ test key value. false)) { last = c.args.last };
@@ -24,4 +25,4 @@ returns g c =
       log = omega arith;
       decided = refl;
       none_begun = refl;
-    }
+    })

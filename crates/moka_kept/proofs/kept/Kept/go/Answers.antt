@@ -1,28 +1,48 @@
--- The first step takes what is told, and the others nothing.
-use Rattle.std.proofs.Common.{◌≡◌, Some, sym, ap, ◌∙◌}
-use Rattle.moka_kept.specs.Taking.{NoAnswer}
-use Rattle.moka_kept.proofs.Stopping.{came_to_weaker, stops_on, stops_weaker}
+-- The first step goes by what was brought, and the others take nothing.
+use Rattle.std.proofs.Common.{sym, subst}
+use Rattle.moka_init.specs.FlowPlan.{call_of, tested_in}
+use Rattle.moka_kept.specs.Taking.{Brings}
+use Rattle.moka_kept.specs.declared.brought.Brought.{Brought}
+use Rattle.moka_kept.specs.Stops.{StopIs, stop_after}
+use Rattle.moka_kept.specs.declared.stop.Stop.{Stop}
+use Rattle.moka_kept.proofs.Stopping.{came_going, came_here, came_to_on, came_to_weaker, stops_on, stops_weaker}
 use Rattle.moka_kept.proofs.kept.Kept.go.Goals as goal
 
-pub returns-in_default-clause-stops : goal.returns-in_default-clause-stops
-returns-in_default-clause-stops g c =
-    stops_weaker g.K.PartialEq.eq NoAnswer (λ t. c.args.told ≡ Some t) (λ t none. absurd none) c.args.flow.now c.steps.result c.steps.new.flow c.steps.ensures.stops
+pub loop-init : goal.loop-init
+loop-init g c = record {
+  came = came_here g.K.PartialEq.eq (Brings (tested_in (call_of c.args.flow.now).plan) c.args.brought) c.args.flow.now c.requires.rests;
+  brings = λ t is. is;
+  kept = λ fact holds. holds;
+}
 
-pub returns-in-Going-clause-stops : goal.returns-in-Going-clause-stops
-returns-in-Going-clause-stops g c =
+pub returns-then-not-goes_on-clause-stops : goal.returns-then-not-goes_on-clause-stops
+returns-then-not-goes_on-clause-stops g c =
     let eq = g.K.PartialEq.eq in
     let flow = c.args.flow.now in
-    let mid = c.take_told.new.flow in
-    let steps = c.steps-in-Going in
-    let answer = c.in-Some.answer in
-    stops_on eq (λ t. c.args.told ≡ Some t) flow mid steps.result steps.new.flow
-    (came_to_weaker eq (λ t. t ≡ answer) (λ t. c.args.told ≡ Some t) (λ t is. c.in-Some.is ∙ ap Some (sym is)) flow mid c.in-Going.ensures.stops)
-    (stops_weaker eq NoAnswer (λ t. c.args.told ≡ Some t) (λ t none. absurd none) mid steps.result steps.new.flow steps.ensures.stops)
+    let mid = c.loop.flow in
+    let new = c.one_step-made.new.flow in
+    let made = c.one_step-made.result in
+    let given = Brings (tested_in (call_of mid).plan) c.replace.result in
+    let such = Brings (tested_in (call_of flow).plan) c.args.brought in
+    subst (λ (s : Stop g.row.K.Denot g.row.V.Denot g.row.E.Denot). StopIs eq such flow s new) (sym c.stop_after.ensures.stop)
+    (stops_on eq such flow mid (stop_after made) new c.loop.invariant.came
+    (stops_weaker eq given such
+    (λ t is. c.loop.invariant.brings t (subst (λ (b : Brought g.row.V.Denot g.row.E.Denot). Brings (tested_in (call_of mid).plan) b t) c.replace.ensures.value is)) mid (stop_after made) new
+    c.one_step-made.ensures.stops))
 
-pub returns-in_default-take_told : goal.returns-in_default-take_told
-returns-in_default-take_told g c = record {
-  stops = stops_weaker g.K.PartialEq.eq (λ t. t ≡ c.in-Some.answer) (λ t. c.args.told ≡ Some t) (λ t is. c.in-Some.is ∙ ap Some (sym is)) c.args.flow.now c.take_told.result c.take_told.new.flow
-      c.take_told.ensures.stops;
-  armed = c.take_told.ensures.armed;
-  kept = c.take_told.ensures.kept;
-}
+pub loop-preserved : goal.loop-preserved
+loop-preserved g c =
+    let eq = g.K.PartialEq.eq in
+    let flow = c.args.flow.now in
+    let mid = c.loop.flow in
+    let new = c.one_step-made.new.flow in
+    let given = Brings (tested_in (call_of mid).plan) c.replace.result in
+    let such = Brings (tested_in (call_of flow).plan) c.args.brought in
+    record {
+      came = came_to_on eq such flow mid new c.loop.invariant.came
+          (came_to_weaker eq given such
+          (λ t is. c.loop.invariant.brings t (subst (λ (b : Brought g.row.V.Denot g.row.E.Denot). Brings (tested_in (call_of mid).plan) b t) c.replace.ensures.value is)) mid new
+          (came_going eq given mid c.one_step-made.result new c.if-not-goes_on.ensures c.one_step-made.ensures.stops));
+      brings = λ t none. absurd (subst (λ (b : Brought g.row.V.Denot g.row.E.Denot). Brings (tested_in (call_of new).plan) b t) c.replace.ensures.after none);
+      kept = c.loop.invariant.kept;
+    }

@@ -1,14 +1,48 @@
--- How a step stops its call.
-use Rattle.std.proofs.Common.{refl, sym, subst}
-use Rattle.moka_kept.specs.Taking.{NoAnswer}
-use Rattle.moka_kept.specs.Stops.{StopIs}
-use Rattle.moka_kept.specs.declared.stop.Stop.{Stop}
-use Rattle.moka_kept.proofs.Stopping.{stops_made}
+-- The step goes by what was brought.
+use Rattle.std.proofs.Common.{◌≡◌, Bool, true, false, Option, Some, None, IfOk, refl, sym, ap, ◌∙◌, subst}
+use Rattle.std.proofs.lemmas.Result.{IfOk-weaker}
+use Rattle.moka_init.specs.FlowPlan.{call_of, next_in, tested_in}
+use Rattle.moka_kept.specs.Kept.{IsBrought}
+use Rattle.moka_kept.specs.Paths.{EndedWith}
+use Rattle.moka_kept.specs.Taking.{Answered, Brings, NoAnswer, Tested}
+use Rattle.moka_kept.specs.declared.brought.Brought.{Brought}
+use Rattle.moka_kept.specs.declared.brought.Brought.TheVariants as brought
+use Rattle.moka_kept.proofs.Stopping.{came_here, stops_made}
+use Rattle.moka_kept.proofs.Ways.{ended_weaker}
 use Rattle.moka_kept.proofs.kept.Kept.one_step.Goals as goal
 
-pub returns-clause-stops : goal.returns-clause-stops
-returns-clause-stops g c =
-    let flow = c.args.flow.now in
-    let step = c.step-made in
-    subst (λ (s : Stop g.row.K.Denot g.row.V.Denot g.row.E.Denot). StopIs g.K.PartialEq.eq NoAnswer flow s step.new.flow) (sym c.stop_after.ensures.stop)
-    (stops_made g.K.PartialEq.eq NoAnswer flow step.result step.new.flow c.requires.rests step.ensures.number step.ensures.begun step.ensures.leaves (step.ensures.untaken refl) step.ensures.err)
+pub returns-in-None : goal.returns-in-None
+returns-in-None g c =
+    record { stops = came_here g.K.PartialEq.eq (Brings (tested_in (call_of c.args.flow.now).plan) c.args.brought) c.args.flow.now c.requires.rests }
+
+pub returns-in-Some : goal.returns-in-Some
+returns-in-Some g c = record {
+  stops = stops_made g.K.PartialEq.eq (Brings (tested_in (call_of c.args.flow.now).plan) c.args.brought) c.args.flow.now c.step.result c.step.new.flow c.requires.rests
+      c.step.ensures.number c.step.ensures.begun c.step.ensures.leaves (by c.args.brought _ refl refl) c.step.ensures.err;
+}
+  where
+    there : IsBrought g.K.PartialEq.eq c.bring.new.self.layers c.args.flow.now.call c.args.brought c.in-Some.takes
+    there = subst (λ n. IsBrought g.K.PartialEq.eq c.bring.new.self.layers n c.args.brought c.in-Some.takes) c.number.ensures c.in-Some.ensures.brought
+
+    for : (b : Brought g.row.V.Denot g.row.E.Denot) → c.args.brought ≡ b → IsBrought g.K.PartialEq.eq c.bring.new.self.layers c.args.flow.now.call b c.in-Some.takes
+    for b is = subst (λ (x : Brought g.row.V.Denot g.row.E.Denot). IsBrought g.K.PartialEq.eq c.bring.new.self.layers c.args.flow.now.call x c.in-Some.takes) is there
+
+    by : (b : Brought g.row.V.Denot g.row.E.Denot) (o : Option g.row.V.Denot) → c.args.brought ≡ b → tested_in (call_of c.args.flow.now).plan ≡ o
+        → IfOk c.step.result (λ turn. EndedWith g.K.PartialEq.eq (Brings o b) c.args.flow.now.call (call_of c.args.flow.now) (next_in turn c.step.new.flow))
+    by brought.Nothing o is value =
+        IfOk-weaker c.step.result _ _ (λ turn end.
+        ended_weaker g.K.PartialEq.eq NoAnswer (Brings o brought.Nothing) (λ t none. absurd none) c.args.flow.now.call (call_of c.args.flow.now) (next_in turn c.step.new.flow) end)
+        (c.step.ensures.untaken (for brought.Nothing is) (c.requires.untested is))
+    by (brought.Told told) o is value =
+        IfOk-weaker c.step.result _ _ (λ turn end.
+        ended_weaker g.K.PartialEq.eq (λ t. t ≡ Answered told) (Brings o (brought.Told told)) (λ t same. same) c.args.flow.now.call (call_of c.args.flow.now) (next_in turn c.step.new.flow) end)
+        (c.step.ensures.taken (for (brought.Told told) is).0 told (for (brought.Told told) is).1)
+    by (brought.Tested replaced) None is value =
+        IfOk-weaker c.step.result _ _ (λ turn end.
+        ended_weaker g.K.PartialEq.eq NoAnswer (Brings None (brought.Tested replaced)) (λ t none. absurd none) c.args.flow.now.call (call_of c.args.flow.now) (next_in turn c.step.new.flow) end)
+        (c.step.ensures.untaken (for (brought.Tested replaced) is).0 value)
+    by (brought.Tested replaced) (Some v) is value =
+        IfOk-weaker c.step.result _ _ (λ turn end.
+        ended_weaker g.K.PartialEq.eq (λ t. t ≡ Tested v c.bring.new.self.layers.tests.replaced) (Brings (Some v) (brought.Tested replaced))
+        (λ t same. same ∙ ap (λ b. Tested v b) (for (brought.Tested replaced) is).1) c.args.flow.now.call (call_of c.args.flow.now) (next_in turn c.step.new.flow) end)
+        (c.step.ensures.judged v value)

@@ -1,5 +1,4 @@
 -- The visit is made where nothing is begun.
-use Rattle.std.proofs.Common.{refl}
 use Rattle.moka_layers.proofs.Wanted.{visit_serves}
 use Rattle.moka_layers.proofs.layers.Layers.visit.Goals as goal
 
@@ -9,4 +8,4 @@ returns-clause-serves g c =
     c.requires.none c.in_ok-found.ensures.ok
 
 pub returns-clause-decides : goal.returns-clause-decides
-returns-clause-decides g c = λ always. ((λ e. (cc)), refl)
+returns-clause-decides g c = λ always. ((λ e. (cc)), c.requires.none)

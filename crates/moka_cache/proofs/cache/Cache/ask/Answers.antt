@@ -1,0 +1,56 @@
+-- It is left as its round leaves it, or as who is asked does.
+use Rattle.std.proofs.Common.{IfSome, subst}
+use Rattle.moka_init.specs.FlowPlan.{call_of, tested_in}
+use Rattle.moka_kept.specs.Taking.{Brings}
+use Rattle.moka_kept.specs.declared.brought.Brought.TheVariants as brought
+use Rattle.moka_cache.specs.Asked.{Accords}
+use Rattle.moka_cache.specs.Hearing.{over_in}
+use Rattle.moka_cache.proofs.Taking.{told_accords}
+use Rattle.moka_cache.proofs.Turning.{asked_here, asks_weaker, pends_by, turns_weaker, unasked_or}
+use Rattle.moka_cache.proofs.cache.Cache.ask.Goals as goal
+
+pub returns-then-not-is_polled-clause-turns : goal.returns-then-not-is_polled-clause-turns
+returns-then-not-is_polled-clause-turns g c =
+    let flow = c.args.flow.now in
+    let such = Accords (g.Q.Asked.gives c.args.asked.now) (g.Q.Asked.tests c.args.asked.now) in
+    turns_weaker g.K.PartialEq.eq (Brings (tested_in (call_of flow).plan) c.ask_test-brought.result) such c.ask_test-brought.ensures.brings flow (over_in c.round.result) c.round.new.flow
+    c.round.ensures.turns
+
+pub returns-then-not-is_polled-clause-unasked : goal.returns-then-not-is_polled-clause-unasked
+returns-then-not-is_polled-clause-unasked g c =
+    let flow = c.args.flow.now in
+    let value = tested_in (call_of flow).plan in
+    let brought = c.ask_test-brought.result in
+    let such = Accords (g.Q.Asked.gives c.args.asked.now) (g.Q.Asked.tests c.args.asked.now) in
+    unasked_or g.K.PartialEq.eq such g.Q.Asked.asks flow c.requires.rests c.args.asked.now c.ask_test-brought.new.asked c.round.new.asked brought c.ask_test-brought.ensures.once
+    (asks_weaker g.K.PartialEq.eq (Brings value brought) such c.ask_test-brought.ensures.brings _ flow c.round.ensures.unasked)
+
+pub returns-then-not-is_polled-clause-cause : goal.returns-then-not-is_polled-clause-cause
+returns-then-not-is_polled-clause-cause g c = pends_by _ _ _ (over_in c.round.result) c.round.ensures.cause
+
+pub returns-in-Ready-Some-clause-turns : goal.returns-in-Ready-Some-clause-turns
+returns-in-Ready-Some-clause-turns g c =
+    let flow = c.args.flow.now in
+    let gives = g.Q.Asked.gives c.args.asked.now in
+    let tests = g.Q.Asked.tests c.args.asked.now in
+    let value = tested_in (call_of flow).plan in
+    let round = c.round-in-Ready-Some in
+    let answer = c.in-Ready-Some.answer in
+    let given : gives answer = subst (λ o. IfSome o gives) c.in-Ready-Some.field-0-is c.in-Ready-Some.ensures.value in
+    turns_weaker g.K.PartialEq.eq (Brings value (brought.Told answer)) (Accords gives tests) (told_accords gives tests value answer given) flow (over_in round.result) round.new.flow
+    round.ensures.turns
+
+pub returns-in-Ready-Some-clause-cause : goal.returns-in-Ready-Some-clause-cause
+returns-in-Ready-Some-clause-cause g c = pends_by _ _ _ (over_in c.round-in-Ready-Some.result) c.round-in-Ready-Some.ensures.cause
+
+pub returns-in-Ready-Some-clause-unasked : goal.returns-in-Ready-Some-clause-unasked
+returns-in-Ready-Some-clause-unasked g c =
+    asked_here g.K.PartialEq.eq (Accords (g.Q.Asked.gives c.args.asked.now) (g.Q.Asked.tests c.args.asked.now)) c.args.flow.now c.requires.rests c.if-not-is_polled.ensures c.args.asked.now c.round-in-Ready-Some.new.asked
+
+pub returns-in-Ready-None-clause-unasked : goal.returns-in-Ready-None-clause-unasked
+returns-in-Ready-None-clause-unasked g c =
+    asked_here g.K.PartialEq.eq (Accords (g.Q.Asked.gives c.args.asked.now) (g.Q.Asked.tests c.args.asked.now)) c.args.flow.now c.requires.rests c.if-not-is_polled.ensures c.args.asked.now c.poll.new.self
+
+pub returns-in-Pending-clause-unasked : goal.returns-in-Pending-clause-unasked
+returns-in-Pending-clause-unasked g c =
+    asked_here g.K.PartialEq.eq (Accords (g.Q.Asked.gives c.args.asked.now) (g.Q.Asked.tests c.args.asked.now)) c.args.flow.now c.requires.rests c.if-not-is_polled.ensures c.args.asked.now c.poll.new.self

@@ -1,0 +1,98 @@
+//! Computing what a key has.
+ghost use Rattle.std.specs.Prelude.{◌≡◌, Some, None, Result, IsSome, IsOk};
+ghost use Rattle.moka_hist.specs.declared.events.Start.TheVariants as Start;
+ghost use Rattle.moka_hist.specs.declared.events.Op.{Op};
+ghost use Rattle.moka_cache.specs.Asked.{Accords, Untested};
+ghost use Rattle.moka_cache.specs.Computes.{Gives};
+ghost use Rattle.moka_cache.specs.Entries.{computed_in};
+ghost use Rattle.moka_cache.specs.Keys.{key_of};
+ghost use Rattle.moka_cache.specs.Settings.{rules_of};
+ghost use Rattle.moka_cache.specs.Stages.{BeginsWith, MayPoll};
+ghost use Rattle.moka_cache.specs.Starts.{called};
+ghost use Rattle.moka_cache.specs.Suits.{Tells};
+
+use crate::begin::{Begin, Begun};
+use crate::by_compute::{ByCompute, ComputeStage};
+use crate::cache::FixedSeed;
+use crate::call::CacheCall;
+use crate::compute::Compute;
+use crate::entry::EntrySelector;
+use crate::key::CallKey;
+use crate::listener::{Listener, NoListener};
+use moka_hist::{Answer, CompResult, Op, Start};
+use std::hash::Hash;
+
+/// What a compute is of.
+#[derive(Drop)]
+pub struct ToCompute<'a, K> {
+    key: CallKey<'a, K>,
+}
+
+impl<K: Clone + Drop, V: Drop, E: Drop> Begin<K, V, E> for ToCompute<'_, K> {
+    type Output = CompResult<K, V>;
+
+    ghost start = { λ compute. Start.Compute (key_of compute.key) };
+
+    ghost named = { λ compute. None };
+
+    ghost output = { λ named answer. computed_in answer };
+
+    fn start(self) -> Result<Begun<K, V>, Self> {
+        match self.key.into_key() {
+            Ok(key) => Ok(Begun::unnamed(Start::Compute { key })),
+            Err(key) => Err(ToCompute { key }),
+        }
+    }
+
+    fn output(_key: Option<K>, answer: Answer<K, V, E>) -> CompResult<K, V>
+        requires { IsSome (computed_in answer) }
+        ensures told { Some result ≡ computed_in answer }
+    {
+        match answer {
+            Answer::Computed(done) => done,
+            _ => unreachable!(),
+        }
+    }
+}
+
+/// Asks what is to be done with a key, and does it, polled until that is logged.
+pub type ComputeWith<'a, K, V, E, C, L = NoListener, S = FixedSeed> = CacheCall<
+    'a,
+    ToCompute<'a, K>,
+    K,
+    V,
+    E,
+    ByCompute<C>,
+    L,
+    S,
+>;
+
+impl<'a, K, V, E, L, S> EntrySelector<'a, K, V, E, L, S>
+where
+    K: Eq + Hash + Clone + Drop,
+    V: Clone + Drop,
+    E: Clone + Drop,
+    L: Listener<K, V>,
+    S: Drop,
+{
+    /// Waits until no other compute of the key goes, looks the key up, asks what is to be done with
+    /// what it has, and does that. Answers what it has done.
+    pub fn and_compute_with<C: Compute<K, V, E>>(
+        self,
+        compute: C,
+    ) -> ComputeWith<'a, K, V, E, C, L, S>
+        requires { (r : Result (Op V) E) → C.gives compute r → IsOk r }
+        ensures fresh { BeginsWith result.stage (λ begin. begin.key ≡ self.entry.key) }
+        ensures may { MayPoll result.stage }
+        ensures compute { result.asked.stage ≡ ComputeStage.Fresh compute }
+        ensures tells { Tells K.eq (Accords (Gives C.gives result.asked) Untested) (called
+            (rules_of result.cache.now) (λ begin. Start.Compute (key_of begin.key)))
+            (λ named answer. computed_in answer) result.stage }
+        ensures cache { result.cache.now ≡ self.entry.cache.now }
+    {
+        moka_shapes::computes_tell::<K, V, E>();
+        let EntrySelector { cache, key } = self;
+        let stage = ComputeStage::Fresh(compute);
+        cache.call_asking(ToCompute { key }, ByCompute { stage })
+    }
+}

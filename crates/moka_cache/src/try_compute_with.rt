@@ -1,0 +1,163 @@
+//! Computing what a key has, which may fail.
+ghost use Rattle.std.specs.Prelude.{◌≡◌, Some, None, IsSome};
+ghost use Rattle.moka_hist.specs.declared.events.Start.TheVariants as Start;
+ghost use Rattle.moka_cache.specs.Asked.{Accords, Untested};
+ghost use Rattle.moka_cache.specs.Computes.{Gives};
+ghost use Rattle.moka_cache.specs.Entries.{try_computed_in};
+ghost use Rattle.moka_cache.specs.Keys.{key_of};
+ghost use Rattle.moka_cache.specs.Settings.{rules_of};
+ghost use Rattle.moka_cache.specs.Stages.{BeginsWith, MayPoll};
+ghost use Rattle.moka_cache.specs.Starts.{called};
+ghost use Rattle.moka_cache.specs.Suits.{Tells};
+
+use crate::begin::{Begin, Begun};
+use crate::by_compute::{ByCompute, ComputeStage};
+use crate::cache::FixedSeed;
+use crate::call::CacheCall;
+use crate::compute::Compute;
+use crate::entry::EntrySelector;
+use crate::key::CallKey;
+use crate::listener::{Listener, NoListener};
+use moka_hist::{Answer, CompResult, Start};
+use std::hash::Hash;
+
+/// What a compute is of that may fail.
+#[derive(Drop)]
+pub struct ToTryCompute<'a, K> {
+    key: CallKey<'a, K>,
+}
+
+impl<K: Clone + Drop, V: Drop, E: Drop> Begin<K, V, E> for ToTryCompute<'_, K> {
+    type Output = Result<CompResult<K, V>, E>;
+
+    ghost start = { λ compute. Start.TryCompute (key_of compute.key) };
+
+    ghost named = { λ compute. None };
+
+    ghost output = { λ named answer. try_computed_in answer };
+
+    fn start(self) -> Result<Begun<K, V>, Self> {
+        match self.key.into_key() {
+            Ok(key) => Ok(Begun::unnamed(Start::TryCompute { key })),
+            Err(key) => Err(ToTryCompute { key }),
+        }
+    }
+
+    fn output(_key: Option<K>, answer: Answer<K, V, E>) -> Result<CompResult<K, V>, E>
+        requires { IsSome (try_computed_in answer) }
+        ensures told { Some result ≡ try_computed_in answer }
+    {
+        match answer {
+            Answer::Computed(done) => Ok(done),
+            Answer::ComputeErr(error) => Err(error),
+            _ => unreachable!(),
+        }
+    }
+}
+
+/// What a compute is of that goes alone or not at all.
+#[derive(Drop)]
+pub struct ToComputeAlone<'a, K> {
+    key: CallKey<'a, K>,
+}
+
+impl<K: Clone + Drop, V: Drop, E: Drop> Begin<K, V, E> for ToComputeAlone<'_, K> {
+    type Output = Result<CompResult<K, V>, E>;
+
+    ghost start = { λ compute. Start.ComputeAlone (key_of compute.key) };
+
+    ghost named = { λ compute. None };
+
+    ghost output = { λ named answer. try_computed_in answer };
+
+    fn start(self) -> Result<Begun<K, V>, Self> {
+        match self.key.into_key() {
+            Ok(key) => Ok(Begun::unnamed(Start::ComputeAlone { key })),
+            Err(key) => Err(ToComputeAlone { key }),
+        }
+    }
+
+    fn output(_key: Option<K>, answer: Answer<K, V, E>) -> Result<CompResult<K, V>, E>
+        requires { IsSome (try_computed_in answer) }
+        ensures told { Some result ≡ try_computed_in answer }
+    {
+        match answer {
+            Answer::Computed(done) => Ok(done),
+            Answer::ComputeErr(error) => Err(error),
+            _ => unreachable!(),
+        }
+    }
+}
+
+/// Asks what is to be done with a key, and does it, polled until that is logged, or failed.
+pub type TryComputeWith<'a, K, V, E, C, L = NoListener, S = FixedSeed> = CacheCall<
+    'a,
+    ToTryCompute<'a, K>,
+    K,
+    V,
+    E,
+    ByCompute<C>,
+    L,
+    S,
+>;
+
+/// The same where no other compute of the key goes.
+pub type TryComputeAlone<'a, K, V, E, C, L = NoListener, S = FixedSeed> = CacheCall<
+    'a,
+    ToComputeAlone<'a, K>,
+    K,
+    V,
+    E,
+    ByCompute<C>,
+    L,
+    S,
+>;
+
+impl<'a, K, V, E, L, S> EntrySelector<'a, K, V, E, L, S>
+where
+    K: Eq + Hash + Clone + Drop,
+    V: Clone + Drop,
+    E: Clone + Drop,
+    L: Listener<K, V>,
+    S: Drop,
+{
+    /// The same as `and_compute_with`, but for an error, which is answered; what the key has stays
+    /// then.
+    pub fn and_try_compute_with<C: Compute<K, V, E>>(
+        self,
+        compute: C,
+    ) -> TryComputeWith<'a, K, V, E, C, L, S>
+        ensures fresh { BeginsWith result.stage (λ begin. begin.key ≡ self.entry.key) }
+        ensures may { MayPoll result.stage }
+        ensures compute { result.asked.stage ≡ ComputeStage.Fresh compute }
+        ensures tells { Tells K.eq (Accords (Gives C.gives result.asked) Untested) (called
+            (rules_of result.cache.now) (λ begin. Start.TryCompute (key_of begin.key)))
+            (λ named answer. try_computed_in answer) result.stage }
+        ensures cache { result.cache.now ≡ self.entry.cache.now }
+    {
+        moka_shapes::computes_tell::<K, V, E>();
+        let EntrySelector { cache, key } = self;
+        let stage = ComputeStage::Fresh(compute);
+        cache.call_asking(ToTryCompute { key }, ByCompute { stage })
+    }
+
+    /// The same, where no other compute of the key goes. Else it asks nothing, and answers what the
+    /// key has: `Unchanged`, or `StillNone`.
+    pub fn and_try_compute_if_nobody_else<C: Compute<K, V, E>>(
+        self,
+        compute: C,
+    ) -> TryComputeAlone<'a, K, V, E, C, L, S>
+        ensures fresh { BeginsWith result.stage (λ begin. begin.key ≡ self.entry.key) }
+        ensures may { MayPoll result.stage }
+        ensures compute { result.asked.stage ≡ ComputeStage.Fresh compute }
+        ensures tells { Tells K.eq (Accords (Gives C.gives result.asked) Untested) (called
+            (rules_of result.cache.now) (λ begin. Start.ComputeAlone (key_of begin.key)))
+            (λ named answer. try_computed_in answer) result.stage }
+        ensures cache { result.cache.now ≡ self.entry.cache.now }
+    {
+        moka_shapes::computes_tell::<K, V, E>();
+        let EntrySelector { cache, key } = self;
+        let stage = ComputeStage::Fresh(compute);
+        cache.call_asking(ToComputeAlone { key }, ByCompute { stage })
+    }
+}

@@ -1,0 +1,111 @@
+//! Storing a value made of what a key has.
+ghost use Rattle.std.specs.Prelude.{◌≡◌, Some, None, Result, IsSome};
+ghost use Rattle.moka_hist.specs.declared.events.Start.TheVariants as Start;
+ghost use Rattle.moka_hist.specs.declared.events.Op.{Op};
+ghost use Rattle.moka_cache.specs.Asked.{Accords, IsPut, Untested};
+ghost use Rattle.moka_cache.specs.Computes.{CanPut, GivesPut};
+ghost use Rattle.moka_cache.specs.Entries.{stored_by, stored_in};
+ghost use Rattle.moka_cache.specs.Keys.{key_of};
+ghost use Rattle.moka_cache.specs.Settings.{rules_of};
+ghost use Rattle.moka_cache.specs.Stages.{BeginsWith, MayPoll};
+ghost use Rattle.moka_cache.specs.Starts.{called};
+ghost use Rattle.moka_cache.specs.Suits.{Tells};
+
+use crate::begin::{Begin, Begun};
+use crate::by_compute::{ByUpsert, ComputeStage};
+use crate::cache::FixedSeed;
+use crate::call::CacheCall;
+use crate::compute::Compute;
+use crate::entry::EntrySelector;
+use crate::key::CallKey;
+use crate::listener::{Listener, NoListener};
+use moka_hist::{Answer, CompResult, Entry, Op, Start};
+use std::hash::Hash;
+
+/// What an upsert is of.
+#[derive(Drop)]
+pub struct ToUpsert<'a, K> {
+    key: CallKey<'a, K>,
+}
+
+impl<K: Clone + Drop, V: Drop, E: Drop> Begin<K, V, E> for ToUpsert<'_, K> {
+    type Output = Entry<K, V>;
+
+    ghost start = { λ upsert. Start.Upsert (key_of upsert.key) };
+
+    ghost named = { λ upsert. None };
+
+    ghost output = { λ named answer. stored_in answer };
+
+    fn start(self) -> Result<Begun<K, V>, Self> {
+        match self.key.into_key() {
+            Ok(key) => Ok(Begun::unnamed(Start::Upsert { key })),
+            Err(key) => Err(ToUpsert { key }),
+        }
+    }
+
+    fn output(_key: Option<K>, answer: Answer<K, V, E>) -> Entry<K, V>
+        requires { IsSome (stored_in answer) }
+        ensures told { Some result ≡ stored_in answer }
+    {
+        match answer {
+            Answer::Computed(done) => stored_by(done),
+            _ => unreachable!(),
+        }
+    }
+}
+
+/// Asks for a value made of what a key has, and stores it, polled until that is logged.
+pub type UpsertWith<'a, K, V, E, C, L = NoListener, S = FixedSeed> = CacheCall<
+    'a,
+    ToUpsert<'a, K>,
+    K,
+    V,
+    E,
+    ByUpsert<C>,
+    L,
+    S,
+>;
+
+impl<'a, K, V, E, L, S> EntrySelector<'a, K, V, E, L, S>
+where
+    K: Eq + Hash + Clone + Drop,
+    V: Clone + Drop,
+    E: Clone + Drop,
+    L: Listener<K, V>,
+    S: Drop,
+{
+    /// Waits until no other compute of the key goes, looks the key up, asks for a value made of what
+    /// it has, and stores that. Answers its entry: fresh, and replaced where the look found one.
+    pub fn and_upsert_with<C: Compute<K, V, E>>(
+        self,
+        compute: C,
+    ) -> UpsertWith<'a, K, V, E, C, L, S>
+        requires { (r : Result (Op V) E) → C.gives compute r → IsPut r }
+        ensures fresh { BeginsWith result.stage (λ begin. begin.key ≡ self.entry.key) }
+        ensures may { MayPoll result.stage }
+        ensures compute { result.asked.stage ≡ ComputeStage.Fresh compute }
+        ensures asks { C.can_start compute → CanPut C.can_start C.can_poll C.gives result.asked }
+        ensures tells { Tells K.eq (Accords (GivesPut C.gives result.asked) Untested) (called
+            (rules_of result.cache.now) (λ begin. Start.Upsert (key_of begin.key)))
+            (λ named answer. stored_in answer) result.stage }
+        ensures cache { result.cache.now ≡ self.entry.cache.now }
+    {
+        moka_shapes::computes_tell::<K, V, E>();
+        let EntrySelector { cache, key } = self;
+        let stage = ComputeStage::Fresh(compute);
+        cache.call_asking(ToUpsert { key }, ByUpsert { stage })
+    }
+}
+
+// The entry that the compute has stored.
+fn stored_by<K: Drop, V: Drop>(done: CompResult<K, V>) -> Entry<K, V>
+    requires { IsSome (stored_by done) }
+    ensures { Some result ≡ stored_by done }
+{
+    match done {
+        CompResult::Inserted(entry) => entry,
+        CompResult::ReplacedWith(entry) => entry,
+        _ => unreachable!(),
+    }
+}

@@ -1,0 +1,34 @@
+//! The program: uses of the cache that tasks poll, each a few lines, and what they answer.
+#![tactic(auto)]
+
+mod answers;
+mod cancelled;
+mod counter;
+mod heard;
+mod memo;
+mod pages;
+mod settings;
+mod sources;
+
+use std::alloc::{AllocGlobal, Global};
+use std::io;
+use std::process::ExitCode;
+use std::random::RandomSource;
+use std::sync::Wait;
+
+fn main(rt: HostRuntime) -> ExitCode {
+    match show_all(&rt, rt.alloc()) {
+        Ok(()) => ExitCode::SUCCESS,
+        Err(_) => ExitCode::FAILURE,
+    }
+}
+
+/// Runs each use in a cache of its own, and prints what it answers.
+fn show_all<R: Wait + RandomSource + AllocGlobal + Print>(rt: &R, alloc: Global) -> io::Result<()> {
+    memo::show(rt, alloc)?;
+    settings::show(rt, alloc)?;
+    pages::show(rt, alloc)?;
+    counter::show(rt, alloc)?;
+    heard::show(rt, alloc)?;
+    cancelled::show(rt, alloc)
+}

@@ -1,0 +1,88 @@
+//! A memo table.
+ghost use Rattle.std.specs.Prelude.{◌≡◌, ◌*◌, IfOk};
+
+use crate::answers::answer_of;
+use futures::task::{Context, Poll};
+use moka_cache::{Cache, Init};
+use std::alloc::{AllocGlobal, Global};
+use std::io;
+use std::random::RandomSource;
+use std::sync::Wait;
+use std::sync::atomic::{AtomicU64, Ordering};
+
+/// A number, and its square.
+#[derive(Clone, Copy)]
+struct Square {
+    root: u32,
+    area: u64,
+    ghost squared: { area ≡ root * root },
+}
+
+impl Square {
+    fn of(root: u32) -> Square
+        ensures { result.root ≡ root }
+    {
+        let side = u64::from(root);
+        Square {
+            root,
+            area: side * side,
+        }
+    }
+}
+
+/// Squares a number, and counts that.
+#[derive(Drop)]
+struct Squares<'a> {
+    root: u32,
+    loads: &'a AtomicU64,
+}
+
+impl Init<Square> for Squares<'_> {
+    fn poll(&mut self, _cx: &mut Context<'_>) -> Poll<Square> {
+        self.loads.fetch_add(1, Ordering::SeqCst);
+        Poll::Ready(Square::of(self.root))
+    }
+}
+
+/// Squares by their roots.
+type Memo = Cache<u32, Square, u32>;
+
+/// The square of a number, taken from the table where it is there. Whatever the table gives, it is
+/// the square: each of its values says so, and of which number.
+fn squared<'a, R: Wait + RandomSource + AllocGlobal>(
+    rt: &'a R,
+    memo: &'a Memo,
+    root: u32,
+    loads: &'a AtomicU64,
+) -> io::Result<u64>
+    ensures { IfOk result (λ area. area ≡ root * root) }
+{
+    match answer_of(rt, memo.get_with(root, Squares { root, loads }))? {
+        Ok(square) => Ok(area_of(square, root)),
+        Err(_) => Ok(Square::of(root).area),
+    }
+}
+
+/// The area that was found, where it is that of the root.
+fn area_of(found: Square, root: u32) -> u64
+    ensures { result ≡ root * root }
+{
+    if found.root == root {
+        found.area
+    } else {
+        Square::of(root).area
+    }
+}
+
+/// Squares a number twice.
+pub(crate) fn show<R: Wait + RandomSource + AllocGlobal + Print>(
+    rt: &R,
+    alloc: Global,
+) -> io::Result<()> {
+    let memo = Cache::new(alloc, 100)?;
+    let loads = AtomicU64::new(0);
+    let first = squared(rt, &memo, 7, &loads)?;
+    let second = squared(rt, &memo, 7, &loads)?;
+    let loads = loads.load(Ordering::SeqCst);
+    println!(rt; "memo: {first} and {second} by {loads} load")
+}

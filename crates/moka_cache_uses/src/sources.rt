@@ -1,0 +1,21 @@
+//! Where values come from.
+
+use futures::task::{Context, Poll};
+use moka_cache::Init;
+
+/// Gives what it has once it was polled so often in vain.
+#[derive(Drop)]
+pub(crate) struct After<T> {
+    pub(crate) polls: u64,
+    pub(crate) gives: T,
+}
+
+impl<T: Copy + Drop> Init<T> for After<T> {
+    fn poll(&mut self, cx: &mut Context<'_>) -> Poll<T> {
+        if self.polls == 0 {
+            return Poll::Ready(self.gives);
+        }
+        self.polls -= 1;
+        cx.yield_now()
+    }
+}

@@ -1,0 +1,8 @@
+//! What a call of the reference cache answers, whatever worlds it meets: no run need lead to them.
+//!
+//! The law is the contract of a function that does nothing. To call it is to cite the law.
+#![tactic(auto)]
+
+mod computes;
+
+pub use computes::computes_tell;
