@@ -9,7 +9,7 @@ use crate::hashers::BuildZero;
 use moka_buckets::{BucketCall, BucketTable, KeysCall};
 use moka_hist::{Stored, TableAnswer, TableOp, TableTurn};
 use moka_table::Table;
-use std::alloc::AllocError;
+use std::alloc::{AllocError, Global};
 use std::hash::{BuildHasher, Hash};
 use std::test::Fail;
 
@@ -144,24 +144,28 @@ fn a_segment_that_is_not_there_has_no_keys(rt: HostRuntime) -> Result<(), Fail> 
     Ok(())
 }
 
+// How often key 1 is listed by a call that made so many steps before the array grew; None where it
+// doesn't end.
+fn ones_listed(alloc: Global, steps: u32) -> Result<Option<usize>, AllocError> {
+    let mut table: Zero = BucketTable::with_segments(alloc, 1, 1, BuildZero {})?;
+    let mut call = table.begin_keys(0);
+    run(&mut table, &call, insert(1))?;
+    let early = list(&mut table, &mut call, steps)?;
+    run(&mut table, &call, insert(2))?;
+    run(&mut table, &call, insert(3))?;
+    run(&mut table, &call, insert(4))?;
+    run(&mut table, &call, insert(5))?;
+    let _ = list_on(&mut table, &mut call, early)?;
+    let keys = table.keys(&call)?;
+    Ok(keys.map(|keys| keys.iter().filter(|key| **key == 1).count()))
+}
+
 // An array of two words grows while its keys are listed: the list begins again in the new one.
 #[test]
 fn keys_that_stay_are_listed_while_the_array_grows(rt: HostRuntime) -> Result<(), Fail> {
     for steps in 0..8u32 {
-        let mut table: Zero = BucketTable::with_segments(rt.alloc(), 1, 1, BuildZero {})?;
-        let mut call = table.begin_keys(0);
-        run(&mut table, &call, insert(1))?;
-        let early = list(&mut table, &mut call, steps)?;
-        run(&mut table, &call, insert(2))?;
-        run(&mut table, &call, insert(3))?;
-        run(&mut table, &call, insert(4))?;
-        run(&mut table, &call, insert(5))?;
-        assert!(rt; list_on(&mut table, &mut call, early)?.is_some());
-        let Some(keys) = table.keys(&call)? else {
-            return Err(Fail::from(AllocError));
-        };
-        let ones = keys.iter().filter(|key| **key == 1).count();
-        assert_eq!(rt; ones, 1, "after {steps} steps");
+        let ones = ones_listed(rt.alloc(), steps)?;
+        assert_eq!(rt; ones, Some(1), "after {steps} steps");
     }
     Ok(())
 }

@@ -1,9 +1,10 @@
 //! Operations of all kinds that run at once, beside std's map.
 
-ghost use Rattle.std.specs.Prelude.{◌≡◌, ◌<◌, IfOk, OnOk, length};
+ghost use Rattle.std.specs.Prelude.{◌≡◌, ◌<◌, ◌≤◌, IfOk, OnOk, length};
 ghost use Rattle.std.specs.List.{All};
 
 use crate::hashers::BuildZero;
+use crate::keys::Zero;
 use crate::pace::most_steps;
 use moka_buckets::BucketTable;
 use moka_hist::{Stored, TableAnswer, TableOp, TableTurn};
@@ -282,22 +283,53 @@ fn operation(seed: u64, keys: u64) -> TableOp<u64, u64> {
     }
 }
 
+// Runs three operations at random on a new table, hashed as std does. Gives the first turn that
+// isn't right, and whether there are as many pairs as in the map then.
+fn run_hashed(
+    alloc: Global,
+    keys: u64,
+    segments: usize,
+    capacity: usize,
+) -> Result<(Option<u32>, bool), AllocError>
+    requires some { 0 < segments }
+    requires few { segments ≤ 65536 }
+{
+    let mut table: BucketTable<u64, u64, BuildHasherDefault<FoldHasher>> =
+        BucketTable::with_segments(alloc, segments, capacity, BuildHasherDefault::new())?;
+    let mut calls = begin_all(alloc, &table, 3, keys)?;
+    let mut map = HashMap::new(alloc);
+    let turn = run_at_random(&mut table, &mut calls, &mut map, keys, 20_000)?;
+    Ok((turn, table.pairs(alloc)?.len() == map.len()))
+}
+
 #[test]
 fn operations_at_random_answer_as_the_map_of_std(rt: HostRuntime) -> Result<(), Fail> {
     let cases = [(1u64, 1, 0), (3, 4, 2), (40, 1, 8), (40, 2, 8), (400, 3, 0)];
     for (keys, segments, capacity) in cases {
-        let mut table: BucketTable<u64, u64, BuildHasherDefault<FoldHasher>> =
-            BucketTable::with_segments(rt.alloc(), segments, capacity, BuildHasherDefault::new())?;
-        let mut calls = begin_all(rt.alloc(), &table, 3, keys)?;
-        let mut map = HashMap::new(rt.alloc());
         assert_eq!(rt;
-            run_at_random(&mut table, &mut calls, &mut map, keys, 20_000)?,
-            None,
+            run_hashed(rt.alloc(), keys, segments, capacity)?,
+            (None, true),
             "{keys} keys, {segments} segments, a capacity of {capacity}"
         );
-        assert_eq!(rt; table.pairs(rt.alloc())?.len(), map.len());
     }
     Ok(())
+}
+
+// Runs ten operations at random on a new table, whose keys have one hash. Gives the first turn that
+// isn't right.
+fn run_colliding(
+    alloc: Global,
+    keys: u64,
+    segments: usize,
+    capacity: usize,
+) -> Result<Option<u32>, AllocError>
+    requires some { 0 < segments }
+    requires few { segments ≤ 65536 }
+{
+    let mut table: Zero = BucketTable::with_segments(alloc, segments, capacity, BuildZero {})?;
+    let mut calls = begin_all(alloc, &table, 10, keys)?;
+    let mut map = HashMap::new(alloc);
+    run_at_random(&mut table, &mut calls, &mut map, keys, 4_000)
 }
 
 // Keys of one hash, all in the first segment, whose first array has 1 word to 16.
@@ -305,16 +337,8 @@ fn operations_at_random_answer_as_the_map_of_std(rt: HostRuntime) -> Result<(), 
 fn ten_operations_on_colliding_keys_answer_as_the_map_of_std(rt: HostRuntime) -> Result<(), Fail> {
     for (segments, capacity) in [(4usize, 1usize), (1, 1), (1, 2), (1, 4), (1, 8)] {
         for keys in [1u64, 3, 40] {
-            let mut table: BucketTable<u64, u64, BuildZero> = BucketTable::with_segments(
-                rt.alloc(),
-                segments,
-                capacity,
-                BuildZero {},
-            )?;
-            let mut calls = begin_all(rt.alloc(), &table, 10, keys)?;
-            let mut map = HashMap::new(rt.alloc());
             assert_eq!(rt;
-                run_at_random(&mut table, &mut calls, &mut map, keys, 4_000)?,
+                run_colliding(rt.alloc(), keys, segments, capacity)?,
                 None,
                 "{keys} keys, {segments} segments, a capacity of {capacity}"
             );
@@ -323,26 +347,45 @@ fn ten_operations_on_colliding_keys_answer_as_the_map_of_std(rt: HostRuntime) ->
     Ok(())
 }
 
+// Whether two operations on a new table answer as the map, with their steps in this order.
+fn is_right(
+    alloc: Global,
+    capacity: usize,
+    seeds: (u64, u64),
+    order: u32,
+) -> Result<bool, AllocError> {
+    let mut table: Zero = BucketTable::with_segments(alloc, 1, capacity, BuildZero {})?;
+    let mut map = HashMap::new(alloc);
+    run_in_order(&mut table, &mut map, seeds, order)
+}
+
+// The first of so many orders in which two operations of these kinds don't answer as the map.
+fn first_wrong(
+    alloc: Global,
+    capacity: usize,
+    kinds: u64,
+    orders: u32,
+) -> Result<Option<u32>, AllocError> {
+    let seeds = (((kinds % 5) << 61) | 7, ((kinds / 5) << 61) | (1 << 33) | 9);
+    for order in 0..orders {
+        if !is_right(alloc, capacity, seeds, order)? {
+            return Ok(Some(order));
+        }
+    }
+    Ok(None)
+}
+
 // No first array, which is 128 words long once there is one, and first arrays of two and of four
 // words; keys of one hash.
 #[test]
 fn two_operations_in_each_order_answer_as_the_map_of_std(rt: HostRuntime) -> Result<(), Fail> {
     for (capacity, orders) in [(0usize, 16u32), (1, 1024), (2, 64)] {
         for kinds in 0..25u64 {
-            let seeds = (((kinds % 5) << 61) | 7, ((kinds / 5) << 61) | (1 << 33) | 9);
-            for order in 0..orders {
-                let mut table: BucketTable<u64, u64, BuildZero> = BucketTable::with_segments(
-                    rt.alloc(),
-                    1,
-                    capacity,
-                    BuildZero {},
-                )?;
-                let mut map = HashMap::new(rt.alloc());
-                assert!(rt;
-                    run_in_order(&mut table, &mut map, seeds, order)?,
-                    "kinds {kinds} in the order {order}, a capacity of {capacity}"
-                );
-            }
+            assert_eq!(rt;
+                first_wrong(rt.alloc(), capacity, kinds, orders)?,
+                None,
+                "kinds {kinds}, a capacity of {capacity}"
+            );
         }
     }
     Ok(())

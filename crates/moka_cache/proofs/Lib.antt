@@ -3,3 +3,4 @@ pub mod Staging
 pub mod Suiting
 pub mod Taking
 pub mod Telling
+pub mod Loading

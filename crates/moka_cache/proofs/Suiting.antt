@@ -4,10 +4,11 @@ use Rattle.std.proofs.lemmas.Bool.{false≢true}
 use Rattle.moka_hist.specs.Next.{Next, answers}
 use Rattle.moka_hist.specs.Run.{fresh_call}
 use Rattle.moka_hist.specs.State.{Call}
-use Rattle.moka_hist.specs.Step.{Access, Gets, access_of}
+use Rattle.moka_hist.specs.Step.{Access}
 use Rattle.moka_hist.specs.declared.accesses.Got.{Got}
 use Rattle.moka_hist.specs.declared.events.Start.{Start}
 use Rattle.moka_hist.specs.declared.events.Start.TheVariants as begins
+use Rattle.moka_hist.specs.declared.events.Told.{Told}
 use Rattle.moka_hist.specs.declared.replies.Answer.{Answer}
 use Rattle.moka_hist.specs.declared.replies.Answer.TheVariants as answer
 use Rattle.moka_hist.specs.declared.rules.Rules.{Rules}
@@ -15,13 +16,13 @@ use Rattle.moka_init.specs.FlowPlan.{call_of}
 use Rattle.moka_laws.specs.Loads.{may_answer}
 use Rattle.moka_laws.specs.Shapes.{Fits, MayGive, MayLead, ShapesFit, asks_nobody}
 use Rattle.moka_kept.specs.Paths.{CameWith, EndedWith, IsGiven, LeadsWith}
-use Rattle.moka_kept.specs.Taking.{NoAnswer, Taken}
-use Rattle.moka_cache.specs.Asked.{Accords, Untested}
+use Rattle.moka_kept.specs.Taking.{Answered, NoAnswer, Taken, Tested}
+use Rattle.moka_cache.specs.Asked.{Accords, ToldSuch}
 use Rattle.moka_cache.specs.Entries.{entry_in}
 use Rattle.moka_cache.specs.Stages.{AnswersWith, CameOnWith}
 use Rattle.moka_cache.specs.Starts.{called}
 use Rattle.moka_cache.specs.Suits.{IsAnswerOf, Suits, Tells}
-use Rattle.moka_kept.proofs.Ways.{ended_on, ended_weaker}
+use Rattle.moka_kept.proofs.Ways.{came_weaker, ended_on, ended_weaker}
 use Rattle.moka_cache.specs.declared.stage.Stage.{Stage}
 use Rattle.moka_cache.specs.declared.stage.Stage.TheVariants as stage
 
@@ -35,13 +36,13 @@ module _ {K V E : Type 0} (eq : K → K → Bool) (n : ℕ) where
   lead_on c [] d more e first then = subst (λ (x : Call K V E). MayLead eq n x more e) first then
   lead_on c (given ∷ path) d more e first then = (first.0, first.1, first.2, lead_on first.0 path d more e first.3 then)
 
-  may_give : (c : Call K V E) (access : Access K V E) (given : Got K V E) → access ≡ access_of n c → IsGiven eq n access given → MayGive eq n c given
-  may_give c access given is by = record { world = by.world; after = by.after; gets = subst (λ a. Gets eq n by.world a given by.after) is by.gets }
+  pub may_give : (c : Call K V E) (given : Got K V E) → IsGiven eq n c given → MayGive eq n c given
+  may_give c given by = record { world = by.world; after = by.after; gets = by.gets }
 
 module _ {K V E : Type 0} (eq : K → K → Bool) (such : Taken V E → Type 0) (n : ℕ) where
   pub may_lead : (c : Call K V E) (path : List (Access K V E × Got K V E)) (d : Call K V E) → LeadsWith eq such n c path d → MayLead eq n c (what_gave path) d
   may_lead c [] d led = led
-  may_lead c (made ∷ more) d led = (led.0, may_give eq n c made.0 made.1 led.1 led.2, led.3, may_lead led.0 more d led.5)
+  may_lead c (made ∷ more) d led = (led.0, may_give eq n c made.1 led.2, led.3, may_lead led.0 more d led.5)
 
   -- on its way the call keeps fitting
   fits_on : (begin : Start K V) (c d : Call K V E) → Fits eq n begin c → CameWith eq such n c d → Fits eq n begin d
@@ -52,7 +53,7 @@ module _ {K V E : Type 0} (eq : K → K → Bool) (such : Taken V E → Type 0) 
   fits_end : (begin : Start K V) (c : Call K V E) (a : Answer K V E) → Fits eq n begin c → EndedWith eq such n c (answers a) → may_answer begin a ≡ true
   fits_end begin c a fits end =
       fits (what_gave end.came.0) end.call end.given a (may_lead c end.came.0 end.call end.came.1)
-      (record { world = end.last.world; after = end.last.after; gets = end.last.gets }) (sym (ap (λ (x : Next K V E). x.turn) end.follows))
+      (may_give eq n end.call end.given end.last) (sym (ap (λ (x : Next K V E). x.turn) end.follows))
 
 module _ {A K V E : Type 0} (eq : K → K → Bool) (law : ShapesFit K V E eq) (such : Taken V E → Type 0) (rules : Rules) (start : A → Start K V) where
   pub suits_on : (old new : Stage A K V E) → CameOnWith eq such (called rules start) old new → Suits eq start old → Suits eq start new
@@ -84,19 +85,43 @@ module _ {A K V E : Type 0} (eq : K → K → Bool) (law : ShapesFit K V E eq) (
 
 -- ---- what is told of answers
 
-module _ {A K V E O : Type 0} (eq : K → K → Bool) (such other : Taken V E → Type 0) (weaker : (taken : Taken V E) → such taken → other taken) (begins : A → Call K V E)
-    (output : Option K → Answer K V E → Option O) where
+module _ {V E : Type 0} where
+  -- who is asked may give less
+  told_weaker : (told other : Told V E → Type 0) → ((t : Told V E) → told t → other t) → (taken : Taken V E) → ToldSuch told taken → ToldSuch other taken
+  told_weaker told other weaker (Answered t) h = weaker t h
+  told_weaker told other weaker (Tested value replaced) h = h
+
+  -- nothing is said of the test
+  pub accords_told : (told : Told V E → Type 0) (so : V → Bool → Type 0) (taken : Taken V E) → Accords told so taken → ToldSuch told taken
+  accords_told told so (Answered t) h = h
+  accords_told told so (Tested value replaced) h = tt
+
+module _ {A K V E : Type 0} (eq : K → K → Bool) (such other : Taken V E → Type 0) (weaker : (taken : Taken V E) → such taken → other taken) (begins : A → Call K V E) where
+  -- an answer of which less is said
+  pub answers_weaker : (old : Stage A K V E) (answer : Answer K V E) → AnswersWith eq such begins old answer → AnswersWith eq other begins old answer
+  answers_weaker (stage.Fresh begin) answer by = (by.0, ended_weaker eq such other weaker by.0 (begins begin) (answers answer) by.1)
+  answers_weaker (stage.Running old) answer by = ended_weaker eq such other weaker old.call (call_of old) (answers answer) by
+  answers_weaker stage.Spent answer by = absurd by
+  answers_weaker stage.Answered answer by = absurd by
+
+module _ {A K V E O : Type 0} (eq : K → K → Bool) (such : Taken V E → Type 0) (told other : Told V E → Type 0) (weaker : (t : Told V E) → told t → other t)
+    (taken : (t : Taken V E) → such t → ToldSuch other t) (begins : A → Call K V E) (output : Option K → Answer K V E → Option O) where
+  less : (n : ℕ) (c : Call K V E) (answer : Answer K V E) → EndedWith eq (ToldSuch told) n c (answers answer) → EndedWith eq (ToldSuch other) n c (answers answer)
+  less n c answer end = ended_weaker eq (ToldSuch told) (ToldSuch other) (told_weaker told other weaker) n c (answers answer) end
+
+  on : (n : ℕ) (c d : Call K V E) (answer : Answer K V E) → CameWith eq such n c d → EndedWith eq (ToldSuch other) n d (answers answer) → EndedWith eq (ToldSuch other) n c (answers answer)
+  on n c d answer came end = ended_on eq (ToldSuch other) n c d (answers answer) (came_weaker eq such (ToldSuch other) taken n c d came) end
+
   -- A state still tells of each answer that its call may come to. By then who is asked may give less.
-  pub tells_on : (old new : Stage A K V E) → CameOnWith eq other begins old new → Tells eq other begins output old → Tells eq such begins output new
+  pub tells_on : (old new : Stage A K V E) → CameOnWith eq such begins old new → Tells eq other begins output old → Tells eq told begins output new
   tells_on (stage.Fresh begin) (stage.Fresh kept) came tells named answer by =
-      tells named answer (by.0, ended_weaker eq such other weaker by.0 (begins begin) (answers answer) (subst (λ b. EndedWith eq such by.0 (begins b) (answers answer)) came by.1))
+      tells named answer (by.0, less by.0 (begins begin) answer (subst (λ b. EndedWith eq (ToldSuch told) by.0 (begins b) (answers answer)) came by.1))
   tells_on (stage.Fresh begin) (stage.Running flow) came tells named answer by =
-      tells named answer
-      (flow.call, ended_on eq other flow.call (begins begin) (call_of flow) (answers answer) came (ended_weaker eq such other weaker flow.call (call_of flow) (answers answer) by))
+      tells named answer (flow.call, on flow.call (begins begin) (call_of flow) answer came (less flow.call (call_of flow) answer by))
   tells_on (stage.Running old) (stage.Running new) came tells named answer by =
       tells named answer
-      (ended_on eq other old.call (call_of old) (call_of new) (answers answer) came.1
-      (ended_weaker eq such other weaker old.call (call_of new) (answers answer) (subst (λ n. EndedWith eq such n (call_of new) (answers answer)) came.0 by)))
+      (on old.call (call_of old) (call_of new) answer came.1
+      (less old.call (call_of new) answer (subst (λ n. EndedWith eq (ToldSuch told) n (call_of new) (answers answer)) came.0 by)))
   tells_on (stage.Running old) (stage.Fresh kept) came tells named answer by = absurd came
   tells_on stage.Spent (stage.Fresh kept) came tells named answer by = absurd came
   tells_on stage.Spent (stage.Running new) came tells named answer by = absurd came
@@ -106,9 +131,9 @@ module _ {A K V E O : Type 0} (eq : K → K → Bool) (such other : Taken V E �
   tells_on old stage.Answered came tells named answer by = absurd by
 
 -- one that has answered has nothing to tell
-pub tells_over : {A K V E O : Type 0} (eq : K → K → Bool) (such : Taken V E → Type 0) (begins : A → Call K V E) (output : Option K → Answer K V E → Option O) (new : Stage A K V E) → new ≡ stage.Answered
+pub tells_over : {A K V E O : Type 0} (eq : K → K → Bool) (such : Told V E → Type 0) (begins : A → Call K V E) (output : Option K → Answer K V E → Option O) (new : Stage A K V E) → new ≡ stage.Answered
     → Tells eq such begins output new
-tells_over eq such begins output new over named answer by = absurd (subst (λ s. AnswersWith eq such begins s answer) over by)
+tells_over eq such begins output new over named answer by = absurd (subst (λ s. AnswersWith eq (ToldSuch such) begins s answer) over by)
 
 -- what stores a value where there is none answers an entry
 pub or_inserts : {A K V E : Type 0} (key : A → K) (value : A → V) (named : Option K) (given : Answer K V E) → IsAnswerOf (λ begin. begins.OrInsert (key begin) (value begin)) given
@@ -118,10 +143,10 @@ or_inserts key value named _ is = absurd (false≢true is.1)
 
 -- so a state of it tells of each answer
 pub or_inserts_tell : {A K V E : Type 0} (eq : K → K → Bool) (law : ShapesFit K V E eq) (rules : Rules) (key : A → K) (value : A → V) (made : Stage A K V E) (begin : A) → made ≡ stage.Fresh begin
-    → Tells eq (Accords NoAnswer Untested) (called rules (λ it. begins.OrInsert (key it) (value it))) entry_in made
+    → Tells eq NoAnswer (called rules (λ it. begins.OrInsert (key it) (value it))) entry_in made
 or_inserts_tell {A} {K} {V} {E} eq law rules key value made begin is named given by =
     let start : A → Start K V = λ it. begins.OrInsert (key it) (value it) in
-    let such : Taken V E → Type 0 = Accords NoAnswer Untested in
+    let such : Taken V E → Type 0 = ToldSuch NoAnswer in
     or_inserts key value named given (suits_answer eq law such rules start (stage.Fresh begin) given (subst (λ s. AnswersWith eq such (called rules start) s given) is by) refl)
 
 -- what an answer leaves

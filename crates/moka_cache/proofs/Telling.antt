@@ -5,8 +5,8 @@ use Rattle.std.proofs.lemmas.List.Elements.{Contains-append_cases, Contains-push
 use Rattle.moka_hist.specs.Entries.{put_answer, removed_value, unchanged}
 use Rattle.moka_hist.specs.Next.{Next, answers}
 use Rattle.moka_hist.specs.Run.{fresh_call}
-use Rattle.moka_hist.specs.State.{Call, DeskPart}
-use Rattle.moka_hist.specs.Step.{Access, On_table, On_desk, access_of}
+use Rattle.moka_hist.specs.State.{Call, DeskPart, World}
+use Rattle.moka_hist.specs.Step.{Access, Gets, On_table, On_desk, access_of}
 use Rattle.moka_hist.specs.Visits.{finds}
 use Rattle.moka_hist.specs.declared.accesses.Got.{Got}
 use Rattle.moka_hist.specs.declared.events.Op.{Op}
@@ -22,9 +22,9 @@ use Rattle.moka_hist.specs.declared.visits.Found.TheVariants as found
 use Rattle.moka_hist.specs.declared.visits.Visit.{Visit}
 use Rattle.moka_hist.specs.declared.visits.Visit.TheVariants as visit
 use Rattle.moka_shapes.specs.Computes.{ComputesTell, Follows, is_alone, key_computed, taken}
-use Rattle.moka_kept.specs.Paths.{EndedWith, IsGiven, LeadsWith}
+use Rattle.moka_kept.specs.Paths.{EndedWith, LeadsWith}
 use Rattle.moka_kept.specs.Taking.{Answered, Taken, taken_in, taken_made}
-use Rattle.moka_cache.specs.Asked.{Accords, TellsDone, TellsPut, Untested}
+use Rattle.moka_cache.specs.Asked.{TellsDone, TellsPut, ToldSuch}
 use Rattle.moka_cache.specs.Computes.{MayGive}
 use Rattle.moka_cache.specs.Entries.{computed_in, stored_in, try_computed_in}
 use Rattle.moka_cache.specs.Stages.{AnswersWith}
@@ -34,10 +34,10 @@ use Rattle.moka_cache.specs.declared.by_compute.ByCompute.{ByCompute}
 use Rattle.moka_cache.specs.declared.by_compute.ComputeStage.TheVariants as compute
 use Rattle.moka_cache.specs.declared.stage.Stage.{Stage}
 use Rattle.moka_cache.specs.declared.stage.Stage.TheVariants as stage
-use Rattle.moka_cache.proofs.Suiting.{may_lead, what_gave}
+use Rattle.moka_cache.proofs.Suiting.{may_give, may_lead, what_gave}
 
 -- what follows from either
-either : (P Q R : Type 0) → (P → R) → (Q → R) → P ⊎ Q → R
+pub either : (P Q R : Type 0) → (P → R) → (Q → R) → P ⊎ Q → R
 either P Q R f g (inl p) = f p
 either P Q R f g (inr q) = g q
 
@@ -61,17 +61,17 @@ module _ {K V E : Type 0} (such : Taken V E → Type 0) where
   such_found w _ t is took = absurd (false≢true (ap is_told is))
 
   module _ (eq : K → K → Bool) (n : ℕ) where
-    is_such : (a : Access K V E) (given : Got K V E) (t : Told V E) → IsGiven eq n a given → IfSome (taken_in a given) such → given ≡ taken t → such (Answered t)
-    is_such a given t by took is = now a (subst (λ (g : Got K V E). IsGiven eq n a g) is by) (subst (λ (g : Got K V E). IfSome (taken_in a g) such) is took) where
-      now : (a : Access K V E) → IsGiven eq n a (taken t) → IfSome (taken_in a (taken t)) such → such (Answered t)
-      now (On_table operation) by took = absurd by.gets
-      now (On_desk made) by took = such_found by.world.desk made t (sym by.gets.0) took
+    is_such : (a : Access K V E) (w after : World K V E) (given : Got K V E) (t : Told V E) → Gets eq n w a given after → IfSome (taken_in a given) such → given ≡ taken t → such (Answered t)
+    is_such a w after given t gets took is = now a (subst (λ (g : Got K V E). Gets eq n w a g after) is gets) (subst (λ (g : Got K V E). IfSome (taken_in a g) such) is took) where
+      now : (a : Access K V E) → Gets eq n w a (taken t) after → IfSome (taken_in a (taken t)) such → such (Answered t)
+      now (On_table operation) gets took = absurd gets
+      now (On_desk made) gets took = such_found w.desk made t (sym gets.0) took
 
     such_on : (c : Call K V E) (path : List (Access K V E × Got K V E)) (d : Call K V E) → LeadsWith eq such n c path d → (t : Told V E) → Contains (what_gave path) (taken t) → such (Answered t)
     such_on c [] d led t there = absurd (contains_none (taken t) there)
     such_on c (made ∷ more) d led t there =
         either (Contains (made.1 ∷ []) (taken t)) (Contains (what_gave more) (taken t)) (such (Answered t))
-        (λ first. is_such made.0 made.1 t led.2 led.4 (contains_one made.1 (taken t) first))
+        (λ first. is_such made.0 led.2.world led.2.after made.1 t (subst (λ (a : Access K V E). Gets eq n led.2.world a made.1 led.2.after) (sym led.1) led.2.gets) led.4 (contains_one made.1 (taken t) first))
         (λ later. such_on led.0 more d led.5 t later)
         (Contains-append_cases (made.1 ∷ []) (what_gave more) (taken t) there)
 
@@ -81,20 +81,25 @@ abbrev AnswersSuch : {K V E : Type 0} → (Told V E → Type 0) → Start K V �
 AnswersSuch {K} {V} {E} such begin key said =
     ((t : Told V E) × such t × Follows key t said) ⊎ ((is_alone begin ≡ true) × ((pair : Option (K × V)) × (said ≡ unchanged key pair)))
 
+module _ {K V E : Type 0} (eq : K → K → Bool) (such : Taken V E → Type 0) (n : ℕ) (c : Call K V E) (next : Next K V E) where
+  -- what is told on a way to an answer is such
+  pub such_told : (end : EndedWith eq such n c next) (t : Told V E) → Contains (what_gave end.came.0 ++ end.given ∷ []) (taken t) → such (Answered t)
+  such_told end t there =
+      let path : List (Got K V E) = what_gave end.came.0 in
+      either (Contains path (taken t)) (Contains (end.given ∷ []) (taken t)) (such (Answered t))
+      (λ before. such_on such eq n c end.came.0 end.call end.came.1 t before)
+      (λ last. is_such such eq n (access_of n end.call) end.last.world end.last.after end.given t end.last.gets end.took (contains_one end.given (taken t) last))
+      (Contains-append_cases path (end.given ∷ []) (taken t) there)
+
 module _ {K V E : Type 0} (eq : K → K → Bool) (law : ComputesTell K V E eq) (such : Taken V E → Type 0) (rules : Rules) (begin : Start K V) (key : K)
     (computes : key_computed begin ≡ Some key) (n : ℕ) (said : Answer K V E) where
   answers_such : EndedWith eq such n (fresh_call rules begin) (answers said) → AnswersSuch (λ t. such (Answered t)) begin key said
   answers_such end =
       let path : List (Got K V E) = what_gave end.came.0 in
-      let tells : (t : Told V E) → Contains (path ++ end.given ∷ []) (taken t) → such (Answered t) = λ t there.
-      either (Contains path (taken t)) (Contains (end.given ∷ []) (taken t)) (such (Answered t))
-      (λ before. such_on such eq n (fresh_call rules begin) end.came.0 end.call end.came.1 t before)
-      (λ last. is_such such eq n (access_of n end.call) end.given t end.last end.took (contains_one end.given (taken t) last))
-      (Contains-append_cases path (end.given ∷ []) (taken t) there) in
       either ((t : Told V E) × Contains (path ++ end.given ∷ []) (taken t) × Follows key t said) ((is_alone begin ≡ true) × ((pair : Option (K × V)) × (said ≡ unchanged key pair)))
-      (AnswersSuch (λ t. such (Answered t)) begin key said) (λ by. inl (by.0, tells by.0 by.1, by.2)) (λ alone. inr alone)
+      (AnswersSuch (λ t. such (Answered t)) begin key said) (λ by. inl (by.0, such_told eq such n (fresh_call rules begin) (answers said) end by.0 by.1, by.2)) (λ alone. inr alone)
       (law rules begin key n path end.call end.given said computes (may_lead eq such n (fresh_call rules begin) end.came.0 end.call end.came.1)
-      (record { world = end.last.world; after = end.last.after; gets = end.last.gets }) (sym (ap (λ (x : Next K V E). x.turn) end.follows)))
+      (may_give eq n end.call end.given end.last) (sym (ap (λ (x : Next K V E). x.turn) end.follows)))
 
 -- ---- what is stated of each answer
 
@@ -172,10 +177,10 @@ module _ {K V E : Type 0} (such : Result (Op V) E → Type 0) (key : K) (said : 
 module _ {A K V E O : Type 0} (eq : K → K → Bool) (law : ComputesTell K V E eq) (such : Told V E → Type 0) (rules : Rules) (start : A → Start K V) (key : A → K)
     (computes : (begin : A) → key_computed (start begin) ≡ Some (key begin)) (output : Option K → Answer K V E → Option O)
     (states : (begin : A) (named : Option K) (said : Answer K V E) → AnswersSuch such (start begin) (key begin) said → IsSome (output named said)) where
-  tells_such : (made : Stage A K V E) (begin : A) → made ≡ stage.Fresh begin → Tells eq (Accords such Untested) (called rules start) output made
+  tells_such : (made : Stage A K V E) (begin : A) → made ≡ stage.Fresh begin → Tells eq such (called rules start) output made
   tells_such made begin is named said by =
-      let ended : AnswersWith eq (Accords such Untested) (called rules start) (stage.Fresh begin) said = subst (λ s. AnswersWith eq (Accords such Untested) (called rules start) s said) is by in
-      states begin named said (answers_such eq law (Accords such Untested) rules (start begin) (key begin) (computes begin) ended.0 said ended.1)
+      let ended : AnswersWith eq (ToldSuch such) (called rules start) (stage.Fresh begin) said = subst (λ s. AnswersWith eq (ToldSuch such) (called rules start) s said) is by in
+      states begin named said (answers_such eq law (ToldSuch such) rules (start begin) (key begin) (computes begin) ended.0 said ended.1)
 
 -- one that goes with others was told something
 was_told : {K V E P : Type 0} (begin : Start K V) (under : K) (said : Answer K V E) (tells : Told V E → Type 0) → is_alone begin ≡ false → ((t : Told V E) → tells t → Follows under t said → P)
@@ -186,17 +191,17 @@ was_told {K} {V} {E} {P} begin under said tells others follows by =
 
 module _ {A K V E : Type 0} (eq : K → K → Bool) (law : ComputesTell K V E eq) (such : Result (Op V) E → Type 0) (rules : Rules) (key : A → K) where
   pub compute_tells : ((r : Result (Op V) E) → such r → IsOk r) → (made : Stage A K V E) (begin : A) → made ≡ stage.Fresh begin
-      → Tells eq (Accords (TellsDone such) Untested) (called rules (λ it. begins.Compute (key it))) (λ named said. computed_in said) made
+      → Tells eq (TellsDone such) (called rules (λ it. begins.Compute (key it))) (λ named said. computed_in said) made
   compute_tells fine = tells_such eq law (TellsDone such) rules (λ it. begins.Compute (key it)) key (λ begin. refl) (λ named said. computed_in said)
       (λ begin named said by. was_told (begins.Compute (key begin)) (key begin) said (TellsDone such) refl (computed such (key begin) said fine) by)
 
   pub try_tells : (made : Stage A K V E) (begin : A) → made ≡ stage.Fresh begin
-      → Tells eq (Accords (TellsDone such) Untested) (called rules (λ it. begins.TryCompute (key it))) (λ named said. try_computed_in said) made
+      → Tells eq (TellsDone such) (called rules (λ it. begins.TryCompute (key it))) (λ named said. try_computed_in said) made
   try_tells = tells_such eq law (TellsDone such) rules (λ it. begins.TryCompute (key it)) key (λ begin. refl) (λ named said. try_computed_in said)
       (λ begin named said by. was_told (begins.TryCompute (key begin)) (key begin) said (TellsDone such) refl (tried such (key begin) said) by)
 
   pub alone_tells : (made : Stage A K V E) (begin : A) → made ≡ stage.Fresh begin
-      → Tells eq (Accords (TellsDone such) Untested) (called rules (λ it. begins.ComputeAlone (key it))) (λ named said. try_computed_in said) made
+      → Tells eq (TellsDone such) (called rules (λ it. begins.ComputeAlone (key it))) (λ named said. try_computed_in said) made
   alone_tells = tells_such eq law (TellsDone such) rules (λ it. begins.ComputeAlone (key it)) key (λ begin. refl) (λ named said. try_computed_in said)
       (λ begin named said by.
       either ((t : Told V E) × TellsDone such t × Follows (key begin) t said) ((is_alone {K = K} {V = V} (begins.ComputeAlone (key begin)) ≡ true) × ((pair : Option (K × V)) × (said ≡ unchanged (key begin) pair)))
@@ -204,7 +209,7 @@ module _ {A K V E : Type 0} (eq : K → K → Bool) (law : ComputesTell K V E eq
       (λ alone. subst (λ a. IsSome (try_computed_in a)) (sym alone.1.1) (tried_kept V E (key begin) alone.1.0)) by)
 
   pub upsert_tells : (made : Stage A K V E) (begin : A) → made ≡ stage.Fresh begin
-      → Tells eq (Accords (TellsPut such) Untested) (called rules (λ it. begins.Upsert (key it))) (λ named said. stored_in said) made
+      → Tells eq (TellsPut such) (called rules (λ it. begins.Upsert (key it))) (λ named said. stored_in said) made
   upsert_tells = tells_such eq law (TellsPut such) rules (λ it. begins.Upsert (key it)) key (λ begin. refl) (λ named said. stored_in said)
       (λ begin named said by. was_told (begins.Upsert (key begin)) (key begin) said (TellsPut such) refl (stored such (key begin) said) by)
 

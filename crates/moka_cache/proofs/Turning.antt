@@ -36,7 +36,7 @@ module _ {K V E : Type 0} (eq : K → K → Bool) (such : Taken V E → Type 0) 
   turned old (stop.Answers answer) t new end follows = subst (λ u. TurnIs eq such old u new) (sym follows) end
   turned old stop.Going t new after follows = subst (λ u. TurnIs eq such old u new) (sym follows) after
   turned old stop.Waits t new after follows = may_pend old t new after.0 follows
-  turned old (stop.Asks ask) t new after follows = may_pend old t new after follows
+  turned old (stop.Asks ask) t new after follows = may_pend old t new after.0 follows
   turned old stop.Memory t new after follows = subst (λ u. TurnIs eq such old u new) (sym follows) (refl, after)
 
   -- where the steps left the call waiting, it waits
@@ -46,15 +46,14 @@ module _ {K V E : Type 0} (eq : K → K → Bool) (such : Taken V E → Type 0) 
 
   -- who is asked is as it was, or began where the call came to its own ask
   pub begun_at : {Q : Type 0} (begins : Q → Option (Entry K V) → Q → Type 0) (old : Flow K V E) (s : Stop K V E) (new : Flow K V E) (before after : Q) → StopIs eq such old s new
-      → BegunBy begins (is_taking (access_at new)) s before after → (after ≡ before) ⊎ CameToAsk eq such old
+      → BegunBy begins s before after → (after ≡ before) ⊎ CameToAsk eq such old
   begun_at begins old stop.Going new before after stops begun = inl begun
   begun_at begins old stop.Waits new before after stops begun = inl begun
   begun_at begins old (stop.Answers answer) new before after stops begun = inl begun
   begun_at begins old stop.Memory new before after stops begun = inl begun
   begun_at begins old (stop.Asks (ask.Listener key value cause)) new before after stops begun = inl begun
   begun_at begins old (stop.Asks ask.Init) new before after stops begun = inl begun
-  begun_at begins old (stop.Asks (ask.Compute found)) new before after stops (inl same) = inl same
-  begun_at begins old (stop.Asks (ask.Compute found)) new before after stops (inr begun) = inr (new, stops, inl begun.0)
+  begun_at begins old (stop.Asks (ask.Compute found)) new before after stops begun = inr (new, stops.0, inr (inr (found, stops.1)))
 
   -- or was asked its test there
   pub unasked_or : {Q : Type 0} (tests : Q → V → Bool → Q → Type 0) (flow : Flow K V E) → Rests flow → (first before after : Q) (b : Brought V E)
@@ -62,7 +61,7 @@ module _ {K V E : Type 0} (eq : K → K → Bool) (such : Taken V E → Type 0) 
   unasked_or tests flow rests first before after b once (inr asks) = inr asks
   unasked_or {Q} tests flow rests first before after b once (inl same) = by (tested_in (call_of flow).plan) refl where
     by : (o : Option V) → tested_in (call_of flow).plan ≡ o → (after ≡ first) ⊎ CameToAsk eq such flow
-    by (Some value) is = inr (flow, came_here eq such flow rests, inr (subst IsSome (sym is) refl))
+    by (Some value) is = inr (flow, came_here eq such flow rests, inr (inl (subst IsSome (sym is) refl)))
     by None is = inl (same ∙ unasked_then tests first before (tested_in (call_of flow).plan) b once is)
 
   -- it may be another where its own ask is open

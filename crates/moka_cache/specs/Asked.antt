@@ -1,5 +1,5 @@
 -- What a call takes of who is asked.
-use Rattle.std.specs.Prelude.{◌≡◌, ◌⊎◌, Bool, true, false, List, [], ◌∷◌, Option, Some, None, Result, Ok, Err}
+use Rattle.std.specs.Prelude.{◌≡◌, Bool, false, List, [], ◌∷◌, Option, Some, None, Result, Ok, Err}
 use Rattle.moka_hist.specs.declared.entries.Entry.{Entry}
 use Rattle.moka_hist.specs.declared.events.Op.{Op}
 use Rattle.moka_hist.specs.declared.events.Op.TheVariants as op
@@ -52,6 +52,11 @@ module _ {V E : Type 0} where
   Accords such so (Answered told) = such told
   Accords such so (Tested value replaced) = so value replaced
 
+  -- the answer to the own ask is such; that of the replace test may be any
+  abbrev pub ToldSuch : (Told V E → Type 0) → Taken V E → Type 0
+  ToldSuch such (Answered told) = such told
+  ToldSuch such (Tested value replaced) = Unit {0}
+
 -- what a look found, as a compute is started with it: the stored key, and neither flag
 abbrev pub entry_of : {K V : Type 0} → Option (K × V) → Option (Entry K V)
 entry_of None = None
@@ -59,23 +64,16 @@ entry_of (Some pair) =
     Some (record { key = Some pair.0; value = pair.1; fresh = false; replaced = false })
 
 module _ {K V Q : Type 0} where
-  -- who is asked is as it was; or, where the call stands at its own ask, was begun with what the look
-  -- found
-  abbrev pub IsBegun : (Q → Option (Entry K V) → Q → Type 0) → Bool → Option (K × V) → Q → Q
-      → Type 0
-  IsBegun begins taking found old new =
-      (new ≡ old) ⊎ ((taking ≡ true) × begins old (entry_of found) new)
-
-  -- it may be begun where a compute asks, with what that asks with, and else is as it was
-  abbrev pub BegunFor : (Q → Option (Entry K V) → Q → Type 0) → Bool → Ask K V → Q → Q → Type 0
-  BegunFor begins taking (ask.Compute found) old new = IsBegun begins taking found old new
-  BegunFor begins taking _ old new = new ≡ old
+  -- who is asked was begun where a compute asks, with what its look found, and else is as it was
+  abbrev pub BegunFor : (Q → Option (Entry K V) → Q → Type 0) → Ask K V → Q → Q → Type 0
+  BegunFor begins (ask.Compute found) old new = begins old (entry_of found) new
+  BegunFor begins _ old new = new ≡ old
 
   -- the same by how a hold of the lock left the call
-  abbrev pub BegunBy : {E : Type 0} → (Q → Option (Entry K V) → Q → Type 0) → Bool → Stop K V E
-      → Q → Q → Type 0
-  BegunBy begins taking (stop.Asks asks) old new = BegunFor begins taking asks old new
-  BegunBy begins taking _ old new = new ≡ old
+  abbrev pub BegunBy : {E : Type 0} → (Q → Option (Entry K V) → Q → Type 0) → Stop K V E → Q → Q
+      → Type 0
+  BegunBy begins (stop.Asks asks) old new = BegunFor begins asks old new
+  BegunBy begins _ old new = new ≡ old
 
 -- without a replace test nothing is replaced
 abbrev pub Untested : {V : Type 0} → V → Bool → Type 0

@@ -1,5 +1,6 @@
 -- What the states answer whose answers are entries, or what a compute has done.
-use Rattle.std.specs.Prelude.{false, Option, Some, None, Result, Ok, Err, ok_or}
+use Rattle.std.specs.Prelude.{false, Option, Some, None, Result, Ok, Err}
+use Rattle.std.specs.Option.{option_map}
 use Rattle.moka_hist.specs.declared.entries.CompResult.{CompResult}
 use Rattle.moka_hist.specs.declared.entries.CompResult.TheVariants as done
 use Rattle.moka_hist.specs.declared.entries.Entry.{Entry}
@@ -16,22 +17,26 @@ module _ {K V E : Type 0} where
       Some (record { key = named; value = value; fresh = fresh; replaced = false })
   entry_in named _ = None
 
-  -- what a load answers by it, or else that the owners which it waited for were dropped too often
-  abbrev pub loaded_entry_in : Option K → Answer K V E → Result (Entry K V) RetriesExhausted
-  loaded_entry_in named answer = ok_or (entry_in named answer) (record {})
+  -- what a load answers by it, or that the owners that it waited for were dropped too often
+  abbrev pub loaded_entry_in : Option K → Answer K V E
+      → Option (Result (Entry K V) RetriesExhausted)
+  loaded_entry_in named answer.RetriesExhausted = Some (Err (record {}))
+  loaded_entry_in named answer = option_map Ok (entry_in named answer)
 
   -- the same of a load that may find nothing
   abbrev pub optionally_loaded_entry_in : Option K → Answer K V E
-      → Result (Option (Entry K V)) RetriesExhausted
-  optionally_loaded_entry_in named answer.Nothing = Ok None
-  optionally_loaded_entry_in named (answer.Loaded value fresh) =
-      Ok (entry_in named (answer.Loaded value fresh))
-  optionally_loaded_entry_in named _ = Err (record {})
+      → Option (Result (Option (Entry K V)) RetriesExhausted)
+  optionally_loaded_entry_in named answer.Nothing = Some (Ok None)
+  optionally_loaded_entry_in named answer.RetriesExhausted = Some (Err (record {}))
+  optionally_loaded_entry_in named answer =
+      option_map (λ entry. Ok (Some entry)) (entry_in named answer)
 
   -- the same of a load that may fail
-  abbrev pub try_loaded_entry_in : Option K → Answer K V E → Result (Entry K V) (LoadError E)
-  try_loaded_entry_in named (answer.InitErr gave) = Err (error.Init gave)
-  try_loaded_entry_in named answer = ok_or (entry_in named answer) error.RetriesExhausted
+  abbrev pub try_loaded_entry_in : Option K → Answer K V E
+      → Option (Result (Entry K V) (LoadError E))
+  try_loaded_entry_in named (answer.InitErr gave) = Some (Err (error.Init gave))
+  try_loaded_entry_in named answer.RetriesExhausted = Some (Err error.RetriesExhausted)
+  try_loaded_entry_in named answer = option_map Ok (entry_in named answer)
 
   -- what a compute has done that is never told an error
   abbrev pub computed_in : Answer K V E → Option (CompResult K V)

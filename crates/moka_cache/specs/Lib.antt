@@ -2,6 +2,7 @@ pub mod Settings
 pub mod Keys
 pub mod Asked
 pub mod Computes
+pub mod Inits
 pub mod Loaded
 pub mod Entries
 pub mod Hearing

@@ -3,10 +3,11 @@ use Rattle.std.specs.Prelude.{◌≡◌, ℕ, Bool, true, Option, Some, None, Is
 use Rattle.futures.specs.declared.task.Poll.{Poll}
 use Rattle.futures.specs.declared.task.Poll.TheVariants.{Ready, Pending}
 use Rattle.moka_hist.specs.declared.replies.Answer.{Answer}
+use Rattle.moka_hist.specs.declared.replies.Ask.TheVariants as ask
 use Rattle.moka_init.specs.FlowPlan.{call_of, tested_in}
 use Rattle.moka_init.specs.Grounds.{access_at}
 use Rattle.moka_init.specs.declared.flow.Flow.{Flow}
-use Rattle.moka_kept.specs.Stops.{AnswersFrom, CameTo, Waits}
+use Rattle.moka_kept.specs.Stops.{AnswersFrom, CameTo, LeftAsking, Waits}
 use Rattle.moka_kept.specs.Taking.{Taken, is_taking}
 use Rattle.moka_cache.specs.Hearing.{Awaits}
 use Rattle.moka_cache.specs.declared.errors.PollError.{PollError}
@@ -38,10 +39,14 @@ module _ {K V E : Type 0} where
       ⊎ Awaits unheard flow)
 
   -- who is asked is to be asked where the flow stands: its own ask is open, which its next visit
-  -- takes the answer to; or that judges a record by the replace test
-  abbrev pub IsToAsk : Flow K V E → Type 0
-  IsToAsk flow = (is_taking (access_at flow) ≡ true) ⊎ IsSome (tested_in (call_of flow).plan)
+  -- takes the answer to; or that judges a record by the replace test; or the last access of its call
+  -- asked a compute, with what its look found
+  abbrev pub IsToAsk : (K → K → Bool) → Flow K V E → Type 0
+  IsToAsk eq flow =
+      (is_taking (access_at flow) ≡ true)
+      ⊎ (IsSome (tested_in (call_of flow).plan)
+      ⊎ ((found : Option (K × V)) × LeftAsking eq flow (ask.Compute found)))
 
   -- the call came there from where the flow stands
   abbrev pub CameToAsk : (K → K → Bool) → (Taken V E → Type 0) → Flow K V E → Type 0
-  CameToAsk eq such old = (flow : Flow K V E) × CameTo eq such old flow × IsToAsk flow
+  CameToAsk eq such old = (flow : Flow K V E) × CameTo eq such old flow × IsToAsk eq flow

@@ -8,7 +8,7 @@ use Rattle.moka_init.specs.FlowPlan.{call_of}
 use Rattle.moka_kept.specs.Kept.{NumbersSpent}
 use Rattle.moka_kept.specs.Paths.{CameWith, EndedWith}
 use Rattle.moka_kept.specs.Rests.{Rests}
-use Rattle.moka_kept.specs.Taking.{NoAnswer, Taken}
+use Rattle.moka_kept.specs.Taking.{Taken}
 use Rattle.moka_cache.specs.Polls.{CameToAsk, Pends}
 use Rattle.moka_cache.specs.declared.stage.Stage.{Stage}
 use Rattle.moka_cache.specs.declared.stage.Stage.TheVariants as stage
@@ -73,13 +73,6 @@ module _ {A K V E : Type 0} where
       EndedWith eq such old.call (call_of old) (answers answer)
   AnswersWith eq such begins stage.Spent answer = ⊥
   AnswersWith eq such begins stage.Answered answer = ⊥
-
-  -- the same of a call that takes no answer of who is asked
-  abbrev pub CameOn : (K → K → Bool) → (A → Call K V E) → Stage A K V E → Stage A K V E → Type 0
-  CameOn eq begins old new = CameOnWith eq NoAnswer begins old new
-
-  abbrev pub AnswersBy : (K → K → Bool) → (A → Call K V E) → Stage A K V E → Answer K V E → Type 0
-  AnswersBy eq begins old answer = AnswersWith eq NoAnswer begins old answer
 
   -- why a poll of the state is pending
   abbrev pub StagePends : {Q : Type 0} → (K → K → Bool) → (Q → Q → Type 0) → (ℕ → Type 0) → Q

@@ -2,11 +2,12 @@
 use Rattle.std.specs.Prelude.{◌≡◌, Bool, true, Option, IsSome}
 use Rattle.moka_hist.specs.State.{Call}
 use Rattle.moka_hist.specs.declared.events.Start.{Start}
+use Rattle.moka_hist.specs.declared.events.Told.{Told}
 use Rattle.moka_hist.specs.declared.replies.Answer.{Answer}
 use Rattle.moka_init.specs.FlowPlan.{call_of}
 use Rattle.moka_laws.specs.Loads.{may_answer}
 use Rattle.moka_laws.specs.Shapes.{Fits, asks_nobody}
-use Rattle.moka_kept.specs.Taking.{Taken}
+use Rattle.moka_cache.specs.Asked.{ToldSuch}
 use Rattle.moka_cache.specs.Stages.{AnswersWith}
 use Rattle.moka_cache.specs.declared.stage.Stage.{Stage}
 use Rattle.moka_cache.specs.declared.stage.Stage.TheVariants as stage
@@ -25,10 +26,10 @@ module _ {A K V E : Type 0} where
   abbrev pub IsAnswerOf : (A → Start K V) → Answer K V E → Type 0
   IsAnswerOf start answer = (begin : A) × (may_answer (start begin) answer ≡ true)
 
--- Of each answer that the state's call may come to, where what it takes of who is asked is such, it
--- is stated what the state answers by any key.
-abbrev pub Tells : {A K V E O : Type 0} → (K → K → Bool) → (Taken V E → Type 0)
+-- Of each answer that the state's call may come to, where what it is told is such, it is stated what
+-- the state answers by any key.
+abbrev pub Tells : {A K V E O : Type 0} → (K → K → Bool) → (Told V E → Type 0)
     → (A → Call K V E) → (Option K → Answer K V E → Option O) → Stage A K V E → Type 0
 Tells {A} {K} {V} {E} eq such begins output stage =
-    (named : Option K) (answer : Answer K V E) → AnswersWith eq such begins stage answer
+    (named : Option K) (answer : Answer K V E) → AnswersWith eq (ToldSuch such) begins stage answer
     → IsSome (output named answer)

@@ -1,6 +1,6 @@
 //! Who is asked where a call asks its caller.
 ghost use Rattle.std.specs.Prelude.{◌≡◌, true, Bool, IfSome, Option};
-ghost use Rattle.std.specs.Bool.{OnTrue};
+ghost use Rattle.std.specs.Bool.{OnFalse, OnTrue};
 ghost use Rattle.std.specs.Option.{option_copied};
 ghost use Rattle.futures.specs.Poll.{IfReady, OnPending};
 ghost use Rattle.futures.specs.Task.{IsArmed, Keeps};
@@ -39,8 +39,9 @@ pub trait Asked<K, V, E>: Drop {
     /// this answer.
     ghost asks: { Self → V → Bool → Self → Type 0 };
 
-    /// Whether there is anybody whom its call may ask.
-    fn is_somebody(&self) -> bool;
+    /// Whether there is anybody whom its call may ask. Where there is nobody no answer is ever given.
+    fn is_somebody(&self) -> bool
+        ensures { OnFalse result ((told : Told V E) → gives self.now told → ⊥) };
 
     /// Begins, where the ask of a compute was opened, with what its look found.
     fn begin(&mut self, found: Option<&Entry<K, V>>)

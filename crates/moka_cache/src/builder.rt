@@ -30,7 +30,7 @@ impl<K, V, E, L> Default for CacheBuilder<K, V, E, L> {
     ghost is_default = { λ b. (b.name ≡ None) × (b.max_capacity ≡ None)
         × (b.initial_capacity ≡ None) × (b.listener ≡ None) };
 
-    /// Builds a cache without a name and a listener, whose capacity has no bound.
+    /// Begins to build a cache without a name and a listener, whose capacity has no bound.
     fn default() -> Self {
         CacheBuilder {
             name: None,
@@ -52,8 +52,8 @@ where
     ghost use Rattle.moka_cache.specs.Settings.{hasher_of, listener_of, name_of, rules_of};
     ghost use Rattle.moka_cache.specs.Settings.{rules_with};
 
-    /// Builds a cache of this capacity: how many records it keeps. One of capacity 0 stores
-    /// nothing. It has no name and no listener.
+    /// Begins to build a cache of this capacity: how many records it keeps. One of capacity 0
+    /// stores nothing. It has no name and no listener.
     pub fn new(max_capacity: u64) -> Self
         ensures name { result.name ≡ None }
         ensures capacity { result.max_capacity ≡ Some max_capacity }

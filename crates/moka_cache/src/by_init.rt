@@ -1,8 +1,8 @@
 //! Initializers that are asked what a load gives.
 ghost use Rattle.std.specs.Prelude.{◌≡◌, IfSome, IsSomeAnd};
 ghost use Rattle.std.specs.Fn.{CalledAt};
-ghost use Rattle.moka_cache.specs.Asked.{AsksNothing, MayAnswer, TellsOption, TellsResult};
-ghost use Rattle.moka_cache.specs.Asked.{TellsValue, Untested};
+ghost use Rattle.moka_cache.specs.Asked.{AsksNothing, MayAnswer, Untested};
+ghost use Rattle.moka_cache.specs.Inits.{GivesOption, GivesResult, GivesValue};
 
 use crate::asked::Asked;
 use crate::init::Init;
@@ -19,7 +19,7 @@ pub struct ByInit<I> {
 impl<K, V, E, I: Init<V>> Asked<K, V, E> for ByInit<I> {
     ghost can_poll = { λ asked. IfSome asked.init I.can_poll };
 
-    ghost gives = { λ asked told. IsSomeAnd asked.init (λ init. TellsValue (I.gives init) told) };
+    ghost gives = { GivesValue I.gives };
 
     ghost pends = { λ old new. IsSomeAnd old.init (λ init. IsSomeAnd new.init (I.pends init)) };
 
@@ -62,7 +62,7 @@ pub struct ByOptionalInit<I> {
 impl<K, V, E, I: Init<Option<V>>> Asked<K, V, E> for ByOptionalInit<I> {
     ghost can_poll = { λ asked. IfSome asked.init I.can_poll };
 
-    ghost gives = { λ asked told. IsSomeAnd asked.init (λ init. TellsOption (I.gives init) told) };
+    ghost gives = { GivesOption I.gives };
 
     ghost pends = { λ old new. IsSomeAnd old.init (λ init. IsSomeAnd new.init (I.pends init)) };
 
@@ -109,7 +109,7 @@ pub struct ByTryInit<I> {
 impl<K, V, E, I: Init<Result<V, E>>> Asked<K, V, E> for ByTryInit<I> {
     ghost can_poll = { λ asked. IfSome asked.init I.can_poll };
 
-    ghost gives = { λ asked told. IsSomeAnd asked.init (λ init. TellsResult (I.gives init) told) };
+    ghost gives = { GivesResult I.gives };
 
     ghost pends = { λ old new. IsSomeAnd old.init (λ init. IsSomeAnd new.init (I.pends init)) };
 
@@ -159,8 +159,7 @@ impl<K, V, E, I: Init<V>, F: FnMut(&V) -> bool + Drop> Asked<K, V, E> for ByInit
     ghost can_poll = { λ asked. IfSome asked.init.init I.can_poll
         × F.IsAlwaysCallable asked.replace_if };
 
-    ghost gives = { λ asked told.
-        IsSomeAnd asked.init.init (λ init. TellsValue (I.gives init) told) };
+    ghost gives = { λ asked. GivesValue I.gives asked.init };
 
     ghost pends = { λ old new.
         IsSomeAnd old.init.init (λ init. IsSomeAnd new.init.init (I.pends init)) };

@@ -146,7 +146,7 @@ where
     }
 }
 
-/// A clone shares the cache. It takes memory only where the count of the clones asks for it.
+/// A clone shares the cache. It is an error only where no further owner can be counted.
 impl<K, V, E, L, S> Clone for Cache<K, V, E, L, S>
 where
     K: Eq + Hash + Clone + Drop,

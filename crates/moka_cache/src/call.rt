@@ -200,7 +200,7 @@ where
         requires errors { IsExact E.is_clone }
         requires may { MayPoll self.old.stage }
         requires asks { Q.can_poll self.old.asked }
-        requires tells { Tells K.eq (Accords (Q.gives self.old.asked) (Q.tests self.old.asked))
+        requires tells { Tells K.eq (Q.gives self.old.asked)
             (called (rules_of self.old.cache.now) A.start) A.output self.old.stage }
         // What was done.
         ensures answers { IfReady result (λ r. IfOk r (λ told. (answer : Answer K V E)
@@ -230,7 +230,7 @@ where
         ensures again { IfReady result (λ r. OnErr r (MayPoll self.new.stage)) }
         ensures over { IfReady result (λ r. OnOk r (self.new.stage ≡ Stage.Answered)) }
         ensures suits { Suits K.eq A.start self.old.stage → Suits K.eq A.start self.new.stage }
-        ensures tells { Tells K.eq (Accords (Q.gives self.new.asked) (Q.tests self.new.asked))
+        ensures tells { Tells K.eq (Q.gives self.new.asked)
             (called (rules_of self.new.cache.now) A.start) A.output self.new.stage }
         ensures cache { self.new.cache.now ≡ self.old.cache.now }
         // Who is asked can still be polled, and may give no other answer.
@@ -305,7 +305,7 @@ where
 
     ghost can_poll = { λ call. IsExact K.is_clone × IsExact V.is_clone × IsExact E.is_clone
         × MayPoll call.stage × Q.can_poll call.asked
-        × Tells K.eq (Accords (Q.gives call.asked) (Q.tests call.asked))
+        × Tells K.eq (Q.gives call.asked)
         (called (rules_of call.cache.now) A.start) A.output call.stage };
 
     ghost is_spent = { λ call. call.stage ≡ Stage.Spent };

@@ -1,4 +1,4 @@
-//! What a compute asks what is to be done.
+//! Whom a compute asks what is to be done.
 ghost use Rattle.std.specs.Prelude.{⊤, Option, Result};
 ghost use Rattle.std.specs.Option.{option_copied};
 ghost use Rattle.futures.specs.Poll.{IfReady, OnPending};

@@ -202,9 +202,9 @@ where
         }
     }
 
-    // Polls who is asked, where the own ask of the flow is open, and asks its replace test, where the
-    // next visit judges a record by that; once the own ask is answered, or where none is open, makes
-    // steps in one hold of the lock, and what follows it.
+    // Polls who is asked, where the own ask of the flow is open; asks its replace test, where the next
+    // visit judges a record by that. Once the own ask is answered, or where none is open, it makes steps
+    // in one hold of the lock, and what follows it.
     fn ask<R: Wait, Q: Asked<K, V, E>>(
         &self,
         rt: &R,

@@ -6,7 +6,9 @@ pub enum PollError {
     /// The call needs a number, and the greatest was given out before. Each later poll of the state
     /// answers so again.
     CallsSpent,
-    /// Memory was wanting. What was done stands, and the state can be polled again.
+    /// Memory was wanting. What was done stands, and the state can be polled again. It would be
+    /// answered too where the cache did not allow what the call does next, or who is asked had no
+    /// answer to give: no run is known that comes to that.
     Memory,
 }
 

@@ -1,16 +1,19 @@
 //! Loading a value.
 ghost use Rattle.std.specs.Prelude.{◌≡◌, Some, None, IsSome};
 ghost use Rattle.moka_hist.specs.declared.events.Start.TheVariants as Start;
+ghost use Rattle.moka_cache.specs.Inits.{GivesValue};
 ghost use Rattle.moka_cache.specs.Keys.{key_of};
 ghost use Rattle.moka_cache.specs.Loaded.{loaded_in};
+ghost use Rattle.moka_cache.specs.Settings.{rules_of};
 ghost use Rattle.moka_cache.specs.Stages.{BeginsWith, MayPoll};
+ghost use Rattle.moka_cache.specs.Starts.{called};
+ghost use Rattle.moka_cache.specs.Suits.{Tells};
 
 use crate::begin::{Begin, Begun};
 use crate::by_init::{ByInit, ByInitIf};
 use crate::cache::{Cache, FixedSeed};
 use crate::call::CacheCall;
 use crate::errors::RetriesExhausted;
-use crate::get::value_in;
 use crate::init::Init;
 use crate::key::CallKey;
 use crate::listener::{Listener, NoListener};
@@ -21,7 +24,7 @@ use std::hash::Hash;
 #[derive(Drop)]
 pub struct ToLoad<'a, K> {
     key: CallKey<'a, K>,
-    /// The number of its replace test, if it has one.
+    /// The number of its replace test, if it has one: 0, since a state has one at most.
     replace: Option<u64>,
 }
 
@@ -56,7 +59,7 @@ impl<K: Clone + Drop, V: Drop, E: Drop> Begin<K, V, E> for ToLoad<'_, K> {
 
     ghost named = { λ load. None };
 
-    ghost output = { λ named answer. Some (loaded_in answer) };
+    ghost output = { λ named answer. loaded_in answer };
 
     fn start(self) -> Result<Begun<K, V>, Self> {
         let ToLoad { key, replace } = self;
@@ -67,9 +70,14 @@ impl<K: Clone + Drop, V: Drop, E: Drop> Begin<K, V, E> for ToLoad<'_, K> {
     }
 
     fn output(_key: Option<K>, answer: Answer<K, V, E>) -> Result<V, RetriesExhausted>
-        ensures told { Some result ≡ Some (loaded_in answer) }
+        requires { IsSome (loaded_in answer) }
+        ensures told { Some result ≡ loaded_in answer }
     {
-        value_in(answer).ok_or(RetriesExhausted)
+        match answer {
+            Answer::Loaded { value, fresh: _ } => Ok(value),
+            Answer::RetriesExhausted => Err(RetriesExhausted),
+            _ => unreachable!(),
+        }
     }
 }
 
@@ -89,8 +97,12 @@ where
             (λ load. (key_of load.key ≡ key) × (load.replace ≡ None)) }
         ensures may { MayPoll result.stage }
         ensures init { result.asked.init ≡ Some init }
+        ensures tells { Tells K.eq (GivesValue I.gives result.asked) (called
+            (rules_of result.cache.now) (λ load. Start.GetWith (key_of load.key) load.replace))
+            (λ named answer. loaded_in answer) result.stage }
         ensures cache { result.cache.now ≡ self.now }
     {
+        moka_shapes::loads_tell::<K, V, E>();
         let key = CallKey::Owned(key);
         let replace = None;
         self.call_asking(ToLoad { key, replace }, ByInit { init: Some(init) })
@@ -106,8 +118,12 @@ where
             (λ load. (key_of load.key ≡ key.now) × (load.replace ≡ None)) }
         ensures may { MayPoll result.stage }
         ensures init { result.asked.init ≡ Some init }
+        ensures tells { Tells K.eq (GivesValue I.gives result.asked) (called
+            (rules_of result.cache.now) (λ load. Start.GetWith (key_of load.key) load.replace))
+            (λ named answer. loaded_in answer) result.stage }
         ensures cache { result.cache.now ≡ self.now }
     {
+        moka_shapes::loads_tell::<K, V, E>();
         let key = CallKey::Lent(key);
         let replace = None;
         self.call_asking(ToLoad { key, replace }, ByInit { init: Some(init) })
@@ -129,8 +145,12 @@ where
         ensures may { MayPoll result.stage }
         ensures init { result.asked.init.init ≡ Some init }
         ensures test { result.asked.replace_if ≡ replace_if }
+        ensures tells { Tells K.eq (GivesValue I.gives result.asked.init) (called
+            (rules_of result.cache.now) (λ load. Start.GetWith (key_of load.key) load.replace))
+            (λ named answer. loaded_in answer) result.stage }
         ensures cache { result.cache.now ≡ self.now }
     {
+        moka_shapes::loads_tell::<K, V, E>();
         let key = CallKey::Owned(key);
         let replace = Some(0);
         let init = ByInit { init: Some(init) };

@@ -1,16 +1,13 @@
 //! What follows a hold of the lock, without it: who is asked begins, and the listener is started, and
 //! polled.
-ghost use Rattle.std.specs.Prelude.{◌≡◌, ◌⊎◌, Bool, Some, None};
+ghost use Rattle.std.specs.Prelude.{◌≡◌, ◌⊎◌, Bool, Some};
 ghost use Rattle.futures.specs.Poll.{OnPending};
 ghost use Rattle.futures.specs.Task.{IsArmed, Keeps};
-ghost use Rattle.moka_hist.specs.Finite.{IsExact};
 ghost use Rattle.moka_hist.specs.declared.events.Told.{Told};
-ghost use Rattle.moka_init.specs.Grounds.{access_at};
-ghost use Rattle.moka_kept.specs.Taking.{is_taking};
-ghost use Rattle.moka_cache.specs.Asked.{BegunBy, BegunFor, IsBegun, entry_of};
+ghost use Rattle.moka_cache.specs.Asked.{BegunBy, BegunFor, entry_of};
 ghost use Rattle.moka_cache.specs.Hearing.{Awaits, Follows, MayPend, Unheard, over_in};
 
-use crate::asked::{Asked, is_polled};
+use crate::asked::Asked;
 use crate::cache::Shared;
 use crate::errors::PollError;
 use crate::listener::Listener;
@@ -47,10 +44,9 @@ where
         asked: &mut Q,
         cx: &mut Context<'_>,
     ) -> Turned<Result<Answer<K, V, E>, PollError>>
-        requires keys { IsExact K.is_clone }
         requires waits { stop ≡ Stop.Waits → IsArmed cx.old }
         requires asks { Q.can_poll asked.old }
-        ensures begun { BegunBy Q.begins (is_taking (access_at flow.now)) stop asked.old asked.new }
+        ensures begun { BegunBy Q.begins stop asked.old asked.new }
         ensures asks { Q.can_poll asked.new }
         ensures same { (told : Told V E) → Q.gives asked.new told → Q.gives asked.old told }
         ensures tested { (value : V) (replaced : Bool) → Q.tests asked.new value replaced
@@ -79,9 +75,8 @@ where
         asked: &mut Q,
         cx: &mut Context<'_>,
     ) -> Turned<Result<Answer<K, V, E>, PollError>>
-        requires keys { IsExact K.is_clone }
         requires asks { Q.can_poll asked.old }
-        ensures begun { BegunFor Q.begins (is_taking (access_at flow.now)) ask asked.old asked.new }
+        ensures begun { BegunFor Q.begins ask asked.old asked.new }
         ensures asks { Q.can_poll asked.new }
         ensures same { (told : Told V E) → Q.gives asked.new told → Q.gives asked.old told }
         ensures tested { (value : V) (replaced : Bool) → Q.tests asked.new value replaced
@@ -117,9 +112,8 @@ where
     // Starts the listener with the call's notice, if it is the listener that is asked; or begins who
     // answers the call's own ask, if that is of a compute.
     fn start<Q: Asked<K, V, E>>(&self, flow: &Flow<K, V, E>, ask: Ask<K, V>, asked: &mut Q)
-        requires keys { IsExact K.is_clone }
         requires asks { Q.can_poll asked.old }
-        ensures begun { BegunFor Q.begins (is_taking (access_at flow.now)) ask asked.old asked.new }
+        ensures begun { BegunFor Q.begins ask asked.old asked.new }
         ensures asks { Q.can_poll asked.new }
         ensures same { (told : Told V E) → Q.gives asked.new told → Q.gives asked.old told }
         ensures tested { (value : V) (replaced : Bool) → Q.tests asked.new value replaced
@@ -128,7 +122,7 @@ where
         match ask {
             Ask::Listener { key, value, cause } => self.open(flow.number(), &key, &value, cause),
             Ask::Init => {}
-            Ask::Compute(found) => begin_at(flow, asked, found),
+            Ask::Compute(found) => begin_with::<K, V, E, Q>(asked, found),
         }
     }
 
@@ -153,27 +147,7 @@ where
     }
 }
 
-// Who answers the own ask of the flow begins with the pair that its look found, if it found one. The
-// flow stands at that ask, and to tell so takes no memory there.
-fn begin_at<K: Clone + Drop, V: Drop, E: Drop, Q: Asked<K, V, E>>(
-    flow: &Flow<K, V, E>,
-    asked: &mut Q,
-    found: Option<(K, V)>,
-)
-    requires keys { IsExact K.is_clone }
-    requires asks { Q.can_poll asked.old }
-    ensures begun { IsBegun Q.begins (is_taking (access_at flow.now)) found asked.old asked.new }
-    ensures asks { Q.can_poll asked.new }
-    ensures same { (told : Told V E) → Q.gives asked.new told → Q.gives asked.old told }
-    ensures tested { (value : V) (replaced : Bool) → Q.tests asked.new value replaced
-        → Q.tests asked.old value replaced }
-{
-    if is_polled(asked, flow) {
-        begin_with::<K, V, E, Q>(asked, found);
-    }
-}
-
-// It begins with this pair, if there is one.
+// Who answers the own ask of a compute begins with the pair that its look found, if it found one.
 fn begin_with<K: Drop, V: Drop, E, Q: Asked<K, V, E>>(asked: &mut Q, found: Option<(K, V)>)
     requires { Q.can_poll asked.old }
     ensures begun { Q.begins asked.old (entry_of found) asked.new }

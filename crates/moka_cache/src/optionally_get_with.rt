@@ -1,9 +1,13 @@
 //! Loading a value that there may be.
-ghost use Rattle.std.specs.Prelude.{◌≡◌, Some, None};
+ghost use Rattle.std.specs.Prelude.{◌≡◌, Some, None, IsSome};
 ghost use Rattle.moka_hist.specs.declared.events.Start.TheVariants as Start;
+ghost use Rattle.moka_cache.specs.Inits.{GivesOption};
 ghost use Rattle.moka_cache.specs.Keys.{key_of};
 ghost use Rattle.moka_cache.specs.Loaded.{optionally_loaded_in};
+ghost use Rattle.moka_cache.specs.Settings.{rules_of};
 ghost use Rattle.moka_cache.specs.Stages.{BeginsWith, MayPoll};
+ghost use Rattle.moka_cache.specs.Starts.{called};
+ghost use Rattle.moka_cache.specs.Suits.{Tells};
 
 use crate::begin::{Begin, Begun};
 use crate::by_init::ByOptionalInit;
@@ -41,7 +45,7 @@ impl<K: Clone + Drop, V: Drop, E: Drop> Begin<K, V, E> for ToLoadOptionally<'_, 
 
     ghost named = { λ load. None };
 
-    ghost output = { λ named answer. Some (optionally_loaded_in answer) };
+    ghost output = { λ named answer. optionally_loaded_in answer };
 
     fn start(self) -> Result<Begun<K, V>, Self> {
         match self.key.into_key() {
@@ -51,12 +55,14 @@ impl<K: Clone + Drop, V: Drop, E: Drop> Begin<K, V, E> for ToLoadOptionally<'_, 
     }
 
     fn output(_key: Option<K>, answer: Answer<K, V, E>) -> Result<Option<V>, RetriesExhausted>
-        ensures told { Some result ≡ Some (optionally_loaded_in answer) }
+        requires { IsSome (optionally_loaded_in answer) }
+        ensures told { Some result ≡ optionally_loaded_in answer }
     {
         match answer {
             Answer::Loaded { value, fresh: _ } => Ok(Some(value)),
             Answer::Nothing => Ok(None),
-            _ => Err(RetriesExhausted),
+            Answer::RetriesExhausted => Err(RetriesExhausted),
+            _ => unreachable!(),
         }
     }
 }
@@ -80,8 +86,12 @@ where
         ensures fresh { BeginsWith result.stage (λ load. key_of load.key ≡ key) }
         ensures may { MayPoll result.stage }
         ensures init { result.asked.init ≡ Some init }
+        ensures tells { Tells K.eq (GivesOption I.gives result.asked)
+            (called (rules_of result.cache.now) (λ load. Start.Optional (key_of load.key)))
+            (λ named answer. optionally_loaded_in answer) result.stage }
         ensures cache { result.cache.now ≡ self.now }
     {
+        moka_shapes::loads_tell::<K, V, E>();
         let key = CallKey::Owned(key);
         self.call_asking(
             ToLoadOptionally { key },
@@ -98,8 +108,12 @@ where
         ensures fresh { BeginsWith result.stage (λ load. key_of load.key ≡ key.now) }
         ensures may { MayPoll result.stage }
         ensures init { result.asked.init ≡ Some init }
+        ensures tells { Tells K.eq (GivesOption I.gives result.asked)
+            (called (rules_of result.cache.now) (λ load. Start.Optional (key_of load.key)))
+            (λ named answer. optionally_loaded_in answer) result.stage }
         ensures cache { result.cache.now ≡ self.now }
     {
+        moka_shapes::loads_tell::<K, V, E>();
         let key = CallKey::Lent(key);
         self.call_asking(
             ToLoadOptionally { key },

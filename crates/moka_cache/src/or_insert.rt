@@ -1,7 +1,6 @@
 //! Storing a value where there is none.
 ghost use Rattle.std.specs.Prelude.{◌≡◌, Some, IsSome};
 ghost use Rattle.moka_hist.specs.declared.events.Start.TheVariants as Start;
-ghost use Rattle.moka_cache.specs.Asked.{Accords, Untested};
 ghost use Rattle.moka_cache.specs.Entries.{entry_in};
 ghost use Rattle.moka_cache.specs.Keys.{key_of};
 ghost use Rattle.moka_kept.specs.Taking.{NoAnswer};
@@ -85,7 +84,7 @@ where
         ensures may { MayPoll result.stage }
         ensures suits { Suits K.eq (λ insert. Start.OrInsert (key_of insert.key) insert.value)
             result.stage }
-        ensures tells { Tells K.eq (Accords NoAnswer Untested) (called (rules_of result.cache.now)
+        ensures tells { Tells K.eq NoAnswer (called (rules_of result.cache.now)
             (λ insert. Start.OrInsert (key_of insert.key) insert.value)) entry_in result.stage }
         ensures cache { result.cache.now ≡ self.entry.cache.now }
     {
@@ -110,7 +109,7 @@ where
         ensures may { MayPoll result.stage }
         ensures suits { Suits K.eq (λ insert. Start.OrInsert (key_of insert.key) insert.value)
             result.stage }
-        ensures tells { Tells K.eq (Accords NoAnswer Untested) (called (rules_of result.cache.now)
+        ensures tells { Tells K.eq NoAnswer (called (rules_of result.cache.now)
             (λ insert. Start.OrInsert (key_of insert.key) insert.value)) entry_in result.stage }
         ensures cache { result.cache.now ≡ self.entry.cache.now }
     {

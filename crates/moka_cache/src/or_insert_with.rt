@@ -2,8 +2,12 @@
 ghost use Rattle.std.specs.Prelude.{◌≡◌, Some, None, IsSome, false};
 ghost use Rattle.moka_hist.specs.declared.events.Start.TheVariants as Start;
 ghost use Rattle.moka_cache.specs.Entries.{loaded_entry_in};
+ghost use Rattle.moka_cache.specs.Inits.{GivesValue};
 ghost use Rattle.moka_cache.specs.Keys.{key_of};
+ghost use Rattle.moka_cache.specs.Settings.{rules_of};
 ghost use Rattle.moka_cache.specs.Stages.{BeginsWith, MayPoll};
+ghost use Rattle.moka_cache.specs.Starts.{called};
+ghost use Rattle.moka_cache.specs.Suits.{Tells};
 
 use crate::begin::{Begin, Begun};
 use crate::by_init::{ByInit, ByInitIf};
@@ -21,7 +25,7 @@ use std::hash::Hash;
 #[derive(Drop)]
 pub struct ToLoadEntry<'a, K> {
     key: CallKey<'a, K>,
-    /// The number of its replace test, if it has one.
+    /// The number of its replace test, if it has one: 0, since a state has one at most.
     replace: Option<u64>,
 }
 
@@ -56,7 +60,7 @@ impl<K: Clone + Drop, V: Drop, E: Drop> Begin<K, V, E> for ToLoadEntry<'_, K> {
 
     ghost named = { λ load. Some (key_of load.key) };
 
-    ghost output = { λ named answer. Some (loaded_entry_in named answer) };
+    ghost output = { loaded_entry_in };
 
     fn start(self) -> Result<Begun<K, V>, Self> {
         let ToLoadEntry { key, replace } = self;
@@ -67,11 +71,13 @@ impl<K: Clone + Drop, V: Drop, E: Drop> Begin<K, V, E> for ToLoadEntry<'_, K> {
     }
 
     fn output(key: Option<K>, answer: Answer<K, V, E>) -> Result<Entry<K, V>, RetriesExhausted>
-        ensures told { Some result ≡ Some (loaded_entry_in key answer) }
+        requires { IsSome (loaded_entry_in key answer) }
+        ensures told { Some result ≡ loaded_entry_in key answer }
     {
         match answer {
             Answer::Loaded { value, fresh } => Ok(loaded_entry(key, value, fresh)),
-            _ => Err(RetriesExhausted),
+            Answer::RetriesExhausted => Err(RetriesExhausted),
+            _ => unreachable!(),
         }
     }
 }
@@ -91,8 +97,12 @@ where
             (λ load. (load.key ≡ self.entry.key) × (load.replace ≡ None)) }
         ensures may { MayPoll result.stage }
         ensures init { result.asked.init ≡ Some init }
+        ensures tells { Tells K.eq (GivesValue I.gives result.asked) (called
+            (rules_of result.cache.now) (λ load. Start.GetWith (key_of load.key) load.replace))
+            loaded_entry_in result.stage }
         ensures cache { result.cache.now ≡ self.entry.cache.now }
     {
+        moka_shapes::loads_tell::<K, V, E>();
         let EntrySelector { cache, key } = self;
         let replace = None;
         cache.call_asking(ToLoadEntry { key, replace }, ByInit { init: Some(init) })
@@ -110,8 +120,12 @@ where
         ensures may { MayPoll result.stage }
         ensures init { result.asked.init.init ≡ Some init }
         ensures test { result.asked.replace_if ≡ replace_if }
+        ensures tells { Tells K.eq (GivesValue I.gives result.asked.init) (called
+            (rules_of result.cache.now) (λ load. Start.GetWith (key_of load.key) load.replace))
+            loaded_entry_in result.stage }
         ensures cache { result.cache.now ≡ self.entry.cache.now }
     {
+        moka_shapes::loads_tell::<K, V, E>();
         let EntrySelector { cache, key } = self;
         let replace = Some(0);
         let init = ByInit { init: Some(init) };

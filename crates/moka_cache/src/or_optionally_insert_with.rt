@@ -1,9 +1,13 @@
 //! Loading an entry that there may be.
-ghost use Rattle.std.specs.Prelude.{◌≡◌, Some};
+ghost use Rattle.std.specs.Prelude.{◌≡◌, Some, IsSome};
 ghost use Rattle.moka_hist.specs.declared.events.Start.TheVariants as Start;
 ghost use Rattle.moka_cache.specs.Entries.{optionally_loaded_entry_in};
+ghost use Rattle.moka_cache.specs.Inits.{GivesOption};
 ghost use Rattle.moka_cache.specs.Keys.{key_of};
+ghost use Rattle.moka_cache.specs.Settings.{rules_of};
 ghost use Rattle.moka_cache.specs.Stages.{BeginsWith, MayPoll};
+ghost use Rattle.moka_cache.specs.Starts.{called};
+ghost use Rattle.moka_cache.specs.Suits.{Tells};
 
 use crate::begin::{Begin, Begun};
 use crate::by_init::ByOptionalInit;
@@ -43,7 +47,7 @@ impl<K: Clone + Drop, V: Drop, E: Drop> Begin<K, V, E> for ToLoadEntryOptionally
 
     ghost named = { λ load. Some (key_of load.key) };
 
-    ghost output = { λ named answer. Some (optionally_loaded_entry_in named answer) };
+    ghost output = { optionally_loaded_entry_in };
 
     fn start(self) -> Result<Begun<K, V>, Self> {
         match self.key.into_two() {
@@ -56,12 +60,14 @@ impl<K: Clone + Drop, V: Drop, E: Drop> Begin<K, V, E> for ToLoadEntryOptionally
         key: Option<K>,
         answer: Answer<K, V, E>,
     ) -> Result<Option<Entry<K, V>>, RetriesExhausted>
-        ensures told { Some result ≡ Some (optionally_loaded_entry_in key answer) }
+        requires { IsSome (optionally_loaded_entry_in key answer) }
+        ensures told { Some result ≡ optionally_loaded_entry_in key answer }
     {
         match answer {
             Answer::Loaded { value, fresh } => Ok(Some(loaded_entry(key, value, fresh))),
             Answer::Nothing => Ok(None),
-            _ => Err(RetriesExhausted),
+            Answer::RetriesExhausted => Err(RetriesExhausted),
+            _ => unreachable!(),
         }
     }
 }
@@ -83,8 +89,12 @@ where
         ensures fresh { BeginsWith result.stage (λ load. load.key ≡ self.entry.key) }
         ensures may { MayPoll result.stage }
         ensures init { result.asked.init ≡ Some init }
+        ensures tells { Tells K.eq (GivesOption I.gives result.asked)
+            (called (rules_of result.cache.now) (λ load. Start.Optional (key_of load.key)))
+            optionally_loaded_entry_in result.stage }
         ensures cache { result.cache.now ≡ self.entry.cache.now }
     {
+        moka_shapes::loads_tell::<K, V, E>();
         let EntrySelector { cache, key } = self;
         cache.call_asking(
             ToLoadEntryOptionally { key },

@@ -1,9 +1,13 @@
 //! Loading an entry, which may fail.
-ghost use Rattle.std.specs.Prelude.{◌≡◌, Some};
+ghost use Rattle.std.specs.Prelude.{◌≡◌, Some, IsSome};
 ghost use Rattle.moka_hist.specs.declared.events.Start.TheVariants as Start;
 ghost use Rattle.moka_cache.specs.Entries.{try_loaded_entry_in};
+ghost use Rattle.moka_cache.specs.Inits.{GivesResult};
 ghost use Rattle.moka_cache.specs.Keys.{key_of};
+ghost use Rattle.moka_cache.specs.Settings.{rules_of};
 ghost use Rattle.moka_cache.specs.Stages.{BeginsWith, MayPoll};
+ghost use Rattle.moka_cache.specs.Starts.{called};
+ghost use Rattle.moka_cache.specs.Suits.{Tells};
 
 use crate::begin::{Begin, Begun};
 use crate::by_init::ByTryInit;
@@ -43,7 +47,7 @@ impl<K: Clone + Drop, V: Drop, E: Drop> Begin<K, V, E> for ToTryLoadEntry<'_, K>
 
     ghost named = { λ load. Some (key_of load.key) };
 
-    ghost output = { λ named answer. Some (try_loaded_entry_in named answer) };
+    ghost output = { try_loaded_entry_in };
 
     fn start(self) -> Result<Begun<K, V>, Self> {
         match self.key.into_two() {
@@ -53,12 +57,14 @@ impl<K: Clone + Drop, V: Drop, E: Drop> Begin<K, V, E> for ToTryLoadEntry<'_, K>
     }
 
     fn output(key: Option<K>, answer: Answer<K, V, E>) -> Result<Entry<K, V>, LoadError<E>>
-        ensures told { Some result ≡ Some (try_loaded_entry_in key answer) }
+        requires { IsSome (try_loaded_entry_in key answer) }
+        ensures told { Some result ≡ try_loaded_entry_in key answer }
     {
         match answer {
             Answer::Loaded { value, fresh } => Ok(loaded_entry(key, value, fresh)),
             Answer::InitErr(error) => Err(LoadError::Init(error)),
-            _ => Err(LoadError::RetriesExhausted),
+            Answer::RetriesExhausted => Err(LoadError::RetriesExhausted),
+            _ => unreachable!(),
         }
     }
 }
@@ -80,8 +86,12 @@ where
         ensures fresh { BeginsWith result.stage (λ load. load.key ≡ self.entry.key) }
         ensures may { MayPoll result.stage }
         ensures init { result.asked.init ≡ Some init }
+        ensures tells { Tells K.eq (GivesResult I.gives result.asked)
+            (called (rules_of result.cache.now) (λ load. Start.Try (key_of load.key)))
+            try_loaded_entry_in result.stage }
         ensures cache { result.cache.now ≡ self.entry.cache.now }
     {
+        moka_shapes::loads_tell::<K, V, E>();
         let EntrySelector { cache, key } = self;
         cache.call_asking(ToTryLoadEntry { key }, ByTryInit { init: Some(init) })
     }

@@ -2,7 +2,7 @@
 ghost use Rattle.std.specs.Prelude.{◌≡◌, Some, None, Result, IsSome};
 ghost use Rattle.moka_hist.specs.declared.events.Start.TheVariants as Start;
 ghost use Rattle.moka_hist.specs.declared.events.Op.{Op};
-ghost use Rattle.moka_cache.specs.Asked.{Accords, IsPut, Untested};
+ghost use Rattle.moka_cache.specs.Asked.{IsPut};
 ghost use Rattle.moka_cache.specs.Computes.{CanPut, GivesPut};
 ghost use Rattle.moka_cache.specs.Entries.{stored_by, stored_in};
 ghost use Rattle.moka_cache.specs.Keys.{key_of};
@@ -86,7 +86,7 @@ where
         ensures may { MayPoll result.stage }
         ensures compute { result.asked.stage ≡ ComputeStage.Fresh compute }
         ensures asks { C.can_start compute → CanPut C.can_start C.can_poll C.gives result.asked }
-        ensures tells { Tells K.eq (Accords (GivesPut C.gives result.asked) Untested) (called
+        ensures tells { Tells K.eq (GivesPut C.gives result.asked) (called
             (rules_of result.cache.now) (λ begin. Start.Upsert (key_of begin.key)))
             (λ named answer. stored_in answer) result.stage }
         ensures cache { result.cache.now ≡ self.entry.cache.now }

@@ -1,6 +1,6 @@
 //! Moments and calls of the tests.
-use futures::executor::block_on;
-use moka_cache::{Cache, Moments, PollError, Polled};
+use crate::run::run;
+use moka_cache::{Cache, Moments, PollError};
 use std::alloc::AllocGlobal;
 use std::io;
 use std::random::RandomSource;
@@ -26,7 +26,7 @@ pub fn insert<R: Wait + RandomSource + AllocGlobal>(
     key: u32,
     value: u32,
 ) -> io::Result<Result<(), PollError>> {
-    block_on(rt, Polled::new(rt, cache.insert(key, value), At(0)))
+    run(rt, cache.insert(key, value))
 }
 
 /// Looks the key up, at moment 0.
@@ -35,7 +35,7 @@ pub fn get<R: Wait + RandomSource + AllocGlobal>(
     cache: &Numbers,
     key: u32,
 ) -> io::Result<Result<Option<u32>, PollError>> {
-    block_on(rt, Polled::new(rt, cache.get(&key), At(0)))
+    run(rt, cache.get(&key))
 }
 
 /// Invalidates the key, at moment 0.
@@ -44,7 +44,7 @@ pub fn invalidate<R: Wait + RandomSource + AllocGlobal>(
     cache: &Numbers,
     key: u32,
 ) -> io::Result<Result<(), PollError>> {
-    block_on(rt, Polled::new(rt, cache.invalidate(&key), At(0)))
+    run(rt, cache.invalidate(&key))
 }
 
 /// Removes the key, at moment 0.
@@ -53,5 +53,5 @@ pub fn remove<R: Wait + RandomSource + AllocGlobal>(
     cache: &Numbers,
     key: u32,
 ) -> io::Result<Result<Option<u32>, PollError>> {
-    block_on(rt, Polled::new(rt, cache.remove(&key), At(0)))
+    run(rt, cache.remove(&key))
 }

@@ -1,8 +1,8 @@
 //! What was inserted, and what is found.
 
-use crate::at::{At, Numbers, get, insert};
-use futures::executor::block_on;
-use moka_cache::{Cache, Listener, Polled};
+use crate::at::{Numbers, get, insert};
+use crate::run::run_at;
+use moka_cache::{Cache, Listener};
 use std::hash::Hash;
 use std::test::Fail;
 
@@ -36,9 +36,9 @@ fn a_later_insert_replaces(rt: HostRuntime) -> Result<(), Fail> {
     let shared = cache.clone()?;
     crosses_threads(&shared);
     for value in 0..1000 {
-        let inserted = block_on(&rt, Polled::new(&rt, cache.insert(7, value), At(3)))?;
+        let inserted = run_at(&rt, cache.insert(7, value), 3)?;
         assert_eq!(rt; inserted, Ok(()));
-        let found = block_on(&rt, Polled::new(&rt, shared.get(&7), At(2)))?;
+        let found = run_at(&rt, shared.get(&7), 2)?;
         assert_eq!(rt; found, Ok(Some(value)));
     }
     Ok(())

@@ -20,5 +20,6 @@ mod loading;
 pub mod pairs;
 #[cfg(test)]
 mod removing;
+pub mod run;
 #[cfg(test)]
 mod threads;

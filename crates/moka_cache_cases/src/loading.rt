@@ -1,10 +1,10 @@
 //! Loads.
 
-use crate::at::{At, Numbers};
+use crate::at::Numbers;
 use crate::inits::After;
 use crate::pairs::{both, first_dropped, second_sets};
-use futures::executor::block_on;
-use moka_cache::{Cache, PollError, Polled, RetriesExhausted};
+use crate::run::run;
+use moka_cache::{Cache, PollError, RetriesExhausted};
 use std::alloc::AllocGlobal;
 use std::io;
 use std::random::RandomSource;
@@ -22,7 +22,7 @@ pub(crate) fn load<'a, R: Wait + RandomSource + AllocGlobal>(
     key: u32,
     init: After<'a>,
 ) -> io::Result<Loaded> {
-    block_on(rt, Polled::new(rt, cache.get_with(key, init), At(0)))
+    run(rt, cache.get_with(key, init))
 }
 
 // Loads key 1 twice, in one task.

@@ -1,149 +1,24 @@
 //! What the command line asks for.
 
-use crate::kinds::{KINDS, Kind, WAYS, Way};
+use crate::cached::Share;
+use crate::works::{PEERS, Peer, WAYS, WORKS, Way, Work};
 use std::env;
-
-/// What the calls are made of.
-#[derive(Clone, Copy, PartialEq, Eq)]
-pub(crate) enum Peer {
-    /// A cache of a capacity that it never reaches.
-    Cache,
-    /// A cache without a capacity.
-    Unbounded,
-    /// A cache of such a capacity, with a listener.
-    Heard,
-    /// Std's map under a lock.
-    Map,
-}
-
-/// Each of them.
-pub(crate) const PEERS: [Peer; 4] = [Peer::Cache, Peer::Unbounded, Peer::Heard, Peer::Map];
-
-impl Peer {
-    /// Its word.
-    pub(crate) fn name(self) -> &'static str {
-        match self {
-            Peer::Cache => "cache",
-            Peer::Unbounded => "unbounded",
-            Peer::Heard => "heard",
-            Peer::Map => "map",
-        }
-    }
-}
-
-/// What each thread does.
-#[derive(Clone, Copy, PartialEq, Eq)]
-pub(crate) enum Work {
-    /// Looks keys up that are stored.
-    Get,
-    /// Stores keys.
-    Insert,
-    /// Looks keys up, and stores those that are absent.
-    Load,
-    /// Stores each key and takes it out.
-    Remove,
-    /// Stores each key and looks it up.
-    See,
-    /// Loads keys and takes them out, where every third owner of a load is cancelled.
-    Cancel,
-    /// Makes calls of this kind, in this way.
-    Calls(Kind, Way),
-}
-
-/// Each of them but the calls by kind.
-pub(crate) const WORKS: [Work; 6] = [
-    Work::Get,
-    Work::Insert,
-    Work::Load,
-    Work::Remove,
-    Work::See,
-    Work::Cancel,
-];
-
-impl Work {
-    /// Its word.
-    pub(crate) fn name(self) -> &'static str {
-        match self {
-            Work::Get => "get",
-            Work::Insert => "insert",
-            Work::Load => "load",
-            Work::Remove => "remove",
-            Work::See => "see",
-            Work::Cancel => "cancel",
-            Work::Calls(kind, _) => kind.name(),
-        }
-    }
-
-    /// The word of its way, and what stands before it.
-    pub(crate) fn way(self) -> (&'static str, &'static str) {
-        match self {
-            Work::Calls(_, way) => (" ", way.name()),
-            _ => ("", ""),
-        }
-    }
-
-    /// How many keys it is made on where the command line doesn't say.
-    fn usual_keys(self) -> u64 {
-        match self {
-            Work::Get => 100_000,
-            _ => FEW_KEYS,
-        }
-    }
-}
 
 /// The keys of a burst's end, and of most works.
 const FEW_KEYS: u64 = 1000;
 
-/// What comes and goes at once.
-#[derive(Clone, Copy, PartialEq, Eq)]
-pub(crate) enum Burst {
-    /// Records of as many keys.
-    Records,
-    /// Loads of as many keys, each the owner of its own.
-    Owners,
-    /// Loads of one key, of which one is the owner.
-    Waiters,
-}
+/// The keys that are looked up.
+const MANY_KEYS: u64 = 100_000;
 
-/// Each of them.
-pub(crate) const BURSTS: [Burst; 3] = [Burst::Records, Burst::Owners, Burst::Waiters];
-
-impl Burst {
-    /// Its word.
-    fn name(self) -> &'static str {
-        match self {
-            Burst::Records => "burst",
-            Burst::Owners => "owners",
-            Burst::Waiters => "waiters",
-        }
-    }
-}
-
-/// The works, kinds of calls and bursts that are asked for.
-#[derive(Clone, Copy, PartialEq, Eq)]
-enum Works {
-    One(Work),
-    Kind(Kind),
-    Burst(Burst),
-    Each,
-}
-
-/// So many threads, which each make so many calls.
-#[derive(Clone, Copy)]
-pub(crate) struct Shares {
-    pub(crate) threads: u64,
-    pub(crate) calls: u64,
-}
-
-/// What the command line asks for. Without a peer or a work it is each.
+/// What the command line asks for. Of what it has no known word for it asks for each.
 #[derive(Clone, Copy)]
 pub(crate) struct Asked {
-    peer: Option<Peer>,
-    works: Works,
+    peer: Option<&'static str>,
+    work: Option<&'static str>,
     pub(crate) calls: u64,
     pub(crate) threads: u64,
     keys: Option<u64>,
-    way: Option<Way>,
+    way: Option<&'static str>,
 }
 
 impl Asked {
@@ -152,7 +27,7 @@ impl Asked {
     pub(crate) fn read(rt: &HostRuntime) -> anyhow::Result<Asked> {
         Ok(Asked {
             peer: read_peer(rt)?,
-            works: read_works(rt)?,
+            work: read_work(rt)?,
             calls: read_number(rt, 3)?.unwrap_or(1000),
             threads: read_number(rt, 4)?.unwrap_or(1).max(1),
             keys: read_number(rt, 5)?,
@@ -162,50 +37,25 @@ impl Asked {
 
     /// Whether this peer is asked for.
     pub(crate) fn is_peer(self, peer: Peer) -> bool {
-        match self.peer {
-            Some(asked) => asked == peer,
-            None => true,
-        }
+        is_asked(self.peer, peer.name())
     }
 
     /// Whether this work is to be made.
-    pub(crate) fn is_asked(self, work: Work) -> bool {
-        match self.works {
-            Works::One(asked) => asked == work,
-            Works::Kind(_) | Works::Burst(_) => false,
-            Works::Each => true,
-        }
+    pub(crate) fn is_work(self, work: Work) -> bool {
+        is_asked(self.work, work.name())
     }
 
-    /// Whether calls of this kind are to be made in this way.
-    pub(crate) fn is_kind(self, kind: Kind, way: Way) -> bool {
-        match self.works {
-            Works::One(_) | Works::Burst(_) => false,
-            Works::Kind(asked) => asked == kind && self.is_way(way),
-            Works::Each => self.is_way(way),
-        }
-    }
-
-    // Whether this way is asked for.
-    fn is_way(self, way: Way) -> bool {
-        match self.way {
-            Some(asked) => asked == way,
-            None => true,
-        }
-    }
-
-    /// Whether this burst is to be made.
-    pub(crate) fn is_burst(self, burst: Burst) -> bool {
-        match self.works {
-            Works::One(_) | Works::Kind(_) => false,
-            Works::Burst(asked) => asked == burst,
-            Works::Each => true,
-        }
+    /// Whether calls are to be made in this way.
+    pub(crate) fn is_way(self, way: Way) -> bool {
+        is_asked(self.way, way.name())
     }
 
     /// How many keys the work is made on.
     pub(crate) fn keys_of(self, work: Work) -> u64 {
-        self.keys.unwrap_or(work.usual_keys())
+        if work.is_get() {
+            return self.keys.unwrap_or(MANY_KEYS);
+        }
+        self.few_keys()
     }
 
     /// How many keys are stored once a burst is over.
@@ -214,11 +64,19 @@ impl Asked {
     }
 
     /// How the calls are shared.
-    pub(crate) fn shares(self) -> Shares {
-        Shares {
+    pub(crate) fn share(self) -> Share {
+        Share {
             threads: self.threads,
             calls: self.calls.checked_div(self.threads).unwrap_or(0),
         }
+    }
+}
+
+/// Whether the word is the one that is asked for, or each is.
+fn is_asked(asked: Option<&'static str>, word: &str) -> bool {
+    match asked {
+        Some(asked) => asked == word,
+        None => true,
     }
 }
 
@@ -231,40 +89,30 @@ fn is_word(rt: &HostRuntime, place: usize, word: &str) -> anyhow::Result<bool> {
 }
 
 /// The peer on the command line, if it is one.
-fn read_peer(rt: &HostRuntime) -> anyhow::Result<Option<Peer>> {
+fn read_peer(rt: &HostRuntime) -> anyhow::Result<Option<&'static str>> {
     for peer in PEERS {
         if is_word(rt, 1, peer.name())? {
-            return Ok(Some(peer));
+            return Ok(Some(peer.name()));
         }
     }
     Ok(None)
 }
 
-/// The work, kind or burst on the command line, or each.
-fn read_works(rt: &HostRuntime) -> anyhow::Result<Works> {
+/// The work on the command line, if it is one.
+fn read_work(rt: &HostRuntime) -> anyhow::Result<Option<&'static str>> {
     for work in WORKS {
         if is_word(rt, 2, work.name())? {
-            return Ok(Works::One(work));
+            return Ok(Some(work.name()));
         }
     }
-    for kind in KINDS {
-        if is_word(rt, 2, kind.name())? {
-            return Ok(Works::Kind(kind));
-        }
-    }
-    for burst in BURSTS {
-        if is_word(rt, 2, burst.name())? {
-            return Ok(Works::Burst(burst));
-        }
-    }
-    Ok(Works::Each)
+    Ok(None)
 }
 
 /// The way on the command line, if it is one.
-fn read_way(rt: &HostRuntime) -> anyhow::Result<Option<Way>> {
+fn read_way(rt: &HostRuntime) -> anyhow::Result<Option<&'static str>> {
     for way in WAYS {
         if is_word(rt, 6, way.name())? {
-            return Ok(Some(way));
+            return Ok(Some(way.name()));
         }
     }
     Ok(None)

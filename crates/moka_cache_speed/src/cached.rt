@@ -1,81 +1,49 @@
 //! The works on a cache.
 
-use crate::asked::{Shares, Work};
-use crate::calls::{Begins, make_calls};
-use crate::kinds::Way;
-use crate::later::Later;
-use crate::turns::{Turn, in_turn};
-use crate::ways::{Rounds, make_kind};
-use moka_cache::{Cache, Get, GetWith, Insert, Listener, NoListener};
+use crate::crowd::load_at_once;
+use crate::kinds::make;
+use crate::rounds::{Numbers, Rounds};
+use crate::runs::Span;
+use crate::works::{Burst, Job, Kind, Way, Work};
+use moka_cache::Listener;
 use std::alloc::{AllocError, AllocGlobal, Global};
 use std::random::RandomSource;
 use std::sync::Wait;
 use std::thread::Threads;
 use std::{io, thread};
 
-/// A cache of numbers, with this listener.
-pub(crate) type Numbers<L = NoListener> = Cache<u64, u64, u64, L>;
-
-/// The place of the key of a thread's call: each call's is another, far from the one before.
-pub(crate) fn place_of(thread: u64, call: u64, keys: u64) -> u64 {
-    let place = call.wrapping_mul(7919).wrapping_add(thread);
-    place.checked_rem(keys).unwrap_or(0)
+/// So many threads, which each make so many calls.
+#[derive(Clone, Copy)]
+pub(crate) struct Share {
+    pub(crate) threads: u64,
+    pub(crate) calls: u64,
 }
 
-/// Looks keys up.
-#[derive(Drop)]
-struct Gets<'a, L> {
-    cache: &'a Numbers<L>,
-    keys: &'a [u64],
-    other: &'a u64,
-    thread: u64,
-}
+/// One call of a round, and how it is made.
+type Turn = (Kind, Way);
 
-impl<'a, R: Wait, L: Listener<u64, u64>> Begins<R, Get<'a, u64, u64, u64, L>> for Gets<'a, L> {
-    fn begin(&self, call: u64) -> Get<'a, u64, u64, u64, L> {
-        let place = place_of(self.thread, call, self.keys.len() as u64);
-        self.cache
-            .get(self.keys.get(place as usize).unwrap_or(self.other))
-    }
-}
+/// The turns with a key that is stored and taken out.
+const REMOVED: [Turn; 2] = [(Kind::Insert, Way::Apart), (Kind::Remove, Way::Apart)];
 
-/// Stores values under keys below a number.
-#[derive(Drop)]
-struct Inserts<'a, L> {
-    cache: &'a Numbers<L>,
-    keys: u64,
-    thread: u64,
-}
+/// The turns with a key that is stored and looked up.
+const SEEN: [Turn; 2] = [(Kind::Insert, Way::Apart), (Kind::Get, Way::Apart)];
 
-impl<'a, R: Wait, L: Listener<u64, u64>> Begins<R, Insert<'a, u64, u64, u64, L>>
-    for Inserts<'a, L> {
-    fn begin(&self, call: u64) -> Insert<'a, u64, u64, u64, L> {
-        self.cache
-            .insert(place_of(self.thread, call, self.keys), call)
-    }
-}
+/// The turns with a key of which three loads become owners, the first to be dropped.
+const CANCELLED: [Turn; 5] = [
+    (Kind::GetWith, Way::Dropped),
+    (Kind::GetWith, Way::Apart),
+    (Kind::Remove, Way::Apart),
+    (Kind::GetWith, Way::Apart),
+    (Kind::Remove, Way::Apart),
+];
 
-/// Loads a key for each call, the same in each thread.
-#[derive(Drop)]
-struct Loads<'a, L> {
-    cache: &'a Numbers<L>,
-}
-
-impl<'a, R: Wait, L: Listener<u64, u64>> Begins<R, GetWith<'a, u64, u64, u64, Later<u64>, L>>
-    for Loads<'a, L> {
-    fn begin(&self, call: u64) -> GetWith<'a, u64, u64, u64, Later<u64>, L> {
-        self.cache.get_with(call, Later::at_once(call))
-    }
-}
-
-/// Stores each of the keys once.
+/// Stores each key below a number once.
 pub(crate) fn fill<R: Wait + RandomSource + AllocGlobal, L: Listener<u64, u64>>(
     rt: &R,
     cache: &Numbers<L>,
-    keys: &[u64],
+    keys: u64,
 ) -> io::Result<u64> {
-    let keys = keys.len() as u64;
-    insert(rt, cache, keys, 0, keys)
+    make_once(rt, &Rounds::below(cache, keys), Kind::Insert, keys)
 }
 
 /// Makes each thread's calls, and tells how many answered.
@@ -84,8 +52,8 @@ pub(crate) fn work<R, L>(
     alloc: Global,
     cache: &Numbers<L>,
     keys: &[u64],
-    work: Work,
-    shares: Shares,
+    job: Job,
+    share: Share,
 ) -> Result<u64, AllocError>
 where
     R: Threads + Wait + RandomSource + AllocGlobal + Sync,
@@ -94,8 +62,8 @@ where
     let answered = thread::map_indices(
         rt,
         alloc,
-        shares.threads as usize,
-        &|thread| work_as(rt, cache, keys, work, thread as u64, shares.calls).unwrap_or(0),
+        share.threads as usize,
+        &|thread| work_as(rt, cache, keys, job, thread as u64, share.calls).unwrap_or(0),
     )?;
     let mut all = 0u64;
     for one in answered.iter() {
@@ -109,84 +77,147 @@ fn work_as<R: Wait + RandomSource + AllocGlobal, L: Listener<u64, u64>>(
     rt: &R,
     cache: &Numbers<L>,
     keys: &[u64],
-    work: Work,
+    job: Job,
     thread: u64,
     calls: u64,
 ) -> io::Result<u64> {
-    match work {
-        Work::Get => get(rt, cache, keys, thread, calls),
-        Work::Insert => insert(rt, cache, keys.len() as u64, thread, calls),
-        Work::Load => load(rt, cache, calls),
-        Work::Remove => in_turn(rt, cache, keys, &REMOVED, thread, calls),
-        Work::See => in_turn(rt, cache, keys, &SEEN, thread, calls),
-        Work::Cancel => in_turn(rt, cache, keys, &CANCELLED, thread, calls),
-        Work::Calls(kind, way) => {
-            make_kind(rt, cache, kind, rounds(way, thread, keys.len(), calls))
+    let rounds = Rounds::over(cache, keys, thread);
+    match job.work {
+        Work::Get => make_once(rt, &rounds, Kind::Get, calls),
+        Work::Insert => make_once(rt, &rounds, Kind::Insert, calls),
+        Work::Load => make_once(rt, &Rounds::below(cache, u64::MAX), Kind::GetWith, calls),
+        Work::Remove => in_turn(rt, &rounds, &REMOVED, calls / 2),
+        Work::See => in_turn(rt, &rounds, &SEEN, calls / 2),
+        Work::Cancel => in_turn(rt, &rounds, &CANCELLED, calls / 5),
+        Work::Calls(kind) => make_kind(rt, &rounds, kind, job.way, calls),
+        Work::Burst(_) => Ok(0),
+    }
+}
+
+/// Makes so many calls of the kind as one task.
+fn make_once<R: Wait + RandomSource + AllocGlobal, L: Listener<u64, u64>>(
+    rt: &R,
+    rounds: &Rounds<'_, L>,
+    kind: Kind,
+    calls: u64,
+) -> io::Result<u64> {
+    make(rt, rounds, kind, Way::Once, Span::below(calls))
+}
+
+/// Makes so many rounds of the kind. Tells how many are over.
+fn make_kind<R: Wait + RandomSource + AllocGlobal, L: Listener<u64, u64>>(
+    rt: &R,
+    rounds: &Rounds<'_, L>,
+    kind: Kind,
+    way: Way,
+    count: u64,
+) -> io::Result<u64> {
+    match way {
+        Way::Taken => make_taken(rt, rounds, kind, count),
+        _ => make(rt, rounds, kind, way, Span::below(count)),
+    }
+}
+
+/// The same, where each key is taken out once its call is over.
+fn make_taken<R: Wait + RandomSource + AllocGlobal, L: Listener<u64, u64>>(
+    rt: &R,
+    rounds: &Rounds<'_, L>,
+    kind: Kind,
+    count: u64,
+) -> io::Result<u64> {
+    let turns = [(kind, Way::Apart), (Kind::Remove, Way::Apart)];
+    Ok(in_turn(rt, rounds, &turns, count)? / 2)
+}
+
+/// Makes so many rounds: all turns with one key, then all with the next one. Tells how many turns are
+/// over.
+fn in_turn<R: Wait + RandomSource + AllocGlobal, L: Listener<u64, u64>>(
+    rt: &R,
+    rounds: &Rounds<'_, L>,
+    turns: &[Turn],
+    count: u64,
+) -> io::Result<u64> {
+    let mut over = 0u64;
+    for round in 0..count {
+        over = over.wrapping_add(make_all(rt, rounds, turns, round)?);
+    }
+    Ok(over)
+}
+
+/// Makes each of the turns of a round, and tells how many are over.
+fn make_all<R: Wait + RandomSource + AllocGlobal, L: Listener<u64, u64>>(
+    rt: &R,
+    rounds: &Rounds<'_, L>,
+    turns: &[Turn],
+    round: u64,
+) -> io::Result<u64> {
+    let mut over = 0u64;
+    for (kind, way) in turns {
+        let made = make(rt, rounds, *kind, *way, Span::of(round))?;
+        over = over.wrapping_add(made);
+    }
+    Ok(over)
+}
+
+/// Lets many records or calls come and go, of calls few too, and then stores few keys. Each part is
+/// told by a line of its own, so that the memory after each can be seen from outside.
+pub(crate) fn come_and_store<R, L>(
+    rt: &R,
+    alloc: Global,
+    cache: &Numbers<L>,
+    burst: Burst,
+    many: u64,
+    few: u64,
+) -> anyhow::Result<()>
+where
+    R: Wait + RandomSource + AllocGlobal + Print,
+    L: Listener<u64, u64>,
+{
+    match burst {
+        Burst::Records => come_and_go(rt, alloc, cache, many)?,
+        Burst::Owners => {
+            load_at_once(rt, alloc, cache, many, many)?;
+            load_at_once(rt, alloc, cache, few, few)?;
+        }
+        Burst::Waiters => {
+            load_at_once(rt, alloc, cache, 1, many)?;
+            load_at_once(rt, alloc, cache, 1, few)?;
         }
     }
+    let stored = fill(rt, cache, few)?;
+    println!(rt; "stored afterwards {stored}")?;
+    Ok(())
 }
 
-/// So many rounds of a thread over so many keys.
-fn rounds(way: Way, thread: u64, keys: usize, count: u64) -> Rounds {
-    Rounds {
-        way,
-        thread,
-        keys: keys as u64,
-        count,
+/// Stores so many keys and takes each out.
+fn come_and_go<R, L>(rt: &R, alloc: Global, cache: &Numbers<L>, many: u64) -> anyhow::Result<()>
+where
+    R: Wait + RandomSource + AllocGlobal + Print,
+    L: Listener<u64, u64>,
+{
+    let stored = fill(rt, cache, many)?;
+    println!(rt; "stored {stored}")?;
+    let taken = take_below(rt, alloc, cache, many)?;
+    println!(rt; "taken out {taken}")?;
+    Ok(())
+}
+
+/// Takes the keys below a number out. Tells how many of the calls answered.
+fn take_below<R, L>(rt: &R, alloc: Global, cache: &Numbers<L>, many: u64) -> anyhow::Result<u64>
+where
+    R: Wait + RandomSource + AllocGlobal,
+    L: Listener<u64, u64>,
+{
+    let keys = keys_below(alloc, many)?;
+    let rounds = Rounds::in_order(cache, keys.as_slice());
+    Ok(make(rt, &rounds, Kind::Remove, Way::Apart, Span::below(many))?)
+}
+
+/// The keys below a number.
+pub(crate) fn keys_below(alloc: Global, count: u64) -> Result<Vec<u64>, AllocError> {
+    let mut keys = Vec::new(alloc);
+    for key in 0..count {
+        keys.push(key)?;
     }
-}
-
-/// The turns with a key that is stored and taken out.
-const REMOVED: [Turn; 2] = [Turn::Store, Turn::Take];
-
-/// The turns with a key that is stored and looked up.
-const SEEN: [Turn; 2] = [Turn::Store, Turn::Look];
-
-/// The turns with a key of which three loads become owners, the first to be dropped.
-const CANCELLED: [Turn; 5] = [
-    Turn::Abandon,
-    Turn::Load,
-    Turn::Take,
-    Turn::Load,
-    Turn::Take,
-];
-
-fn get<R: Wait + RandomSource + AllocGlobal, L: Listener<u64, u64>>(
-    rt: &R,
-    cache: &Numbers<L>,
-    keys: &[u64],
-    thread: u64,
-    calls: u64,
-) -> io::Result<u64> {
-    let gets = Gets {
-        cache,
-        keys,
-        other: &0,
-        thread,
-    };
-    make_calls(rt, gets, calls)
-}
-
-/// Stores values under so many keys.
-pub(crate) fn insert<R: Wait + RandomSource + AllocGlobal, L: Listener<u64, u64>>(
-    rt: &R,
-    cache: &Numbers<L>,
-    keys: u64,
-    thread: u64,
-    calls: u64,
-) -> io::Result<u64> {
-    let inserts = Inserts {
-        cache,
-        keys,
-        thread,
-    };
-    make_calls(rt, inserts, calls)
-}
-
-fn load<R: Wait + RandomSource + AllocGlobal, L: Listener<u64, u64>>(
-    rt: &R,
-    cache: &Numbers<L>,
-    calls: u64,
-) -> io::Result<u64> {
-    make_calls(rt, Loads { cache }, calls)
+    Ok(keys)
 }

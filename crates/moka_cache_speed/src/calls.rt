@@ -19,14 +19,14 @@ pub(crate) trait Begins<R: Wait, S: State<R>>: Drop {
         ensures { S.can_poll result };
 }
 
-/// Makes so many calls that come from there, and tells how many answered.
-pub(crate) fn make_calls<R, S, B>(rt: &R, begins: B, calls: u64) -> io::Result<u64>
+/// Makes the calls from one number up to another, and tells how many answered.
+pub(crate) fn make_calls<R, S, B>(rt: &R, begins: B, first: u64, end: u64) -> io::Result<u64>
 where
     R: Wait + RandomSource + AllocGlobal,
     S: State<R, Output: Drop>,
     B: Begins<R, S>,
 {
-    block_on(rt, Calls::new(rt, begins, calls))
+    block_on(rt, Calls::new(rt, begins, first, end))
 }
 
 /// A future that makes calls one after the other. It gives how many answered.
@@ -40,16 +40,16 @@ struct Calls<'a, R: Wait, S: State<R>, B: Begins<R, S>> {
 }
 
 impl<'a, R: Wait, S: State<R>, B: Begins<R, S>> Calls<'a, R, S, B> {
-    /// Makes so many calls that come from there.
-    fn new(rt: &'a R, begins: B, calls: u64) -> Self
+    /// Makes the calls from one number up to another.
+    fn new(rt: &'a R, begins: B, first: u64, end: u64) -> Self
         ensures { result.waits ≡ None }
     {
         Calls {
             rt,
             begins,
             waits: None,
-            next: 0,
-            end: calls,
+            next: first,
+            end,
             answered: 0,
         }
     }

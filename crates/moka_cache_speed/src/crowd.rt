@@ -1,47 +1,38 @@
 //! Loads of a cache that are all under way at once.
 ghost use Rattle.futures.specs.Task.{Keeps};
 
-use crate::cached::Numbers;
 use crate::calls::Begins;
-use crate::turns::{Never, Still};
+use crate::rounds::{Loads, Numbers, Rounds};
+use crate::runs::Still;
+use crate::works::Way;
 use futures::Future;
 use futures::executor::block_on;
 use futures::task::{Context, Poll};
-use moka_cache::{GetWith, Listener, Polled, State};
+use moka_cache::{Listener, Polled, State};
 use std::alloc::{AllocError, AllocGlobal, Global};
 use std::io;
 use std::marker::PhantomData;
 use std::random::RandomSource;
 use std::sync::Wait;
 
-/// Loads keys below a number, by initializers that never give a value.
-#[derive(Drop)]
-struct Loads<'a, L> {
-    cache: &'a Numbers<L>,
-    keys: u64,
-}
-
-impl<'a, R: Wait, L: Listener<u64, u64>> Begins<R, GetWith<'a, u64, u64, u64, Never, L>>
-    for Loads<'a, L> {
-    fn begin(&self, call: u64) -> GetWith<'a, u64, u64, u64, Never, L> {
-        self.cache
-            .get_with(call.checked_rem(self.keys).unwrap_or(0), Never)
-    }
-}
-
 /// Calls that were polled once.
 type UnderWay<'a, R, S> = Vec<Polled<'a, R, S, Still>>;
 
 /// Makes so many loads over so many keys, polls each once, and cancels them. Prints how many there
 /// are while they are under way, and once they are cancelled.
-pub(crate) fn load_at_once<R: Wait + RandomSource + AllocGlobal + Print, L: Listener<u64, u64>>(
-    rt: &R,
+pub(crate) fn load_at_once<'a, R, L>(
+    rt: &'a R,
     alloc: Global,
-    cache: &Numbers<L>,
+    cache: &'a Numbers<L>,
     keys: u64,
     calls: u64,
-) -> anyhow::Result<()> {
-    let begun = begin_all(rt, alloc, Loads { cache, keys }, calls)??;
+) -> anyhow::Result<()>
+where
+    R: Wait + RandomSource + AllocGlobal + Print,
+    L: Listener<u64, u64>,
+{
+    let rounds = Rounds::below(cache, keys).made(Way::Dropped);
+    let begun = begin_all::<R, Loads<'a, L>, Rounds<'a, L>>(rt, alloc, rounds, calls)??;
     let count = begun.len();
     println!(rt; "under way {count}")?;
     drop(begun);

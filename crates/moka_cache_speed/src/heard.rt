@@ -1,6 +1,6 @@
 //! The cache with a listener.
 
-use crate::cached::Numbers;
+use crate::rounds::Numbers;
 use futures::task::{Context, Poll};
 use moka_cache::{BuildError, CacheBuilder, Listener, ListenerEnd};
 use moka_hist::Cause;

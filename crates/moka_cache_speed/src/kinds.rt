@@ -1,113 +1,159 @@
-//! The kinds of loads and computes, and the ways in which they are made.
+//! Calls of each kind.
 
-/// A kind of call of a key, and what who is asked gives.
-#[derive(Clone, Copy, PartialEq, Eq)]
-pub(crate) enum Kind {
-    GetWith,
-    /// By a test that holds on no value.
-    GetWithIf,
-    /// By a test that holds on each value.
-    Replacing,
-    OptionallyGetWith,
-    /// The same, where there is none.
-    Nothing,
-    TryGetWith,
-    /// The same, by an initializer that fails.
-    Failing,
-    OrInsert,
-    OrInsertWith,
-    OrInsertWithIf,
-    OrOptionallyInsertWith,
-    OrTryInsertWith,
-    Compute,
-    TryCompute,
-    /// The same, which fails.
-    ComputeFailing,
-    ComputeAlone,
-    Upsert,
-}
+use crate::rounds::{
+    Computes, Entries, Gets, Inserts, Loads, LoneComputes, OptionalEntries, OptionalLoads,
+    OrInserts, Removals, Rounds, TriedComputes, TriedEntries, TriedLoads, Upserts,
+};
+use crate::runs::{Span, finish_both, make_alone, run};
+use crate::works::{Kind, Way};
+use moka_cache::Listener;
+use std::alloc::AllocGlobal;
+use std::io;
+use std::random::RandomSource;
+use std::sync::Wait;
 
-/// Each of them.
-pub(crate) const KINDS: [Kind; 17] = [
-    Kind::GetWith,
-    Kind::GetWithIf,
-    Kind::Replacing,
-    Kind::OptionallyGetWith,
-    Kind::Nothing,
-    Kind::TryGetWith,
-    Kind::Failing,
-    Kind::OrInsert,
-    Kind::OrInsertWith,
-    Kind::OrInsertWithIf,
-    Kind::OrOptionallyInsertWith,
-    Kind::OrTryInsertWith,
-    Kind::Compute,
-    Kind::TryCompute,
-    Kind::ComputeFailing,
-    Kind::ComputeAlone,
-    Kind::Upsert,
-];
-
-impl Kind {
-    /// Its word.
-    pub(crate) fn name(self) -> &'static str {
-        match self {
-            Kind::GetWith => "get_with",
-            Kind::GetWithIf => "get_with_if",
-            Kind::Replacing => "replacing",
-            Kind::OptionallyGetWith => "optionally_get_with",
-            Kind::Nothing => "nothing",
-            Kind::TryGetWith => "try_get_with",
-            Kind::Failing => "failing",
-            Kind::OrInsert => "or_insert",
-            Kind::OrInsertWith => "or_insert_with",
-            Kind::OrInsertWithIf => "or_insert_with_if",
-            Kind::OrOptionallyInsertWith => "or_optionally_insert_with",
-            Kind::OrTryInsertWith => "or_try_insert_with",
-            Kind::Compute => "compute",
-            Kind::TryCompute => "try_compute",
-            Kind::ComputeFailing => "compute_failing",
-            Kind::ComputeAlone => "compute_alone",
-            Kind::Upsert => "upsert",
-        }
+/// Makes rounds of the kind in this way, but for `Taken`, which is `Apart` here. Tells how many are
+/// over.
+pub(crate) fn make<'a, R: Wait + RandomSource + AllocGlobal, L: Listener<u64, u64>>(
+    rt: &R,
+    rounds: &Rounds<'a, L>,
+    kind: Kind,
+    way: Way,
+    span: Span,
+) -> io::Result<u64> {
+    let rounds = rounds.made(way);
+    match kind {
+        Kind::Get => run::<R, Gets<'a, L>, Rounds<'a, L>>(rt, rounds, way, span),
+        Kind::Insert => run::<R, Inserts<'a, L>, Rounds<'a, L>>(rt, rounds, way, span),
+        Kind::Remove => run::<R, Removals<'a, L>, Rounds<'a, L>>(rt, rounds, way, span),
+        Kind::GetWith => run::<R, Loads<'a, L>, Rounds<'a, L>>(rt, rounds, way, span),
+        Kind::Nothing => load_optionally(rt, rounds.turned(), way, span),
+        Kind::OptionallyGetWith => load_optionally(rt, rounds, way, span),
+        Kind::Failing => try_load(rt, rounds.turned(), way, span),
+        Kind::TryGetWith => try_load(rt, rounds, way, span),
+        _ => make_more(rt, rounds, kind, way, span),
     }
 }
 
-/// How a call is made.
-#[derive(Clone, Copy, PartialEq, Eq)]
-pub(crate) enum Way {
-    /// To its end, all by one task, but for loads by a test.
-    Once,
-    /// To its end, as a task of its own.
-    Apart,
-    /// Beside a second one of its key, in one task; who is asked pends first.
-    Twice,
-    /// To its end, and then its key is taken out.
-    Taken,
-    /// Polled once, where who is asked pends, and dropped.
-    Dropped,
+fn load_optionally<'a, R: Wait + RandomSource + AllocGlobal, L: Listener<u64, u64>>(
+    rt: &R,
+    rounds: Rounds<'a, L>,
+    way: Way,
+    span: Span,
+) -> io::Result<u64> {
+    run::<R, OptionalLoads<'a, L>, Rounds<'a, L>>(rt, rounds, way, span)
 }
 
-/// Each of them.
-pub(crate) const WAYS: [Way; 5] = [Way::Once, Way::Apart, Way::Twice, Way::Taken, Way::Dropped];
+fn try_load<'a, R: Wait + RandomSource + AllocGlobal, L: Listener<u64, u64>>(
+    rt: &R,
+    rounds: Rounds<'a, L>,
+    way: Way,
+    span: Span,
+) -> io::Result<u64> {
+    run::<R, TriedLoads<'a, L>, Rounds<'a, L>>(rt, rounds, way, span)
+}
 
-impl Way {
-    /// Its word.
-    pub(crate) fn name(self) -> &'static str {
-        match self {
-            Way::Once => "once",
-            Way::Apart => "apart",
-            Way::Twice => "twice",
-            Way::Taken => "taken",
-            Way::Dropped => "dropped",
+// Makes calls of the other kinds.
+fn make_more<'a, R: Wait + RandomSource + AllocGlobal, L: Listener<u64, u64>>(
+    rt: &R,
+    rounds: Rounds<'a, L>,
+    kind: Kind,
+    way: Way,
+    span: Span,
+) -> io::Result<u64> {
+    match kind {
+        Kind::OrInsert => run::<R, OrInserts<'a, L>, Rounds<'a, L>>(rt, rounds, way, span),
+        Kind::OrInsertWith => run::<R, Entries<'a, L>, Rounds<'a, L>>(rt, rounds, way, span),
+        Kind::OrOptionallyInsertWith => {
+            run::<R, OptionalEntries<'a, L>, Rounds<'a, L>>(rt, rounds, way, span)
         }
+        Kind::OrTryInsertWith => {
+            run::<R, TriedEntries<'a, L>, Rounds<'a, L>>(rt, rounds, way, span)
+        }
+        Kind::Compute => run::<R, Computes<'a, L>, Rounds<'a, L>>(rt, rounds, way, span),
+        Kind::ComputeFailing => try_compute(rt, rounds.turned(), way, span),
+        Kind::TryCompute => try_compute(rt, rounds, way, span),
+        Kind::ComputeAlone => run::<R, LoneComputes<'a, L>, Rounds<'a, L>>(rt, rounds, way, span),
+        Kind::Upsert => run::<R, Upserts<'a, L>, Rounds<'a, L>>(rt, rounds, way, span),
+        Kind::Replacing => make_tested(rt, &rounds.turned(), kind, way, span),
+        _ => make_tested(rt, &rounds, kind, way, span),
     }
+}
 
-    /// Whether who is asked pends first.
-    pub(crate) fn pends(self) -> bool {
-        match self {
-            Way::Once | Way::Apart | Way::Taken => false,
-            Way::Twice | Way::Dropped => true,
-        }
+fn try_compute<'a, R: Wait + RandomSource + AllocGlobal, L: Listener<u64, u64>>(
+    rt: &R,
+    rounds: Rounds<'a, L>,
+    way: Way,
+    span: Span,
+) -> io::Result<u64> {
+    run::<R, TriedComputes<'a, L>, Rounds<'a, L>>(rt, rounds, way, span)
+}
+
+// Makes loads by a replace test, each as a task of its own.
+fn make_tested<R: Wait + RandomSource + AllocGlobal, L: Listener<u64, u64>>(
+    rt: &R,
+    rounds: &Rounds<'_, L>,
+    kind: Kind,
+    way: Way,
+    span: Span,
+) -> io::Result<u64> {
+    let mut over = 0u64;
+    for round in span.first..span.end {
+        let done = load_tested(rt, rounds, kind, way, round)?;
+        over = over.wrapping_add(u64::from(done));
     }
+    Ok(over)
+}
+
+fn load_tested<R: Wait + RandomSource + AllocGlobal, L: Listener<u64, u64>>(
+    rt: &R,
+    rounds: &Rounds<'_, L>,
+    kind: Kind,
+    way: Way,
+    round: u64,
+) -> io::Result<bool> {
+    match kind {
+        Kind::OrInsertWithIf => load_entry_if(rt, rounds, way, round),
+        _ => load_if(rt, rounds, way, round),
+    }
+}
+
+fn load_if<R: Wait + RandomSource + AllocGlobal, L: Listener<u64, u64>>(
+    rt: &R,
+    rounds: &Rounds<'_, L>,
+    way: Way,
+    round: u64,
+) -> io::Result<bool> {
+    let (key, holds) = (rounds.key(round), rounds.otherwise);
+    let one = rounds
+        .cache
+        .get_with_if(key, rounds.value(key), move |_value: &u64| holds);
+    if !matches!(way, Way::Twice) {
+        return make_alone(rt, way, one);
+    }
+    let other = rounds
+        .cache
+        .get_with_if(key, rounds.value(key), move |_value: &u64| holds);
+    finish_both(rt, one, other)
+}
+
+fn load_entry_if<R: Wait + RandomSource + AllocGlobal, L: Listener<u64, u64>>(
+    rt: &R,
+    rounds: &Rounds<'_, L>,
+    way: Way,
+    round: u64,
+) -> io::Result<bool> {
+    let (key, holds) = (rounds.key(round), rounds.otherwise);
+    let one = rounds
+        .cache
+        .entry(key)
+        .or_insert_with_if(rounds.value(key), move |_value: &u64| holds);
+    if !matches!(way, Way::Twice) {
+        return make_alone(rt, way, one);
+    }
+    let other = rounds
+        .cache
+        .entry(key)
+        .or_insert_with_if(rounds.value(key), move |_value: &u64| holds);
+    finish_both(rt, one, other)
 }

@@ -13,16 +13,6 @@ pub(crate) struct Later<T> {
     pub(crate) pends: bool,
 }
 
-impl<T> Later<T> {
-    /// Gives it at once.
-    pub(crate) fn at_once(output: T) -> Later<T> {
-        Later {
-            output,
-            pends: false,
-        }
-    }
-}
-
 impl<T: Copy + Drop> Init<T> for Later<T> {
     fn poll(&mut self, cx: &mut Context<'_>) -> Poll<T> {
         if self.pends {
@@ -38,24 +28,7 @@ impl<T: Copy + Drop> Init<T> for Later<T> {
 pub(crate) struct Puts(pub(crate) Later<u64>);
 
 impl Compute<u64, u64, u64> for Puts {
-    ghost gives = { λ puts r. IsPut r };
-
-    fn start(&mut self, _found: Option<&Entry<u64, u64>>) {}
-
-    fn poll(&mut self, cx: &mut Context<'_>) -> Poll<Result<Op<u64>, u64>> {
-        match self.0.poll(cx) {
-            Poll::Ready(value) => Poll::Ready(Ok(Op::Put(value))),
-            Poll::Pending => Poll::Pending,
-        }
-    }
-}
-
-/// Stores a value, as a compute that may do anything.
-#[derive(Drop)]
-pub(crate) struct Does(pub(crate) Later<u64>);
-
-impl Compute<u64, u64, u64> for Does {
-    ghost gives = { λ does r. IsOk r };
+    ghost gives = { λ puts r. IsOk r × IsPut r };
 
     fn start(&mut self, _found: Option<&Entry<u64, u64>>) {}
 

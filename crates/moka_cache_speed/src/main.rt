@@ -6,24 +6,21 @@
 #![tactic(auto)]
 
 mod asked;
-mod burst;
 mod cached;
 mod calls;
 mod crowd;
 mod heard;
-mod keyed;
 mod kinds;
 mod later;
 mod mapped;
-mod tested;
-mod turns;
-mod ways;
+mod rounds;
+mod runs;
+mod works;
 
-use asked::{Asked, BURSTS, Burst, PEERS, Peer, WORKS, Work};
-use burst::come_and_store;
-use cached::Numbers;
-use kinds::{KINDS, Kind, WAYS};
+use asked::Asked;
+use cached::{come_and_store, keys_below};
 use moka_cache::{Cache, Listener};
+use rounds::Numbers;
 use std::alloc::{AllocError, AllocGlobal, Global};
 use std::collections::HashMap;
 use std::process::ExitCode;
@@ -32,6 +29,7 @@ use std::rt::Clock;
 use std::sync::{Mutex, Wait};
 use std::thread::Threads;
 use std::time::Instant;
+use works::{Job, PEERS, Peer, WAYS, WORKS, Way, Work};
 
 fn main(rt: HostRuntime) -> ExitCode {
     let Ok(asked) = Asked::read(&rt) else {
@@ -64,99 +62,94 @@ fn measure_peer<R: Threads + Wait + RandomSource + AllocGlobal + Clock + Print +
     peer: Peer,
 ) -> anyhow::Result<()> {
     for work in WORKS {
-        if asked.is_asked(work) {
-            make_work(rt, alloc, asked, peer, work)?;
-        }
-    }
-    for kind in KINDS {
-        measure_kind(rt, alloc, asked, peer, kind)?;
-    }
-    for burst in BURSTS {
-        if asked.is_burst(burst) {
-            make_burst(rt, alloc, asked, peer, burst)?;
+        if asked.is_work(work) {
+            measure_work(rt, alloc, asked, peer, work)?;
         }
     }
     Ok(())
 }
 
-/// Makes calls of the kind in each way that is asked for.
-fn measure_kind<R: Threads + Wait + RandomSource + AllocGlobal + Clock + Print + Eprint + Sync>(
-    rt: &R,
-    alloc: Global,
-    asked: Asked,
-    peer: Peer,
-    kind: Kind,
-) -> anyhow::Result<()> {
-    for way in WAYS {
-        if asked.is_kind(kind, way) && peer != Peer::Map {
-            make_work(rt, alloc, asked, peer, Work::Calls(kind, way))?;
-        }
-    }
-    Ok(())
-}
-
-/// Makes the work with a peer of its own.
-fn make_work<R: Threads + Wait + RandomSource + AllocGlobal + Clock + Print + Eprint + Sync>(
+/// Makes the work: calls of a kind in each way that is asked for.
+fn measure_work<R: Threads + Wait + RandomSource + AllocGlobal + Clock + Print + Eprint + Sync>(
     rt: &R,
     alloc: Global,
     asked: Asked,
     peer: Peer,
     work: Work,
 ) -> anyhow::Result<()> {
-    match peer {
-        Peer::Cache => {
-            let cache = unheard(alloc, Some(u64::MAX))?;
-            time_cache(rt, alloc, &cache, asked, peer, work)
+    for way in WAYS {
+        let is_made = match work {
+            Work::Calls(_) => asked.is_way(way),
+            _ => matches!(way, Way::Once),
+        };
+        if is_made {
+            measure_job(rt, alloc, asked, peer, Job { work, way })?;
         }
-        Peer::Unbounded => {
-            let cache = unheard(alloc, None)?;
-            time_cache(rt, alloc, &cache, asked, peer, work)
-        }
-        Peer::Heard => {
-            let cache = heard::empty(alloc)?;
-            time_cache(rt, alloc, &cache, asked, peer, work)
-        }
-        Peer::Map => time_map(rt, alloc, asked, work),
     }
+    Ok(())
 }
 
-/// Makes the burst in a cache of its own. A map has none.
-fn make_burst<R: Wait + RandomSource + AllocGlobal + Print>(
+/// Does the job with a peer of its own. A map has no kinds of calls, and no bursts.
+fn measure_job<R: Threads + Wait + RandomSource + AllocGlobal + Clock + Print + Eprint + Sync>(
     rt: &R,
     alloc: Global,
     asked: Asked,
     peer: Peer,
-    burst: Burst,
+    job: Job,
 ) -> anyhow::Result<()> {
-    let (many, few) = (asked.calls, asked.few_keys());
-    match peer {
-        Peer::Cache => {
-            let cache = unheard(alloc, Some(u64::MAX))?;
-            come_and_store(rt, alloc, &cache, burst, many, few)
-        }
-        Peer::Unbounded => {
-            let cache = unheard(alloc, None)?;
-            come_and_store(rt, alloc, &cache, burst, many, few)
-        }
-        Peer::Heard => {
-            let cache = heard::empty(alloc)?;
-            come_and_store(rt, alloc, &cache, burst, many, few)
-        }
-        Peer::Map => Ok(()),
+    match (peer, job.work) {
+        (Peer::Map, Work::Calls(_) | Work::Burst(_)) => Ok(()),
+        (Peer::Map, _) => time_map(rt, alloc, asked, job),
+        (Peer::Heard, _) => with_heard(rt, alloc, asked, peer, job),
+        (Peer::Cache, _) => with_cache(rt, alloc, asked, peer, job, Some(u64::MAX)),
+        (Peer::Unbounded, _) => with_cache(rt, alloc, asked, peer, job, None),
     }
 }
 
-/// Makes an empty cache without a listener.
-fn unheard(alloc: Global, max_capacity: Option<u64>) -> Result<Numbers, AllocError> {
-    Cache::starting_after(alloc, None, max_capacity, 0)
+/// Does the job with a cache that no listener hears, of this capacity.
+fn with_cache<R: Threads + Wait + RandomSource + AllocGlobal + Clock + Print + Eprint + Sync>(
+    rt: &R,
+    alloc: Global,
+    asked: Asked,
+    peer: Peer,
+    job: Job,
+    max_capacity: Option<u64>,
+) -> anyhow::Result<()> {
+    let cache: Numbers = Cache::starting_after(alloc, None, max_capacity, 0)?;
+    use_cache(rt, alloc, &cache, asked, peer, job)
 }
 
-fn keys_below(alloc: Global, count: u64) -> Result<Vec<u64>, AllocError> {
-    let mut keys = Vec::new(alloc);
-    for key in 0..count {
-        keys.push(key)?;
+/// Does it with a cache that a listener hears.
+fn with_heard<R: Threads + Wait + RandomSource + AllocGlobal + Clock + Print + Eprint + Sync>(
+    rt: &R,
+    alloc: Global,
+    asked: Asked,
+    peer: Peer,
+    job: Job,
+) -> anyhow::Result<()> {
+    let cache = heard::empty(alloc)?;
+    use_cache(rt, alloc, &cache, asked, peer, job)
+}
+
+/// Does it with this cache, which is empty.
+fn use_cache<R, L>(
+    rt: &R,
+    alloc: Global,
+    cache: &Numbers<L>,
+    asked: Asked,
+    peer: Peer,
+    job: Job,
+) -> anyhow::Result<()>
+where
+    R: Threads + Wait + RandomSource + AllocGlobal + Clock + Print + Eprint + Sync,
+    L: Listener<u64, u64> + Send + Sync,
+{
+    match job.work {
+        Work::Burst(burst) => {
+            come_and_store(rt, alloc, cache, burst, asked.calls, asked.few_keys())
+        }
+        _ => time_cache(rt, alloc, cache, asked, peer, job),
     }
-    Ok(keys)
 }
 
 /// Times the work on an empty cache, of which a get finds each key.
@@ -166,19 +159,19 @@ fn time_cache<R, L>(
     cache: &Numbers<L>,
     asked: Asked,
     peer: Peer,
-    work: Work,
+    job: Job,
 ) -> anyhow::Result<()>
 where
     R: Threads + Wait + RandomSource + AllocGlobal + Clock + Print + Eprint + Sync,
     L: Listener<u64, u64> + Send + Sync,
 {
-    let keys = keys_below(alloc, asked.keys_of(work))?;
-    if work == Work::Get {
-        cached::fill(rt, cache, keys.as_slice())?;
+    let keys = keys_below(alloc, asked.keys_of(job.work))?;
+    if job.work.is_get() {
+        cached::fill(rt, cache, keys.len() as u64)?;
     }
     let start = Instant::now(rt)?;
-    let answered = cached::work(rt, alloc, cache, keys.as_slice(), work, asked.shares())?;
-    told(rt, peer, work, answered, asked, start)
+    let answered = cached::work(rt, alloc, cache, keys.as_slice(), job, asked.share())?;
+    told(rt, peer, job, answered, asked, start)
 }
 
 /// Times the work on a map under a lock.
@@ -186,31 +179,31 @@ fn time_map<R: Threads + Wait + Clock + Print + Eprint + Sync>(
     rt: &R,
     alloc: Global,
     asked: Asked,
-    work: Work,
+    job: Job,
 ) -> anyhow::Result<()> {
-    let keys = keys_below(alloc, asked.keys_of(work))?;
+    let keys = keys_below(alloc, asked.keys_of(job.work))?;
     let map = Mutex::new(HashMap::new(alloc));
-    if work == Work::Get {
+    if job.work.is_get() {
         mapped::fill(rt, &map, keys.as_slice());
     }
     let start = Instant::now(rt)?;
-    let answered = mapped::work(rt, alloc, &map, keys.as_slice(), work, asked.shares())?;
-    told(rt, Peer::Map, work, answered, asked, start)
+    let answered = mapped::work(rt, alloc, &map, keys.as_slice(), job.work, asked.share())?;
+    told(rt, Peer::Map, job, answered, asked, start)
 }
 
 /// Prints how many of the calls answered, and how long they took.
 fn told<R: Clock + Print + Eprint>(
     rt: &R,
     peer: Peer,
-    work: Work,
+    job: Job,
     answered: u64,
     asked: Asked,
     start: Instant,
 ) -> anyhow::Result<()> {
     let nanos = start.elapsed(rt)?.as_nanos();
-    let (peer, name, (space, way)) = (peer.name(), work.name(), work.way());
+    let (peer, name, (space, way)) = (peer.name(), job.work.name(), job.way());
     println!(rt; "{peer} {name}{space}{way} {answered}")?;
-    let each = nanos / u128::from(asked.shares().calls.max(1));
+    let each = nanos / u128::from(asked.share().calls.max(1));
     let rate = 1_000_000_000 * u128::from(asked.calls) / nanos.max(1);
     let threads = asked.threads;
     eprintln!(rt;

@@ -1,7 +1,7 @@
 //! The works on std's map under a lock.
 
-use crate::asked::{Shares, Work};
-use crate::cached::place_of;
+use crate::cached::Share;
+use crate::works::Work;
 use std::alloc::{AllocError, Global};
 use std::collections::HashMap;
 use std::sync::{Mutex, Wait};
@@ -25,14 +25,14 @@ pub(crate) fn work<R: Threads + Wait + Sync>(
     map: &Map,
     keys: &[u64],
     work: Work,
-    shares: Shares,
+    share: Share,
 ) -> Result<u64, AllocError> {
     let keys = keys.len() as u64;
     let answered = thread::map_indices(
         rt,
         alloc,
-        shares.threads as usize,
-        &|thread| work_as(rt, map, keys, work, thread as u64, shares.calls),
+        share.threads as usize,
+        &|thread| work_as(rt, map, keys, work, thread as u64, share.calls),
     )?;
     let mut all = 0u64;
     for one in answered.iter() {
@@ -51,6 +51,12 @@ fn work_as<R: Wait>(rt: &R, map: &Map, keys: u64, work: Work, thread: u64, calls
     answered
 }
 
+/// The key of a thread's call: each call's is another, far from the one before.
+fn place_of(thread: u64, call: u64, keys: u64) -> u64 {
+    let place = call.wrapping_mul(7919).wrapping_add(thread);
+    place.checked_rem(keys).unwrap_or(0)
+}
+
 /// Makes one call. Two that come one after the other have one key where they are of two kinds.
 fn make<R: Wait>(rt: &R, map: &Map, keys: u64, work: Work, thread: u64, call: u64) -> bool {
     let (key, pair) = (
@@ -61,7 +67,7 @@ fn make<R: Wait>(rt: &R, map: &Map, keys: u64, work: Work, thread: u64, call: u6
         (Work::Get, _) => get(rt, map, key),
         (Work::Insert, _) => insert(rt, map, key, call),
         (Work::Load, _) => load(rt, map, call),
-        (Work::Calls(_, _), _) => load(rt, map, key),
+        (Work::Calls(_) | Work::Burst(_), _) => load(rt, map, key),
         (Work::Remove | Work::See, true) => insert(rt, map, pair, call),
         (Work::Cancel, true) => load(rt, map, pair),
         (Work::See, false) => get(rt, map, pair),

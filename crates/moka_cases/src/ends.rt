@@ -6,7 +6,7 @@ use moka_ends::{
 use std::test::Fail;
 
 #[test]
-fn pieces_of_any_length_give_the_same_bytes(rt: HostRuntime) -> Result<(), Fail> {
+fn pieces_of_any_length_are_read_as_the_same_bytes(rt: HostRuntime) -> Result<(), Fail> {
     let alloc = rt.alloc();
     for piece in [1, 2, 5, 6] {
         let mut source = ListSource::new(b"moka\n".to_vec(alloc)?, piece, Vec::new(alloc));
@@ -16,11 +16,17 @@ fn pieces_of_any_length_give_the_same_bytes(rt: HostRuntime) -> Result<(), Fail>
             b"moka\n".as_slice(),
             "in pieces of {piece}"
         );
-        let mut sink = ListSink::new(alloc, piece, Vec::new(alloc));
-        assert_eq!(rt; write_all(&mut sink, &bytes), Ok(()));
-        assert_eq!(rt; sink.bytes(), b"moka\n".as_slice(), "in pieces of {piece}");
     }
     Ok(())
+}
+
+#[test]
+fn pieces_of_any_length_are_written_as_the_same_bytes(rt: HostRuntime) {
+    for piece in [1, 2, 5, 6] {
+        let mut sink = ListSink::new(rt.alloc(), piece, Vec::new(rt.alloc()));
+        assert_eq!(rt; write_all(&mut sink, b"moka\n"), Ok(()));
+        assert_eq!(rt; sink.bytes(), b"moka\n".as_slice(), "in pieces of {piece}");
+    }
 }
 
 #[test]

@@ -2,6 +2,7 @@
 
 use moka_engine::{Known, choose, chosen_holds, remove_cause, upsert_cause, visible};
 use moka_hist::{Cause, Rules, Times, later};
+use std::alloc::Global;
 use std::test::Fail;
 use std::time::Duration;
 
@@ -118,38 +119,37 @@ fn a_chosen_record_leaves_only_for_what_still_holds(rt: HostRuntime) {
     }
 }
 
+/// A record of this key and stamp that was seen last at the moment; a test hits it or not.
+fn known(key: u8, stamp: u64, accessed: u64, hit: bool) -> Known<u8> {
+    Known {
+        key,
+        stamp,
+        times: times_of(None, 0, accessed),
+        hit,
+    }
+}
+
+/// Those of five records that are to leave where this is the capacity, as they are told.
+fn chosen(alloc: Global, max_capacity: u64) -> Result<String, Fail> {
+    let records = [
+        known(1, 7, 3, false),
+        known(2, 4, 0, true),
+        known(3, 5, 3, false),
+        known(4, 5, 3, false),
+        known(5, 1, 9, false),
+    ];
+    let names = choose(alloc, &rules_of(None, None, Some(max_capacity)), &records)?;
+    Ok(format!(in alloc; "{names:?}")?)
+}
+
 #[test]
 fn the_surplus_is_what_was_seen_longest_ago(rt: HostRuntime) -> Result<(), Fail> {
-    let alloc = rt.alloc();
-    // key, stamp, accessed, hit
-    let records = [
-        (1, 7, 3, false),
-        (2, 4, 0, true),
-        (3, 5, 3, false),
-        (4, 5, 3, false),
-        (5, 1, 9, false),
-    ];
-    let mut known = Vec::new(alloc);
-    for (key, stamp, accessed, hit) in records {
-        known.push(Known {
-            key,
-            stamp,
-            times: times_of(None, 0, accessed),
-            hit,
-        })?;
-    }
-    let names = choose(alloc, &rules_of(None, None, Some(2)), &known)?;
-    let want = [(2u8, Cause::Explicit), (3, Cause::Size), (4, Cause::Size)];
-    assert_eq!(rt; names.len(), want.len());
-    for (index, (key, cause)) in want.into_iter().enumerate() {
-        let named = names.get(index).map(|named| (named.key, named.cause));
-        assert_eq!(rt; named, Some((key, cause)), "at {index}");
-    }
-    assert_eq!(rt;
-        choose(alloc, &rules_of(None, None, Some(4)), &known)?
-            .into_vec()
-            .len(),
-        1
-    );
+    let two = chosen(rt.alloc(), 2)?;
+    let want = "Listing { items: [Named { key: 2, stamp: 4, cause: Explicit }, \
+        Named { key: 3, stamp: 5, cause: Size }, Named { key: 4, stamp: 5, cause: Size }] }";
+    assert_eq!(rt; two.as_str(), want);
+    let four = chosen(rt.alloc(), 4)?;
+    let want = "Listing { items: [Named { key: 2, stamp: 4, cause: Explicit }] }";
+    assert_eq!(rt; four.as_str(), want);
     Ok(())
 }

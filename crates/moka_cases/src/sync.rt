@@ -2,15 +2,17 @@
 
 use moka_sync::{CallList, Event, PolledMutex, PolledRwLock, WaitList};
 use std::alloc::{AllocError, Global};
+use std::process::Abort;
 use std::test::Fail;
 
-/// The calls of the list, as it goes over them.
-fn calls_of(alloc: Global, list: &CallList) -> Result<Vec<u64>, AllocError> {
-    let mut calls = Vec::new(alloc);
-    for call in list.iter() {
-        calls.push(call)?;
+/// Whether the calls of the list are these, in this order.
+fn has(list: &CallList, calls: &[u64]) -> bool {
+    for index in 0..calls.len() {
+        if list.get(index) != Some(calls[index]) {
+            return false;
+        }
     }
-    Ok(calls)
+    list.len() == calls.len()
 }
 
 #[test]
@@ -25,8 +27,7 @@ fn a_call_that_leaves_and_comes_again_is_last(rt: HostRuntime) -> Result<(), Fai
     assert!(rt; !list.contains(5));
     list.add(5)?;
     let calls = list.take_all();
-    assert_eq!(rt; calls_of(alloc, &calls)?.as_slice(), [6, 7, 5].as_slice());
-    assert_eq!(rt; calls.get(2), Some(5));
+    assert!(rt; has(&calls, &[6, 7, 5]));
     assert_eq!(rt; calls.get(3), None);
     assert!(rt; list.is_empty());
     Ok(())
@@ -43,11 +44,7 @@ fn a_list_that_most_calls_left_keeps_its_order(rt: HostRuntime) -> Result<(), Fa
     for call in 0..197 {
         event.leave(call);
     }
-    let calls = event.notify();
-    assert_eq!(rt;
-        calls_of(alloc, &calls)?.as_slice(),
-        [197, 198, 199].as_slice()
-    );
+    assert!(rt; has(&event.notify(), &[197, 198, 199]));
     assert!(rt; event.notify().is_empty());
     Ok(())
 }
@@ -62,38 +59,41 @@ fn a_mutex_hands_out_all_that_waited(rt: HostRuntime) -> Result<(), Fail> {
     }
     mutex.leave(3);
     assert!(rt; mutex.holder() == Some(1));
-    let calls = mutex.release(1);
-    assert_eq!(rt; calls_of(alloc, &calls)?.as_slice(), [2].as_slice());
+    assert!(rt; has(&mutex.release(1), &[2]));
     assert_eq!(rt; mutex.holder(), None);
     Ok(())
+}
+
+/// What a call asks of a lock: whether to write, and whether it is to get it.
+type Step = (u64, bool, bool);
+
+fn takes(lock: &mut PolledRwLock, call: u64, writes: bool) -> Result<bool, AllocError> {
+    if writes {
+        lock.try_write(call)
+    } else {
+        lock.try_read(call)
+    }
+}
+
+/// The calls that call 1 hands out, once each of the steps came out as it says.
+fn handed_out(rt: &impl Abort, alloc: Global, steps: [Step; 3]) -> Result<CallList, Fail> {
+    let mut lock = PolledRwLock::new(alloc);
+    lock.reserve(1)?;
+    for (call, writes, want) in steps {
+        assert_eq!(rt; takes(&mut lock, call, writes)?, want, "call {call}");
+    }
+    assert!(rt; lock.holds(1));
+    Ok(lock.release(1))
 }
 
 #[test]
 fn a_lock_hands_out_all_that_waited(rt: HostRuntime) -> Result<(), Fail> {
     let alloc = rt.alloc();
-    // whether the call asks to write, and whether it gets the lock
     let beside_a_fellow = [(1, false, true), (2, false, true), (3, true, false)];
+    assert!(rt; has(&handed_out(&rt, alloc, beside_a_fellow)?, &[3]));
     let a_writer_again = [(1, false, true), (1, true, true), (1, true, true)];
+    assert!(rt; has(&handed_out(&rt, alloc, a_writer_again)?, &[]));
     let a_writer_to_read = [(1, true, true), (1, false, false), (2, false, false)];
-    let cases = [
-        (beside_a_fellow, [3].as_slice()),
-        (a_writer_again, [].as_slice()),
-        (a_writer_to_read, [1, 2].as_slice()),
-    ];
-    for (steps, waited) in cases {
-        let mut lock = PolledRwLock::new(alloc);
-        lock.reserve(1)?;
-        for (call, writes, want) in steps {
-            let taken = if writes {
-                lock.try_write(call)?
-            } else {
-                lock.try_read(call)?
-            };
-            assert_eq!(rt; taken, want, "call {call}");
-        }
-        assert!(rt; lock.holds(1));
-        let calls = lock.release(1);
-        assert_eq!(rt; calls_of(alloc, &calls)?.as_slice(), waited);
-    }
+    assert!(rt; has(&handed_out(&rt, alloc, a_writer_to_read)?, &[1, 2]));
     Ok(())
 }

@@ -81,8 +81,8 @@ impl Compute<u32, u32, u32> for Does<'_> {
     }
 }
 
-// The op of an act.
-fn op_of(act: Act) -> Op<u32> {
+/// The op of an act.
+pub(crate) fn op_of(act: Act) -> Op<u32> {
     match act {
         Act::Nop => Op::Nop,
         Act::Put(value) => Op::Put(value),
@@ -122,7 +122,7 @@ impl Compute<u32, u32, u32> for Fails<'_> {
     }
 }
 
-/// Tells to store one more than what was found, or 1, once it was polled twice.
+/// Tells to store one more than what was found, or 1.
 #[derive(Drop)]
 pub(crate) struct Counts {
     pends: bool,
@@ -130,9 +130,18 @@ pub(crate) struct Counts {
 }
 
 impl Counts {
+    /// One that is pending once.
     pub(crate) fn new() -> Counts {
         Counts {
             pends: true,
+            next: 0,
+        }
+    }
+
+    /// One that is never pending.
+    pub(crate) fn at_once() -> Counts {
+        Counts {
+            pends: false,
             next: 0,
         }
     }

@@ -1,10 +1,10 @@
 //! Computes on an entry.
 
 use crate::acts::{Act, Counts, Does, Fails, Starts};
-use futures::executor::block_on;
-use moka_cache::{Cache, PollError, Polled};
-use moka_cache_cases::at::{At, Numbers, get, insert};
+use moka_cache::{Cache, PollError};
+use moka_cache_cases::at::{Numbers, get, insert};
 use moka_cache_cases::pairs::{both, first_dropped};
+use moka_cache_cases::run::run;
 use moka_hist::{CompResult, Entry};
 use std::alloc::AllocGlobal;
 use std::io;
@@ -36,7 +36,7 @@ fn compute<'a, R: Wait + RandomSource + AllocGlobal>(
     does: Does<'a>,
 ) -> io::Result<Computed> {
     let state = cache.entry(1).and_compute_with(does);
-    block_on(rt, Polled::new(rt, state, At(0)))
+    run(rt, state)
 }
 
 // Counts key 1 up.
@@ -45,7 +45,7 @@ fn count_up<'a, R: Wait + RandomSource + AllocGlobal>(
     cache: &'a Numbers,
 ) -> io::Result<Stored> {
     let state = cache.entry_by_ref(&1).and_upsert_with(Counts::new());
-    block_on(rt, Polled::new(rt, state, At(0)))
+    run(rt, state)
 }
 
 // Computes on key 1, and beside it where nobody else does, in one task.
@@ -57,6 +57,16 @@ fn compute_beside<'a, R: Wait + RandomSource + AllocGlobal>(
 ) -> io::Result<(Computed, Tried)> {
     let other = cache.entry_by_ref(&1).and_try_compute_if_nobody_else(other);
     both(rt, cache.entry(1).and_compute_with(one), other)
+}
+
+// Computes on key 1, where nobody else does.
+fn compute_alone<'a, R: Wait + RandomSource + AllocGlobal>(
+    rt: &'a R,
+    cache: &'a Numbers,
+    does: Does<'a>,
+) -> io::Result<Tried> {
+    let state = cache.entry(1).and_try_compute_if_nobody_else(does);
+    run(rt, state)
 }
 
 // Computes on key 1, and stores the value under it meanwhile, in one task.
@@ -100,13 +110,38 @@ fn compute_after_dropped<'a, R: Wait + RandomSource + AllocGlobal>(
 fn one_beside_another_compute_is_not_started(rt: HostRuntime) -> Result<(), Fail> {
     let cache: Numbers = Cache::new(rt.alloc(), 100)?;
     let (first, second) = (Starts::new(), Starts::new());
-    let one = Does::after(3, Act::Put(5), &first);
-    let other = Does::after(0, Act::Put(6), &second);
-    let (a, b) = compute_beside(&rt, &cache, one, other)?;
-    assert_eq!(rt; a, Ok(CompResult::Inserted(entry(5, true, false))));
-    assert_eq!(rt; b, Ok(Ok(CompResult::StillNone(1))));
-    assert_eq!(rt; first.told(), (1, 0), "started once, with nothing");
-    assert_eq!(rt; second.told(), (0, 0), "never started");
+    let inserted = CompResult::Inserted(entry(5, true, false));
+    let replaced = CompResult::ReplacedWith(entry(7, true, true));
+    let unchanged = CompResult::Unchanged(entry(5, false, false));
+    let cases = [
+        (5, inserted, CompResult::StillNone(1), (1, 0)),
+        (7, replaced, unchanged, (2, 6)),
+    ];
+    for (value, done, seen, started) in cases {
+        let one = Does::after(3, Act::Put(value), &first);
+        let other = Does::after(0, Act::Remove, &second);
+        let told = compute_beside(&rt, &cache, one, other)?;
+        assert_eq!(rt; told, (Ok(done), Ok(Ok(seen))), "beside a put of {value}");
+        assert_eq!(rt; first.told(), started, "with what was there");
+        assert_eq!(rt; second.told(), (0, 0), "never started");
+    }
+    Ok(())
+}
+
+#[test]
+fn one_that_is_alone_is_started(rt: HostRuntime) -> Result<(), Fail> {
+    let starts = Starts::new();
+    for (capacity, found) in [(100, 6), (0, 0)] {
+        let cache: Numbers = Cache::new(rt.alloc(), capacity)?;
+        assert_eq!(rt; insert(&rt, &cache, 1, 5)?, Ok(()));
+        let put = Does::after(1, Act::Put(7), &starts);
+        let want = match found {
+            0 => CompResult::Inserted(entry(7, true, false)),
+            _ => CompResult::ReplacedWith(entry(7, true, true)),
+        };
+        assert_eq!(rt; compute_alone(&rt, &cache, put)?, Ok(Ok(want)));
+        assert_eq!(rt; starts.told().1, found, "at capacity {capacity}");
+    }
     Ok(())
 }
 
@@ -198,6 +233,7 @@ fn a_disabled_cache_is_asked_with_nothing(rt: HostRuntime) -> Result<(), Fail> {
         let done = compute(&rt, &cache, Does::after(0, Act::Put(5), &starts))?;
         assert_eq!(rt; done, Ok(CompResult::Inserted(entry(5, true, false))));
         assert_eq!(rt; starts.told(), (times, 0));
+        assert_eq!(rt; count_up(&rt, &cache)?, Ok(entry(1, true, false)));
     }
     Ok(())
 }

@@ -2,20 +2,22 @@
 
 use crate::acts::Counts;
 use futures::FutureExt;
-use futures::executor::block_on;
-use moka_cache::{Cache, Polled, State};
+use moka_cache::{Cache, PollError, Polled, State};
 use moka_cache_cases::at::{At, Numbers, get};
-use std::alloc::AllocGlobal;
+use moka_cache_cases::run::run;
+use moka_hist::Entry;
+use std::alloc::{AllocError, AllocGlobal, Global};
 use std::random::RandomSource;
 use std::sync::Wait;
+use std::sync::atomic::{AtomicU64, Ordering};
 use std::test::Fail;
 use std::{io, thread};
 
-const THREADS: usize = 16;
+const THREADS: u32 = 64;
 
-const KEYS: u32 = 10;
+const KEYS: u32 = 100;
 
-const TIMES: u32 = 10;
+const TIMES: u32 = 100;
 
 // Counts the key up, and tells whether it did.
 fn count_up<R: Wait + RandomSource + AllocGlobal>(
@@ -24,55 +26,144 @@ fn count_up<R: Wait + RandomSource + AllocGlobal>(
     key: u32,
 ) -> io::Result<bool> {
     let state = cache.entry(key).and_upsert_with(Counts::new());
-    Ok(block_on(rt, Polled::new(rt, state, At(0)))?.is_ok())
+    Ok(run(rt, state)?.is_ok())
 }
 
-// Polls an upsert of the key once, and drops it.
+// Polls the state once. Where that is pending it is dropped, and None is answered.
+fn poll_once<R: Wait + RandomSource + AllocGlobal, S: State<R, Output: Drop>>(
+    rt: &R,
+    state: S,
+) -> io::Result<Option<Result<S::Output, PollError>>>
+    requires { S.can_poll state }
+{
+    Polled::new(rt, state, At(0)).now_or_never(rt)
+}
+
+// Counts the key up by one poll, and tells whether it did: where it is pending it is dropped.
 fn count_dropped<R: Wait + RandomSource + AllocGlobal>(
     rt: &R,
     cache: &Numbers,
     key: u32,
-) -> io::Result<()> {
-    drop_polled(rt, cache.entry(key).and_upsert_with(Counts::new()))
+    counts: Counts,
+) -> io::Result<bool> {
+    let stored: Option<Result<Entry<u32, u32>, PollError>> = poll_once(
+        rt,
+        cache.entry(key).and_upsert_with(counts),
+    )?;
+    Ok(matches!(stored, Some(Ok(_))))
 }
 
-// Polls the state once, and drops it.
-fn drop_polled<R: Wait + RandomSource + AllocGlobal, S: State<R, Output: Drop>>(
+// Counts each key up so often. Each thread begins at a key of its own.
+fn count_all<R: Wait + RandomSource + AllocGlobal>(
     rt: &R,
-    state: S,
-) -> io::Result<()>
-    requires { S.can_poll state }
-{
-    let _ = Polled::new(rt, state, At(0)).now_or_never(rt)?;
-    Ok(())
-}
-
-// Counts each key up so often, each time beside an upsert that is dropped where it is asked.
-fn count_all<R: Wait + RandomSource + AllocGlobal>(rt: &R, cache: &Numbers) -> io::Result<bool> {
+    cache: &Numbers,
+    thread: u32,
+) -> io::Result<bool> {
     let mut all = true;
-    for key in 0..KEYS {
-        for _ in 0..TIMES {
-            count_dropped(rt, cache, key)?;
-            all &= count_up(rt, cache, key)?;
+    for _ in 0..TIMES {
+        for at in 0..KEYS {
+            all &= count_up(rt, cache, thread.wrapping_add(at) % KEYS)?;
         }
     }
     Ok(all)
 }
 
+// Counts the key up, and tells whether it did. Every third upsert is dropped once it was polled, and
+// half of these are not pending by themselves.
+fn count_or_drop<R: Wait + RandomSource + AllocGlobal>(
+    rt: &R,
+    cache: &Numbers,
+    key: u32,
+    time: u32,
+) -> io::Result<bool> {
+    match time.wrapping_add(key) % 6 {
+        0 => count_dropped(rt, cache, key, Counts::new()),
+        3 => count_dropped(rt, cache, key, Counts::at_once()),
+        _ => count_up(rt, cache, key),
+    }
+}
+
+// Counts so, and how often each key was counted up.
+fn count_most<R: Wait + RandomSource + AllocGlobal>(
+    rt: &R,
+    cache: &Numbers,
+    thread: u32,
+    counted: &[AtomicU64],
+) -> io::Result<()> {
+    for time in 0..TIMES {
+        for at in 0..KEYS {
+            let key = thread.wrapping_add(at) % KEYS;
+            let done = count_or_drop(rt, cache, key, time)?;
+            if let Some(times) = counted.get(key as usize) {
+                times.fetch_add(u64::from(done), Ordering::SeqCst);
+            }
+        }
+    }
+    Ok(())
+}
+
+// The numbers of the threads.
+fn thread_numbers(alloc: Global) -> Result<Vec<u32>, AllocError> {
+    let mut numbers = Vec::new(alloc);
+    for thread in 0..THREADS {
+        numbers.push(thread)?;
+    }
+    Ok(numbers)
+}
+
+// A count a key.
+fn key_counts(alloc: Global) -> Result<Vec<AtomicU64>, AllocError> {
+    let mut counts = Vec::new(alloc);
+    for _ in 0..KEYS {
+        counts.push(AtomicU64::new(0))?;
+    }
+    Ok(counts)
+}
+
+// Whether a key has a count from the one to the other.
+fn is_within(found: Result<Option<u32>, PollError>, least: u64, most: u64) -> bool {
+    match found {
+        Ok(Some(count)) => least <= u64::from(count) && u64::from(count) <= most,
+        _ => false,
+    }
+}
+
 #[test]
 fn threads_count_each_key(rt: HostRuntime) -> Result<(), Fail> {
-    let cache: Numbers = Cache::new(rt.alloc(), 100)?;
-    let counted = thread::map_indices(
+    let cache: Numbers = Cache::new(rt.alloc(), 1000)?;
+    let counted = thread::map_vec(
         &rt,
-        rt.alloc(),
-        THREADS,
-        &|_| count_all(&rt, &cache).unwrap_or(false),
+        thread_numbers(rt.alloc())?,
+        &|thread: u32| count_all(&rt, &cache, thread).unwrap_or(false),
     )?;
     for all in counted {
         assert!(rt; all);
     }
     for key in 0..KEYS {
-        assert_eq!(rt; get(&rt, &cache, key)?, Ok(Some(160)), "of key {key}");
+        assert_eq!(rt; get(&rt, &cache, key)?, Ok(Some(6400)), "of key {key}");
+    }
+    Ok(())
+}
+
+#[test]
+fn threads_that_drop_upserts_count_those_that_answered(rt: HostRuntime) -> Result<(), Fail> {
+    let cache: Numbers = Cache::new(rt.alloc(), 1000)?;
+    let answered = key_counts(rt.alloc())?;
+    let all_done = thread::map_vec(
+        &rt,
+        thread_numbers(rt.alloc())?,
+        &|thread: u32| count_most(&rt, &cache, thread, &answered).is_ok(),
+    )?;
+    for done in all_done {
+        assert!(rt; done);
+    }
+    for (key, times) in (0..KEYS).zip(&answered) {
+        let least = times.load(Ordering::SeqCst);
+        let found = get(&rt, &cache, key)?;
+        assert!(rt;
+            is_within(found, least, 6400),
+            "key {key}, at least {least}"
+        );
     }
     Ok(())
 }

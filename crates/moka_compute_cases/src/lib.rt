@@ -7,3 +7,5 @@ mod acts;
 mod computing;
 #[cfg(test)]
 mod counting;
+#[cfg(test)]
+mod spelling;

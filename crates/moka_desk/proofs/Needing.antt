@@ -1,9 +1,13 @@
 -- A visit may be made where what it needs is met.
-use Rattle.std.proofs.Common.{◌≡◌, ◌≢◌, ℕ, true, false, ◌||◌, Option, Some, None, is_some, IsSome, IsNone, refl, sym, subst}
+use Rattle.std.proofs.Common.{◌≡◌, ◌≢◌, ℕ, Bool, true, false, ◌||◌, Option, Some, None, is_some, IfSome, IsSome, IsNone, IsTrue, refl, sym, ap, ◌∙◌, subst}
+use Rattle.std.specs.Option.{option_and_then, option_map}
 use Rattle.std.specs.Prelude.{◌↔◌, IsSomeAnd}
 use Rattle.moka_hist.specs.Conditions.{HasUnsettled, HoldsNoWrite, HoldsWrite, IsUnused, MayVisit, may_end}
 use Rattle.moka_needs.specs.Needs.{IsOfCall, ending_of, need_of}
+use Rattle.moka_needs.specs.Reads.{EndedAs}
+use Rattle.moka_needs.specs.declared.needs.Ending.{Ending}
 use Rattle.moka_hist.specs.State.{DeskPart}
+use Rattle.moka_hist.specs.Visits.{settlement_for}
 use Rattle.moka_hist.specs.declared.loads.Kind.{Kind}
 use Rattle.moka_hist.specs.declared.loads.Kind.TheVariants as kind
 use Rattle.moka_hist.specs.declared.loads.Load.{Load}
@@ -67,3 +71,32 @@ module _ {K V E : Type 0} where
   meets_is_may w call (visit.TakeTurn n) is = along (λ m. w.turn ≢ Some m) n call is
   meets_is_may w call (visit.ApplyOne n) is = along (λ m. w.turn ≡ Some m) n call is
   meets_is_may w call (visit.EndTurn n) is = along (λ m. w.turn ≡ Some m) n call is
+
+-- ---- what a call reads
+
+some_same : {A : Type 0} {x y : A} → Some x ≡ Some y → x ≡ y
+some_same e = cc
+
+module _ {K V E : Type 0} where
+  pub ended_some : (w : DeskPart K V E) (call : ℕ) (k : Kind) (with : Ending) (b : Bool) → b ≡ may_end_so k with → option_map ending_of (settlement_for w call) ≡ Some with
+      → IsTrue b ↔ EndedAs w call k
+  ended_some w call k with b is some = by (settlement_for w call) some
+    where
+      by : (o : Option (Settled V E)) → option_map ending_of o ≡ Some with → IsTrue b ↔ IfSome o (λ s. may_end k s ≡ true)
+      by (Some s) e = along (λ v. v ≡ true) (may_end k s) b (same_end k s ∙ ap (may_end_so k) (some_same e) ∙ sym is)
+      by None e = absurd cc
+
+  pub ended_none : (w : DeskPart K V E) (call : ℕ) (k : Kind) → option_map ending_of (settlement_for w call) ≡ None → IsTrue true ↔ EndedAs w call k
+  ended_none w call k none = by (settlement_for w call) none
+    where
+      by : (o : Option (Settled V E)) → option_map ending_of o ≡ None → IsTrue true ↔ IfSome o (λ s. may_end k s ≡ true)
+      by None e = ((λ h. tt), (λ h. refl))
+      by (Some s) e = absurd cc
+
+-- the same is found in maps that have the same
+pub joined_end : {A : Type 0} (f g : ℕ → Option A) → ((n : ℕ) → f n ≡ g n) → (a b : Option ℕ) → a ≡ b → option_and_then f a ≡ option_and_then g b
+joined_end f g same a b e = subst (λ v. option_and_then f a ≡ option_and_then g v) e (by a)
+  where
+    by : (o : Option ℕ) → option_and_then f o ≡ option_and_then g o
+    by None = refl
+    by (Some n) = same n

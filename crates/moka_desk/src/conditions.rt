@@ -11,6 +11,7 @@ impl<K: Eq + Hash + Clone + Drop, V: Drop, E: Drop> Desk<K, V, E> {
     ghost use Rattle.moka_hist.specs.State.{DeskPart};
     ghost use Rattle.moka_hist.specs.Conditions.{HasUnsettled, HoldsNoWrite, HoldsWrite, IsUnused, MayLeave, MayVisit};
     ghost use Rattle.moka_needs.specs.Needs.{need_of, IsOfCall};
+    ghost use Rattle.moka_needs.specs.Reads.{EndedAs};
     ghost use Rattle.moka_hist.specs.declared.visits.Visit.{Visit};
     ghost use Rattle.moka_desk.specs.History.{keeps_history};
     ghost use Rattle.moka_desk.specs.Meets.{Meets, Tests, is_recalled, may_end_so};
@@ -59,6 +60,18 @@ impl<K: Eq + Hash + Clone + Drop, V: Drop, E: Drop> Desk<K, V, E> {
             Need::TakeTurn => !self.has_turn(call),
             Need::ApplyOne => self.has_turn(call),
             Need::EndTurn => self.has_turn(call),
+        }
+    }
+
+    /// Whether the owner that the call waits for, if it does, has not ended, or ended as one of this
+    /// kind may.
+    pub fn ended_as(&self, call: u64, kind: Kind) -> bool
+        ensures { (w : DeskPart K V E) → StandsFor K.eq self.now w
+            → IsTrue result ↔ EndedAs w call kind }
+    {
+        match self.loads.ending_for(call) {
+            Some(with) => Self::may_end_so(kind, with),
+            None => true,
         }
     }
 

@@ -3,12 +3,14 @@
 ghost use Rattle.std.specs.Prelude.{◌≡◌, ℕ, ◌+◌, ◌-◌, ◌≤◌, ◌<◌, ◌==◌, ◌&&◌, ◌^◌, cond, Option, Some, None, is_some, unwrap_or, nat_eq, OnOk, OnErr, IfOk, if◌then◌else◌};
 ghost use Rattle.moka_hist.specs.Finite.{IsExact};
 ghost use Rattle.std.specs.Bool.{OnTrue};
-ghost use Rattle.std.specs.Option.{option_and_then};
+ghost use Rattle.std.specs.Option.{option_and_then, option_map};
 ghost use Rattle.std.specs.HashMap.{get, spare, hash_map_len};
+ghost use Rattle.moka_needs.specs.Needs.{ending_of};
 ghost use Rattle.moka_desk.specs.Readers.{waiting_for};
 
 use crate::maps::{put, replace};
 use moka_hist::{Claim, Load, Settled};
+use moka_needs::Ending;
 use moka_room::map_room;
 use std::alloc::{AllocError, Global};
 use std::collections::HashMap;
@@ -209,6 +211,18 @@ impl<K: Eq + Hash + Clone + Drop, V: Drop, E: Drop> Loads<K, V, E> {
         self.end(call, Settled::Aborted, awaited);
     }
 
+    /// How the owner ended that the call waits for, if it has, but for the value and the error.
+    pub(crate) fn ending_for(&self, call: u64) -> Option<Ending>
+        ensures { result ≡ option_map ending_of (option_and_then (get nat_eq self.now.settled)
+            (get nat_eq self.now.joined call)) }
+    {
+        let owner = self.joined.get(&call)?;
+        match self.settled.get(owner) {
+            Some(settlement) => Some(ending_of(settlement)),
+            None => None,
+        }
+    }
+
     // How the owner ended that the call waits for, if it has.
     fn settlement_for(&self, call: u64) -> Result<Option<Settled<V, E>>, AllocError>
     where
@@ -341,6 +355,19 @@ fn settlement_copy<V: Clone, E: Clone>(
         }
         Settled::Nothing => Ok(Settled::Nothing),
         Settled::Aborted => Ok(Settled::Aborted),
+    }
+}
+
+// How an owner ended, but for the value and the error.
+fn ending_of<V, E>(settlement: &Settled<V, E>) -> Ending
+    ensures { result ≡ ending_of settlement.now }
+{
+    match settlement {
+        Settled::NotYet => Ending::NotYet,
+        Settled::Ready(_) => Ending::Ready,
+        Settled::Err(_) => Ending::Err,
+        Settled::Nothing => Ending::Nothing,
+        Settled::Aborted => Ending::Aborted,
     }
 }
 

@@ -5,13 +5,15 @@ ghost use Rattle.moka_hist.specs.Step.{access_for, On_desk, replace_of};
 ghost use Rattle.moka_hist.specs.Plan as plan;
 ghost use Rattle.moka_hist.specs.Plan.{hearing};
 ghost use Rattle.std.specs.Option.{option_map};
+ghost use Rattle.moka_needs.specs.Reads.{kind_read};
 ghost use Rattle.moka_init.specs.PointPlan.{aim_of, looking_plan, posting_plan, listening_plan};
+ghost use Rattle.moka_init.specs.PointPlan.{computing_plan, loading_plan};
 ghost use Rattle.moka_init.specs.FlowPlan.{opening, owed_in, tested_in};
 
 use crate::copies::replace_of;
 use crate::flow::Flow;
-use crate::points::{Listening, Look, Looking, Point, Posting};
-use moka_hist::{Cause, Mode, Owed, Rules, Start, Stored, Visit, Write};
+use crate::points::{Computing, Listening, Loading, Look, Looking, Point, Posting};
+use moka_hist::{Cause, Kind, Mode, Owed, Rules, Start, Stored, Visit, Write};
 use std::alloc::AllocError;
 
 impl<K: Drop, V: Drop, E: Drop> Flow<K, V, E> {
@@ -71,6 +73,17 @@ impl<K, V, E> Flow<K, V, E> {
     {
         match &self.point {
             Point::Looking(looking) => tested_in_looking::<K, V, E>(looking),
+            _ => None,
+        }
+    }
+
+    /// The kind of load whose owner's end the call's next visit reads, if it reads one.
+    pub fn kind_read(&self) -> Option<Kind>
+        ensures { result ≡ kind_read (call_of self.now).plan }
+    {
+        match &self.point {
+            Point::Loading(loading) => kind_read_in_loading(loading),
+            Point::Computing(computing) => kind_read_in_computing(computing),
             _ => None,
         }
     }
@@ -161,6 +174,33 @@ impl<K: Clone + Drop, V: Clone + Drop, E: Clone + Drop> Flow<K, V, E> {
             Point::Listening(listening) => due_in_listening(self.call, listening),
             _ => Ok(None),
         }
+    }
+}
+
+// The kind of load whose owner's end a call reads next that is loading, if it reads one.
+fn kind_read_in_loading<K, V, E>(loading: &Loading<K, V, E>) -> Option<Kind>
+    ensures { result ≡ kind_read (loading_plan loading.now) }
+{
+    match loading {
+        Loading::Own(_) => None,
+        Loading::Read(sought) => Some(sought.load.kind),
+        Loading::Settle(_) => None,
+        Loading::Ask(_) => None,
+        Loading::Told(_) => None,
+    }
+}
+
+// The same of a call that computes.
+fn kind_read_in_computing<K, V, E>(computing: &Computing<K, V, E>) -> Option<Kind>
+    ensures { result ≡ kind_read {E = E} (computing_plan computing.now) }
+{
+    match computing {
+        Computing::Own(_) => None,
+        Computing::OwnAlone(_) => None,
+        Computing::Read(_) => Some(Kind::Compute),
+        Computing::Ask { .. } => None,
+        Computing::Told { .. } => None,
+        Computing::Settle(_) => None,
     }
 }
 

@@ -276,7 +276,9 @@ fn step_get<K: Eq + Clone + Drop, V: Clone + Drop, E: Clone + Drop>(
         (NotesOne ground.old.bare.notes.items ground.new.bare.notes.items) }
 {
     let mut flow = Flow::new(Start::Get { key }, 1, RULES);
-    step(&mut flow, ground)
+    let stepped = step(&mut flow, ground);
+    drop(flow);
+    stepped
 }
 
 // Polls a fresh get on an empty cache: each access is noted, and nothing else.
@@ -292,7 +294,9 @@ fn poll_get<K: Eq + Clone + Drop, V: Clone + Drop, E: Clone + Drop>(
     ensures { OnOk result (NotesPoll key ground.old.notes.items ground.new.notes.items) }
 {
     let mut flow = Flow::new(Start::Get { key }, 1, RULES);
-    poll(&mut flow, ground)
+    let polled = poll(&mut flow, ground);
+    drop(flow);
+    polled
 }
 
 #[test]

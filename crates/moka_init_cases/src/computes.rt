@@ -1,14 +1,9 @@
 //! How whole computes read, access by access.
 
-use crate::given::{
-    DISABLED, HEARD, KEY, RULES, absent, clock, decided, found, heard, judged, locked, none_owed,
-    notice, opened, owns, posted, read, settled, stamped, told, unlocked, waits,
-};
-use crate::rows::{Row, plays, runs};
-use moka_hist::{Cause, Found, Got, Op, Settled, Start, TableAnswer, Told};
+use crate::given::{DISABLED, HEARD, KEY, RULES};
+use crate::rows::{plays, runs};
+use moka_hist::Start;
 use moka_init::Flow;
-use std::alloc::Global;
-use std::process::Abort;
 use std::test::Fail;
 
 const COMPUTE: Start<u32, u32> = Start::Compute { key: KEY };
@@ -21,19 +16,17 @@ fn a_compute_owns_looks_asks_stores_and_settles(rt: HostRuntime) -> Result<(), F
         &rt,
         COMPUTE,
         RULES,
-        vec![in rt.alloc();
-            ("wait or own", owns(), "going"),
-            ("take owed", none_owed(), "going"),
-            ("get", absent(), "going"),
-            ("ask op", opened(), "ask none"),
-            ("take told", Got::Desk(Found::TakeTold(None)), "wait"),
-            ("take told", told(Told::Op(Op::Put(5))), "going"),
-            ("take owed", none_owed(), "going"),
-            ("stamp moment", stamped(), "going"),
-            ("insert", absent(), "going"),
-            ("post write", posted(), "going"),
-            ("settle nothing", settled(), "inserted"),
-        ]?,
+        "wait or own / owns / going\n\
+            take owed / none / going\n\
+            get / absent / going\n\
+            ask op / opened / ask none\n\
+            take told / not yet / wait\n\
+            take told / put 5 / going\n\
+            take owed / none / going\n\
+            stamp moment / stamped / going\n\
+            insert / absent / going\n\
+            post write / posted / going\n\
+            settle nothing / settled / inserted\n",
     )
 }
 
@@ -43,66 +36,55 @@ fn a_waiting_compute_begins_anew_however_its_owner_ended(rt: HostRuntime) -> Res
         &rt,
         COMPUTE,
         RULES,
-        vec![in rt.alloc();
-            ("wait or own", waits(), "going"),
-            ("read settled", read(Settled::NotYet), "wait"),
-            ("read settled", read(Settled::Nothing), "going"),
-            ("wait or own", waits(), "going"),
-            ("read settled", read(Settled::Aborted), "going"),
-            ("wait or own", owns(), "going"),
-            ("take owed", none_owed(), "going"),
-            ("get", decided(found()), "going"),
-            ("judge", judged(true), "going"),
-            ("ask op", opened(), "ask found"),
-            ("take told", told(Told::Op(Op::Nop)), "going"),
-            ("settle nothing", settled(), "unchanged"),
-        ]?,
+        "wait or own / waits / going\n\
+            read settled / not yet / wait\n\
+            read settled / nothing / going\n\
+            wait or own / waits / going\n\
+            read settled / aborted / going\n\
+            wait or own / owns / going\n\
+            take owed / none / going\n\
+            get / found / going\n\
+            judge / seen / going\n\
+            ask op / opened / ask found\n\
+            take told / nop / going\n\
+            settle nothing / settled / unchanged\n",
     )
 }
 
-// What a compute does that is told to take the record out, and what its table answers.
-fn removes(
-    rt: &impl Abort,
-    alloc: Global,
-    there: TableAnswer<u32, u32>,
-    last: [Row; 2],
-) -> Result<(), Fail> {
-    let mut rows = vec![in alloc;
-        ("wait or own", owns(), "going"),
-        ("take owed", none_owed(), "going"),
-        ("get", decided(found()), "going"),
-        ("judge", judged(true), "going"),
-        ("ask op", opened(), "ask found"),
-        ("take told", told(Told::Op(Op::Remove)), "going"),
-        ("take owed", none_owed(), "going"),
-        ("stamp moment", stamped(), "going"),
-        ("remove", decided(there), "going"),
-    ]?;
-    for row in last {
-        rows.push(row)?;
-    }
-    runs(rt, COMPUTE, RULES, rows)
-}
-
+// A compute is told to take the record out, and answers what the table has when it does.
 #[test]
 fn a_remove_answers_what_the_table_had(rt: HostRuntime) -> Result<(), Fail> {
-    removes(
+    runs(
         &rt,
-        rt.alloc(),
-        found(),
-        [
-            ("post write", posted(), "going"),
-            ("settle nothing", settled(), "removed"),
-        ],
+        COMPUTE,
+        RULES,
+        "wait or own / owns / going\n\
+            take owed / none / going\n\
+            get / found / going\n\
+            judge / seen / going\n\
+            ask op / opened / ask found\n\
+            take told / remove / going\n\
+            take owed / none / going\n\
+            stamp moment / stamped / going\n\
+            remove / found / going\n\
+            post write / posted / going\n\
+            settle nothing / settled / removed\n",
     )?;
-    removes(
+    runs(
         &rt,
-        rt.alloc(),
-        TableAnswer::None,
-        [
-            ("clock", clock(), "going"),
-            ("settle nothing", settled(), "still none"),
-        ],
+        COMPUTE,
+        RULES,
+        "wait or own / owns / going\n\
+            take owed / none / going\n\
+            get / found / going\n\
+            judge / seen / going\n\
+            ask op / opened / ask found\n\
+            take told / remove / going\n\
+            take owed / none / going\n\
+            stamp moment / stamped / going\n\
+            remove / absent / going\n\
+            clock / told / going\n\
+            settle nothing / settled / still none\n",
     )
 }
 
@@ -112,34 +94,28 @@ fn one_that_computes_alone_reports_beside_an_owner(rt: HostRuntime) -> Result<()
         &rt,
         ALONE,
         RULES,
-        vec![in rt.alloc();
-            ("own alone", Got::Desk(Found::OwnAlone(true)), "going"),
-            ("take owed", none_owed(), "going"),
-            ("get", decided(found()), "going"),
-            ("judge", judged(true), "unchanged"),
-        ]?,
+        "own alone / owned by another / going\n\
+            take owed / none / going\n\
+            get / found / going\n\
+            judge / seen / unchanged\n",
     )?;
     runs(
         &rt,
         ALONE,
         RULES,
-        vec![in rt.alloc();
-            ("own alone", Got::Desk(Found::OwnAlone(false)), "going"),
-            ("take owed", none_owed(), "going"),
-            ("get", absent(), "going"),
-            ("ask try op", opened(), "ask none"),
-            ("take told", told(Told::Err(4)), "going"),
-            ("settle nothing", settled(), "compute error"),
-        ]?,
+        "own alone / owned by nobody / going\n\
+            take owed / none / going\n\
+            get / absent / going\n\
+            ask try op / opened / ask none\n\
+            take told / error 4 / going\n\
+            settle nothing / settled / compute error\n",
     )?;
     runs(
         &rt,
         ALONE,
         DISABLED,
-        vec![in rt.alloc();
-            ("own alone", Got::Desk(Found::OwnAlone(true)), "going"),
-            ("take owed", none_owed(), "still none"),
-        ]?,
+        "own alone / owned by another / going\n\
+            take owed / none / still none\n",
     )
 }
 
@@ -149,23 +125,21 @@ fn an_upserts_value_is_told_to_the_listener_before_its_end(rt: HostRuntime) -> R
         &rt,
         Start::Upsert { key: KEY },
         HEARD,
-        vec![in rt.alloc();
-            ("wait or own", owns(), "going"),
-            ("take owed", none_owed(), "going"),
-            ("get", decided(found()), "going"),
-            ("judge", judged(true), "going"),
-            ("ask value", opened(), "ask found"),
-            ("take told", told(Told::Value(5)), "going"),
-            ("take owed", none_owed(), "going"),
-            ("lock key", locked(), "going"),
-            ("stamp moment", stamped(), "going"),
-            ("insert", decided(found()), "going"),
-            ("open notice", notice(Cause::Replaced), "ask listener"),
-            ("notice ended", heard(true), "going"),
-            ("unlock key", unlocked(), "going"),
-            ("post write", posted(), "going"),
-            ("settle nothing", settled(), "replaced"),
-        ]?,
+        "wait or own / owns / going\n\
+            take owed / none / going\n\
+            get / found / going\n\
+            judge / seen / going\n\
+            ask value / opened / ask found\n\
+            take told / value 5 / going\n\
+            take owed / none / going\n\
+            lock key / locked / going\n\
+            stamp moment / stamped / going\n\
+            insert / found / going\n\
+            open notice / replaced / ask listener\n\
+            notice ended / heard / going\n\
+            unlock key / unlocked / going\n\
+            post write / posted / going\n\
+            settle nothing / settled / replaced\n",
     )
 }
 
@@ -175,31 +149,29 @@ fn a_disabled_cache_is_asked_with_nothing_and_stores_nothing(rt: HostRuntime) ->
         &rt,
         COMPUTE,
         DISABLED,
-        vec![in rt.alloc();
-            ("wait or own", owns(), "going"),
-            ("take owed", none_owed(), "going"),
-            ("ask op", opened(), "ask none"),
-            ("take told", told(Told::Op(Op::Put(5))), "going"),
-            ("settle nothing", settled(), "inserted"),
-        ]?,
+        "wait or own / owns / going\n\
+            take owed / none / going\n\
+            ask op / opened / ask none\n\
+            take told / put 5 / going\n\
+            settle nothing / settled / inserted\n",
     )
 }
 
 #[test]
 fn a_compute_waits_on_after_an_answer_that_it_does_not_take(rt: HostRuntime) -> Result<(), Fail> {
     let mut flow = Flow::new(COMPUTE, 7, DISABLED);
-    plays(
+    let played = plays(
         &rt,
         &mut flow,
-        vec![in rt.alloc();
-            ("wait or own", owns(), "going"),
-            ("take owed", none_owed(), "going"),
-            ("ask op", opened(), "ask none"),
-            ("take told", told(Told::Nothing), "wait"),
-            ("take told", told(Told::Op(Op::Remove)), "going"),
-            ("take owed", none_owed(), "going"),
-        ]?,
-    )?;
-    assert!(rt; flow.held().is_none());
-    Ok(())
+        "wait or own / owns / going\n\
+            take owed / none / going\n\
+            ask op / opened / ask none\n\
+            take told / nothing / wait\n\
+            take told / remove / going\n\
+            take owed / none / going\n",
+    );
+    let holds = flow.held().is_some();
+    drop(flow);
+    assert!(rt; !holds);
+    played
 }

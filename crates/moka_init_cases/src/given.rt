@@ -1,6 +1,8 @@
-//! The rules of the caches, and what accesses give, of the key 3.
+//! The rules of the caches, and what accesses give, by their names, of the key 3.
 
-use moka_hist::{Cause, Claim, Found, Got, Rules, Settled, Stored, TableAnswer, TableTurn, Told};
+use moka_hist::{
+    Cause, Claim, Found, Got, Op, Owed, Rules, Settled, Stored, TableAnswer, TableTurn, Told, Write,
+};
 
 pub(crate) const KEY: u32 = 3;
 
@@ -25,8 +27,28 @@ pub(crate) const DISABLED: Rules = Rules {
     ..RULES
 };
 
+/// What the access gives, by a word of its own kind; None where there is no such word.
+pub(crate) fn given(access: &str, word: &str) -> Option<Got<u32, u32, u32>> {
+    match access {
+        "get" | "insert" | "insert if absent" | "remove" | "table" => of_table(word),
+        "take owed" | "post write" => of_writes(word),
+        "lock key" | "unlock key" | "open notice" | "notice ended" => of_notices(word),
+        "take told" => of_asks(word),
+        "wait or own" | "own alone" | "read settled" => of_loads(word),
+        _ => of_others(word),
+    }
+}
+
+fn desk(found: Found<u32, u32>) -> Option<Got<u32, u32, u32>> {
+    Some(Got::Desk(found))
+}
+
+fn decided(answer: TableAnswer<u32, u32>) -> Option<Got<u32, u32, u32>> {
+    Some(Got::Table(TableTurn::Decided(answer)))
+}
+
 // A record of the call 2 under the key.
-pub(crate) fn found() -> TableAnswer<u32, u32> {
+fn record() -> TableAnswer<u32, u32> {
     TableAnswer::Some {
         key: KEY,
         stored: Stored {
@@ -37,85 +59,108 @@ pub(crate) fn found() -> TableAnswer<u32, u32> {
     }
 }
 
-pub(crate) fn decided(answer: TableAnswer<u32, u32>) -> Got<u32, u32, u32> {
-    Got::Table(TableTurn::Decided(answer))
+fn of_table(word: &str) -> Option<Got<u32, u32, u32>> {
+    match word {
+        "absent" => decided(TableAnswer::None),
+        "found" => decided(record()),
+        "undecided" => Some(Got::Table(TableTurn::Going)),
+        _ => None,
+    }
 }
 
-pub(crate) fn undecided() -> Got<u32, u32, u32> {
-    Got::Table(TableTurn::Going)
+// A write of the call 2, which is owed with its notice or without one.
+fn owed(notice: Option<u64>) -> Option<Got<u32, u32, u32>> {
+    let write = Write::Upsert {
+        number: 2,
+        old: None,
+    };
+    desk(Found::TakeOwed(Some(Owed { write, notice })))
 }
 
-// Nothing is owed.
-pub(crate) fn none_owed() -> Got<u32, u32, u32> {
-    Got::Desk(Found::TakeOwed(None))
+fn of_writes(word: &str) -> Option<Got<u32, u32, u32>> {
+    match word {
+        "none" => desk(Found::TakeOwed(None)),
+        "a write" => owed(None),
+        "a write with a notice" => owed(Some(2)),
+        "posted" => desk(Found::PostWrite(true)),
+        "the log is full" => desk(Found::PostWrite(false)),
+        _ => None,
+    }
 }
 
-pub(crate) fn absent() -> Got<u32, u32, u32> {
-    decided(TableAnswer::None)
+fn of_notices(word: &str) -> Option<Got<u32, u32, u32>> {
+    match word {
+        "locked" => desk(Found::LockKey(true)),
+        "held by another" => desk(Found::LockKey(false)),
+        "unlocked" => desk(Found::UnlockKey),
+        "replaced" => desk(Found::OpenNotice(Some(Cause::Replaced))),
+        "explicit" => desk(Found::OpenNotice(Some(Cause::Explicit))),
+        "the listener is off" => desk(Found::OpenNotice(None)),
+        "heard" => desk(Found::NoticeEnded(true)),
+        "not yet" => desk(Found::NoticeEnded(false)),
+        _ => None,
+    }
 }
 
-pub(crate) fn judged(seen: bool) -> Got<u32, u32, u32> {
-    Got::Desk(Found::Judge(seen))
+fn told(answer: Told<u32, u32>) -> Option<Got<u32, u32, u32>> {
+    desk(Found::TakeTold(Some(answer)))
 }
 
-pub(crate) fn owns() -> Got<u32, u32, u32> {
-    Got::Desk(Found::WaitOrOwn(Claim::Owner))
+fn of_asks(word: &str) -> Option<Got<u32, u32, u32>> {
+    match word {
+        "not yet" => desk(Found::TakeTold(None)),
+        "value 9" => told(Told::Value(9)),
+        "value 5" => told(Told::Value(5)),
+        "nothing" => told(Told::Nothing),
+        "error 3" => told(Told::Err(3)),
+        "error 4" => told(Told::Err(4)),
+        "nop" => told(Told::Op(Op::Nop)),
+        "put 5" => told(Told::Op(Op::Put(5))),
+        "remove" => told(Told::Op(Op::Remove)),
+        _ => None,
+    }
 }
 
-pub(crate) fn waits() -> Got<u32, u32, u32> {
-    Got::Desk(Found::WaitOrOwn(Claim::Waits { owner: 2 }))
+fn read(settled: Settled<u32, u32>) -> Option<Got<u32, u32, u32>> {
+    desk(Found::ReadSettled(settled))
 }
 
-pub(crate) fn read(settled: Settled<u32, u32>) -> Got<u32, u32, u32> {
-    Got::Desk(Found::ReadSettled(settled))
+fn of_loads(word: &str) -> Option<Got<u32, u32, u32>> {
+    match word {
+        "owns" => desk(Found::WaitOrOwn(Claim::Owner)),
+        "waits" => desk(Found::WaitOrOwn(Claim::Waits { owner: 2 })),
+        "owned by another" => desk(Found::OwnAlone(true)),
+        "owned by nobody" => desk(Found::OwnAlone(false)),
+        "not yet" => read(Settled::NotYet),
+        "ready 6" => read(Settled::Ready(6)),
+        "error 3" => read(Settled::Err(3)),
+        "nothing" => read(Settled::Nothing),
+        "aborted" => read(Settled::Aborted),
+        _ => None,
+    }
 }
 
-pub(crate) fn aborted() -> Got<u32, u32, u32> {
-    read(Settled::Aborted)
+fn of_others(word: &str) -> Option<Got<u32, u32, u32>> {
+    match word {
+        "stamped" => desk(Found::StampMoment(4)),
+        "told" => desk(Found::Clock(4)),
+        "seen" => desk(Found::Judge(true)),
+        "not seen" => desk(Found::Judge(false)),
+        "it does" => desk(Found::Holds(true)),
+        "no more" => desk(Found::Holds(false)),
+        "opened" => desk(Found::OpenAsk),
+        "settled" => desk(Found::Settle),
+        _ => of_turns(word),
+    }
 }
 
-pub(crate) fn opened() -> Got<u32, u32, u32> {
-    Got::Desk(Found::OpenAsk)
-}
-
-pub(crate) fn told(answer: Told<u32, u32>) -> Got<u32, u32, u32> {
-    Got::Desk(Found::TakeTold(Some(answer)))
-}
-
-pub(crate) fn settled() -> Got<u32, u32, u32> {
-    Got::Desk(Found::Settle)
-}
-
-pub(crate) fn posted() -> Got<u32, u32, u32> {
-    Got::Desk(Found::PostWrite(true))
-}
-
-pub(crate) fn stamped() -> Got<u32, u32, u32> {
-    Got::Desk(Found::StampMoment(4))
-}
-
-pub(crate) fn clock() -> Got<u32, u32, u32> {
-    Got::Desk(Found::Clock(4))
-}
-
-pub(crate) fn locked() -> Got<u32, u32, u32> {
-    Got::Desk(Found::LockKey(true))
-}
-
-pub(crate) fn unlocked() -> Got<u32, u32, u32> {
-    Got::Desk(Found::UnlockKey)
-}
-
-// The listener is told, with this cause.
-pub(crate) fn notice(cause: Cause) -> Got<u32, u32, u32> {
-    Got::Desk(Found::OpenNotice(Some(cause)))
-}
-
-// The listener is off.
-pub(crate) fn no_notice() -> Got<u32, u32, u32> {
-    Got::Desk(Found::OpenNotice(None))
-}
-
-pub(crate) fn heard(ended: bool) -> Got<u32, u32, u32> {
-    Got::Desk(Found::NoticeEnded(ended))
+fn of_turns(word: &str) -> Option<Got<u32, u32, u32>> {
+    match word {
+        "taken" => desk(Found::TakeTurn(true)),
+        "taken by another" => desk(Found::TakeTurn(false)),
+        "applied" => desk(Found::ApplyOne(true)),
+        "none is left" => desk(Found::ApplyOne(false)),
+        "ended" => desk(Found::EndTurn),
+        _ => None,
+    }
 }

@@ -1,11 +1,8 @@
 //! How whole loads read, access by access, and those that store where nothing is found.
 
-use crate::given::{
-    DISABLED, HEARD, KEY, RULES, aborted, absent, decided, found, heard, judged, locked, none_owed,
-    notice, opened, owns, posted, read, settled, stamped, told, unlocked, waits,
-};
-use crate::rows::{goes, runs};
-use moka_hist::{Cause, Found, Got, Settled, Start, Told};
+use crate::given::{DISABLED, HEARD, KEY, RULES};
+use crate::rows::{plays, runs};
+use moka_hist::Start;
 use moka_init::Flow;
 use std::process::Abort;
 use std::test::Fail;
@@ -34,21 +31,19 @@ fn an_owner_looks_again_then_asks_stores_and_settles(rt: HostRuntime) -> Result<
         &rt,
         GET_WITH,
         RULES,
-        vec![in rt.alloc();
-            ("take owed", none_owed(), "going"),
-            ("get", absent(), "going"),
-            ("wait or own", owns(), "going"),
-            ("get", decided(found()), "going"),
-            ("judge", judged(false), "going"),
-            ("ask value", opened(), "ask"),
-            ("take told", Got::Desk(Found::TakeTold(None)), "wait"),
-            ("take told", told(Told::Value(9)), "going"),
-            ("take owed", none_owed(), "going"),
-            ("stamp moment", stamped(), "going"),
-            ("insert", absent(), "going"),
-            ("post write", posted(), "going"),
-            ("settle", settled(), "fresh"),
-        ]?,
+        "take owed / none / going\n\
+            get / absent / going\n\
+            wait or own / owns / going\n\
+            get / found / going\n\
+            judge / not seen / going\n\
+            ask value / opened / ask\n\
+            take told / not yet / wait\n\
+            take told / value 9 / going\n\
+            take owed / none / going\n\
+            stamp moment / stamped / going\n\
+            insert / absent / going\n\
+            post write / posted / going\n\
+            settle / settled / fresh\n",
     )
 }
 
@@ -58,34 +53,43 @@ fn a_waiter_owns_after_an_abort_and_settles_what_it_finds(rt: HostRuntime) -> Re
         &rt,
         GET_WITH,
         RULES,
-        vec![in rt.alloc();
-            ("take owed", none_owed(), "going"),
-            ("get", absent(), "going"),
-            ("wait or own", waits(), "going"),
-            ("read settled", read(Settled::NotYet), "wait"),
-            ("read settled", aborted(), "going"),
-            ("wait or own", owns(), "going"),
-            ("get", decided(found()), "going"),
-            ("judge", judged(true), "going"),
-            ("settle", settled(), "loaded"),
-        ]?,
+        "take owed / none / going\n\
+            get / absent / going\n\
+            wait or own / waits / going\n\
+            read settled / not yet / wait\n\
+            read settled / aborted / going\n\
+            wait or own / owns / going\n\
+            get / found / going\n\
+            judge / seen / going\n\
+            settle / settled / loaded\n",
     )
 }
 
 // Reads 200 dropped owners.
-fn gives_up(rt: &impl Abort, start: Start<u32, u32>) -> Result<(), Fail> {
-    let mut flow = Flow::new(start, 7, RULES);
-    goes(rt, &mut flow, ("take owed", none_owed(), "going"))?;
-    goes(rt, &mut flow, ("get", absent(), "going"))?;
+fn reads_200(rt: &impl Abort, flow: &mut Flow<u32, u32, u32>) -> Result<(), Fail> {
+    plays(rt, flow, "take owed / none / going\nget / absent / going\n")?;
     for _ in 1..200 {
-        goes(rt, &mut flow, ("wait or own", waits(), "going"))?;
-        goes(rt, &mut flow, ("read settled", aborted(), "going"))?;
+        plays(
+            rt,
+            flow,
+            "wait or own / waits / going\nread settled / aborted / going\n",
+        )?;
     }
-    goes(rt, &mut flow, ("wait or own", waits(), "going"))?;
-    goes(rt, &mut flow, ("read settled", aborted(), "exhausted"))?;
+    plays(
+        rt,
+        flow,
+        "wait or own / waits / going\nread settled / aborted / exhausted\n",
+    )?;
     assert!(rt; flow.has_answered());
     assert!(rt; flow.held().is_none());
     Ok(())
+}
+
+fn gives_up(rt: &impl Abort, start: Start<u32, u32>) -> Result<(), Fail> {
+    let mut flow = Flow::new(start, 7, RULES);
+    let read = reads_200(rt, &mut flow);
+    drop(flow);
+    read
 }
 
 #[test]
@@ -101,27 +105,23 @@ fn an_error_is_settled_and_answered_and_stores_nothing(rt: HostRuntime) -> Resul
         &rt,
         TRY,
         RULES,
-        vec![in rt.alloc();
-            ("take owed", none_owed(), "going"),
-            ("get", absent(), "going"),
-            ("wait or own", owns(), "going"),
-            ("get", absent(), "going"),
-            ("ask try", opened(), "ask"),
-            ("take told", told(Told::Err(3)), "going"),
-            ("settle error", settled(), "error"),
-        ]?,
+        "take owed / none / going\n\
+            get / absent / going\n\
+            wait or own / owns / going\n\
+            get / absent / going\n\
+            ask try / opened / ask\n\
+            take told / error 3 / going\n\
+            settle error / settled / error\n",
     )?;
     runs(
         &rt,
         TRY,
         RULES,
-        vec![in rt.alloc();
-            ("take owed", none_owed(), "going"),
-            ("get", absent(), "going"),
-            ("wait or own", waits(), "going"),
-            ("read settled", read(Settled::NotYet), "wait"),
-            ("read settled", read(Settled::Err(3)), "error"),
-        ]?,
+        "take owed / none / going\n\
+            get / absent / going\n\
+            wait or own / waits / going\n\
+            read settled / not yet / wait\n\
+            read settled / error 3 / error\n",
     )
 }
 
@@ -131,26 +131,22 @@ fn nothing_is_settled_and_answered_and_stores_nothing(rt: HostRuntime) -> Result
         &rt,
         OPTIONAL,
         RULES,
-        vec![in rt.alloc();
-            ("take owed", none_owed(), "going"),
-            ("get", absent(), "going"),
-            ("wait or own", owns(), "going"),
-            ("get", absent(), "going"),
-            ("ask optional", opened(), "ask"),
-            ("take told", told(Told::Nothing), "going"),
-            ("settle nothing", settled(), "neither"),
-        ]?,
+        "take owed / none / going\n\
+            get / absent / going\n\
+            wait or own / owns / going\n\
+            get / absent / going\n\
+            ask optional / opened / ask\n\
+            take told / nothing / going\n\
+            settle nothing / settled / neither\n",
     )?;
     runs(
         &rt,
         OPTIONAL,
         RULES,
-        vec![in rt.alloc();
-            ("take owed", none_owed(), "going"),
-            ("get", absent(), "going"),
-            ("wait or own", waits(), "going"),
-            ("read settled", read(Settled::Nothing), "neither"),
-        ]?,
+        "take owed / none / going\n\
+            get / absent / going\n\
+            wait or own / waits / going\n\
+            read settled / nothing / neither\n",
     )
 }
 
@@ -160,30 +156,26 @@ fn both_looks_of_an_owner_judge_by_its_test(rt: HostRuntime) -> Result<(), Fail>
         &rt,
         REPLACING,
         RULES,
-        vec![in rt.alloc();
-            ("take owed", none_owed(), "going"),
-            ("get", decided(found()), "going"),
-            ("judge by test", judged(false), "going"),
-            ("wait or own", owns(), "going"),
-            ("get", decided(found()), "going"),
-            ("judge by test", judged(true), "going"),
-            ("settle", settled(), "loaded"),
-        ]?,
+        "take owed / none / going\n\
+            get / found / going\n\
+            judge by test / not seen / going\n\
+            wait or own / owns / going\n\
+            get / found / going\n\
+            judge by test / seen / going\n\
+            settle / settled / loaded\n",
     )?;
     // A waiter answers what its owner settled, whatever its own test says.
     runs(
         &rt,
         REPLACING,
         RULES,
-        vec![in rt.alloc();
-            ("take owed", none_owed(), "going"),
-            ("get", decided(found()), "going"),
-            ("judge by test", judged(false), "going"),
-            ("wait or own", waits(), "going"),
-            ("read settled", aborted(), "going"),
-            ("wait or own", waits(), "going"),
-            ("read settled", read(Settled::Ready(6)), "loaded"),
-        ]?,
+        "take owed / none / going\n\
+            get / found / going\n\
+            judge by test / not seen / going\n\
+            wait or own / waits / going\n\
+            read settled / aborted / going\n\
+            wait or own / waits / going\n\
+            read settled / ready 6 / loaded\n",
     )
 }
 
@@ -193,24 +185,20 @@ fn an_or_insert_answers_what_it_finds_or_else_stores(rt: HostRuntime) -> Result<
         &rt,
         OR_INSERT,
         RULES,
-        vec![in rt.alloc();
-            ("take owed", none_owed(), "going"),
-            ("get", decided(found()), "going"),
-            ("judge", judged(true), "loaded"),
-        ]?,
+        "take owed / none / going\n\
+            get / found / going\n\
+            judge / seen / loaded\n",
     )?;
     runs(
         &rt,
         OR_INSERT,
         RULES,
-        vec![in rt.alloc();
-            ("take owed", none_owed(), "going"),
-            ("get", absent(), "going"),
-            ("take owed", none_owed(), "going"),
-            ("stamp moment", stamped(), "going"),
-            ("insert", absent(), "going"),
-            ("post write", posted(), "fresh"),
-        ]?,
+        "take owed / none / going\n\
+            get / absent / going\n\
+            take owed / none / going\n\
+            stamp moment / stamped / going\n\
+            insert / absent / going\n\
+            post write / posted / fresh\n",
     )
 }
 
@@ -220,51 +208,40 @@ fn an_or_insert_replaces_what_came_between(rt: HostRuntime) -> Result<(), Fail> 
         &rt,
         OR_INSERT,
         HEARD,
-        vec![in rt.alloc();
-            ("take owed", none_owed(), "going"),
-            ("get", absent(), "going"),
-            ("take owed", none_owed(), "going"),
-            ("lock key", locked(), "going"),
-            ("stamp moment", stamped(), "going"),
-            ("insert", decided(found()), "going"),
-            ("open notice", notice(Cause::Replaced), "ask listener"),
-            ("notice ended", heard(true), "going"),
-            ("unlock key", unlocked(), "going"),
-            ("post write", posted(), "fresh"),
-        ]?,
+        "take owed / none / going\n\
+            get / absent / going\n\
+            take owed / none / going\n\
+            lock key / locked / going\n\
+            stamp moment / stamped / going\n\
+            insert / found / going\n\
+            open notice / replaced / ask listener\n\
+            notice ended / heard / going\n\
+            unlock key / unlocked / going\n\
+            post write / posted / fresh\n",
     )
 }
 
 #[test]
 fn a_disabled_cache_neither_looks_nor_stores_what_is_loaded(rt: HostRuntime) -> Result<(), Fail> {
-    runs(
-        &rt,
-        OR_INSERT,
-        DISABLED,
-        Vec::from_array(rt.alloc(), [("take owed", none_owed(), "fresh")])?,
-    )?;
+    runs(&rt, OR_INSERT, DISABLED, "take owed / none / fresh\n")?;
     runs(
         &rt,
         REPLACING,
         DISABLED,
-        vec![in rt.alloc();
-            ("take owed", none_owed(), "going"),
-            ("wait or own", owns(), "going"),
-            ("ask value", opened(), "ask"),
-            ("take told", told(Told::Value(9)), "going"),
-            ("settle", settled(), "fresh"),
-        ]?,
+        "take owed / none / going\n\
+            wait or own / owns / going\n\
+            ask value / opened / ask\n\
+            take told / value 9 / going\n\
+            settle / settled / fresh\n",
     )?;
     runs(
         &rt,
         OPTIONAL,
         DISABLED,
-        vec![in rt.alloc();
-            ("take owed", none_owed(), "going"),
-            ("wait or own", owns(), "going"),
-            ("ask optional", opened(), "ask"),
-            ("take told", told(Told::Nothing), "going"),
-            ("settle nothing", settled(), "neither"),
-        ]?,
+        "take owed / none / going\n\
+            wait or own / owns / going\n\
+            ask optional / opened / ask\n\
+            take told / nothing / going\n\
+            settle nothing / settled / neither\n",
     )
 }

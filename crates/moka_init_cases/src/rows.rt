@@ -4,14 +4,12 @@ ghost use Rattle.std.specs.Bool.{OnTrue};
 ghost use Rattle.moka_init.specs.Forms.{IsFoundBy};
 ghost use Rattle.moka_init_cases.specs.Fitting.{FitsWant};
 
+use crate::given::given;
 use crate::names::{turn_name, want_name};
 use moka_hist::{Found, Got, Rules, Start, Turn, Visit, Want};
 use moka_init::Flow;
 use std::process::Abort;
 use std::test::Fail;
-
-// An access, what it gives, and the turn then.
-pub(crate) type Row = (&'static str, Got<u32, u32, u32>, &'static str);
 
 // Whether the answer is of the form that belongs to what was wanted.
 fn does_fit(want: &Want<u32, u32, u32>, given: &Got<u32, u32, u32>) -> bool
@@ -54,37 +52,53 @@ fn is_found_by(visit: &Visit<u32, u32, u32>, found: &Found<u32, u32>) -> bool
 }
 
 // One step of the flow: the access that it wants, and what that gives.
-pub(crate) fn stepped(
+fn stepped(
     rt: &impl Abort,
     flow: &mut Flow<u32, u32, u32>,
-    access: &'static str,
+    access: &str,
     given: Got<u32, u32, u32>,
 ) -> Result<Turn<u32, u32, u32>, Fail> {
     let live = !flow.has_answered();
     assert!(rt; live, "before {access}");
     let want = flow.want()?;
-    assert_eq!(rt; want_name(&want), access);
+    let name = want_name(&want);
     let fits = does_fit(&want, &given);
+    drop(want);
+    assert_eq!(rt; name, access);
     assert!(rt; fits, "at {access}");
     let left = flow.take(given);
     Ok(left)
 }
 
-// The same, and the turn then.
-pub(crate) fn goes(rt: &impl Abort, flow: &mut Flow<u32, u32, u32>, row: Row) -> Result<(), Fail> {
-    let (access, given, turn) = row;
-    let left = stepped(rt, flow, access, given)?;
-    assert_eq!(rt; turn_name(&left), turn, "after {access}");
+// The turn after one step: the access that the flow wants, and the word for what that gives.
+pub(crate) fn turn_after(
+    rt: &impl Abort,
+    flow: &mut Flow<u32, u32, u32>,
+    access: &str,
+    word: &str,
+) -> Result<Turn<u32, u32, u32>, Fail> {
+    let given = given(access, word).expect(rt, "a word of the access's kind");
+    stepped(rt, flow, access, given)
+}
+
+// A row: an access, what it gives, and the turn then.
+pub(crate) fn goes(rt: &impl Abort, flow: &mut Flow<u32, u32, u32>, row: &str) -> Result<(), Fail> {
+    let (access, rest) = row.split_once(" / ").expect(rt, "a row has three parts");
+    let (word, turn) = rest.split_once(" / ").expect(rt, "a row has three parts");
+    let left = turn_after(rt, flow, access, word)?;
+    let name = turn_name(&left);
+    drop(left);
+    assert_eq!(rt; name, turn, "after {access}");
     Ok(())
 }
 
-// One row after the other.
+// One row after the other, a line each.
 pub(crate) fn plays(
     rt: &impl Abort,
     flow: &mut Flow<u32, u32, u32>,
-    rows: Vec<Row>,
+    rows: &str,
 ) -> Result<(), Fail> {
-    for row in rows {
+    for row in rows.lines() {
         goes(rt, flow, row)?;
     }
     Ok(())
@@ -95,7 +109,7 @@ pub(crate) fn runs(
     rt: &impl Abort,
     start: Start<u32, u32>,
     rules: Rules,
-    rows: Vec<Row>,
+    rows: &str,
 ) -> Result<(), Fail> {
     let mut flow = Flow::new(start, 7, rules);
     let played = plays(rt, &mut flow, rows);

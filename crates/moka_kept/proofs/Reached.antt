@@ -22,6 +22,7 @@ use Rattle.moka_layers.specs.Layers.{AlwaysDecides, BegunIs, Decides, GroundIs, 
 use Rattle.moka_layers.proofs.Wanted.{none_begun}
 use Rattle.moka_table.specs.Plain.{plain_left, plain_table}
 use Rattle.moka_table.specs.declared.plain.PlainCall.{PlainCall}
+use Rattle.moka_needs.specs.Reads.{ReadsItsKind}
 use Rattle.moka_kept.specs.Kept.{CacheLayers, IsKept, MayMake, MayReach, ReachIs, in_hand}
 use Rattle.moka_kept.specs.Taking.{Taken, taken_in}
 use Rattle.moka_kept.specs.Paths.{EndedWith}
@@ -162,15 +163,15 @@ module _ {K V E : Type 0} {same : PartialEq.Ghosts K} {hash : Hash.Ghosts K} (eq
   fits_on layers call flow kept given has may = (kept.world, reached_by layers call kept given, may_want eq layers.begun flow kept.world kept.none_begun has may)
 
   -- the step of a flow, in a world that the ground stands for
-  pub step_ends : (such : Taken V E → Type 0) (old new : CacheLayers K V E same hash) (flow : Flow K V E) (next : Next K V E) (w : World K V E) → ReachIs eq old w → May w (access_at flow)
+  pub step_ends : (such : Taken V E → Type 0) (old new : CacheLayers K V E same hash) (flow : Flow K V E) (next : Next K V E) (w : World K V E) → ReachIs eq old w → ReadsItsKind w.desk flow.call (call_of flow) → May w (access_at flow)
       → ((given : Got K V E) (after : World K V E) → Gets eq flow.call w (access_at flow) given after → IfSome (taken_in (access_at flow) given) such)
       → MovesThere eq (ReachIs eq old) flow next (ReachIs eq new) → EndedWith eq such flow.call (call_of flow) next
-  step_ends such old new flow next w reach may took moves =
+  step_ends such old new flow next w reach ends may took moves =
       let m = moves w reach may in record {
         call = call_of flow;
         came = ([], refl);
         given = m.1.given;
-        last = record { world = w; after = m.0; sound = reach.sound; may = may; gets = m.1.gets };
+        last = record { world = w; after = m.0; sound = reach.sound; ends = ends; may = may; gets = m.1.gets };
         took = took m.1.given m.0 m.1.gets;
         follows = m.1.goes;
       }

@@ -8,10 +8,10 @@ use Rattle.moka_hist.specs.declared.replies.Answer.{Answer}
 use Rattle.moka_init.specs.FlowPlan.{IsLive, Leaves, StandsStill, call_of, is_over, next_in}
 use Rattle.moka_init.specs.Grounds.{HasBegun}
 use Rattle.moka_init.specs.declared.flow.Flow.{Flow}
-use Rattle.moka_kept.specs.Paths.{CameWith, EndedWith, Waited}
+use Rattle.moka_kept.specs.Paths.{CameWith, EndedWith, LeftWith}
 use Rattle.moka_kept.specs.Rests.{Rests}
 use Rattle.moka_kept.specs.Taking.{Taken}
-use Rattle.moka_kept.specs.Stops.{CameTo, StopIs, Waits, stop_after, stop_of}
+use Rattle.moka_kept.specs.Stops.{CameTo, StopIs, stop_after, stop_of}
 use Rattle.moka_kept.specs.declared.stop.Stop.{Stop}
 use Rattle.moka_kept.specs.declared.stop.Stop.TheVariants as stop
 use Rattle.moka_kept.proofs.Ways.{came_on, came_same, came_weaker, ended_came, ended_on, ended_weaker}
@@ -37,18 +37,19 @@ module _ {K V E : Type 0} (eq : K → K → Bool) (such : Taken V E → Type 0) 
     rests = record { live = live; begun = begun };
   }
 
-  -- one that waits left it waiting
-  waits_by : (old new : Flow K V E) → new.call ≡ old.call
-      → EndedWith eq such old.call (call_of old) (record { left = Some (call_of new); turn = turn.Wait }) → Waits eq new
-  waits_by old new number end =
-      subst (λ n. Waited eq n (call_of new)) (sym number) (record { call = end.call; given = end.given; last = end.last; follows = end.follows })
+  -- its turn is the one with which its last access left it
+  left_by : (old new : Flow K V E) (t : Turn K V E) → new.call ≡ old.call
+      → EndedWith eq such old.call (call_of old) (record { left = Some (call_of new); turn = t }) → LeftWith eq new.call (call_of new) t
+  left_by old new t number end =
+      subst (λ n. LeftWith eq n (call_of new) t) (sym number) (record { call = end.call; given = end.given; last = end.last; follows = end.follows })
 
   -- a step that is followed by this turn stops its call so
   pub stops : (old : Flow K V E) (t : Turn K V E) (new : Flow K V E) → new.call ≡ old.call → HasBegun None new → Leaves t new
       → EndedWith eq such old.call (call_of old) (next_in t new) → StopIs eq such old (stop_of t) new
   stops old turn.Going new number begun live end = came_by old new turn.Going number begun live end
-  stops old turn.Wait new number begun live end = (came_by old new turn.Wait number begun live end, waits_by old new number end)
-  stops old (turn.Ask ask) new number begun live end = came_by old new (turn.Ask ask) number begun live end
+  stops old turn.Wait new number begun live end = (came_by old new turn.Wait number begun live end, left_by old new turn.Wait number end)
+  stops old (turn.Ask ask) new number begun live end =
+      (came_by old new (turn.Ask ask) number begun live end, left_by old new (turn.Ask ask) number end)
   stops old (turn.Answer answer) new number begun live end = end
 
   -- so does a step that may find no memory
@@ -79,7 +80,7 @@ module _ {K V E : Type 0} (eq : K → K → Bool) (such : Taken V E → Type 0) 
   stops_on a b (stop.Answers answer) c before end = answers_on a b answer before end
   stops_on a b stop.Going c before after = came_to_on a b c before after
   stops_on a b stop.Waits c before after = (came_to_on a b c before after.0, after.1)
-  stops_on a b (stop.Asks ask) c before after = came_to_on a b c before after
+  stops_on a b (stop.Asks ask) c before after = (came_to_on a b c before after.0, after.1)
   stops_on a b stop.Memory c before after = came_to_on a b c before after
 
   -- a flow that rests is where it is
@@ -96,5 +97,5 @@ module _ {K V E : Type 0} (eq : K → K → Bool) (such other : Taken V E → Ty
   stops_weaker old (stop.Answers answer) new end = ended_weaker eq such other weaker old.call (call_of old) (answers answer) end
   stops_weaker old stop.Going new after = came_to_weaker old new after
   stops_weaker old stop.Waits new after = (came_to_weaker old new after.0, after.1)
-  stops_weaker old (stop.Asks ask) new after = came_to_weaker old new after
+  stops_weaker old (stop.Asks ask) new after = (came_to_weaker old new after.0, after.1)
   stops_weaker old stop.Memory new after = came_to_weaker old new after

@@ -5,18 +5,21 @@ use Rattle.moka_hist.specs.SoundDesk.{SoundDesk}
 use Rattle.moka_hist.specs.State.{Call, World}
 use Rattle.moka_hist.specs.Step.{Access, Gets, May, access_of, next_of}
 use Rattle.moka_hist.specs.declared.accesses.Got.{Got}
-use Rattle.moka_hist.specs.declared.accesses.Turn.TheVariants as turn
-use Rattle.moka_kept.specs.Taking.{NoAnswer, Taken, taken_in}
+use Rattle.moka_hist.specs.declared.accesses.Turn.{Turn}
+use Rattle.moka_needs.specs.Reads.{ReadsItsKind}
+use Rattle.moka_kept.specs.Taking.{Taken, taken_in}
 
 module _ {K V E : Type 0} where
-  -- some sound world gave the call of this number this for the access, and allowed it
-  pub record IsGiven (eq : K → K → Bool) (n : ℕ) (access : Access K V E) (given : Got K V E)
+  -- Some sound world gave the call of this number this for its next access, and allowed it. An
+  -- owner's end that the call reads by it is one of the kind that the call waits for.
+  pub record IsGiven (eq : K → K → Bool) (n : ℕ) (c : Call K V E) (given : Got K V E)
       : Type 0 where
     pub world : World K V E
     pub after : World K V E
     pub sound : SoundDesk eq world.desk
-    pub may : May world access
-    pub gets : Gets eq n world access given after
+    pub ends : ReadsItsKind world.desk n c
+    pub may : May world (access_of n c)
+    pub gets : Gets eq n world (access_of n c) given after
 
   -- The accesses with what they gave lead the call of this number from c to d: each is the one at
   -- which the call stood, and was given so; what it gave left the call as the next one finds it,
@@ -26,7 +29,7 @@ module _ {K V E : Type 0} where
       → List (Access K V E × Got K V E) → Call K V E → Type 0
   LeadsWith eq such n c [] d = d ≡ c
   LeadsWith eq such n c (made ∷ more) d =
-      (mid : Call K V E) × (made.0 ≡ access_of n c) × IsGiven eq n made.0 made.1
+      (mid : Call K V E) × (made.0 ≡ access_of n c) × IsGiven eq n c made.1
       × ((next_of n c made.1).left ≡ Some mid) × IfSome (taken_in made.0 made.1) such
       × LeadsWith eq such n mid more d
 
@@ -41,20 +44,15 @@ module _ {K V E : Type 0} where
     pub call : Call K V E
     pub came : CameWith eq such n c call
     pub given : Got K V E
-    pub last : IsGiven eq n (access_of n call) given
+    pub last : IsGiven eq n call given
     pub took : IfSome (taken_in (access_of n call) given) such
     pub follows : next ≡ next_of n call given
 
-  -- the same of a call that takes no answer of who is asked
-  abbrev pub Came : (K → K → Bool) → ℕ → Call K V E → Call K V E → Type 0
-  Came eq n c d = CameWith eq NoAnswer n c d
-
-  abbrev pub Ended : (K → K → Bool) → ℕ → Call K V E → Next K V E → Type 0
-  Ended eq n c next = EndedWith eq NoAnswer n c next
-
-  -- Its last access left the call waiting: something was missing in the world that gave it.
-  pub record Waited (eq : K → K → Bool) (n : ℕ) (left : Call K V E) : Type 0 where
+  -- The call's last access left it so, with this turn: waiting, where something was missing in the
+  -- world that gave it; or asking this.
+  pub record LeftWith (eq : K → K → Bool) (n : ℕ) (left : Call K V E) (turn : Turn K V E)
+      : Type 0 where
     pub call : Call K V E
     pub given : Got K V E
-    pub last : IsGiven eq n (access_of n call) given
-    pub follows : record { left = Some left; turn = turn.Wait } ≡ next_of n call given
+    pub last : IsGiven eq n call given
+    pub follows : record { left = Some left; turn = turn } ≡ next_of n call given

@@ -2,11 +2,12 @@
 use Rattle.std.specs.Prelude.{◌≡◌, Bool, Result, Ok, Err}
 use Rattle.moka_hist.specs.Next.{answers}
 use Rattle.moka_hist.specs.declared.replies.Answer.{Answer}
+use Rattle.moka_hist.specs.declared.replies.Ask.{Ask}
 use Rattle.moka_hist.specs.declared.accesses.Turn.{Turn}
 use Rattle.moka_hist.specs.declared.accesses.Turn.TheVariants as turn
 use Rattle.moka_init.specs.FlowPlan.{call_of}
 use Rattle.moka_init.specs.declared.flow.Flow.{Flow}
-use Rattle.moka_kept.specs.Paths.{CameWith, EndedWith, Waited}
+use Rattle.moka_kept.specs.Paths.{CameWith, EndedWith, LeftWith}
 use Rattle.moka_kept.specs.Rests.{Rests}
 use Rattle.moka_kept.specs.Taking.{Taken}
 use Rattle.moka_kept.specs.declared.stop.Stop.{Stop}
@@ -39,7 +40,11 @@ module _ {K V E : Type 0} where
 
   -- the last access of the flow's call left it waiting
   abbrev pub Waits : (K → K → Bool) → Flow K V E → Type 0
-  Waits eq flow = Waited eq flow.call (call_of flow)
+  Waits eq flow = LeftWith eq flow.call (call_of flow) turn.Wait
+
+  -- it left it asking this
+  abbrev pub LeftAsking : (K → K → Bool) → Flow K V E → Ask K V → Type 0
+  LeftAsking eq flow ask = LeftWith eq flow.call (call_of flow) (turn.Ask ask)
 
   -- the steps left the call so: its answer follows from the last of its accesses; or it came to
   -- where its flow stands
@@ -48,5 +53,5 @@ module _ {K V E : Type 0} where
   StopIs eq such old (stop.Answers answer) new = AnswersFrom eq such old answer
   StopIs eq such old stop.Going new = CameTo eq such old new
   StopIs eq such old stop.Waits new = CameTo eq such old new × Waits eq new
-  StopIs eq such old (stop.Asks ask) new = CameTo eq such old new
+  StopIs eq such old (stop.Asks ask) new = CameTo eq such old new × LeftAsking eq new ask
   StopIs eq such old stop.Memory new = CameTo eq such old new

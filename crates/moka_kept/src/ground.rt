@@ -34,7 +34,7 @@ impl<K: Eq + Hash + Clone + Drop, V: Clone + Drop, E: Clone + Drop> Reach<K, V, 
         }
     }
 
-    /// Hands the wakers of those out that the last visit handed out, if it is one that does.
+    /// Hands out the wakers of the calls that the last visit handed out, if it did.
     pub(crate) fn hand_out(&mut self, parked: &mut Parked, woken: &mut Wakers)
         requires { IsKept K.eq self.old.layers }
         ensures { IsKept K.eq self.new.layers }

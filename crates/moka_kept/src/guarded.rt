@@ -55,11 +55,12 @@ impl<K: Eq + Hash + Clone + Drop, V: Clone + Drop, E: Clone + Drop> Guarded<K, V
         kept.enter(moment)
     }
 
-    /// Makes steps of the flow in one hold of the lock, at most 32, and none that judges by a replace
-    /// test whose answer isn't there. The first goes by what was brought: it takes the answer to the
-    /// call's own ask, or judges by that of its replace test. Before them it tells the end of a notice
-    /// that was heard. Once the lock is free it wakes all that the visits and that end handed out.
-    /// Where the call waits its task is parked.
+    /// Makes steps of the flow in one hold of the lock, at most 32, and none that judges by a
+    /// replace test whose answer isn't there. The first goes by what was brought: it takes the
+    /// answer to the call's own ask, or judges by that of its replace test. Before them the clock
+    /// moves on to the moment, where that is later, and the end of a notice is told that was heard.
+    /// Once the lock is free it wakes all that the visits and that end handed out. Where the call
+    /// waits its task is parked. What was done stands, where memory is wanting too.
     pub fn hold<R: Wait>(
         &self,
         rt: &R,

@@ -122,7 +122,7 @@ impl<K: Eq + Hash + Clone + Drop, V: Clone + Drop, E: Clone + Drop> Kept<K, V, E
     }
 
     // Makes one step of the flow, which goes by what was brought. It is an error where memory is
-    // wanting, or the desk doesn't allow the visit.
+    // wanting, or the desk doesn't allow the visit, or has an end for it that is of another kind.
     fn one_step(
         &mut self,
         flow: &mut Flow<K, V, E>,
@@ -204,7 +204,7 @@ impl<K: Eq + Hash + Clone + Drop, V: Clone + Drop, E: Clone + Drop> Kept<K, V, E
         Stop::Waits
     }
 
-    // Hands the wakers of all out that a visit handed out, if it is one that does.
+    // Hands out the wakers of the calls that a visit handed out, if it did.
     fn hand_out(&mut self, handed: Option<HandedOut>, woken: &mut Wakers) {
         match handed {
             Some(handed) => self.parked.hand_out(handed, woken),

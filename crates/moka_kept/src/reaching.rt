@@ -15,6 +15,7 @@ ghost use Rattle.moka_hist.specs.declared.visits.Visit.{Visit};
 ghost use Rattle.moka_hist.specs.Conditions.{MayLeave, MayVisit};
 ghost use Rattle.moka_hist.specs.Dropping.{left, owed_by};
 ghost use Rattle.moka_needs.specs.Needs.{IsOfCall, need_of};
+ghost use Rattle.moka_needs.specs.Reads.{ReadsItsKind};
 ghost use Rattle.moka_kept.specs.Taking.{Answered, NoAnswer, Tested, end_told, is_of_call};
 ghost use Rattle.moka_kept.specs.Taking.{is_taking, needs_answer};
 ghost use Rattle.moka_kept.specs.Kept.{IsBrought, IsKept, IsToldTo, MayMake};
@@ -93,7 +94,7 @@ impl<K: Eq + Hash + Clone + Drop, V: Clone + Drop, E: Clone + Drop> Reach<K, V, 
         ensures told { OnSome result (IsToldTo K.eq self.new.layers call answer) }
     {
         moka_laws::telling_keeps_sound::<K, V, E>();
-        match is_for_call(&answer) {
+        match is_of_call(&answer) {
             true => Some(HandedOut::of(self.layers.desk.tell(call, answer)?)),
             false => None,
         }
@@ -165,9 +166,9 @@ impl<K: Eq + Hash + Clone + Drop, V: Clone + Drop, E: Clone + Drop> Reach<K, V, 
         Some(true)
     }
 
-    /// Makes one step of a flow that rests, where the desk allows its next visit: the visit that
-    /// takes the answer to its own ask, if `takes`, and any other, if not. Else, and after want of
-    /// memory, the flow stands where it stood. The wakers of all that the visit handed out come to
+    /// Makes one step of a flow that rests, where the desk allows its next visit, and an owner's end
+    /// that it reads is of its kind: the visit that takes the answer to its own ask, if `takes`, and
+    /// any other, if not. Else, and after want of memory, the flow stands where it stood. The wakers of all that the visit handed out come to
     /// those in `woken`.
     pub(crate) fn step(
         &mut self,
@@ -219,6 +220,8 @@ impl<K: Eq + Hash + Clone + Drop, V: Clone + Drop, E: Clone + Drop> Reach<K, V, 
         requires may { (w : DeskPart K V E) → StandsFor K.eq self.old.layers.desk w
             → (flow.old.call ≤ w.last) × AllowsAlike K.eq self.old.layers.desk w
             (λ v. MayMake v (access_at flow.old)) }
+        requires ends { (w : DeskPart K V E) → StandsFor K.eq self.old.layers.desk w
+            → ReadsItsKind w flow.old.call (call_of flow.old) }
         ensures kept { IsKept K.eq self.new.layers }
         ensures untaken { is_taking (access_at flow.old) ≡ false
             → tested_in (call_of flow.old).plan ≡ None
@@ -285,7 +288,7 @@ fn told_by<V, E>(end: ListenerEnd) -> Told<V, E>
 }
 
 // Whether the answer is one for a call, and none that the listener gives.
-fn is_for_call<V, E>(answer: &Told<V, E>) -> bool
+fn is_of_call<V, E>(answer: &Told<V, E>) -> bool
     ensures { result ≡ is_of_call answer.now }
 {
     match answer {
@@ -299,8 +302,8 @@ fn is_for_call<V, E>(answer: &Told<V, E>) -> bool
 }
 
 // Whether the call has a number that was given out, and the desk allows its next visit, which takes
-// the answer to its own ask, if `takes`, and doesn't, if not. False too where memory is wanting to
-// tell.
+// the answer to its own ask, if `takes`, and doesn't, if not; and an owner's end that it reads is one
+// of the kind that it waits for. False too where memory is wanting to tell.
 fn may_step<K: Eq + Hash + Clone + Drop, V: Clone + Drop, E: Clone + Drop>(
     desk: &Desk<K, V, E>,
     flow: &Flow<K, V, E>,
@@ -310,9 +313,14 @@ fn may_step<K: Eq + Hash + Clone + Drop, V: Clone + Drop, E: Clone + Drop>(
     ensures may { OnTrue result ((w : DeskPart K V E) → StandsFor K.eq desk.now w
         → (flow.now.call ≤ w.last)
         × AllowsAlike K.eq desk.now w (λ v. MayMake v (access_at flow.now))) }
+    ensures ends { OnTrue result ((w : DeskPart K V E) → StandsFor K.eq desk.now w
+        → ReadsItsKind w flow.now.call (call_of flow.now)) }
     ensures takes { OnTrue result (is_taking (access_at flow.now) ≡ takes) }
 {
     if flow.number() > desk.last() {
+        return false;
+    }
+    if !reads_its_kind(desk, flow) {
         return false;
     }
     let Ok(next) = flow.need() else {
@@ -321,6 +329,21 @@ fn may_step<K: Eq + Hash + Clone + Drop, V: Clone + Drop, E: Clone + Drop>(
     match next {
         Some(need) => may_visit(desk, flow.number(), need, takes),
         None => !takes,
+    }
+}
+
+// Whether an owner's end that the flow's next visit reads, if it reads one, is one of the kind that
+// its call waits for.
+fn reads_its_kind<K: Eq + Hash + Clone + Drop, V: Drop, E: Drop>(
+    desk: &Desk<K, V, E>,
+    flow: &Flow<K, V, E>,
+) -> bool
+    ensures { OnTrue result ((w : DeskPart K V E) → StandsFor K.eq desk.now w
+        → ReadsItsKind w flow.now.call (call_of flow.now)) }
+{
+    match flow.kind_read() {
+        Some(kind) => desk.ended_as(flow.number(), kind),
+        None => true,
     }
 }
 
@@ -337,11 +360,11 @@ fn may_visit<K: Eq + Hash + Clone + Drop, V: Drop, E: Drop>(
         → AllowsAlike K.eq desk.now w (λ v. MayVisit v visit)) }
     ensures takes { OnTrue result (needs_answer need ≡ takes) }
 {
-    needs_told(&need) == takes && desk.has(call, need)
+    needs_answer(&need) == takes && desk.has(call, need)
 }
 
 // Whether the visit that needs this takes the answer to the own ask.
-fn needs_told<K>(need: &Need<K>) -> bool
+fn needs_answer<K>(need: &Need<K>) -> bool
     ensures { result ≡ needs_answer need.now }
 {
     match need {
@@ -357,7 +380,7 @@ pub fn is_asking<K: Clone + Drop, V, E>(flow: &Flow<K, V, E>) -> bool
     ensures { OnTrue result (is_taking (access_at flow.now) ≡ true) }
 {
     match flow.need() {
-        Ok(Some(need)) => needs_told(&need),
+        Ok(Some(need)) => needs_answer(&need),
         _ => false,
     }
 }

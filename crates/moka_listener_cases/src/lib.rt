@@ -2,4 +2,10 @@
 #![tactic(auto)]
 
 #[cfg(test)]
+mod calls;
+#[cfg(test)]
+mod keeping;
+#[cfg(test)]
+mod leaving;
+#[cfg(test)]
 mod listening;

@@ -1,18 +1,20 @@
 //! Listeners.
 
+use crate::calls::{Heard, get_once, insert_once, opening, remove_once};
+use crate::keeping::{Board, KeepListener, cache_of, left};
+use futures::FutureExt;
 use futures::executor::block_on;
 use futures::future::join;
 use futures::task::{Context, Poll};
-use futures::{Future, FutureExt};
 use moka_cache::{
     Cache, CacheBuilder, Listener, ListenerEnd, NoListener, PollError, Polled, RetriesExhausted,
     State,
 };
 use moka_cache_cases::at::At;
 use moka_cache_cases::inits::{After, DropsAfter};
+use moka_cache_cases::run::run;
 use moka_hist::Cause;
 use std::alloc::{AllocError, AllocGlobal, Global};
-use std::cell::Cell;
 use std::random::RandomSource;
 use std::sync::atomic::{AtomicU64, Ordering};
 use std::sync::{Arc, Wait};
@@ -22,72 +24,6 @@ use std::{io, thread};
 const THREADS: u32 = 16;
 
 const NOTICES: u64 = 64;
-
-// What a listener was told.
-#[derive(Clone, Copy, PartialEq, Eq, Debug)]
-struct Started {
-    notice: u64,
-    key: u32,
-    value: u32,
-    cause: Cause,
-}
-
-// What a listener was told last, and how often, and whether it lets its notices go.
-#[derive(Drop)]
-struct Board {
-    is_open: Cell<bool>,
-    started: Cell<u64>,
-    last: Cell<Option<Started>>,
-    polls: Cell<u64>,
-}
-
-// Leaves its notices pending until it is let go.
-#[derive(Drop)]
-struct KeepListener {
-    board: Arc<Board, Global>,
-}
-
-impl Listener<u32, u32> for KeepListener {
-    fn start(&self, notice: u64, key: &u32, value: &u32, cause: Cause) {
-        let board: &Board = &self.board;
-        board.started.set(board.started.get().saturating_add(1));
-        board.last.set(Some(Started {
-            notice,
-            key: *key,
-            value: *value,
-            cause,
-        }));
-    }
-
-    fn poll(&self, _notice: u64, cx: &mut Context<'_>) -> Poll<ListenerEnd> {
-        let board: &Board = &self.board;
-        if board.is_open.get() {
-            return Poll::Ready(ListenerEnd::Done);
-        }
-        cx.yield_now()
-    }
-}
-
-// Lets the listener go after each poll of the future, and counts these.
-#[derive(Drop)]
-struct Opens<F> {
-    future: F,
-    board: Arc<Board, Global>,
-}
-
-impl<F: Future> Future for Opens<F> {
-    type Output = F::Output;
-
-    ghost can_poll = { λ opens. F.can_poll opens.future };
-
-    fn poll(&mut self, cx: &mut Context<'_>) -> Poll<F::Output> {
-        let polled = self.future.poll(cx);
-        let board: &Board = &self.board;
-        board.is_open.set(true);
-        board.polls.set(board.polls.get().saturating_add(1));
-        polled
-    }
-}
 
 // Leaves each notice pending once, and counts those that it was started with.
 #[derive(Drop)]
@@ -143,31 +79,6 @@ impl Listener<u32, u32> for HearsOne {
     }
 }
 
-// A cache of numbers with this listener.
-type Heard<L> = Cache<u32, u32, u32, L>;
-
-// Polls a call once. Where it is pending it is dropped, and None is answered.
-fn polled_once<R: Wait + RandomSource + AllocGlobal, S: State<R>>(
-    rt: &R,
-    call: S,
-) -> io::Result<Option<Result<S::Output, PollError>>>
-    requires { S.can_poll call }
-{
-    Polled::new(rt, call, At(0)).now_or_never(rt)
-}
-
-// Polls a call until it has answered, and lets the listener go after each poll.
-fn opening<R: Wait + RandomSource + AllocGlobal, S: State<R>>(
-    rt: &R,
-    call: S,
-    board: Arc<Board, Global>,
-) -> io::Result<Result<S::Output, PollError>>
-    requires { S.can_poll call }
-{
-    let future = Polled::new(rt, call, At(0));
-    block_on(rt, Opens { future, board })
-}
-
 // What two calls answered, one after the other.
 type Both<A, B> = (Result<A, PollError>, Result<B, PollError>);
 
@@ -192,31 +103,6 @@ where
     let third = Polled::new(rt, third, At(0));
     let ((), both) = block_on(rt, join(dropped, join(other, third)))?;
     Ok(both)
-}
-
-// Polls an insert under key 1 once.
-fn insert_once<'a, R: Wait + RandomSource + AllocGlobal, L: Listener<u32, u32>>(
-    rt: &'a R,
-    cache: &'a Heard<L>,
-    value: u32,
-) -> io::Result<Option<Result<(), PollError>>> {
-    polled_once(rt, cache.insert(1, value))
-}
-
-// Polls a get of key 1 once.
-fn get_once<'a, R: Wait + RandomSource + AllocGlobal, L: Listener<u32, u32>>(
-    rt: &'a R,
-    cache: &'a Heard<L>,
-) -> io::Result<Option<Result<Option<u32>, PollError>>> {
-    polled_once(rt, cache.get(&1))
-}
-
-// Polls a removal of key 1 once.
-fn remove_once<'a, R: Wait + RandomSource + AllocGlobal, L: Listener<u32, u32>>(
-    rt: &'a R,
-    cache: &'a Heard<L>,
-) -> io::Result<Option<Result<Option<u32>, PollError>>> {
-    polled_once(rt, cache.remove(&1))
 }
 
 // Gets key 1, and lets the listener go after each poll.
@@ -246,57 +132,26 @@ fn has_inserted<'a, R: Wait + RandomSource + AllocGlobal>(
     cache: &'a Heard<PendsOnce>,
     value: u32,
 ) -> io::Result<bool> {
-    let inserted = block_on(rt, Polled::new(rt, cache.insert(1, value), At(0)))?;
+    let inserted = run(rt, cache.insert(1, value))?;
     Ok(inserted == Ok(()))
 }
 
 #[test]
 fn a_get_goes_on_with_the_notice_of_a_dropped_insert(rt: HostRuntime) -> Result<(), Fail> {
-    let board = Arc::new(
-        rt.alloc(),
-        Board {
-            is_open: Cell::new(false),
-            started: Cell::new(0),
-            last: Cell::new(None),
-            polls: Cell::new(0),
-        },
-    )?;
+    let board = Board::new(rt.alloc())?;
     let told: &Board = &board;
-    let listener = KeepListener {
-        board: Arc::try_clone(&board)?,
-    };
-    let cache: Heard<KeepListener> = CacheBuilder::new(100)
-        .eviction_listener(listener)
-        .build(rt.alloc())?;
+    let cache = cache_of(rt.alloc(), Arc::try_clone(&board)?)?;
     assert_eq!(rt; insert_once(&rt, &cache, 5)?, Some(Ok(())));
     assert_eq!(rt; insert_once(&rt, &cache, 6)?, None);
-    let first = Started {
-        notice: 2,
-        key: 1,
-        value: 5,
-        cause: Cause::Replaced,
-    };
-    assert_eq!(rt; told.last.get(), Some(first));
+    let first = left(2, 5, Cause::Replaced);
+    assert_eq!(rt; told.told(), (1, first, first));
     let found = get_opening(&rt, &cache, Arc::try_clone(&board)?)?;
     assert_eq!(rt; found, Ok(Some(6)));
-    assert_eq!(rt; told.polls.get(), 2, "the first poll of the get is pending");
+    assert_eq!(rt; told.polls(), 2, "the first poll of the get is pending");
     assert_eq!(rt; insert_once(&rt, &cache, 7)?, Some(Ok(())));
-    let second = Started {
-        notice: 4,
-        key: 1,
-        value: 6,
-        cause: Cause::Replaced,
-    };
-    assert_eq!(rt; told.last.get(), Some(second));
-    assert_eq!(rt; told.started.get(), 2);
+    assert_eq!(rt; told.told(), (2, first, left(4, 6, Cause::Replaced)));
     assert_eq!(rt; remove_once(&rt, &cache)?, Some(Ok(Some(7))));
-    let third = Started {
-        notice: 5,
-        key: 1,
-        value: 7,
-        cause: Cause::Explicit,
-    };
-    assert_eq!(rt; told.last.get(), Some(third));
+    assert_eq!(rt; told.told(), (3, first, left(5, 7, Cause::Explicit)));
     Ok(())
 }
 

@@ -1,10 +1,10 @@
 //! Loads of entries.
 
-use futures::executor::block_on;
-use moka_cache::{Cache, LoadError, PollError, Polled, RetriesExhausted};
-use moka_cache_cases::at::{At, Numbers, get};
+use moka_cache::{Cache, LoadError, PollError, RetriesExhausted};
+use moka_cache_cases::at::{Numbers, get};
 use moka_cache_cases::inits::After;
 use moka_cache_cases::pairs::both;
+use moka_cache_cases::run::run;
 use moka_hist::Entry;
 use std::alloc::AllocGlobal;
 use std::io;
@@ -59,7 +59,7 @@ fn or_insert<'a, R: Wait + RandomSource + AllocGlobal>(
     value: u32,
 ) -> io::Result<Result<Entry<u32, u32>, PollError>> {
     let state = cache.entry(1).or_insert(value);
-    block_on(rt, Polled::new(rt, state, At(0)))
+    run(rt, state)
 }
 
 // The same with the default value.
@@ -68,7 +68,18 @@ fn or_default<'a, R: Wait + RandomSource + AllocGlobal>(
     cache: &'a Numbers,
 ) -> io::Result<Result<Entry<u32, u32>, PollError>> {
     let state = cache.entry_by_ref(&1).or_default();
-    block_on(rt, Polled::new(rt, state, At(0)))
+    run(rt, state)
+}
+
+// Loads key 1, and stores the value under it meanwhile, in one task.
+fn load_beside_or_insert<'a, R: Wait + RandomSource + AllocGlobal>(
+    rt: &'a R,
+    cache: &'a Numbers,
+    init: After<'a>,
+    value: u32,
+) -> io::Result<(Loaded, Result<Entry<u32, u32>, PollError>)> {
+    let load = cache.entry(1).or_insert_with(init);
+    both(rt, load, cache.entry(1).or_insert(value))
 }
 
 #[test]
@@ -106,5 +117,37 @@ fn a_value_is_stored_where_there_is_none(rt: HostRuntime) -> Result<(), Fail> {
     assert_eq!(rt; or_default(&rt, &cache)?, Ok(entry(0, true)));
     assert_eq!(rt; or_insert(&rt, &cache, 6)?, Ok(entry(0, false)));
     assert_eq!(rt; get(&rt, &cache, 1)?, Ok(Some(0)));
+    Ok(())
+}
+
+#[test]
+fn a_cache_of_capacity_0_stores_no_entry(rt: HostRuntime) -> Result<(), Fail> {
+    let cache: Numbers = Cache::new(rt.alloc(), 0)?;
+    let polled = AtomicU64::new(0);
+    let one = After::polls(2, 5, &polled);
+    let other = After::polls(0, 6, &polled);
+    let both = load_twice(&rt, &cache, one, other)?;
+    assert_eq!(rt; both, (Ok(Ok(entry(5, true))), Ok(Ok(entry(5, false)))));
+    assert_eq!(rt; or_insert(&rt, &cache, 7)?, Ok(entry(7, true)));
+    assert_eq!(rt; or_default(&rt, &cache)?, Ok(entry(0, true)));
+    let found = After::polls(0, Some(8), &polled);
+    let gave = After::polls(0, Ok(9), &polled);
+    let both = load_both(&rt, &cache, found, gave)?;
+    assert_eq!(rt;
+        both,
+        (Ok(Ok(Some(entry(8, true)))), Ok(Ok(entry(9, true))))
+    );
+    assert_eq!(rt; get(&rt, &cache, 1)?, Ok(None));
+    Ok(())
+}
+
+#[test]
+fn a_value_is_stored_beside_a_load(rt: HostRuntime) -> Result<(), Fail> {
+    let cache: Numbers = Cache::new(rt.alloc(), 100)?;
+    let polled = AtomicU64::new(0);
+    let (loaded, stored) = load_beside_or_insert(&rt, &cache, After::polls(2, 5, &polled), 6)?;
+    assert_eq!(rt; stored, Ok(entry(6, true)), "it joins nobody");
+    assert_eq!(rt; loaded, Ok(Ok(entry(5, true))));
+    assert_eq!(rt; get(&rt, &cache, 1)?, Ok(Some(5)));
     Ok(())
 }

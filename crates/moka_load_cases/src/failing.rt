@@ -1,10 +1,10 @@
 //! Loads that fail, or find nothing.
 
-use futures::executor::block_on;
-use moka_cache::{Cache, LoadError, PollError, Polled, RetriesExhausted};
-use moka_cache_cases::at::{At, Numbers, get};
+use moka_cache::{Cache, LoadError, PollError, RetriesExhausted};
+use moka_cache_cases::at::{Numbers, get, remove};
 use moka_cache_cases::inits::After;
 use moka_cache_cases::pairs::{both, first_dropped};
+use moka_cache_cases::run::run;
 use std::alloc::AllocGlobal;
 use std::io;
 use std::random::RandomSource;
@@ -25,7 +25,7 @@ fn try_load<'a, R: Wait + RandomSource + AllocGlobal>(
     cache: &'a Numbers,
     init: After<'a, Result<u32, u32>>,
 ) -> io::Result<Tried> {
-    block_on(rt, Polled::new(rt, cache.try_get_with(1, init), At(0)))
+    run(rt, cache.try_get_with(1, init))
 }
 
 // The same twice, in one task.
@@ -58,7 +58,7 @@ fn load<'a, R: Wait + RandomSource + AllocGlobal>(
     init: After<'a, Option<u32>>,
 ) -> io::Result<Found> {
     let state = cache.optionally_get_with(1, init);
-    block_on(rt, Polled::new(rt, state, At(0)))
+    run(rt, state)
 }
 
 // The same twice, in one task.
@@ -81,6 +81,16 @@ fn load_both<'a, R: Wait + RandomSource + AllocGlobal>(
 ) -> io::Result<(Found, Loaded)> {
     let other = cache.get_with_by_ref(&1, other);
     both(rt, cache.optionally_get_with(1, one), other)
+}
+
+// Loads key 1 by an initializer that gives a value and by one that may fail, in one task.
+fn load_beside_try<'a, R: Wait + RandomSource + AllocGlobal>(
+    rt: &'a R,
+    cache: &'a Numbers,
+    one: After<'a>,
+    other: After<'a, Result<u32, u32>>,
+) -> io::Result<(Loaded, Tried)> {
+    both(rt, cache.get_with(1, one), cache.try_get_with(1, other))
 }
 
 #[test]
@@ -136,6 +146,15 @@ fn loads_of_two_kinds_run_two_initializers(rt: HostRuntime) -> Result<(), Fail> 
     assert_eq!(rt; b, Ok(Ok(6)));
     assert_eq!(rt; first.load(Ordering::SeqCst), 3);
     assert_eq!(rt; second.load(Ordering::SeqCst), 5);
+    assert_eq!(rt; remove(&rt, &cache, 1)?, Ok(Some(6)));
+    let (a, b) = load_beside_try(
+        &rt,
+        &cache,
+        After::polls(2, 7, &first),
+        After::polls(0, Err(8), &second),
+    )?;
+    assert_eq!(rt; a, Ok(Ok(7)));
+    assert_eq!(rt; b, Ok(Err(LoadError::Init(8))));
     Ok(())
 }
 

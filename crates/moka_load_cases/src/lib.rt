@@ -5,3 +5,5 @@
 mod entries;
 #[cfg(test)]
 mod failing;
+#[cfg(test)]
+mod outlasting;

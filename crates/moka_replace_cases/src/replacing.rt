@@ -1,10 +1,10 @@
 //! Loads that are made anew where a test holds on the value that is there.
 
-use futures::executor::block_on;
-use moka_cache::{Cache, PollError, Polled, RetriesExhausted};
-use moka_cache_cases::at::{At, Numbers, get, insert};
+use moka_cache::{Cache, PollError, RetriesExhausted};
+use moka_cache_cases::at::{Numbers, get, insert};
 use moka_cache_cases::inits::After;
 use moka_cache_cases::pairs::both;
+use moka_cache_cases::run::run;
 use moka_hist::Entry;
 use std::alloc::AllocGlobal;
 use std::io;
@@ -29,7 +29,7 @@ fn load_if_even<'a, R: Wait + RandomSource + AllocGlobal>(
         asked.fetch_add(1, Ordering::SeqCst);
         *value % 2 == 0
     });
-    block_on(rt, Polled::new(rt, state, At(0)))
+    run(rt, state)
 }
 
 // Loads the entry of key 1, anew where its value is even.
@@ -41,7 +41,7 @@ fn entry_if_even<'a, R: Wait + RandomSource + AllocGlobal>(
     let state = cache
         .entry_by_ref(&1)
         .or_insert_with_if(init, |value: &u32| *value % 2 == 0);
-    block_on(rt, Polled::new(rt, state, At(0)))
+    run(rt, state)
 }
 
 // Loads key 1, and beside it by a load whose test holds on each value, in one task.
@@ -153,5 +153,21 @@ fn a_load_asks_its_test_of_its_own_looks_alone(rt: HostRuntime) -> Result<(), Fa
         1,
         "by the waiter, of its first look"
     );
+    Ok(())
+}
+
+#[test]
+fn a_cache_of_capacity_0_asks_no_test(rt: HostRuntime) -> Result<(), Fail> {
+    let cache: Numbers = Cache::new(rt.alloc(), 0)?;
+    let (polled, asked) = (AtomicU64::new(0), AtomicU64::new(0));
+    let one = After::polls(2, 4, &polled);
+    let other = After::polls(0, 6, &polled);
+    let both = load_beside(&rt, &cache, one, other, &asked)?;
+    assert_eq!(rt; both, (Ok(Ok(4)), Ok(Ok(4))));
+    for value in [4, 6] {
+        let init = After::polls(0, value, &polled);
+        assert_eq!(rt; load_if_even(&rt, &cache, init, &asked)?, Ok(Ok(value)));
+    }
+    assert_eq!(rt; asked.load(Ordering::SeqCst), 0);
     Ok(())
 }

@@ -33,7 +33,7 @@ use Rattle.moka_laws.proofs.Rules.{put_plans, read_key_next}
 use Rattle.moka_laws.proofs.StepCases.{OnStep, by_plan}
 use Rattle.moka_shapes.specs.Computes.{Answers, ComputesTell, Follows, key_computed, taken}
 
-same_answer : {K V E : Type 0} (a b : Answer K V E) → ◌≡◌ {A = Turn K V E} (turn.Answer a) (turn.Answer b) → a ≡ b
+pub same_answer : {K V E : Type 0} (a b : Answer K V E) → ◌≡◌ {A = Turn K V E} (turn.Answer a) (turn.Answer b) → a ≡ b
 same_answer a b e = cc
 
 -- ---- what suits a compute of the key, which is told such, and may answer so

@@ -1,8 +1,10 @@
 //! What a call of the reference cache answers, whatever worlds it meets: no run need lead to them.
 //!
-//! The law is the contract of a function that does nothing. To call it is to cite the law.
+//! Each law is the contract of a function that does nothing. To call it is to cite the law.
 #![tactic(auto)]
 
 mod computes;
+mod loads;
 
 pub use computes::computes_tell;
+pub use loads::loads_tell;

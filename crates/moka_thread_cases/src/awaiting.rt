@@ -1,9 +1,10 @@
 //! An owner and its waiter, each in a thread of its own.
 
-use crate::calls::{Loaded, run, run_setting};
+use crate::calls::{Loaded, run_setting};
 use moka_cache::Cache;
 use moka_cache_cases::at::Numbers;
 use moka_cache_cases::inits::After;
+use moka_cache_cases::run::run;
 use std::alloc::AllocGlobal;
 use std::random::RandomSource;
 use std::sync::Wait;

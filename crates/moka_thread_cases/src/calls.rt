@@ -14,16 +14,6 @@ use std::sync::atomic::AtomicBool;
 /// What a load answers.
 pub(crate) type Loaded = Result<Result<u32, RetriesExhausted>, PollError>;
 
-/// Runs the call to its end.
-pub(crate) fn run<R: Wait + RandomSource + AllocGlobal, S: State<R, Output: Drop>>(
-    rt: &R,
-    state: S,
-) -> io::Result<Result<S::Output, PollError>>
-    requires { S.can_poll state }
-{
-    block_on(rt, Polled::new(rt, state, At(0)))
-}
-
 /// Polls the call once. Where that is pending it is dropped, and None is answered.
 pub(crate) fn poll_once<R: Wait + RandomSource + AllocGlobal, S: State<R, Output: Drop>>(
     rt: &R,

@@ -9,3 +9,5 @@ mod calls;
 mod naming;
 #[cfg(test)]
 mod same_keys;
+#[cfg(test)]
+mod trying;

@@ -1,8 +1,8 @@
 //! A cache of names.
 
-use crate::calls::run;
 use bytes::ByteStr;
 use moka_cache::{Cache, CacheBuilder, PollError};
+use moka_cache_cases::run::run;
 use std::alloc::AllocGlobal;
 use std::io;
 use std::random::RandomSource;

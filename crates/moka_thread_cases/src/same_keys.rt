@@ -1,9 +1,10 @@
 //! Loads of the same keys, by threads that share a cache.
 
-use crate::calls::{poll_once, run};
+use crate::calls::poll_once;
 use moka_cache::Cache;
 use moka_cache_cases::at::Numbers;
 use moka_cache_cases::inits::After;
+use moka_cache_cases::run::run;
 use std::alloc::AllocGlobal;
 use std::random::RandomSource;
 use std::sync::Wait;

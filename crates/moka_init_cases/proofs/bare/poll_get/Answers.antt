@@ -9,8 +9,8 @@ use Rattle.moka_init.specs.Telling.{TellsPoll}
 use Rattle.moka_init_cases.proofs.EmptyCache.{get_is_safe, no_rules, on_ok_of}
 use Rattle.moka_init_cases.proofs.bare.poll_get.Goals as goal
 
-pub poll-requires-clause-safe : goal.poll-requires-clause-safe
-poll-requires-clause-safe g c =
+pub poll-polled-requires-clause-safe : goal.poll-polled-requires-clause-safe
+poll-polled-requires-clause-safe g c =
     let w : World g.row.K.Denot g.row.V.Denot g.row.E.Denot = (fresh g.row.K.Denot g.row.V.Denot g.row.E.Denot no_rules 1 (λ test key value. false)).world in
     let bare : IsBare c.args.ground.now.undecided w =
     record { owed = refl; holding = λ n. refl; log = refl; size = refl; joined = λ n. refl; stored = λ q. refl; patient = omega (arith, c.args.ground.now.few) } in
@@ -18,12 +18,12 @@ poll-requires-clause-safe g c =
 
 pub returns : goal.returns
 returns g c =
-    on_ok_of c.poll.result _ _ (λ t tells.
-    let now = map noted c.poll.new.ground.notes.items in
+    on_ok_of c.poll-polled.result _ _ (λ t tells.
+    let now = map noted c.poll-polled.new.ground.notes.items in
     let told = tells (map noted c.args.ground.now.notes.items) refl in (
       no_rules,
-      next_in t c.poll.new.flow,
-      subst (λ (n : ℕ). TellsPoll n (fresh_call no_rules (start.Get c.args.key)) (next_in t c.poll.new.flow) (map noted c.args.ground.now.notes.items) (Some now)) c.new-flow.ensures.number
-          (subst (λ (d : Call g.row.K.Denot g.row.V.Denot g.row.E.Denot). TellsPoll c.new-flow.result.call d (next_in t c.poll.new.flow) (map noted c.args.ground.now.notes.items) (Some now)) c.new-flow.ensures.call told),
+      next_in t c.poll-polled.new.flow,
+      subst (λ (n : ℕ). TellsPoll n (fresh_call no_rules (start.Get c.args.key)) (next_in t c.poll-polled.new.flow) (map noted c.args.ground.now.notes.items) (Some now)) c.new-flow.ensures.number
+          (subst (λ (d : Call g.row.K.Denot g.row.V.Denot g.row.E.Denot). TellsPoll c.new-flow.result.call d (next_in t c.poll-polled.new.flow) (map noted c.args.ground.now.notes.items) (Some now)) c.new-flow.ensures.call told),
     ))
-    c.poll.ensures.tells
+    c.poll-polled.ensures.tells

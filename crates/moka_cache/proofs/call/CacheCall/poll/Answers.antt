@@ -1,12 +1,11 @@
 -- What a begun state came to, it came to from where it was; so it still fits what it was started for.
 use Rattle.std.proofs.Common.{sym, ap, ◌∙◌, subst}
-use Rattle.moka_cache.specs.Asked.{Accords}
+use Rattle.moka_cache.specs.Asked.{Accords, ToldSuch}
 use Rattle.moka_cache.specs.Settings.{rules_of}
 use Rattle.moka_cache.specs.Starts.{called}
 use Rattle.moka_cache.specs.Suits.{Suits}
 use Rattle.moka_cache.proofs.Staging.{answered_since, came_since, failed_since, named_answered, named_failed, named_since}
-use Rattle.moka_cache.proofs.Suiting.{suits_answer, suits_on, tells_on, tells_over, when_ok}
-use Rattle.moka_cache.proofs.Taking.{accords_weaker}
+use Rattle.moka_cache.proofs.Suiting.{accords_told, answers_weaker, suits_answer, suits_on, tells_on, tells_over, when_ok}
 use Rattle.moka_cache.proofs.call.CacheCall.poll.Goals as goal
 
 pub returns-in-Ready-Ok-clause-answers : goal.returns-in-Ready-Ok-clause-answers
@@ -64,7 +63,7 @@ returns-in-Pending-clause-names g c =
 pub returns-in-Pending-clause-tells : goal.returns-in-Pending-clause-tells
 returns-in-Pending-clause-tells g c =
     let begins = called {E = g.row.E.Denot} (rules_of c.args.self.now.cache.now) g.A.Begin.start in
-    tells_on g.K.PartialEq.eq (Accords (g.Q.Asked.gives c.advance.new.asked) (g.Q.Asked.tests c.advance.new.asked)) (Accords (g.Q.Asked.gives c.args.self.now.asked) (g.Q.Asked.tests c.args.self.now.asked)) (accords_weaker _ _ _ _ c.advance.ensures.same c.advance.ensures.tested) begins g.A.Begin.output c.args.self.now.stage c.advance.new.stage
+    tells_on g.K.PartialEq.eq (Accords (g.Q.Asked.gives c.args.self.now.asked) (g.Q.Asked.tests c.args.self.now.asked)) (g.Q.Asked.gives c.advance.new.asked) (g.Q.Asked.gives c.args.self.now.asked) c.advance.ensures.same (accords_told (g.Q.Asked.gives c.args.self.now.asked) (g.Q.Asked.tests c.args.self.now.asked)) begins g.A.Begin.output c.args.self.now.stage c.advance.new.stage
     (came_since g.K.PartialEq.eq (Accords (g.Q.Asked.gives c.args.self.now.asked) (g.Q.Asked.tests c.args.self.now.asked)) begins c.args.self.now.stage c.begin.new.stage c.advance.new.stage c.begin.ensures.begins (c.in-Pending.ensures.came begins))
     c.requires.tells
 
@@ -77,7 +76,7 @@ returns-in-Ready-Err-clause-names_on g c =
 pub returns-in-Ready-Err-clause-tells : goal.returns-in-Ready-Err-clause-tells
 returns-in-Ready-Err-clause-tells g c =
     let begins = called {E = g.row.E.Denot} (rules_of c.args.self.now.cache.now) g.A.Begin.start in
-    tells_on g.K.PartialEq.eq (Accords (g.Q.Asked.gives c.advance.new.asked) (g.Q.Asked.tests c.advance.new.asked)) (Accords (g.Q.Asked.gives c.args.self.now.asked) (g.Q.Asked.tests c.args.self.now.asked)) (accords_weaker _ _ _ _ c.advance.ensures.same c.advance.ensures.tested) begins g.A.Begin.output c.args.self.now.stage c.advance.new.stage
+    tells_on g.K.PartialEq.eq (Accords (g.Q.Asked.gives c.args.self.now.asked) (g.Q.Asked.tests c.args.self.now.asked)) (g.Q.Asked.gives c.advance.new.asked) (g.Q.Asked.gives c.args.self.now.asked) c.advance.ensures.same (accords_told (g.Q.Asked.gives c.args.self.now.asked) (g.Q.Asked.tests c.args.self.now.asked)) begins g.A.Begin.output c.args.self.now.stage c.advance.new.stage
     (failed_since g.K.PartialEq.eq (Accords (g.Q.Asked.gives c.args.self.now.asked) (g.Q.Asked.tests c.args.self.now.asked)) begins c.args.self.now.stage c.begin.new.stage c.advance.new.stage c.in-Ready-Err.field-0 c.in-Ready-Err.e c.in-Ready-Err.field-0-is
     c.begin.ensures.begins c.in-Ready-Err.ensures.failed)
     c.requires.tells
@@ -85,11 +84,13 @@ returns-in-Ready-Err-clause-tells g c =
 pub returns-in-Ready-Ok-clause-tells : goal.returns-in-Ready-Ok-clause-tells
 returns-in-Ready-Ok-clause-tells g c =
     let begins = called {E = g.row.E.Denot} (rules_of c.args.self.now.cache.now) g.A.Begin.start in
-    tells_over g.K.PartialEq.eq (Accords (g.Q.Asked.gives c.advance.new.asked) (g.Q.Asked.tests c.advance.new.asked)) begins g.A.Begin.output c.advance.new.stage
+    tells_over g.K.PartialEq.eq (g.Q.Asked.gives c.advance.new.asked) begins g.A.Begin.output c.advance.new.stage
     (when_ok _ c.in-Ready-Ok.field-0 c.in-Ready-Ok.answer c.in-Ready-Ok.field-0-is c.in-Ready-Ok.ensures.over)
 
 pub output-requires : goal.output-requires
 output-requires g c =
+    let such = Accords (g.Q.Asked.gives c.args.self.now.asked) (g.Q.Asked.tests c.args.self.now.asked) in
+    let begins = called {E = g.row.E.Denot} (rules_of c.args.self.now.cache.now) g.A.Begin.start in
     c.requires.tells c.take.result c.in-Ready-Ok.answer
-    (answered_since g.K.PartialEq.eq (Accords (g.Q.Asked.gives c.args.self.now.asked) (g.Q.Asked.tests c.args.self.now.asked)) (called (rules_of c.args.self.now.cache.now) g.A.Begin.start) c.args.self.now.stage c.begin.new.stage c.in-Ready-Ok.field-0 c.in-Ready-Ok.answer
-    c.in-Ready-Ok.field-0-is c.begin.ensures.begins c.in-Ready-Ok.ensures.answers)
+    (answers_weaker g.K.PartialEq.eq such (ToldSuch (g.Q.Asked.gives c.args.self.now.asked)) (accords_told (g.Q.Asked.gives c.args.self.now.asked) (g.Q.Asked.tests c.args.self.now.asked)) begins c.args.self.now.stage c.in-Ready-Ok.answer
+    (answered_since g.K.PartialEq.eq such begins c.args.self.now.stage c.begin.new.stage c.in-Ready-Ok.field-0 c.in-Ready-Ok.answer c.in-Ready-Ok.field-0-is c.begin.ensures.begins c.in-Ready-Ok.ensures.answers))

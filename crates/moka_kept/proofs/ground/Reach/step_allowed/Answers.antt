@@ -42,7 +42,7 @@ returns-clause-untaken g c = λ untaken untested.
     IfOk-weaker c.step.result _ _ (λ turn moves.
     step_ends g.K.PartialEq.eq NoAnswer _ c.step.new.ground.layers flow (next_in turn c.step.new.flow) kept.world
     (reached_by g.K.PartialEq.eq c.args.self.now.layers c.number-self.result kept (subst (λ n. n ≤ kept.world.desk.last) (sym c.number-self.ensures) may.0))
-    (may_of kept.world (access_at c.args.flow.now) may.1.holds)
+    (c.requires.ends kept.world.desk kept.stands.desk) (may_of kept.world (access_at c.args.flow.now) may.1.holds)
     (λ given after gets. took_none (access_at flow) given untaken (tested_at flow.call (call_of flow) ∙ untested)) moves)
     c.step.ensures.moves
 
@@ -55,7 +55,7 @@ returns-clause-taken g c = λ taking told there.
     IfOk-weaker c.step.result _ _ (λ turn moves.
     step_ends g.K.PartialEq.eq (λ t. t ≡ Answered told) _ c.step.new.ground.layers flow (next_in turn c.step.new.flow) kept.world
     (reached_by g.K.PartialEq.eq c.args.self.now.layers c.number-self.result kept (subst (λ n. n ≤ kept.world.desk.last) (sym c.number-self.ensures) may.0))
-    (may_of kept.world (access_at c.args.flow.now) may.1.holds)
+    (c.requires.ends kept.world.desk kept.stands.desk) (may_of kept.world (access_at c.args.flow.now) may.1.holds)
     (λ given after gets. took_told g.K.PartialEq.eq flow.call kept.world told (access_at flow) given after (of_call flow.call (call_of flow)) taking there.there gets) moves)
     c.step.ensures.moves
 
@@ -69,7 +69,7 @@ returns-clause-judged g c = λ value is.
     IfOk-weaker c.step.result _ _ (λ turn moves.
     step_ends g.K.PartialEq.eq (λ t. t ≡ Tested value hand.replaced) _ c.step.new.ground.layers flow (next_in turn c.step.new.flow) kept.world
     (reached_by g.K.PartialEq.eq c.args.self.now.layers c.number-self.result kept (subst (λ n. n ≤ kept.world.desk.last) (sym c.number-self.ensures) may.0))
-    (may_of kept.world (access_at c.args.flow.now) may.1.holds)
+    (c.requires.ends kept.world.desk kept.stands.desk) (may_of kept.world (access_at c.args.flow.now) may.1.holds)
     (λ given after gets. took_tested g.K.PartialEq.eq flow.call kept.world hand.replaced value (access_at flow) given after
     (λ test key v. sym (ap (λ answers. answers test key v) kept.stands.tests)) (tested_at flow.call (call_of flow) ∙ is) gets) moves)
     c.step.ensures.moves

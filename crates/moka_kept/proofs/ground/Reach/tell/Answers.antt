@@ -10,4 +10,4 @@ returns-in_ok-tell-in-true-clause-kept g c =
 pub returns-in_ok-tell-in-true-clause-told : goal.returns-in_ok-tell-in-true-clause-told
 returns-in_ok-tell-in-true-clause-told g c =
     told_there g.K.PartialEq.eq c.args.self.now.layers c.tell.new.self c.args.call c.args.answer (Some (tt {0})) c.telling_keeps_sound.ensures.sound c.in_ok-tell-in-true.ensures.makes c.requires
-    (sym c.is_for_call.ensures ∙ c.in-true.is)
+    (sym c.is_of_call.ensures ∙ c.in-true.is)

@@ -1,0 +1,245 @@
+//! Calls that wait for owners which are dropped, one after the other.
+ghost use Rattle.std.specs.Prelude.{IsOk, IsSome, IfSome};
+ghost use Rattle.futures.specs.Poll.{OnPending};
+ghost use Rattle.futures.specs.Task.{IsArmed, Keeps};
+
+use futures::Future;
+use futures::executor::block_on;
+use futures::task::{Context, Poll};
+use moka_cache::{Cache, Compute, ComputeWith, GetWith, Init, PollError, RetriesExhausted, State};
+use moka_cache_cases::at::Numbers;
+use moka_cache_cases::inits::After;
+use moka_hist::{CompResult, Entry, Op};
+use std::alloc::AllocGlobal;
+use std::io;
+use std::random::RandomSource;
+use std::sync::Wait;
+use std::sync::atomic::{AtomicU64, Ordering};
+use std::test::Fail;
+
+// Makes the owners of a key.
+trait Owns<R: Wait, S: State<R>> {
+    // Makes another.
+    fn owner(&self) -> S
+        ensures { S.can_poll result };
+}
+
+// Polls a call beside so many owners, one after the other. Each is polled once before the call, and
+// dropped after that.
+struct Outlasts<'a, R: Wait, S: State<R>, O> {
+    rt: &'a R,
+    owners: u64,
+    owns: O,
+    waiter: Option<S>,
+}
+
+impl<R: Wait, S: State<R>, O: Drop> Drop for Outlasts<'_, R, S, O> {
+    fn drop(self) {
+        let Self {
+            rt,
+            owners: _,
+            owns: _,
+            waiter,
+        } = self;
+        if let Some(waiter) = waiter {
+            waiter.cancel(rt);
+        }
+    }
+}
+
+impl<R: Wait, S: State<R, Output: Drop>, O: Owns<R, S> + Drop> Future for Outlasts<'_, R, S, O> {
+    type Output = Result<S::Output, PollError>;
+
+    ghost can_poll = { λ t. IsSome t.waiter × IfSome t.waiter S.can_poll };
+
+    fn poll(&mut self, cx: &mut Context<'_>) -> Poll<Result<S::Output, PollError>> {
+        let owner = next_owner(&self.owns, self.owners);
+        self.owners = self.owners.saturating_sub(1);
+        match &mut self.waiter {
+            Some(waiter) => poll_beside(owner, waiter, self.rt, cx),
+            None => unreachable!(),
+        }
+    }
+}
+
+// The next owner, where so many are to come.
+fn next_owner<R: Wait, S: State<R>, O: Owns<R, S>>(owns: &O, owners: u64) -> Option<S>
+    ensures { IfSome result S.can_poll }
+{
+    match owners {
+        0 => None,
+        _ => Some(owns.owner()),
+    }
+}
+
+// Polls the owner, if there is one, and then the call, and drops the owner.
+fn poll_beside<R: Wait, S: State<R, Output: Drop>>(
+    owner: Option<S>,
+    waiter: &mut S,
+    rt: &R,
+    cx: &mut Context<'_>,
+) -> Poll<Result<S::Output, PollError>>
+    requires owner { IfSome owner S.can_poll }
+    requires waiter { S.can_poll waiter.old }
+    ensures pending { OnPending result (S.can_poll waiter.new) }
+    ensures armed { OnPending result (IsArmed cx.new) }
+    ensures kept { Keeps cx.old cx.new }
+{
+    match owner {
+        Some(owner) => poll_after(owner, waiter, rt, cx),
+        None => waiter.poll(rt, cx, 0),
+    }
+}
+
+// Polls the owner and then the call, and drops the owner.
+fn poll_after<R: Wait, S: State<R, Output: Drop>>(
+    owner: S,
+    waiter: &mut S,
+    rt: &R,
+    cx: &mut Context<'_>,
+) -> Poll<Result<S::Output, PollError>>
+    requires owner { S.can_poll owner }
+    requires waiter { S.can_poll waiter.old }
+    ensures pending { OnPending result (S.can_poll waiter.new) }
+    ensures armed { OnPending result (IsArmed cx.new) }
+    ensures kept { Keeps cx.old cx.new }
+{
+    let mut owner = owner;
+    drop(owner.poll(rt, cx, 0));
+    let polled = waiter.poll(rt, cx, 0);
+    owner.cancel(rt);
+    polled
+}
+
+// Loads of key 1 that never end.
+#[derive(Drop)]
+struct Loads<'a> {
+    cache: &'a Numbers,
+    polled: &'a AtomicU64,
+}
+
+impl<'a, R: Wait> Owns<R, GetWith<'a, u32, u32, u32, After<'a>>> for Loads<'a> {
+    fn owner(&self) -> GetWith<'a, u32, u32, u32, After<'a>> {
+        self.cache
+            .get_with(1, After::polls(u64::MAX, 0, self.polled))
+    }
+}
+
+// Loads key 1 beside so many loads of it that are dropped.
+fn load_after<'a, R: Wait + RandomSource + AllocGlobal>(
+    rt: &'a R,
+    cache: &'a Numbers,
+    owners: u64,
+    dropped: &'a AtomicU64,
+    polled: &'a AtomicU64,
+) -> io::Result<Result<Result<u32, RetriesExhausted>, PollError>> {
+    let owns = Loads {
+        cache,
+        polled: dropped,
+    };
+    let waiter = Some(cache.get_with(1, After::polls(1, 5, polled)));
+    block_on(
+        rt,
+        Outlasts {
+            rt,
+            owners,
+            owns,
+            waiter,
+        },
+    )
+}
+
+// Puts a value, after so many polls.
+#[derive(Drop)]
+struct Puts<'a> {
+    init: After<'a>,
+}
+
+impl Compute<u32, u32, u32> for Puts<'_> {
+    ghost gives = { λ puts r. IsOk r };
+
+    fn start(&mut self, _found: Option<&Entry<u32, u32>>) {}
+
+    fn poll(&mut self, cx: &mut Context<'_>) -> Poll<Result<Op<u32>, u32>> {
+        match self.init.poll(cx) {
+            Poll::Ready(value) => Poll::Ready(Ok(Op::Put(value))),
+            Poll::Pending => Poll::Pending,
+        }
+    }
+}
+
+// Computes on key 1 that never end.
+#[derive(Drop)]
+struct Computes<'a> {
+    cache: &'a Numbers,
+    polled: &'a AtomicU64,
+}
+
+impl<'a, R: Wait> Owns<R, ComputeWith<'a, u32, u32, u32, Puts<'a>>> for Computes<'a> {
+    fn owner(&self) -> ComputeWith<'a, u32, u32, u32, Puts<'a>> {
+        let init = After::polls(u64::MAX, 0, self.polled);
+        self.cache.entry(1).and_compute_with(Puts { init })
+    }
+}
+
+// Computes on key 1 beside so many computes of it that are dropped.
+fn compute_after<'a, R: Wait + RandomSource + AllocGlobal>(
+    rt: &'a R,
+    cache: &'a Numbers,
+    owners: u64,
+    dropped: &'a AtomicU64,
+    polled: &'a AtomicU64,
+) -> io::Result<Result<CompResult<u32, u32>, PollError>> {
+    let owns = Computes {
+        cache,
+        polled: dropped,
+    };
+    let init = After::polls(1, 5, polled);
+    let waiter = Some(cache.entry(1).and_compute_with(Puts { init }));
+    block_on(
+        rt,
+        Outlasts {
+            rt,
+            owners,
+            owns,
+            waiter,
+        },
+    )
+}
+
+#[test]
+fn a_waiting_load_gives_up_after_200_owners(rt: HostRuntime) -> Result<(), Fail> {
+    let cases = [(200, Err(RetriesExhausted), 0), (199, Ok(5), 2)];
+    for (owners, want, polls) in cases {
+        let cache: Numbers = Cache::new(rt.alloc(), 100)?;
+        let (dropped, polled) = (AtomicU64::new(0), AtomicU64::new(0));
+        let loaded = load_after(&rt, &cache, owners, &dropped, &polled)?;
+        assert_eq!(rt; loaded, Ok(want), "after {owners} owners");
+        let told = (
+            dropped.load(Ordering::SeqCst),
+            polled.load(Ordering::SeqCst),
+        );
+        assert_eq!(rt; told, (owners, polls), "polls, after {owners} owners");
+    }
+    Ok(())
+}
+
+#[test]
+fn a_waiting_compute_is_asked_after_300_owners(rt: HostRuntime) -> Result<(), Fail> {
+    let cache: Numbers = Cache::new(rt.alloc(), 100)?;
+    let (dropped, polled) = (AtomicU64::new(0), AtomicU64::new(0));
+    let entry = Entry {
+        key: Some(1),
+        value: 5,
+        fresh: true,
+        replaced: false,
+    };
+    let computed = compute_after(&rt, &cache, 300, &dropped, &polled)?;
+    assert_eq!(rt; computed, Ok(CompResult::Inserted(entry)));
+    let told = (
+        dropped.load(Ordering::SeqCst),
+        polled.load(Ordering::SeqCst),
+    );
+    assert_eq!(rt; told, (300, 2));
+    Ok(())
+}

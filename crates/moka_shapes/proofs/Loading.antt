@@ -1,0 +1,282 @@
+-- A load answers what follows from what it was told or read, whatever it is given.
+use Rattle.std.proofs.Common.{◌≡◌, ℕ, ◌+◌, ◌==◌, Bool, true, false, List, [], ◌∷◌, ◌++◌, Some, None, IfSome, Contains, inl, inr, refl, sym, ap, ◌∙◌, subst}
+use Rattle.std.proofs.lemmas.List.Elements.{Contains-append_left, Contains-append_right, Contains-push}
+use Rattle.std.specs.Option.{unwrap_or}
+use Rattle.moka_hist.specs.State.{World, Call}
+use Rattle.moka_hist.specs.Conditions.{may_end}
+use Rattle.moka_hist.specs.Loading.{after_abort, after_read, after_told, retries}
+use Rattle.moka_hist.specs.Looking.{finds_pair, hits, misses}
+use Rattle.moka_hist.specs.Next.{Next, goes, waits}
+use Rattle.moka_hist.specs.Plan.{Aim, Item, is_disabled, load_plan, plan_of, seek}
+use Rattle.moka_hist.specs.Plan as plan
+use Rattle.moka_hist.specs.Run.{fresh_call}
+use Rattle.moka_hist.specs.Step.{Gets, access_of, next_of}
+use Rattle.moka_hist.specs.Visits.{settlement_for}
+use Rattle.moka_hist.specs.declared.accesses.Got.{Got}
+use Rattle.moka_hist.specs.declared.accesses.Got.TheVariants as got
+use Rattle.moka_hist.specs.declared.accesses.Turn.TheVariants as turn
+use Rattle.moka_hist.specs.declared.events.Start.{Start}
+use Rattle.moka_hist.specs.declared.events.Start.TheVariants as start
+use Rattle.moka_hist.specs.declared.events.Told.{Told}
+use Rattle.moka_hist.specs.declared.events.Told.TheVariants as told
+use Rattle.moka_hist.specs.declared.loads.Kind.{Kind}
+use Rattle.moka_hist.specs.declared.loads.Kind.TheVariants as kind
+use Rattle.moka_hist.specs.declared.loads.Load.{Load}
+use Rattle.moka_hist.specs.declared.loads.Sought.{Sought}
+use Rattle.moka_hist.specs.declared.records.Stored.{Stored}
+use Rattle.moka_hist.specs.declared.replies.Answer.{Answer}
+use Rattle.moka_hist.specs.declared.replies.Answer.TheVariants as answer
+use Rattle.moka_hist.specs.declared.rules.Rules.{Rules}
+use Rattle.moka_hist.specs.declared.visits.Found.TheVariants as found
+use Rattle.moka_hist.specs.declared.visits.Settled.{Settled}
+use Rattle.moka_hist.specs.declared.visits.Settled.TheVariants as settled
+use Rattle.moka_laws.proofs.Counting.{none_some, some_same}
+use Rattle.moka_laws.proofs.Outcomes.{Outcomes, outcomes}
+use Rattle.moka_laws.proofs.Owning.{plan_left}
+use Rattle.moka_laws.proofs.Rules.{loaded_plans}
+use Rattle.moka_laws.proofs.StepCases.{OnStep, by_plan}
+use Rattle.moka_needs.specs.Reads.{EndedAs, ReadsItsKind, kind_read}
+use Rattle.moka_shapes.specs.Computes.{taken}
+use Rattle.moka_shapes.specs.Loads.{FollowsEnd, FollowsTold, LoadAnswers, LoadsTell, MayGiveLoad, MayLeadLoad, kind_loaded, read}
+use Rattle.moka_shapes.proofs.Computing.{same_answer}
+
+-- what a load of this kind may answer that is given this
+record Says {K V E : Type 0} (kind : Kind) (given : Got K V E) (May : Answer K V E → Type 0) : Type 0 where
+  told : (gave : Told V E) (a : Answer K V E) → given ≡ taken gave → FollowsTold gave a → May a
+  ended : (with : Settled V E) (a : Answer K V E) → given ≡ read with → FollowsEnd kind with a → May a
+  gives_up : given ≡ read settled.Aborted → May answer.RetriesExhausted
+  finds : (value : V) → May (answer.Loaded value false)
+
+-- ---- what suits a load of this kind, which may answer so
+
+module _ {K V E : Type 0} (kind : Kind) (May : Answer K V E → Type 0) where
+  -- a look for this goes on as the load may
+  abbrev SuitsAim : Aim K V → Type 0
+  SuitsAim (plan.To_load sought) = sought.load.kind ≡ kind
+  SuitsAim (plan.To_own sought) = sought.load.kind ≡ kind
+  SuitsAim _ = ⊥
+
+  -- the item answers as the load may, and is no other call's
+  abbrev Suits : Item K V E → Type 0
+  Suits (plan.Get aim key) = SuitsAim aim
+  Suits (plan.Judge aim key stored) = SuitsAim aim
+  Suits (plan.Own sought) = sought.load.kind ≡ kind
+  Suits (plan.Read sought) = sought.load.kind ≡ kind
+  Suits (plan.Own_key compute) = ⊥
+  Suits (plan.Own_alone key) = ⊥
+  Suits (plan.Read_key compute) = ⊥
+  Suits (plan.Ask_op compute pair) = ⊥
+  Suits (plan.Told_op compute pair) = ⊥
+  Suits (plan.Holds key stamp cause there stored) = ⊥
+  Suits (plan.Moment (plan.To_take_out removal key)) = ⊥
+  Suits (plan.Out removal key) = ⊥
+  Suits (plan.Reply a) = May a
+  Suits _ = Unit {0}
+
+  abbrev AllSuit : List (Item K V E) → Type 0
+  AllSuit [] = Unit {0}
+  AllSuit (item ∷ rest) = Suits item × AllSuit rest
+
+  -- what a step has to show
+  record Leaves (next : Next K V E) : Type 0 where
+    suits : AllSuit (plan_left next.left)
+    now : (a : Answer K V E) → next.turn ≡ turn.Answer a → May a
+
+  answers_so : (a : Answer K V E) (next : Next K V E) → next.left ≡ None → next.turn ≡ turn.Answer a → May a → Leaves next
+  answers_so a next none is may = record {
+    suits = subst (λ v. AllSuit (plan_left v)) (sym none) tt;
+    now = λ b e. subst May (same_answer {K = K} a b (sym is ∙ e)) may;
+  }
+
+  on : (next : Next K V E) → ((a : Answer K V E) → next.turn ≡ turn.Answer a → ⊥) → AllSuit (plan_left next.left) → Leaves next
+  on next going q = record { suits = q; now = λ a e. absurd (going a e) }
+
+  module _ (c : Call K V E) where
+    goes_suits : (rest : List (Item K V E)) → AllSuit rest → Leaves (goes c rest)
+    goes_suits (plan.Reply a ∷ []) q = answers_so a _ refl refl q.0
+    goes_suits (plan.Reply a ∷ x ∷ rest) q = on _ (λ b e. cc) q
+    goes_suits [] q = on _ (λ b e. cc) q
+    goes_suits (item ∷ rest) q = on _ (λ b e. cc) q
+
+    misses_suit : (aim : Aim K V) → SuitsAim aim → Leaves (misses c aim)
+    misses_suit (plan.To_load sought) s = on _ (λ b e. cc) (s, tt)
+    misses_suit (plan.To_own sought) s = on _ (λ b e. cc) (tt, tt)
+    misses_suit _ s = absurd s
+
+    finds_suit : (aim : Aim K V) (there : K) (stored : Stored V) → SuitsAim aim → Leaves (finds_pair c aim there stored)
+    finds_suit (plan.To_load sought) there stored s = on _ (λ b e. cc) (s, tt)
+    finds_suit (plan.To_own sought) there stored s = on _ (λ b e. cc) (s, tt)
+    finds_suit _ there stored s = absurd s
+
+    hits_suit : (aim : Aim K V) (there : K) (value : V) → May (answer.Loaded value false) → SuitsAim aim → Leaves (hits c aim there value)
+    hits_suit (plan.To_load sought) there value may s = answers_so (answer.Loaded value false) _ refl refl may
+    hits_suit (plan.To_own sought) there value may s = on _ (λ b e. cc) (tt, (may, tt))
+    hits_suit _ there value may s = absurd s
+
+module _ {K V E : Type 0} (kind : Kind) (May : Answer K V E → Type 0) (given : Got K V E) (says : Says kind given May) (c : Call K V E) where
+  -- what follows from what it was told
+  told_suits : (load : Load K) (gave : Told V E) → AllSuit kind May c.plan → given ≡ taken gave → Leaves kind May (after_told c load (found.TakeTold (Some gave)))
+  told_suits load (told.Value value) p is =
+      let may : May (answer.Loaded value true) = says.told (told.Value value) _ is refl in
+      loaded_plans (λ q. Leaves kind May (goes c q)) c.rules load value
+      (on kind May _ (λ b e. cc) (tt, (may, tt))) (on kind May _ (λ b e. cc) (tt, (tt, (tt, (may, tt)))))
+      (on kind May _ (λ b e. cc) (tt, (tt, (tt, (tt, (may, tt))))))
+  told_suits load (told.Err error) p is = on kind May _ (λ b e. cc) (tt, (says.told (told.Err error) _ is refl, tt))
+  told_suits load told.Nothing p is = on kind May _ (λ b e. cc) (tt, (says.told told.Nothing _ is refl, tt))
+  told_suits load (told.Op op) p is = on kind May _ (λ b e. cc) p
+  told_suits load told.Done p is = on kind May _ (λ b e. cc) p
+  told_suits load told.Off p is = on kind May _ (λ b e. cc) p
+
+  -- what follows from how its owner ended
+  read_suits : (sought : Sought K) (with : Settled V E) → AllSuit kind May c.plan → sought.load.kind ≡ kind → given ≡ read with → may_end kind with ≡ true
+      → Leaves kind May (after_read c sought (found.ReadSettled with))
+  read_suits sought (settled.Ready value) p same is may = answers_so kind May (answer.Loaded value false) _ refl refl (says.ended (settled.Ready value) _ is (may, refl))
+  read_suits sought (settled.Err error) p same is may = answers_so kind May (answer.InitErr error) _ refl refl (says.ended (settled.Err error) _ is (may, refl))
+  read_suits sought settled.Nothing p same is may = answers_so kind May answer.Nothing _ refl refl (says.ended settled.Nothing _ is (may, refl))
+  read_suits sought settled.NotYet p same is may = on kind May _ (λ b e. cc) p
+  read_suits sought settled.Aborted p same is may = by (c.aborts + 1 == retries) refl
+    where
+      by : (b : Bool) → (c.aborts + 1 == retries) ≡ b → Leaves kind May (after_abort c sought)
+      by true e = rw e (answers_so kind May answer.RetriesExhausted _ refl refl (says.gives_up is))
+      by false e = rw e (on kind May _ (λ b e. cc) (same, tt))
+
+  module _ (eq : K → K → Bool) (w : World K V E) (n : ℕ) (p : AllSuit kind May c.plan)
+      (tells : (load : Load K) (rest : List (Item K V E)) (gave : Told V E) → c.plan ≡ plan.Told load ∷ rest → w.desk.told n ≡ Some gave → given ≡ taken gave)
+      (reads : (sought : Sought K) (rest : List (Item K V E)) (with : Settled V E) → c.plan ≡ plan.Read sought ∷ rest → settlement_for w.desk n ≡ Some with
+      → (given ≡ read with) × (may_end sought.load.kind with ≡ true)) where
+    abbrev After : World K V E → Next K V E → Type 0
+    After new next = Leaves kind May next
+
+    parks : Leaves kind May (waits c)
+    parks = on kind May _ (λ b e. cc) p
+
+    on_item : (item : Item K V E) (rest : List (Item K V E)) → c.plan ≡ item ∷ rest → AllSuit kind May (item ∷ rest) → Outcomes eq After w n c item rest
+    on_item plan.Drain rest e q = (
+      λ f. goes_suits kind May c rest q.1,
+      λ x xs f. on kind May _ (λ b g. cc) (tt, q),
+      λ x number xs f. on kind May _ (λ b g. cc) (tt, (tt, q)),
+    )
+    on_item (plan.Ended number) rest e q = (λ f. goes_suits kind May c rest q.1, λ f. parks)
+    on_item plan.Heard rest e q = (λ f. goes_suits kind May c rest q.1, λ f. parks)
+    on_item (plan.Lock key) rest e q = (λ f. goes_suits kind May c rest q.1, λ f. parks)
+    on_item (plan.Unlock wrote) rest e q = goes_suits kind May c rest q.1
+    on_item (plan.Notice key old cause upsert) rest e q =
+        (λ f. goes_suits kind May c rest q.1, λ f. on kind May _ (λ b g. cc) (tt, q.1))
+    on_item (plan.Post write) rest e q =
+        (λ f. goes_suits kind May c rest q.1, λ f. on kind May _ (λ b g. cc) (tt, (tt, (tt, q))))
+    on_item plan.Turn rest e q = (λ f. goes_suits kind May c rest q.1, λ f. parks)
+    on_item plan.Apply rest e q = (λ f. goes_suits kind May c rest q.1, λ x xs f. on kind May _ (λ b g. cc) q)
+    on_item plan.End rest e q = goes_suits kind May c rest q.1
+    on_item (plan.Get aim key) rest e q = (
+      (λ more. on kind May _ (λ b g. cc) p),
+      (λ none. misses_suit kind May c aim q.0),
+      λ k stored some. finds_suit kind May c aim k stored q.0,
+    )
+    on_item (plan.Judge aim key stored) rest e q =
+        ((λ seen. hits_suit kind May c aim key stored.value (says.finds stored.value) q.0), λ unseen. misses_suit kind May c aim q.0)
+    on_item (plan.Own sought) rest e q = (
+      λ able none. on kind May _ (λ b g. cc) (q.0, tt),
+      λ disabled none. on kind May _ (λ b g. cc) (tt, tt),
+      λ owner some. on kind May _ (λ b g. cc) (q.0, tt),
+    )
+    on_item (plan.Own_key compute) rest e q = absurd q.0
+    on_item (plan.Own_alone key) rest e q = absurd q.0
+    on_item (plan.Read sought) rest e q = (
+      λ none. parks,
+      λ with some. let ends = reads sought rest with e some in
+          read_suits sought with p q.0 ends.0 (subst (λ k. may_end k with ≡ true) q.0 ends.1),
+    )
+    on_item (plan.Read_key compute) rest e q = absurd q.0
+    on_item (plan.Settle with) rest e q = goes_suits kind May c rest q.1
+    on_item (plan.Ask load) rest e q = on kind May _ (λ b g. cc) (tt, tt)
+    on_item (plan.Ask_op compute pair) rest e q = absurd q.0
+    on_item (plan.Told load) rest e q = (λ none. parks, λ gave some. told_suits load gave p (tells load rest gave e some))
+    on_item (plan.Told_op compute pair) rest e q = absurd q.0
+    on_item (plan.Holds key stamp cause there stored) rest e q = absurd q.0
+    on_item (plan.Moment (plan.To_store key value)) rest e q = on kind May _ (λ b g. cc) (tt, q.1)
+    on_item (plan.Moment (plan.To_take_out removal key)) rest e q = absurd q.0
+    on_item (plan.Write key value moment) rest e q = (
+      (λ more. on kind May _ (λ b g. cc) p),
+      (λ off old. on kind May _ (λ b g. cc) (tt, q.1)),
+      (λ is_on. on kind May _ (λ b g. cc) (tt, (tt, q.1))),
+      λ k old is_on some. on kind May _ (λ b g. cc) (tt, (tt, (tt, q.1))),
+    )
+    on_item (plan.Out removal key) rest e q = absurd q.0
+    on_item plan.Idle rest e q = goes_suits kind May c rest q.1
+    on_item (plan.Reply a) rest e q = answers_so kind May a _ refl refl q.0
+
+    on_plan : (q : List (Item K V E)) → c.plan ≡ q → AllSuit kind May q → OnStep eq After w n c q
+    on_plan [] e q = parks
+    on_plan (item ∷ rest) e q = outcomes eq After w n c item rest (on_item item rest e q)
+
+-- ---- along a way
+
+module _ {K V E : Type 0} (eq : K → K → Bool) (n : ℕ) (w after : World K V E) (c : Call K V E) (given : Got K V E) (gets : Gets eq n w (access_of n c) given after) where
+  -- what a call takes that takes the answer to its own ask
+  took : (load : Load K) (rest : List (Item K V E)) (gave : Told V E) → c.plan ≡ plan.Told load ∷ rest → w.desk.told n ≡ Some gave → given ≡ taken gave
+  took load rest gave is some = by given (subst (λ p. Gets eq n w (access_of n (record c { plan = p })) given after) is gets)
+    where
+      by : (given : Got K V E) → Gets eq n w (access_of n (record c { plan = plan.Told load ∷ rest })) given after → given ≡ taken gave
+      by (got.Desk f) gets = ap got.Desk (gets.0 ∙ ap found.TakeTold some)
+      by (got.Table turn) gets = absurd gets
+
+  -- and what it reads that reads how its owner ended
+  did_read : (sought : Sought K) (rest : List (Item K V E)) (with : Settled V E) → c.plan ≡ plan.Read sought ∷ rest → settlement_for w.desk n ≡ Some with → given ≡ read with
+  did_read sought rest with is some = by given (subst (λ p. Gets eq n w (access_of n (record c { plan = p })) given after) is gets)
+    where
+      by : (given : Got K V E) → Gets eq n w (access_of n (record c { plan = plan.Read sought ∷ rest })) given after → given ≡ read with
+      by (got.Desk f) gets = ap got.Desk (gets.0 ∙ ap (λ end. found.ReadSettled (unwrap_or end settled.NotYet)) some)
+      by (got.Table turn) gets = absurd gets
+
+module _ {K V E : Type 0} (n : ℕ) (w : World K V E) (c : Call K V E) where
+  -- it ended as one of the kind may
+  ends_so : (sought : Sought K) (rest : List (Item K V E)) (with : Settled V E) → ReadsItsKind w.desk n c → c.plan ≡ plan.Read sought ∷ rest → settlement_for w.desk n ≡ Some with
+      → may_end sought.load.kind with ≡ true
+  ends_so sought rest with ends is some =
+      let reads : EndedAs w.desk n sought.load.kind = subst (λ p. IfSome (kind_read p) (EndedAs w.desk n)) is ends in
+      subst (λ end. IfSome end (λ v. may_end sought.load.kind v ≡ true)) some reads
+
+module _ {K V E : Type 0} (eq : K → K → Bool) (kind : Kind) (May : Answer K V E → Type 0) (n : ℕ) where
+  -- one step
+  step_suits : (c : Call K V E) (given : Got K V E) → Says kind given May → AllSuit kind May c.plan → MayGiveLoad eq n c given → Leaves kind May (next_of n c given)
+  step_suits c given says suits by =
+      by_plan eq (λ w next. Leaves kind May next) by.gives.world n c.rules c.mode c.plan c.aborts given by.gives.after by.gives.gets
+      (on_plan kind May given says c eq by.gives.world n suits (took eq n by.gives.world by.gives.after c given by.gives.gets)
+      (λ sought rest with is some. (did_read eq n by.gives.world by.gives.after c given by.gives.gets sought rest with is some, ends_so n by.gives.world c sought rest with by.ends is some)) c.plan refl suits)
+
+  path_suits : (path : List (Got K V E)) (c d : Call K V E) → ((given : Got K V E) → Contains path given → Says kind given May) → AllSuit kind May c.plan → MayLeadLoad eq n c path d
+      → AllSuit kind May d.plan
+  path_suits [] c d says suits led = subst (λ (v : Call K V E). AllSuit kind May v.plan) (sym led) suits
+  path_suits (given ∷ more) c d says suits led =
+      let next = step_suits c given (says given (Contains-append_left (given ∷ []) more given (Contains-push [] given))) suits led.1 in
+      path_suits more led.0 d (λ other there. says other (Contains-append_right (given ∷ []) more other there)) (subst (λ v. AllSuit kind May (plan_left v)) led.2 next.suits) led.3
+
+-- ---- as a load is started
+
+module _ {K V E : Type 0} (May : Answer K V E → Type 0) where
+  load_suits : (b : Bool) (sought : Sought K) (kind : Kind) → sought.load.kind ≡ kind → AllSuit kind May (load_plan b sought)
+  load_suits true sought kind is = (tt, (is, tt))
+  load_suits false sought kind is = (tt, (is, tt))
+
+  fresh_suits : (rules : Rules) (begin : Start K V) (k : Kind) → kind_loaded begin ≡ Some k → AllSuit k May (plan_of rules begin)
+  fresh_suits rules (start.GetWith key replace) k is = load_suits (is_disabled rules) (seek kind.GetWith key replace) k (some_same is)
+  fresh_suits rules (start.Optional key) k is = load_suits (is_disabled rules) (seek kind.Optional key None) k (some_same is)
+  fresh_suits rules (start.Try key) k is = load_suits (is_disabled rules) (seek kind.Try key None) k (some_same is)
+  fresh_suits _ _ k is = absurd (none_some is)
+
+-- an access of the way says what the load may answer
+says_of : {K V E : Type 0} (kind : Kind) (path : List (Got K V E)) (given : Got K V E) → Contains path given → Says kind given (LoadAnswers kind path)
+says_of kind path given there = record {
+  told = λ gave a is follows. inl (gave, subst (Contains path) is there, follows);
+  ended = λ with a is follows. inr (inl (with, subst (Contains path) is there, follows));
+  gives_up = λ is. inr (inr (inr (subst (Contains path) is there, refl)));
+  finds = λ value. inr (inr (inl (value, refl)));
+}
+
+pub loads_tell : {K V E : Type 0} (eq : K → K → Bool) → LoadsTell K V E eq
+loads_tell {K} {V} {E} eq rules begin kind n path d given said loads led gives answers =
+    let whole : List (Got K V E) = path ++ given ∷ [] in
+    let May : Answer K V E → Type 0 = LoadAnswers kind whole in
+    let suits = path_suits eq kind May n path (fresh_call rules begin) d
+    (λ other there. says_of kind whole other (Contains-append_left path (given ∷ []) other there)) (fresh_suits May rules begin kind loads) led in
+    (step_suits eq kind May n d given (says_of kind whole given (Contains-append_right path (given ∷ []) given (Contains-push [] given))) suits gives).now said answers
