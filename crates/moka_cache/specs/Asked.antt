@@ -83,8 +83,8 @@ Untested value replaced = replaced ≡ false
 abbrev pub AsksNothing : {Q V : Type 0} → Q → V → Bool → Q → Type 0
 AsksNothing old value replaced new = (replaced ≡ false) × (new ≡ old)
 
--- Of a call whose next visit asks its replace test on this value, if it does: who is asked was asked
--- that once, and this is brought of it; or it is as it was, and nothing is.
+-- Of a call whose next visit asks its replace test on this value, if it does: who is asked was
+-- asked that once, and this is brought of it; or it is as it was, and nothing is.
 abbrev pub IsAskedFor : {Q V E : Type 0} → (Q → V → Bool → Q → Type 0) → Option V → Q → Brought V E
     → Q → Type 0
 IsAskedFor asks (Some value) old (brought.Tested replaced) new = asks old value replaced new

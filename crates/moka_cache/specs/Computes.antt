@@ -32,7 +32,8 @@ module _ {C : Type 0} where
   Pends pends _ _ = ⊥
 
   -- it was begun with this: one that is fresh was started with it, and any other is as it was
-  abbrev pub WasBegun : {F : Type 0} → (C → F → Type 0) → ComputeStage C → F → ComputeStage C → Type 0
+  abbrev pub WasBegun : {F : Type 0} → (C → F → Type 0) → ComputeStage C → F → ComputeStage C
+      → Type 0
   WasBegun started (stage.Fresh compute) found (stage.Started new) = started new found
   WasBegun started (stage.Fresh compute) found _ = ⊥
   WasBegun started (stage.Started compute) found new = new ≡ stage.Started compute

@@ -27,8 +27,8 @@ abbrev pub MayPend : {A : Type 0} → Option (Poll A) → Type 0
 MayPend turn = (turn ≡ None) ⊎ (turn ≡ Some Pending)
 
 module _ {K V E : Type 0} where
-  -- the flow's call awaits the end of a notice that is such: of its own, or of that of a write which
-  -- it took up
+  -- the flow's call awaits the end of a notice that is such: of its own, or of that of a write
+  -- which it took up
   abbrev pub Awaits : (ℕ → Type 0) → Flow K V E → Type 0
   Awaits such flow = (n : ℕ) × (hearing flow.call (call_of flow).plan ≡ Some n) × such n
 

@@ -39,8 +39,8 @@ module _ {K V E : Type 0} where
       ⊎ Awaits unheard flow)
 
   -- who is asked is to be asked where the flow stands: its own ask is open, which its next visit
-  -- takes the answer to; or that judges a record by the replace test; or the last access of its call
-  -- asked a compute, with what its look found
+  -- takes the answer to; or that judges a record by the replace test; or the last access of its
+  -- call asked a compute, with what its look found
   abbrev pub IsToAsk : (K → K → Bool) → Flow K V E → Type 0
   IsToAsk eq flow =
       (is_taking (access_at flow) ≡ true)

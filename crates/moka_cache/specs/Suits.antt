@@ -26,8 +26,8 @@ module _ {A K V E : Type 0} where
   abbrev pub IsAnswerOf : (A → Start K V) → Answer K V E → Type 0
   IsAnswerOf start answer = (begin : A) × (may_answer (start begin) answer ≡ true)
 
--- Of each answer that the state's call may come to, where what it is told is such, it is stated what
--- the state answers by any key.
+-- Of each answer that the state's call may come to, where what it is told is such, it is stated
+-- what the state answers by any key.
 abbrev pub Tells : {A K V E O : Type 0} → (K → K → Bool) → (Told V E → Type 0)
     → (A → Call K V E) → (Option K → Answer K V E → Option O) → Stage A K V E → Type 0
 Tells {A} {K} {V} {E} eq such begins output stage =

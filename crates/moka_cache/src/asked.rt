@@ -39,7 +39,8 @@ pub trait Asked<K, V, E>: Drop {
     /// this answer.
     ghost asks: { Self → V → Bool → Self → Type 0 };
 
-    /// Whether there is anybody whom its call may ask. Where there is nobody no answer is ever given.
+    /// Whether there is anybody whom its call may ask. Where there is nobody no answer is ever
+    /// given.
     fn is_somebody(&self) -> bool
         ensures { OnFalse result ((told : Told V E) → gives self.now told → ⊥) };
 

@@ -167,8 +167,8 @@ where
         unreachable!()
     }
 
-    // Makes a turn. What the listener has answered is told first, and who is asked is polled in a turn
-    // that has nothing to tell.
+    // Makes a turn. What the listener has answered is told first, and who is asked is polled in a
+    // turn that has nothing to tell.
     fn turn<R: Wait, Q: Asked<K, V, E>>(
         &self,
         rt: &R,
@@ -202,9 +202,9 @@ where
         }
     }
 
-    // Polls who is asked, where the own ask of the flow is open; asks its replace test, where the next
-    // visit judges a record by that. Once the own ask is answered, or where none is open, it makes steps
-    // in one hold of the lock, and what follows it.
+    // Polls who is asked, where the own ask of the flow is open; asks its replace test, where the
+    // next visit judges a record by that. Once the own ask is answered, or where none is open, it
+    // makes steps in one hold of the lock, and what follows it.
     fn ask<R: Wait, Q: Asked<K, V, E>>(
         &self,
         rt: &R,
@@ -245,7 +245,8 @@ where
     }
 
     // Makes steps in one hold of the lock, and what follows it. Where an answer of who is asked was
-    // brought, the first step goes by that. Where the ask of a compute is opened who is asked begins.
+    // brought, the first step goes by that. Where the ask of a compute is opened who is asked
+    // begins.
     #[inline(always)]
     fn round<R: Wait, Q: Asked<K, V, E>>(
         &self,

@@ -7,8 +7,8 @@ use crate::key::CallKey;
 use crate::listener::{Listener, NoListener};
 use std::hash::Hash;
 
-/// A key of a cache that a call is to be made for. Each of its calls takes it, and gives the state of
-/// the call. What a call answers has this key, also where an equal one is stored.
+/// A key of a cache that a call is to be made for. Each of its calls takes it, and gives the state
+/// of the call. What a call answers has this key, also where an equal one is stored.
 #[derive(Drop)]
 pub struct EntrySelector<'a, K: Eq + Hash, V, E, L = NoListener, S = FixedSeed> {
     pub(crate) cache: &'a Cache<K, V, E, L, S>,

@@ -1,5 +1,5 @@
-//! What follows a hold of the lock, without it: who is asked begins, and the listener is started, and
-//! polled.
+//! What follows a hold of the lock, without it: who is asked begins, and the listener is started,
+//! and polled.
 ghost use Rattle.std.specs.Prelude.{◌≡◌, ◌⊎◌, Bool, Some};
 ghost use Rattle.futures.specs.Poll.{OnPending};
 ghost use Rattle.futures.specs.Task.{IsArmed, Keeps};
@@ -34,9 +34,9 @@ where
     L: Listener<K, V>,
     S: Drop,
 {
-    /// What follows a hold that left the call of the flow so: a listener that it asks is started; who
-    /// answers its own ask begins, where that is of a compute; and where the call awaits the end of a
-    /// notice, which runs, that is polled.
+    /// What follows a hold that left the call of the flow so: a listener that it asks is started;
+    /// who answers its own ask begins, where that is of a compute; and where the call awaits the
+    /// end of a notice, which runs, that is polled.
     pub(crate) fn after<Q: Asked<K, V, E>>(
         &self,
         flow: &Flow<K, V, E>,
@@ -109,8 +109,8 @@ where
         }
     }
 
-    // Starts the listener with the call's notice, if it is the listener that is asked; or begins who
-    // answers the call's own ask, if that is of a compute.
+    // Starts the listener with the call's notice, if it is the listener that is asked; or begins
+    // who answers the call's own ask, if that is of a compute.
     fn start<Q: Asked<K, V, E>>(&self, flow: &Flow<K, V, E>, ask: Ask<K, V>, asked: &mut Q)
         requires asks { Q.can_poll asked.old }
         ensures begun { BegunFor Q.begins ask asked.old asked.new }

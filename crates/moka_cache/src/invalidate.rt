@@ -65,7 +65,8 @@ where
     pub fn invalidate<'a>(&'a self, key: &'a K) -> Invalidate<'a, K, V, E, L, S>
         ensures fresh { BeginsWith result.stage (λ invalidate. invalidate.key.now ≡ key.now) }
         ensures may { MayPoll result.stage }
-        ensures suits { Suits K.eq (λ invalidate. Start.Invalidate invalidate.key.now) result.stage }
+        ensures suits { Suits K.eq (λ invalidate. Start.Invalidate invalidate.key.now)
+            result.stage }
         ensures cache { result.cache.now ≡ self.now }
     {
         self.call(ToInvalidate { key })

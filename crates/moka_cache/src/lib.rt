@@ -6,6 +6,7 @@
 
 mod asked;
 mod begin;
+mod blocking;
 mod builder;
 mod by_compute;
 mod by_init;

@@ -22,7 +22,8 @@ use crate::or_insert_with::loaded_entry;
 use moka_hist::{Answer, Entry, Start};
 use std::hash::Hash;
 
-/// What an optional load of an entry looks up, and stores where it is absent and its initializer gives it.
+/// What an optional load of an entry looks up, and stores where it is absent and its initializer
+/// gives it.
 #[derive(Drop)]
 pub struct ToLoadEntryOptionally<'a, K> {
     key: CallKey<'a, K>,
@@ -80,8 +81,8 @@ where
     L: Listener<K, V>,
     S: Drop,
 {
-    /// The same as `optionally_get_with`. The entry is fresh where the initializer of this call gave
-    /// the value.
+    /// The same as `optionally_get_with`. The entry is fresh where the initializer of this call
+    /// gave the value.
     pub fn or_optionally_insert_with<I: Init<Option<V>>>(
         self,
         init: I,

@@ -22,7 +22,8 @@ use crate::or_insert_with::loaded_entry;
 use moka_hist::{Answer, Entry, Start};
 use std::hash::Hash;
 
-/// What a load of an entry looks up that may fail, and stores where it is absent and its initializer gives it.
+/// What a load of an entry looks up that may fail, and stores where it is absent and its
+/// initializer gives it.
 #[derive(Drop)]
 pub struct ToTryLoadEntry<'a, K> {
     key: CallKey<'a, K>,

@@ -75,8 +75,9 @@ where
     L: Listener<K, V>,
     S: Drop,
 {
-    /// Waits until no other compute of the key goes, looks the key up, asks for a value made of what
-    /// it has, and stores that. Answers its entry: fresh, and replaced where the look found one.
+    /// Waits until no other compute of the key goes, looks the key up, asks for a value made of
+    /// what it has, and stores that. Answers its entry: fresh, and replaced where the look found
+    /// one.
     pub fn and_upsert_with<C: Compute<K, V, E>>(
         self,
         compute: C,

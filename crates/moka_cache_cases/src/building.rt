@@ -1,7 +1,7 @@
 //! Caches that are built.
 
-use crate::at::{Numbers, get, insert};
 use moka_cache::{Cache, CacheBuilder};
+use moka_cache_runs::at::{Numbers, get, insert};
 use std::test::Fail;
 
 #[test]

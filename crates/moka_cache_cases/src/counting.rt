@@ -1,7 +1,7 @@
 //! How many records a cache has.
 
-use crate::at::{Numbers, insert};
 use moka_cache::Cache;
+use moka_cache_runs::at::{Numbers, insert};
 use std::test::Fail;
 
 #[test]

@@ -1,16 +1,17 @@
 //! Calls that are dropped.
 
-use crate::at::{At, Numbers, get, insert};
-use futures::FutureExt;
 use moka_cache::{Cache, Polled};
+use moka_cache_runs::at::{At, Numbers, get, insert};
+use moka_cache_runs::numbers::numbers;
+use moka_cache_runs::once::poll_once;
 use std::test::Fail;
 
 #[test]
 fn a_dropped_call_is_cancelled(rt: HostRuntime) -> Result<(), Fail> {
     let cache: Numbers = Cache::new(rt.alloc(), 100)?;
-    drop(Polled::new(&rt, cache.insert(1, 5), At(0)));
+    drop(Polled::new(&rt, numbers(cache.insert(1, 5)), At(0)));
     assert_eq!(rt; get(&rt, &cache, 1)?, Ok(None));
-    let polled = Polled::new(&rt, cache.insert(1, 6), At(0)).now_or_never(&rt)?;
+    let polled = poll_once(&rt, numbers(cache.insert(1, 6)))?;
     assert_eq!(rt; polled, Some(Ok(())));
     assert_eq!(rt; get(&rt, &cache, 1)?, Ok(Some(6)));
     cache.insert(1, 7).cancel(&rt);

@@ -4,11 +4,12 @@ ghost use Rattle.std.specs.Prelude.{IsSome, IfSome};
 ghost use Rattle.futures.specs.Poll.{OnPending};
 ghost use Rattle.futures.specs.Task.{IsArmed, Keeps};
 
-use crate::at::{Numbers, insert};
 use futures::Future;
 use futures::executor::block_on;
 use futures::task::{Context, Poll};
 use moka_cache::{Cache, PollError, State};
+use moka_cache_runs::at::{Numbers, insert};
+use moka_cache_runs::numbers::numbers;
 use std::sync::Wait;
 use std::test::Fail;
 
@@ -84,7 +85,7 @@ fn no_call_begins_after_the_last_number(rt: HostRuntime) -> Result<(), Fail> {
     assert_eq!(rt; insert(&rt, &cache, 1, 5)?, Ok(()));
     let twice = Twice {
         rt: &rt,
-        state: Some(cache.get(&1)),
+        state: Some(numbers(cache.get(&1))),
     };
     assert_eq!(rt; block_on(&rt, twice)?, (true, true));
     assert!(rt; cache.contains_key(&rt, &1, 0)?);

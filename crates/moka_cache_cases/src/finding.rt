@@ -1,8 +1,8 @@
 //! What was inserted, and what is found.
 
-use crate::at::{Numbers, get, insert};
-use crate::run::run_at;
 use moka_cache::{Cache, Listener};
+use moka_cache_runs::at::{Numbers, get, insert};
+use moka_cache_runs::run::run_at;
 use std::hash::Hash;
 use std::test::Fail;
 

@@ -1,10 +1,11 @@
 //! Loads.
 
-use crate::at::Numbers;
-use crate::inits::After;
-use crate::pairs::{both, first_dropped, second_sets};
-use crate::run::run;
 use moka_cache::{Cache, PollError, RetriesExhausted};
+use moka_cache_runs::at::Numbers;
+use moka_cache_runs::inits::After;
+use moka_cache_runs::numbers::numbers;
+use moka_cache_runs::pairs::{both, first_dropped, second_sets};
+use moka_cache_runs::run::run;
 use std::alloc::AllocGlobal;
 use std::io;
 use std::random::RandomSource;
@@ -32,7 +33,8 @@ fn load_twice<'a, R: Wait + RandomSource + AllocGlobal>(
     one: After<'a>,
     other: After<'a>,
 ) -> io::Result<(Loaded, Loaded)> {
-    both(rt, cache.get_with(1, one), cache.get_with(1, other))
+    let one = numbers(cache.get_with(1, one));
+    both(rt, one, numbers(cache.get_with(1, other)))
 }
 
 // Loads key 1 twice, in one task, and drops the first load after so many polls of it.
@@ -43,7 +45,8 @@ fn load_after_dropped<'a, R: Wait + RandomSource + AllocGlobal>(
     polls: u64,
     other: After<'a>,
 ) -> io::Result<((), Loaded)> {
-    first_dropped(rt, polls, cache.get_with(1, one), cache.get_with(1, other))
+    let one = numbers(cache.get_with(1, one));
+    first_dropped(rt, polls, one, numbers(cache.get_with(1, other)))
 }
 
 // Loads key 1 twice, in one task, and sets the flag after each poll of the second load.
@@ -54,7 +57,8 @@ fn load_once_polled<'a, R: Wait + RandomSource + AllocGlobal>(
     flag: &'a AtomicBool,
     other: After<'a>,
 ) -> io::Result<(Loaded, Loaded)> {
-    second_sets(rt, flag, cache.get_with(1, one), cache.get_with(1, other))
+    let one = numbers(cache.get_with(1, one));
+    second_sets(rt, flag, one, numbers(cache.get_with(1, other)))
 }
 
 #[test]

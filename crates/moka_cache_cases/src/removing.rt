@@ -1,7 +1,7 @@
 //! Keys that are removed, and keys that are absent.
 
-use crate::at::{Numbers, get, insert, invalidate, remove};
 use moka_cache::Cache;
+use moka_cache_runs::at::{Numbers, get, insert, invalidate, remove};
 use std::test::Fail;
 
 #[test]

@@ -1,7 +1,8 @@
 //! What the command line asks for.
 
 use crate::cached::Share;
-use crate::works::{PEERS, Peer, WAYS, WORKS, Way, Work};
+use crate::works::{PEERS, Peer, WORKS, Work};
+use moka_cache_rounds::ways::{WAYS, Way};
 use std::env;
 
 /// The keys of a burst's end, and of most works.

@@ -1,11 +1,12 @@
 //! The works on a cache.
 
 use crate::crowd::load_at_once;
-use crate::kinds::make;
-use crate::rounds::{Numbers, Rounds};
-use crate::runs::Span;
-use crate::works::{Burst, Job, Kind, Way, Work};
+use crate::works::{Burst, Job, Work};
 use moka_cache::Listener;
+use moka_cache_rounds::kinds::make;
+use moka_cache_rounds::rounds::{Numbers, Rounds};
+use moka_cache_rounds::runs::Span;
+use moka_cache_rounds::ways::{Kind, Way};
 use std::alloc::{AllocError, AllocGlobal, Global};
 use std::random::RandomSource;
 use std::sync::Wait;

@@ -1,14 +1,14 @@
 //! Loads of a cache that are all under way at once.
 ghost use Rattle.futures.specs.Task.{Keeps};
 
-use crate::calls::Begins;
-use crate::rounds::{Loads, Numbers, Rounds};
-use crate::runs::Still;
-use crate::works::Way;
 use futures::Future;
 use futures::executor::block_on;
 use futures::task::{Context, Poll};
 use moka_cache::{Listener, Polled, State};
+use moka_cache_rounds::calls::Begins;
+use moka_cache_rounds::rounds::{Loads, Numbers, Rounds};
+use moka_cache_rounds::runs::Still;
+use moka_cache_rounds::ways::Way;
 use std::alloc::{AllocError, AllocGlobal, Global};
 use std::io;
 use std::marker::PhantomData;

@@ -1,8 +1,8 @@
 //! The cache with a listener.
 
-use crate::rounds::Numbers;
 use futures::task::{Context, Poll};
 use moka_cache::{BuildError, CacheBuilder, Listener, ListenerEnd};
+use moka_cache_rounds::rounds::Numbers;
 use moka_hist::Cause;
 use std::alloc::{AllocError, Global};
 use std::sync::atomic::{AtomicU64, Ordering};

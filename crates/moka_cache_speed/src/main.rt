@@ -7,20 +7,16 @@
 
 mod asked;
 mod cached;
-mod calls;
 mod crowd;
 mod heard;
-mod kinds;
-mod later;
 mod mapped;
-mod rounds;
-mod runs;
 mod works;
 
 use asked::Asked;
 use cached::{come_and_store, keys_below};
 use moka_cache::{Cache, Listener};
-use rounds::Numbers;
+use moka_cache_rounds::rounds::Numbers;
+use moka_cache_rounds::ways::{WAYS, Way};
 use std::alloc::{AllocError, AllocGlobal, Global};
 use std::collections::HashMap;
 use std::process::ExitCode;
@@ -29,7 +25,7 @@ use std::rt::Clock;
 use std::sync::{Mutex, Wait};
 use std::thread::Threads;
 use std::time::Instant;
-use works::{Job, PEERS, Peer, WAYS, WORKS, Way, Work};
+use works::{Job, PEERS, Peer, WORKS, Work};
 
 fn main(rt: HostRuntime) -> ExitCode {
     let Ok(asked) = Asked::read(&rt) else {

@@ -1,4 +1,4 @@
-//! Calls of a cache, run to their answer.
+//! What calls of a cache answer.
 
 use futures::executor::block_on;
 use futures::future::join;
@@ -18,30 +18,24 @@ impl Moments for At {
     }
 }
 
-/// Runs a call to its answer.
-pub(crate) fn answer_of<R, S>(rt: &R, call: S) -> io::Result<S::Output>
-where
-    R: Wait + RandomSource + AllocGlobal,
-    S: State<R>,
-    requires { S.can_poll call }
-{
-    match block_on(rt, Polled::new(rt, call, At(0)))? {
+/// What a call answered that ran to its end.
+pub(crate) fn answered<T>(ended: io::Result<Result<T, PollError>>) -> io::Result<T> {
+    match ended? {
         Ok(answer) => Ok(answer),
         Err(_) => Err(io::Error::other("no call number is left")),
     }
 }
 
-/// What two calls answered.
-pub(crate) type Both<A, B> = (Result<A, PollError>, Result<B, PollError>);
+/// What two calls of one kind answered.
+pub(crate) type Both<T> = (Result<T, PollError>, Result<T, PollError>);
 
-/// Runs two calls to their answers, in one task.
-pub(crate) fn both<R, S, T>(rt: &R, one: S, other: T) -> io::Result<Both<S::Output, T::Output>>
+/// Runs two calls of one kind to their answers, in one task.
+pub(crate) fn both<R, S>(rt: &R, one: S, other: S) -> io::Result<Both<S::Output>>
 where
     R: Wait + RandomSource + AllocGlobal,
     S: State<R, Output: Drop>,
-    T: State<R, Output: Drop>,
     requires one { S.can_poll one }
-    requires other { T.can_poll other }
+    requires other { S.can_poll other }
 {
     let one = Polled::new(rt, one, At(0));
     let other = Polled::new(rt, other, At(0));

@@ -1,7 +1,7 @@
 //! Counts by number.
 ghost use Rattle.moka_cache.specs.Asked.{IsPut};
 
-use crate::answers::{answer_of, both};
+use crate::answers::{At, answered, both};
 use futures::task::{Context, Poll};
 use moka_cache::{Cache, Compute};
 use moka_hist::{Entry, Op};
@@ -39,8 +39,8 @@ fn count<'a, R: Wait + RandomSource + AllocGlobal>(
     rt: &'a R,
     counts: &'a Counts,
 ) -> io::Result<u64> {
-    let entry = answer_of(rt, counts.entry(1).and_upsert_with(OneMore { next: 1 }))?;
-    Ok(entry.value)
+    let upsert = counts.entry(1).and_upsert_with(OneMore { next: 1 });
+    Ok(answered(upsert.block_on(rt, At(0)))?.value)
 }
 
 /// Counts two more of number 1, at once: of a number's computes one goes at a time, so none is lost.

@@ -1,6 +1,6 @@
 //! A listener that counts what leaves.
 
-use crate::answers::answer_of;
+use crate::answers::{At, answered};
 use futures::task::{Context, Poll};
 use moka_cache::{BuildError, Cache, CacheBuilder, Listener, ListenerEnd};
 use moka_hist::Cause;
@@ -46,9 +46,9 @@ fn store_and_remove<'a, R: Wait + RandomSource + AllocGlobal, L: Listener<u32, u
     cache: &'a Heard<L>,
 ) -> io::Result<Option<u32>> {
     for value in [5, 6, 7] {
-        answer_of(rt, cache.insert(1, value))?;
+        answered(cache.insert(1, value).block_on(rt, At(0)))?;
     }
-    answer_of(rt, cache.remove(&1))
+    answered(cache.remove(&1).block_on(rt, At(0)))
 }
 
 /// Counts what leaves: two values that others replace, and one that is taken out.

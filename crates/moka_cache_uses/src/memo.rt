@@ -1,7 +1,7 @@
 //! A memo table.
 ghost use Rattle.std.specs.Prelude.{◌≡◌, ◌*◌, IfOk};
 
-use crate::answers::answer_of;
+use crate::answers::{At, answered};
 use futures::task::{Context, Poll};
 use moka_cache::{Cache, Init};
 use std::alloc::{AllocGlobal, Global};
@@ -57,7 +57,8 @@ fn squared<'a, R: Wait + RandomSource + AllocGlobal>(
 ) -> io::Result<u64>
     ensures { IfOk result (λ area. area ≡ root * root) }
 {
-    match answer_of(rt, memo.get_with(root, Squares { root, loads }))? {
+    let load = memo.get_with(root, Squares { root, loads });
+    match answered(load.block_on(rt, At(0)))? {
         Ok(square) => Ok(area_of(square, root)),
         Err(_) => Ok(Square::of(root).area),
     }

@@ -1,6 +1,6 @@
 //! Pages that there may be.
 
-use crate::answers::answer_of;
+use crate::answers::{At, answered};
 use crate::sources::After;
 use moka_cache::Cache;
 use std::alloc::{AllocGlobal, Global};
@@ -32,7 +32,8 @@ fn page<'a, R: Wait + RandomSource + AllocGlobal>(
         polls: 0,
         gives: on_disk(number),
     };
-    match answer_of(rt, pages.entry(number).or_optionally_insert_with(disk))? {
+    let load = pages.entry(number).or_optionally_insert_with(disk);
+    match answered(load.block_on(rt, At(0)))? {
         Ok(Some(entry)) => Ok(Some(entry.value)),
         _ => Ok(None),
     }

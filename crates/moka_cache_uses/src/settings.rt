@@ -1,6 +1,6 @@
 //! Settings that are loaded from a source which may fail.
 
-use crate::answers::{Both, answer_of, both};
+use crate::answers::{At, Both, answered, both};
 use crate::sources::After;
 use moka_cache::{Cache, LoadError};
 use std::alloc::{AllocGlobal, Global};
@@ -19,7 +19,7 @@ type Setting = Result<u32, LoadError<u32>>;
 fn ask_twice<'a, R: Wait + RandomSource + AllocGlobal>(
     rt: &'a R,
     settings: &'a Settings,
-) -> io::Result<Both<Setting, Setting>> {
+) -> io::Result<Both<Setting>> {
     let source = After {
         polls: 2,
         gives: Err(3),
@@ -41,7 +41,7 @@ fn ask_anew<'a, R: Wait + RandomSource + AllocGlobal>(
         polls: 0,
         gives: Ok(7),
     };
-    answer_of(rt, settings.try_get_with(1, source))
+    answered(settings.try_get_with(1, source).block_on(rt, At(0)))
 }
 
 /// Asks for a setting twice at once, and once more.

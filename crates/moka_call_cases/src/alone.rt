@@ -30,12 +30,24 @@ pub fn run(
         _ => Choice::Remove,
     };
     let mut call = TableCall::new(alloc, kind, hash);
+    let told = finish(memory, &mut call, key, choice);
+    drop(call);
+    told
+}
+
+// Makes the steps of the call up to its end.
+fn finish(
+    memory: &mut Memory,
+    call: &mut TableCall,
+    key: u64,
+    choice: Choice,
+) -> Result<Told, AllocError> {
     let mut steps: u32 = 0;
     for _ in 0..100_000 {
         if let Some(decision) = call.decided() {
             return Ok(read(steps, decision));
         }
-        if memory.step(&mut call, key, choice)? == Made::Step {
+        if memory.step(call, key, choice)? == Made::Step {
             steps = steps.wrapping_add(1);
         }
     }

@@ -4,6 +4,7 @@ use crate::alone::{Told, run};
 use crate::memory::Memory;
 use crate::together::Crowd;
 use moka_growth::CallKind;
+use std::alloc::{AllocError, Global};
 use std::test::Fail;
 
 // Found its node, or none, and changed nothing.
@@ -25,50 +26,50 @@ fn changed(steps: u32, present: Option<u64>) -> Told {
     }
 }
 
+// Changed nothing, and listed so many nodes.
+fn listed(steps: u32, nodes: usize) -> Told {
+    Told {
+        steps,
+        changed: false,
+        present: None,
+        nodes,
+    }
+}
+
 #[test]
 fn steps_of_calls_to_an_empty_segment(rt: HostRuntime) -> Result<(), Fail> {
     let alloc = rt.alloc();
     let mut memory = Memory::new(alloc);
-    assert_eq!(rt;
-        run(alloc, &mut memory, CallKind::Get, 1, 1)?,
-        kept(1, None)
-    );
-    assert_eq!(rt;
-        run(alloc, &mut memory, CallKind::Remove, 1, 1)?,
-        kept(1, None)
-    );
-    assert_eq!(rt;
-        run(alloc, &mut memory, CallKind::Keys, 0, 0)?,
-        kept(1, None)
-    );
-    assert_eq!(rt;
-        run(alloc, &mut memory, CallKind::Insert, 1, 1)?,
-        changed(135, None)
-    );
-    assert_eq!(rt;
-        run(alloc, &mut memory, CallKind::Get, 1, 1)?,
-        kept(2, Some(0))
-    );
-    assert_eq!(rt;
-        run(alloc, &mut memory, CallKind::Insert, 1, 1)?,
-        changed(3, Some(0))
-    );
-    let listed = run(alloc, &mut memory, CallKind::Keys, 0, 0)?;
-    assert_eq!(rt;
-        listed,
-        Told {
-            nodes: 1,
-            ..kept(129, None)
-        }
-    );
-    assert_eq!(rt;
-        run(alloc, &mut memory, CallKind::Remove, 1, 1)?,
-        changed(3, Some(1))
-    );
-    assert_eq!(rt;
-        run(alloc, &mut memory, CallKind::Get, 1, 1)?,
-        kept(2, None)
-    );
+    let cases = [
+        (CallKind::Get, 1, kept(1, None)),
+        (CallKind::Remove, 1, kept(1, None)),
+        (CallKind::Keys, 0, kept(1, None)),
+        (CallKind::Insert, 1, changed(135, None)),
+        (CallKind::Get, 1, kept(2, Some(0))),
+        (CallKind::Insert, 1, changed(3, Some(0))),
+        (CallKind::Keys, 0, listed(129, 1)),
+        (CallKind::Remove, 1, changed(3, Some(1))),
+        (CallKind::Get, 1, kept(2, None)),
+    ];
+    for (kind, key, want) in cases {
+        let told = run(alloc, &mut memory, kind, key, key)?;
+        assert_eq!(rt; told, want, "{kind:?}");
+    }
+    Ok(())
+}
+
+// Calls of this kind under the keys from one to below another, one after the other. The hash of a
+// key is the key so many times.
+fn run_all(
+    alloc: Global,
+    memory: &mut Memory,
+    kind: CallKind,
+    keys: (u64, u64),
+    spread: u64,
+) -> Result<(), AllocError> {
+    for key in keys.0..keys.1 {
+        let _ = run(alloc, memory, kind, key, key.wrapping_mul(spread))?;
+    }
     Ok(())
 }
 
@@ -77,26 +78,12 @@ fn the_ninety_first_key_grows_the_array(rt: HostRuntime) -> Result<(), Fail> {
     let alloc = rt.alloc();
     for (spread, steps) in [(1, 519), (0, 609)] {
         let mut memory = Memory::new(alloc);
-        for key in 0..90u64 {
-            let _ = run(
-                alloc,
-                &mut memory,
-                CallKind::Insert,
-                key,
-                key.wrapping_mul(spread),
-            )?;
-        }
+        run_all(alloc, &mut memory, CallKind::Insert, (0, 90), spread)?;
         assert_eq!(rt; memory.root_words().len(), 128);
-        let told = run(
-            alloc,
-            &mut memory,
-            CallKind::Insert,
-            90,
-            90u64.wrapping_mul(spread),
-        )?;
+        let hash = 90u64.wrapping_mul(spread);
+        let told = run(alloc, &mut memory, CallKind::Insert, 90, hash)?;
         assert_eq!(rt; told, changed(steps, None));
-        assert_eq!(rt; memory.root_words().len(), 256);
-        assert_eq!(rt; memory.len(), 91);
+        assert_eq!(rt; (memory.root_words().len(), memory.len()), (256, 91));
     }
     Ok(())
 }
@@ -105,12 +92,8 @@ fn the_ninety_first_key_grows_the_array(rt: HostRuntime) -> Result<(), Fail> {
 fn the_fourteenth_removal_clears_the_tombstones(rt: HostRuntime) -> Result<(), Fail> {
     let alloc = rt.alloc();
     let mut memory = Memory::new(alloc);
-    for key in 0..20 {
-        let _ = run(alloc, &mut memory, CallKind::Insert, key, 0)?;
-    }
-    for key in 0..13 {
-        let _ = run(alloc, &mut memory, CallKind::Remove, key, 0)?;
-    }
+    run_all(alloc, &mut memory, CallKind::Insert, (0, 20), 0)?;
+    run_all(alloc, &mut memory, CallKind::Remove, (0, 13), 0)?;
     let told = run(alloc, &mut memory, CallKind::Remove, 13, 0)?;
     assert_eq!(rt; told, changed(391, Some(13)));
     assert!(rt; memory.is_sound());
@@ -132,26 +115,40 @@ fn kind_of(seed: u64) -> CallKind {
     }
 }
 
+// Begins calls and makes their steps at random from this seed on, and then the steps that are left.
+// Gives the seed after the last, and the first turn that isn't right.
+fn play(crowd: &mut Crowd, first: u64) -> Result<(u64, Option<u64>), AllocError> {
+    let mut seed = first;
+    for turn in 0..4_000u64 {
+        seed = after(seed);
+        if seed >> 62 == 0 {
+            crowd.begin(kind_of(seed), (seed >> 33) % 40)?;
+        }
+        if !crowd.step((seed >> 20) % 10)? {
+            return Ok((seed, Some(turn)));
+        }
+    }
+    Ok((seed, first_wrong_at_the_end(crowd)?))
+}
+
+fn first_wrong_at_the_end(crowd: &mut Crowd) -> Result<Option<u64>, AllocError> {
+    for turn in 0..40_000u64 {
+        if !crowd.step(turn)? {
+            return Ok(Some(turn.wrapping_add(4_000)));
+        }
+    }
+    Ok(None)
+}
+
 #[test]
 fn many_calls_at_once_answer_as_the_standard_map(rt: HostRuntime) -> Result<(), Fail> {
     let mut seed = 1;
     for case in 0..15u64 {
         let mut crowd = Crowd::new(rt.alloc(), 1 << (case % 5), case / 5)?;
         crowd.store_steady()?;
-        for turn in 0..4_000 {
-            seed = after(seed);
-            if seed >> 62 == 0 {
-                crowd.begin(kind_of(seed), (seed >> 33) % 40)?;
-            }
-            assert!(rt;
-                crowd.step((seed >> 20) % 10)?,
-                "turn {turn} of case {case}"
-            );
-        }
-        for turn in 0..40_000 {
-            assert!(rt; crowd.step(turn)?, "last turn {turn} of case {case}");
-        }
-        assert_eq!(rt; crowd.running(), 0, "case {case}");
+        let (next, wrong) = play(&mut crowd, seed)?;
+        assert_eq!(rt; (wrong, crowd.running()), (None, 0), "case {case}");
+        seed = next;
     }
     Ok(())
 }

@@ -90,20 +90,28 @@ impl Crowd {
             return Ok(true);
         }
         let mut one = self.running.swap_remove(chosen as usize % count);
+        let answered = self.advance(&mut one);
+        if one.call.decided().is_none() {
+            self.running.push(one)?;
+        } else {
+            drop(one);
+        }
+        Ok(answered? && self.memory.is_sound() && self.has_map())
+    }
+
+    // Makes one step of the call, and its choice where it asks for one. Tells whether the step was
+    // made, and the call, if it ended, answered as the map.
+    fn advance(&mut self, one: &mut Running) -> Result<bool, AllocError> {
         if self.memory.step(&mut one.call, one.key, one.choice)? != Made::Step {
             return Ok(false);
         }
         if is_asking(&one.call) {
             let _ = self.memory.step(&mut one.call, one.key, one.choice)?;
         }
-        let answered = match one.call.decided() {
-            None => true,
-            Some(decision) => { answers(&mut self.map, &self.memory, &one, decision)? }
-        };
-        if one.call.decided().is_none() {
-            self.running.push(one)?;
+        match one.call.decided() {
+            None => Ok(true),
+            Some(decision) => answers(&mut self.map, &self.memory, one, decision),
         }
-        Ok(answered && self.memory.is_sound() && self.has_map())
     }
 
     // Whether the root stores the nodes of the map, and no others.

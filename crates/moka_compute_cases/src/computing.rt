@@ -2,9 +2,10 @@
 
 use crate::acts::{Act, Counts, Does, Fails, Starts};
 use moka_cache::{Cache, PollError};
-use moka_cache_cases::at::{Numbers, get, insert};
-use moka_cache_cases::pairs::{both, first_dropped};
-use moka_cache_cases::run::run;
+use moka_cache_runs::at::{Numbers, get, insert};
+use moka_cache_runs::numbers::numbers;
+use moka_cache_runs::pairs::{both, first_dropped};
+use moka_cache_runs::run::run;
 use moka_hist::{CompResult, Entry};
 use std::alloc::AllocGlobal;
 use std::io;
@@ -55,8 +56,9 @@ fn compute_beside<'a, R: Wait + RandomSource + AllocGlobal>(
     one: Does<'a>,
     other: Does<'a>,
 ) -> io::Result<(Computed, Tried)> {
+    let one = numbers(cache.entry(1).and_compute_with(one));
     let other = cache.entry_by_ref(&1).and_try_compute_if_nobody_else(other);
-    both(rt, cache.entry(1).and_compute_with(one), other)
+    both(rt, one, numbers(other))
 }
 
 // Computes on key 1, where nobody else does.
@@ -76,11 +78,8 @@ fn compute_beside_insert<'a, R: Wait + RandomSource + AllocGlobal>(
     does: Does<'a>,
     value: u32,
 ) -> io::Result<(Computed, Result<(), PollError>)> {
-    both(
-        rt,
-        cache.entry(1).and_compute_with(does),
-        cache.insert(1, value),
-    )
+    let compute = numbers(cache.entry(1).and_compute_with(does));
+    both(rt, compute, numbers(cache.insert(1, value)))
 }
 
 // Computes on key 1, which fails, and once more, in one task.
@@ -90,8 +89,9 @@ fn compute_after_failed<'a, R: Wait + RandomSource + AllocGlobal>(
     one: Fails<'a>,
     other: Does<'a>,
 ) -> io::Result<(Tried, Computed)> {
-    let other = cache.entry_by_ref(&1).and_compute_with(other);
-    both(rt, cache.entry(1).and_try_compute_with(one), other)
+    let one = numbers(cache.entry(1).and_try_compute_with(one));
+    let other = numbers(cache.entry_by_ref(&1).and_compute_with(other));
+    both(rt, one, other)
 }
 
 // Computes on key 1, and once more, in one task, and drops the first after so many polls of it.
@@ -102,8 +102,9 @@ fn compute_after_dropped<'a, R: Wait + RandomSource + AllocGlobal>(
     polls: u64,
     other: Does<'a>,
 ) -> io::Result<((), Computed)> {
-    let other = cache.entry(1).and_compute_with(other);
-    first_dropped(rt, polls, cache.entry(1).and_compute_with(one), other)
+    let one = numbers(cache.entry(1).and_compute_with(one));
+    let other = numbers(cache.entry(1).and_compute_with(other));
+    first_dropped(rt, polls, one, other)
 }
 
 #[test]

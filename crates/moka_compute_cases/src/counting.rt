@@ -1,10 +1,11 @@
 //! Upserts of the same keys, by threads that share a cache.
 
 use crate::acts::Counts;
-use futures::FutureExt;
-use moka_cache::{Cache, PollError, Polled, State};
-use moka_cache_cases::at::{At, Numbers, get};
-use moka_cache_cases::run::run;
+use moka_cache::{Cache, PollError};
+use moka_cache_runs::at::{Numbers, get};
+use moka_cache_runs::numbers::numbers;
+use moka_cache_runs::once::poll_once;
+use moka_cache_runs::run::run;
 use moka_hist::Entry;
 use std::alloc::{AllocError, AllocGlobal, Global};
 use std::random::RandomSource;
@@ -29,16 +30,6 @@ fn count_up<R: Wait + RandomSource + AllocGlobal>(
     Ok(run(rt, state)?.is_ok())
 }
 
-// Polls the state once. Where that is pending it is dropped, and None is answered.
-fn poll_once<R: Wait + RandomSource + AllocGlobal, S: State<R, Output: Drop>>(
-    rt: &R,
-    state: S,
-) -> io::Result<Option<Result<S::Output, PollError>>>
-    requires { S.can_poll state }
-{
-    Polled::new(rt, state, At(0)).now_or_never(rt)
-}
-
 // Counts the key up by one poll, and tells whether it did: where it is pending it is dropped.
 fn count_dropped<R: Wait + RandomSource + AllocGlobal>(
     rt: &R,
@@ -46,10 +37,8 @@ fn count_dropped<R: Wait + RandomSource + AllocGlobal>(
     key: u32,
     counts: Counts,
 ) -> io::Result<bool> {
-    let stored: Option<Result<Entry<u32, u32>, PollError>> = poll_once(
-        rt,
-        cache.entry(key).and_upsert_with(counts),
-    )?;
+    let state = numbers(cache.entry(key).and_upsert_with(counts));
+    let stored: Option<Result<Entry<u32, u32>, PollError>> = poll_once(rt, state)?;
     Ok(matches!(stored, Some(Ok(_))))
 }
 

@@ -1,5 +1,5 @@
 -- A desk between the visits of these tests.
-use Rattle.std.specs.Prelude.{ℕ, false, List, [], None, nat_eq}
+use Rattle.std.specs.Prelude.{ℕ, false, List, [], Option, None, nat_eq}
 use Rattle.std.specs.declared.cmp.PartialEq as PartialEq
 use Rattle.std.specs.declared.hash.Hash as Hash
 use Rattle.moka_hist.specs.State.{DeskPart, fresh_desk}
@@ -11,6 +11,11 @@ use Rattle.moka_desk.specs.declared.state.Desk.{Desk}
 -- the state by these rules, with a log of four writes, where nothing has happened
 abbrev pub untouched : Rules → DeskPart ℕ ℕ ℕ
 untouched rules = fresh_desk ℕ ℕ ℕ rules 4 (λ test key value. false)
+
+-- nothing has happened on the desk
+abbrev pub IsNew : {same : PartialEq.Ghosts ℕ} {hash : Hash.Ghosts ℕ} →
+    Desk ℕ ℕ ℕ same hash → Type 0
+IsNew desk = (rules : Rules) × StandsFor nat_eq desk (untouched rules)
 
 -- the state where nobody holds a write or has the turn, nothing is owed or logged in a log of four,
 -- and these writes were applied
@@ -34,3 +39,8 @@ abbrev pub NobodyHolds : {same : PartialEq.Ghosts ℕ} {hash : Hash.Ghosts ℕ} 
     Desk ℕ ℕ ℕ same hash → Type 0
 NobodyHolds desk =
     (w : DeskPart ℕ ℕ ℕ) × StandsFor nat_eq desk (record w { holding = λ _. None })
+
+-- the desk stands for a state where this call, if any, has the turn
+abbrev pub HasTurn : {same : PartialEq.Ghosts ℕ} {hash : Hash.Ghosts ℕ} → Desk ℕ ℕ ℕ same hash →
+    Option ℕ → Type 0
+HasTurn desk call = (w : DeskPart ℕ ℕ ℕ) × StandsFor nat_eq desk (record w { turn = call })

@@ -1,6 +1,9 @@
 //! What asks take, and what their calls take up then.
 
+ghost use Rattle.moka_desk_cases.specs.Rests.{IsNew};
+
 use crate::desks::{new_desk, rules_with};
+use moka_desk::Desk;
 use moka_hist::{Op, Takes, Told};
 use std::alloc::{AllocError, Global};
 use std::test::Fail;
@@ -19,16 +22,29 @@ fn shapes() -> [Told<u32, u32>; 8] {
     ]
 }
 
-/// Whether an ask is closed by the answer, and what its call takes up then.
+/// Whether an ask of call 3 is closed by the answer, and what the call takes up then.
+fn told_on(
+    desk: &mut Desk<u32, u32, u32>,
+    takes: Takes,
+    told: Told<u32, u32>,
+) -> Result<(bool, Option<Told<u32, u32>>), AllocError>
+    requires { IsNew desk.old }
+{
+    desk.open_ask(3, takes)?;
+    let closed = desk.tell(3, told).is_some();
+    Ok((closed, desk.take_told(3)))
+}
+
+/// The same on a new desk.
 fn told_by(
     alloc: Global,
     takes: Takes,
     told: Told<u32, u32>,
 ) -> Result<(bool, Option<Told<u32, u32>>), AllocError> {
     let mut desk = new_desk(alloc, rules_with(None))?;
-    desk.open_ask(3, takes)?;
-    let closed = desk.tell(3, told).is_some();
-    Ok((closed, desk.take_told(3)))
+    let came = told_on(&mut desk, takes, told);
+    drop(desk);
+    came
 }
 
 #[test]
@@ -66,12 +82,22 @@ fn an_ask_takes_what_its_load_or_its_compute_gives(rt: HostRuntime) -> Result<()
     Ok(())
 }
 
+/// Whether an ask for a value is closed by `Done`, by a value, and by another one.
+fn closed_on(desk: &mut Desk<u32, u32, u32>) -> Result<[bool; 3], AllocError>
+    requires { IsNew desk.old }
+{
+    desk.open_ask(3, Takes::Value)?;
+    let done = desk.tell(3, Told::Done).is_some();
+    let value = desk.tell(3, Told::Value(9)).is_some();
+    let other = desk.tell(3, Told::Value(9)).is_some();
+    Ok([done, value, other])
+}
+
 #[test]
 fn an_ask_is_closed_once(rt: HostRuntime) -> Result<(), Fail> {
     let mut desk = new_desk(rt.alloc(), rules_with(None))?;
-    desk.open_ask(3, Takes::Value)?;
-    assert!(rt; desk.tell(3, Told::Done).is_none());
-    assert!(rt; desk.tell(3, Told::Value(9)).is_some());
-    assert!(rt; desk.tell(3, Told::Value(9)).is_none());
+    let closed = closed_on(&mut desk);
+    drop(desk);
+    assert_eq!(rt; closed?, [false, true, false]);
     Ok(())
 }

@@ -1,8 +1,8 @@
-//! The desks that these tests begin with.
+//! The desks that these tests begin with. A test lets its desk go by `drop`, and does what it does on
+//! it in a function that borrows it: where a desk goes out of scope, the proof looks at all its parts.
 
-ghost use Rattle.std.specs.Prelude.{ℕ, false, nat_eq, IfOk};
-ghost use Rattle.moka_hist.specs.State.{fresh_desk};
-ghost use Rattle.moka_desk.specs.StandsFor.{StandsFor};
+ghost use Rattle.std.specs.Prelude.{IfOk};
+ghost use Rattle.moka_desk_cases.specs.Rests.{IsNew};
 
 use moka_desk::Desk;
 use moka_hist::Rules;
@@ -21,8 +21,7 @@ pub(crate) fn rules_with(max_capacity: Option<u64>) -> Rules {
 
 /// A desk by these rules with a log of four writes, where nothing has happened.
 pub(crate) fn new_desk(alloc: Global, rules: Rules) -> Result<Desk<u32, u32, u32>, AllocError>
-    ensures { IfOk result (λ desk. StandsFor nat_eq desk
-        (fresh_desk ℕ ℕ ℕ rules 4 (λ test key value. false))) }
+    ensures { IfOk result (λ desk. IsNew desk) }
 {
     Desk::new(alloc, rules, 4)
 }

@@ -2,25 +2,40 @@
 
 ghost use Rattle.std.specs.Prelude.{◌≡◌, true};
 ghost use Rattle.moka_hist.specs.Conditions.{may_end};
+ghost use Rattle.moka_desk_cases.specs.Rests.{IsNew};
 
 use crate::desks::{new_desk, rules_with};
+use moka_desk::Desk;
 use moka_hist::{Claim, Kind, Load, Settled};
 use std::alloc::{AllocError, Global};
 use std::test::Fail;
 
 /// What a call reads that waited for the owner of a load of this kind, which ended so.
-fn read_after(
-    alloc: Global,
+fn read_on(
+    desk: &mut Desk<u32, u32, u32>,
     kind: Kind,
     with: Settled<u32, u32>,
 ) -> Result<Settled<u32, u32>, AllocError>
-    requires { may_end kind with ≡ true }
+    requires new { IsNew desk.old }
+    requires may { may_end kind with ≡ true }
 {
-    let mut desk = new_desk(alloc, rules_with(None))?;
     let _ = desk.wait_or_own(1, Load { key: 5, kind })?;
     let _ = desk.wait_or_own(2, Load { key: 5, kind })?;
     let _ = desk.settle(1, with);
     desk.read_settled(2)
+}
+
+/// The same on a new desk, as it is printed.
+fn read_after(alloc: Global, kind: Kind, with: Settled<u32, u32>) -> Result<String, AllocError>
+    requires { may_end kind with ≡ true }
+{
+    let mut desk = new_desk(alloc, rules_with(None))?;
+    let read = read_on(&mut desk, kind, with);
+    drop(desk);
+    let settled = read?;
+    let text = format!(in alloc; "{settled:?}");
+    drop(settled);
+    text
 }
 
 #[test]
@@ -30,33 +45,45 @@ fn a_load_is_owned(rt: HostRuntime) -> Result<(), Fail> {
         key: 5,
         kind: Kind::GetWith,
     };
-    assert_eq!(rt; desk.wait_or_own(1, load)?, Claim::Owner);
+    let claim = desk.wait_or_own(1, load);
+    drop(desk);
+    assert_eq!(rt; claim?, Claim::Owner);
     Ok(())
 }
 
 #[test]
 fn a_call_that_waited_reads_what_its_owner_settled(rt: HostRuntime) -> Result<(), Fail> {
     let alloc = rt.alloc();
-    let read = [
-        read_after(alloc, Kind::Try, Settled::Ready(7))?,
-        read_after(alloc, Kind::Try, Settled::Err(4))?,
-        read_after(alloc, Kind::Optional, Settled::Nothing)?,
-        read_after(alloc, Kind::Compute, Settled::Nothing)?,
-        read_after(alloc, Kind::Compute, Settled::Aborted)?,
-    ];
-    let want = ["Ready(7)", "Err(4)", "Nothing", "Nothing", "Aborted"];
-    for (settled, want) in read.into_iter().zip(want) {
-        assert_eq!(rt; format!(in alloc; "{settled:?}")?.as_str(), want);
-    }
+    let ready = read_after(alloc, Kind::Try, Settled::Ready(7))?;
+    assert_eq!(rt; ready.as_str(), "Ready(7)");
+    let error = read_after(alloc, Kind::Try, Settled::Err(4))?;
+    assert_eq!(rt; error.as_str(), "Err(4)");
+    let nothing = read_after(alloc, Kind::Optional, Settled::Nothing)?;
+    assert_eq!(rt; nothing.as_str(), "Nothing");
+    let removed = read_after(alloc, Kind::Compute, Settled::Nothing)?;
+    assert_eq!(rt; removed.as_str(), "Nothing");
+    let aborted = read_after(alloc, Kind::Compute, Settled::Aborted)?;
+    assert_eq!(rt; aborted.as_str(), "Aborted");
     Ok(())
+}
+
+/// Whether call 1, which computes alone, finds an owner; call 2 beside it; whether nobody waits for
+/// call 1 when it ends; and whether call 2 finds an owner then.
+fn owned_on(desk: &mut Desk<u32, u32, u32>) -> Result<[bool; 4], AllocError>
+    requires { IsNew desk.old }
+{
+    let alone = desk.owned(1, 5)?;
+    let beside = desk.owned(2, 5)?;
+    let nobody = desk.settle(1, Settled::Nothing).is_empty();
+    let then = desk.owned(2, 5)?;
+    Ok([alone, beside, nobody, then])
 }
 
 #[test]
 fn one_that_computes_alone_owns_where_nobody_does(rt: HostRuntime) -> Result<(), Fail> {
     let mut desk = new_desk(rt.alloc(), rules_with(None))?;
-    assert!(rt; !desk.owned(1, 5)?);
-    assert!(rt; desk.owned(2, 5)?);
-    assert!(rt; desk.settle(1, Settled::Nothing).is_empty());
-    assert!(rt; !desk.owned(2, 5)?);
+    let owned = owned_on(&mut desk);
+    drop(desk);
+    assert_eq!(rt; owned?, [false, true, true, false]);
     Ok(())
 }

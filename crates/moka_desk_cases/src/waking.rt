@@ -1,45 +1,93 @@
 //! The wake list, as calls are listed, handed out and come back.
 
-ghost use Rattle.std.specs.Prelude.{nat_eq, IfOk};
+ghost use Rattle.std.specs.Prelude.{nat_eq, Some, None, OnOk};
 ghost use Rattle.moka_hist.specs.declared.visits.Visit.TheVariants as visit;
 ghost use Rattle.moka_desk.specs.StandsFor.{Can};
-ghost use Rattle.moka_desk_cases.specs.Rests.{NobodyHolds};
+ghost use Rattle.moka_desk_cases.specs.Rests.{HasTurn, IsNew, NobodyHolds};
 
 use crate::desks::{new_desk, rules_with};
 use moka_desk::Desk;
 use moka_hist::{Kind, Load, Takes, Told};
-use std::alloc::{AllocError, Global};
+use std::alloc::AllocError;
+use std::process::Abort;
 use std::test::Fail;
+
+/// Whether calls 2 and 3 are woken.
+fn woken(desk: &Desk<u32, u32, u32>) -> [bool; 2] {
+    [desk.is_woken(2), desk.is_woken(3)]
+}
+
+/// Whether calls 1, 2 and 3 take the turn, one after the other, which nobody has.
+fn taken(desk: &mut Desk<u32, u32, u32>) -> Result<[bool; 3], AllocError>
+    requires { HasTurn desk.old None }
+    ensures { OnOk result (HasTurn desk.new (Some 1)) }
+{
+    let first = desk.take_turn(1)?;
+    let second = desk.take_turn(2)?;
+    let third = desk.take_turn(3)?;
+    Ok([first, second, third])
+}
+
+/// Whether calls 2 and 3 take the turn, which nobody has, each with who is woken then.
+fn taken_again(desk: &mut Desk<u32, u32, u32>) -> Result<[(bool, [bool; 2]); 2], AllocError>
+    requires { HasTurn desk.old None }
+{
+    let second = desk.take_turn(2)?;
+    let then = woken(desk);
+    let third = desk.take_turn(3)?;
+    Ok([(second, then), (third, woken(desk))])
+}
+
+fn wait_for_the_turn(rt: &impl Abort, desk: &mut Desk<u32, u32, u32>) -> Result<(), Fail>
+    requires { IsNew desk.old }
+{
+    assert_eq!(rt; taken(desk)?, [true, false, false]);
+    assert_eq!(rt; woken(desk), [false, false]);
+    assert_eq!(rt; desk.end_turn(1).len(), 2);
+    assert_eq!(rt; woken(desk), [true, true]);
+    // Call 2 has the turn, and call 3 waits again.
+    let want = [(true, [false, true]), (false, [false, false])];
+    assert_eq!(rt; taken_again(desk)?, want);
+    Ok(())
+}
 
 #[test]
 fn a_call_is_woken_until_it_comes_back(rt: HostRuntime) -> Result<(), Fail> {
     let mut desk = new_desk(rt.alloc(), rules_with(None))?;
-    assert!(rt; desk.take_turn(1)?);
-    assert!(rt; !desk.take_turn(2)?);
-    assert!(rt; !desk.take_turn(3)?);
-    assert!(rt; !desk.is_woken(2) && !desk.is_woken(3));
-    assert_eq!(rt; desk.end_turn(1).len(), 2);
-    assert!(rt; desk.is_woken(2));
-    assert!(rt; desk.is_woken(3));
-    assert!(rt; desk.take_turn(2)?);
-    assert!(rt; !desk.is_woken(2));
-    assert!(rt; desk.is_woken(3));
-    assert!(rt; !desk.take_turn(3)?);
-    assert!(rt; !desk.is_woken(3), "it waits again");
+    let waited = wait_for_the_turn(&rt, &mut desk);
+    drop(desk);
+    waited
+}
+
+/// Whether the notice of call 1 has ended, as call 2 asks, and whether that is woken then.
+fn ended(desk: &mut Desk<u32, u32, u32>) -> Result<(bool, bool), AllocError> {
+    let ended = desk.notice_ended(2, 1)?;
+    Ok((ended, desk.is_woken(2)))
+}
+
+/// Whether the notice of call 1 is told its end, and call 2 is woken then.
+fn heard(desk: &mut Desk<u32, u32, u32>) -> (bool, bool) {
+    let told = desk.tell(1, Told::Done).is_some();
+    (told, desk.is_woken(2))
+}
+
+fn wait_for_a_notice(rt: &impl Abort, desk: &mut Desk<u32, u32, u32>) -> Result<(), Fail>
+    requires { IsNew desk.old }
+{
+    let cause = desk.open_notice(1, 5, 50, 0, 0, None, true)?;
+    assert!(rt; cause.is_some());
+    assert_eq!(rt; ended(desk)?, (false, false));
+    assert_eq!(rt; heard(desk), (true, true));
+    assert_eq!(rt; ended(desk)?, (true, false));
     Ok(())
 }
 
 #[test]
 fn a_call_is_woken_for_a_notice(rt: HostRuntime) -> Result<(), Fail> {
     let mut desk = new_desk(rt.alloc(), rules_with(None))?;
-    assert!(rt; desk.open_notice(1, 5, 50, 0, 0, None, true)?.is_some());
-    assert!(rt; !desk.notice_ended(2, 1)?);
-    assert!(rt; !desk.is_woken(2));
-    assert!(rt; desk.tell(1, Told::Done).is_some());
-    assert!(rt; desk.is_woken(2));
-    assert!(rt; desk.notice_ended(2, 1)?);
-    assert!(rt; !desk.is_woken(2));
-    Ok(())
+    let waited = wait_for_a_notice(&rt, &mut desk);
+    drop(desk);
+    waited
 }
 
 /// Whether call 3 is woken with its answer, before it takes that up and after.
@@ -52,39 +100,67 @@ fn woken_with_its_answer(desk: &mut Desk<u32, u32, u32>) -> (bool, bool)
     (before, desk.is_woken(3))
 }
 
+/// The same of a call that asks, and doesn't wait.
+fn woken_while_it_does_not_wait(desk: &mut Desk<u32, u32, u32>) -> Result<(bool, bool), AllocError>
+    requires { IsNew desk.old }
+{
+    desk.open_ask(3, Takes::Value)?;
+    Ok(woken_with_its_answer(desk))
+}
+
+/// The same of a call that asks, and then finds no answer yet.
+fn woken_while_it_waits(desk: &mut Desk<u32, u32, u32>) -> Result<(bool, bool, bool), AllocError>
+    requires { IsNew desk.old }
+{
+    desk.open_ask(3, Takes::Value)?;
+    let waits = desk.take_told(3).is_none();
+    let (before, after) = woken_with_its_answer(desk);
+    Ok((waits, before, after))
+}
+
 #[test]
 fn only_a_call_that_waits_is_woken_with_its_answer(rt: HostRuntime) -> Result<(), Fail> {
     let mut desk = new_desk(rt.alloc(), rules_with(None))?;
-    desk.open_ask(3, Takes::Value)?;
-    assert_eq!(rt; woken_with_its_answer(&mut desk), (false, false));
+    let woken = woken_while_it_does_not_wait(&mut desk);
+    drop(desk);
+    assert_eq!(rt; woken?, (false, false));
     let mut desk = new_desk(rt.alloc(), rules_with(None))?;
-    desk.open_ask(3, Takes::Value)?;
-    assert!(rt; desk.take_told(3).is_none());
-    assert_eq!(rt; woken_with_its_answer(&mut desk), (true, false));
+    let woken = woken_while_it_waits(&mut desk);
+    drop(desk);
+    assert_eq!(rt; woken?, (true, true, false));
     Ok(())
 }
 
-/// A desk where call 2 waits for the load of call 1, and call 3 for its lock.
-fn awaited(alloc: Global) -> Result<Desk<u32, u32, u32>, AllocError>
-    ensures { IfOk result (λ desk. NobodyHolds desk) }
+/// Call 2 waits for the load of call 1, and call 3 for its lock.
+fn wait_for_call_1(desk: &mut Desk<u32, u32, u32>) -> Result<(), AllocError>
+    requires { IsNew desk.old }
+    ensures { OnOk result (NobodyHolds desk.new) }
 {
-    let mut desk = new_desk(alloc, rules_with(None))?;
     let kind = Kind::GetWith;
     let _ = desk.wait_or_own(1, Load { key: 5, kind })?;
     let _ = desk.lock_key(1, &5)?;
     let _ = desk.wait_or_own(2, Load { key: 5, kind })?;
     let _ = desk.read_settled(2)?;
     let _ = desk.lock_key(3, &5)?;
-    Ok(desk)
+    Ok(())
+}
+
+fn leave_all(rt: &impl Abort, desk: &mut Desk<u32, u32, u32>) -> Result<(), Fail>
+    requires { IsNew desk.old }
+{
+    wait_for_call_1(desk)?;
+    assert_eq!(rt; desk.leave(1, None).len(), 2);
+    assert_eq!(rt; woken(desk), [true, true]);
+    assert!(rt; desk.leave(2, None).is_empty());
+    assert!(rt; desk.leave(3, None).is_empty());
+    assert_eq!(rt; woken(desk), [false, false]);
+    Ok(())
 }
 
 #[test]
 fn a_call_that_leaves_wakes_others_and_is_woken_no_more(rt: HostRuntime) -> Result<(), Fail> {
-    let mut desk = awaited(rt.alloc())?;
-    assert_eq!(rt; desk.leave(1, None).len(), 2);
-    assert!(rt; desk.is_woken(2) && desk.is_woken(3));
-    assert!(rt; desk.leave(2, None).is_empty());
-    assert!(rt; desk.leave(3, None).is_empty());
-    assert!(rt; !desk.is_woken(2) && !desk.is_woken(3));
-    Ok(())
+    let mut desk = new_desk(rt.alloc(), rules_with(None))?;
+    let left = leave_all(&rt, &mut desk);
+    drop(desk);
+    left
 }

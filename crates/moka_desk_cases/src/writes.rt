@@ -4,12 +4,13 @@ ghost use Rattle.std.specs.Prelude.{◌≡◌, ◌==◌, false, List, ◌∷◌,
 ghost use Rattle.moka_hist.specs.Finite.{times};
 ghost use Rattle.moka_hist.specs.Visits.{number_of};
 ghost use Rattle.moka_hist.specs.declared.writes.Write.{Write as write_of};
-ghost use Rattle.moka_desk_cases.specs.Rests.{Rests};
+ghost use Rattle.moka_desk_cases.specs.Rests.{IsNew, Rests};
 
 use crate::desks::{new_desk, rules_with};
 use moka_desk::Desk;
 use moka_hist::Write;
 use std::alloc::{AllocError, Global};
+use std::process::Abort;
 use std::test::Fail;
 
 #[test]
@@ -22,24 +23,39 @@ fn call_numbers_end_with_the_greatest(rt: HostRuntime) -> Result<(), Fail> {
     )?;
     assert_eq!(rt; desk.enter(), Some(u64::MAX));
     assert_eq!(rt; desk.enter(), None);
+    drop(desk);
+    Ok(())
+}
+
+/// What is judged of a record that isn't replaced, and of one that is.
+fn judged(desk: &mut Desk<u32, u32, u32>) -> Result<[bool; 2], AllocError> {
+    let kept = desk.judge(false, 1, 3)?;
+    Ok([kept, desk.judge(true, 1, 3)?])
+}
+
+fn take_moments(rt: &impl Abort, desk: &mut Desk<u32, u32, u32>) -> Result<(), Fail>
+    requires { IsNew desk.old }
+{
+    assert_eq!(rt; desk.stamp_moment(1)?, 0);
+    assert_eq!(rt; (desk.at(7), desk.at(6)), (true, false));
+    assert_eq!(rt; judged(desk)?, [true, false]);
     Ok(())
 }
 
 #[test]
 fn a_moment_is_taken(rt: HostRuntime) -> Result<(), Fail> {
     let mut desk = new_desk(rt.alloc(), rules_with(None))?;
-    assert_eq!(rt; desk.stamp_moment(1)?, 0);
-    assert!(rt; desk.at(7));
-    assert!(rt; !desk.at(6));
-    assert!(rt; desk.judge(false, 1, 3)?);
-    assert!(rt; !desk.judge(true, 1, 3)?);
-    Ok(())
+    let taken = take_moments(&rt, &mut desk);
+    drop(desk);
+    taken
 }
 
 #[test]
 fn a_key_is_locked(rt: HostRuntime) -> Result<(), Fail> {
     let mut desk = new_desk(rt.alloc(), rules_with(None))?;
-    assert!(rt; desk.lock_key(1, &5)?);
+    let locked = desk.lock_key(1, &5);
+    drop(desk);
+    assert!(rt; locked?);
     Ok(())
 }
 
@@ -64,6 +80,24 @@ pub(crate) fn published_after(
 }
 
 /// What is published after each of the writes, of calls of their own.
+fn published_on(
+    desk: &mut Desk<u32, u32, u32>,
+    first: Write,
+    second: Write,
+    third: Write,
+) -> Result<[u64; 3], AllocError>
+    requires new { IsNew desk.old }
+    requires second { (number_of second == number_of first) ≡ false }
+    requires third { (number_of third == number_of first) ≡ false }
+    requires third_too { (number_of third == number_of second) ≡ false }
+{
+    let after_first = published_after(desk, first)?;
+    let after_second = published_after(desk, second)?;
+    let after_third = published_after(desk, third)?;
+    Ok([after_first, after_second, after_third])
+}
+
+/// The same on a new desk.
 fn published_after_each(
     alloc: Global,
     first: Write,
@@ -75,10 +109,9 @@ fn published_after_each(
     requires third_too { (number_of third == number_of second) ≡ false }
 {
     let mut desk = new_desk(alloc, rules_with(None))?;
-    let after_first = published_after(&mut desk, first)?;
-    let after_second = published_after(&mut desk, second)?;
-    let after_third = published_after(&mut desk, third)?;
-    Ok([after_first, after_second, after_third])
+    let published = published_on(&mut desk, first, second, third);
+    drop(desk);
+    published
 }
 
 #[test]

@@ -23,8 +23,8 @@ module _ {K V E : Type 0} where
 
   -- The accesses with what they gave lead the call of this number from c to d: each is the one at
   -- which the call stood, and was given so; what it gave left the call as the next one finds it,
-  -- going, waiting or asking; and each answer to its own ask, or of its replace test on a value, that
-  -- the call took by them is such.
+  -- going, waiting or asking; and each answer to its own ask, or of its replace test on a value,
+  -- that the call took by them is such.
   abbrev pub LeadsWith : (K → K → Bool) → (Taken V E → Type 0) → ℕ → Call K V E
       → List (Access K V E × Got K V E) → Call K V E → Type 0
   LeadsWith eq such n c [] d = d ≡ c

@@ -35,7 +35,8 @@ module _ {K V E : Type 0} where
     pub rests : Rests new
 
   -- the answer follows from the last of the accesses that the call made since
-  abbrev pub AnswersFrom : (K → K → Bool) → (Taken V E → Type 0) → Flow K V E → Answer K V E → Type 0
+  abbrev pub AnswersFrom : (K → K → Bool) → (Taken V E → Type 0) → Flow K V E → Answer K V E
+      → Type 0
   AnswersFrom eq such old answer = EndedWith eq such old.call (call_of old) (answers answer)
 
   -- the last access of the flow's call left it waiting

@@ -85,7 +85,8 @@ impl<K: Eq + Hash + Clone + Drop, V: Clone + Drop, E: Clone + Drop> Ground<K, V,
     ghost keeps_on = { λ a b c before after.
         (after.0 ∙ before.0, λ none. after.1 (before.1 none)) };
 
-    ghost counts = { λ r w stands. counted (plain_table K.eq) in_hand K.eq r.layers w stands.ground };
+    ghost counts = { λ r w stands. counted (plain_table K.eq) in_hand K.eq r.layers w
+        stands.ground };
 
     fn access(&mut self, want: Want<K, V, E>) -> Result<Got<K, V, E>, AllocError>
         requires keys { IsExact K.is_clone }

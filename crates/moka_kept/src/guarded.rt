@@ -110,8 +110,8 @@ impl<K: Eq + Hash + Clone + Drop, V: Clone + Drop, E: Clone + Drop> Guarded<K, V
         kept.go(flow, brought, cx, woken)
     }
 
-    /// Lets the call of the flow leave, with the write that it holds, where the desk allows it. Once
-    /// the lock is free it wakes those that wait for it. It takes no memory.
+    /// Lets the call of the flow leave, with the write that it holds, where the desk allows it.
+    /// Once the lock is free it wakes those that wait for it. It takes no memory.
     pub fn leave<R: Wait>(&self, rt: &R, flow: Flow<K, V, E>) {
         let mut woken = LinkedList::new(self.alloc);
         self.let_leave(rt, &flow, &mut woken);
@@ -126,8 +126,8 @@ impl<K: Eq + Hash + Clone + Drop, V: Clone + Drop, E: Clone + Drop> Guarded<K, V
     }
 
     /// Whether the table has the key, once the clock has moved on to the moment. An error comes
-    /// where memory is wanting for a copy of the key or of its record, and nothing but the clock has
-    /// changed then.
+    /// where memory is wanting for a copy of the key or of its record, and nothing but the clock
+    /// has changed then.
     pub fn contains_key<R: Wait>(&self, rt: &R, key: &K, moment: u64) -> Result<bool, AllocError>
         requires keys { IsExact K.is_clone }
         requires values { IsExact V.is_clone }

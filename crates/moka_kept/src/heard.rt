@@ -10,8 +10,8 @@ pub enum ListenerEnd {
     Off,
 }
 
-/// The end of a notice, as the listener gave it. It has no `Drop`, so nobody can let it go: the next
-/// hold of the lock takes it, and tells it.
+/// The end of a notice, as the listener gave it. It has no `Drop`, so nobody can let it go: the
+/// next hold of the lock takes it, and tells it.
 pub struct Heard {
     pub(crate) notice: u64,
     pub(crate) end: ListenerEnd,

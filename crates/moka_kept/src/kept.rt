@@ -72,8 +72,8 @@ impl<K: Eq + Hash + Clone + Drop, V: Clone + Drop, E: Clone + Drop> Kept<K, V, E
         self.reach.move_clock(moment);
     }
 
-    /// Tells the end of a notice, if one was heard. The wakers of all that it hands out come to those
-    /// in `woken`. Where the notice doesn't run nothing is told.
+    /// Tells the end of a notice, if one was heard. The wakers of all that it hands out come to
+    /// those in `woken`. Where the notice doesn't run nothing is told.
     pub(crate) fn hear(&mut self, heard: Option<Heard>, woken: &mut Wakers) {
         match heard {
             Some(heard) => self.end_notice(heard, woken),
@@ -88,10 +88,10 @@ impl<K: Eq + Hash + Clone + Drop, V: Clone + Drop, E: Clone + Drop> Kept<K, V, E
         self.hand_out(handed, woken);
     }
 
-    /// Makes steps of the flow, at most 32, and none that judges by a replace test whose answer isn't
-    /// there. The first goes by what was brought: it takes the answer to its own ask, or judges by that
-    /// of its replace test. The wakers of all that the visits hand out come to those in `woken`; where
-    /// it waits its task is parked.
+    /// Makes steps of the flow, at most 32, and none that judges by a replace test whose answer
+    /// isn't there. The first goes by what was brought: it takes the answer to its own ask, or
+    /// judges by that of its replace test. The wakers of all that the visits hand out come to those
+    /// in `woken`; where it waits its task is parked.
     pub(crate) fn go(
         &mut self,
         flow: &mut Flow<K, V, E>,

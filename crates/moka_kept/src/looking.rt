@@ -16,8 +16,8 @@ use std::hash::Hash;
 
 impl<K: Eq + Hash + Clone + Drop, V: Clone + Drop, E: Clone + Drop> Kept<K, V, E> {
     /// Whether the table has the key, once the clock has moved on to the moment. An error comes
-    /// where memory is wanting for a copy of the key or of its record, and nothing but the clock has
-    /// changed then.
+    /// where memory is wanting for a copy of the key or of its record, and nothing but the clock
+    /// has changed then.
     pub(crate) fn contains_key(&mut self, key: &K, moment: u64) -> Result<bool, AllocError>
         requires keys { IsExact K.is_clone }
         requires values { IsExact V.is_clone }

@@ -7,8 +7,8 @@ ghost use Rattle.moka_kept.specs.Rests.{Rests};
 use moka_hist::{Rules, Start};
 use moka_init::Flow;
 
-/// A call number that was given out. It has no `Drop`, so nobody can let it go: the flow of the call
-/// is made by it.
+/// A call number that was given out. It has no `Drop`, so nobody can let it go: the flow of the
+/// call is made by it.
 pub struct Number {
     call: u64,
 }

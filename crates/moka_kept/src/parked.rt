@@ -13,8 +13,8 @@ use std::collections::{HashMap, LinkedList};
 /// Wakers that were handed out. Each wakes its task as it is dropped.
 pub(crate) type Wakers = LinkedList<Option<Waker>>;
 
-/// The calls that a visit handed out, whose wakers are to leave. It has no `Drop`, so nobody can let
-/// it go: `Parked::hand_out` alone takes it.
+/// The calls that a visit handed out, whose wakers are to leave. It has no `Drop`, so nobody can
+/// let it go: `Parked::hand_out` alone takes it.
 pub(crate) struct HandedOut {
     calls: CallList,
 }

@@ -123,10 +123,10 @@ impl<K: Eq + Hash + Clone + Drop, V: Clone + Drop, E: Clone + Drop> Reach<K, V, 
         self.layers.tests = InHand { replaced };
     }
 
-    /// Puts what a hold is brought where the next step of the call of this number finds it: tells the
-    /// answer to its own ask, or takes that of its replace test in hand. Gives whether that step takes
-    /// an answer. None where no ask of the call is open that takes it; nothing has changed then. The
-    /// wakers of all that are handed out come to those in `woken`.
+    /// Puts what a hold is brought where the next step of the call of this number finds it: tells
+    /// the answer to its own ask, or takes that of its replace test in hand. Gives whether that
+    /// step takes an answer. None where no ask of the call is open that takes it; nothing has
+    /// changed then. The wakers of all that are handed out come to those in `woken`.
     pub(crate) fn bring(
         &mut self,
         call: u64,
@@ -166,10 +166,10 @@ impl<K: Eq + Hash + Clone + Drop, V: Clone + Drop, E: Clone + Drop> Reach<K, V, 
         Some(true)
     }
 
-    /// Makes one step of a flow that rests, where the desk allows its next visit, and an owner's end
-    /// that it reads is of its kind: the visit that takes the answer to its own ask, if `takes`, and
-    /// any other, if not. Else, and after want of memory, the flow stands where it stood. The wakers of all that the visit handed out come to
-    /// those in `woken`.
+    /// Makes one step of a flow that rests, where the desk allows its next visit, and an owner's
+    /// end that it reads is of its kind: the visit that takes the answer to its own ask, if
+    /// `takes`, and any other, if not. Else, and after want of memory, the flow stands where it
+    /// stood. The wakers of all that the visit handed out come to those in `woken`.
     pub(crate) fn step(
         &mut self,
         flow: &mut Flow<K, V, E>,
@@ -302,8 +302,8 @@ fn is_of_call<V, E>(answer: &Told<V, E>) -> bool
 }
 
 // Whether the call has a number that was given out, and the desk allows its next visit, which takes
-// the answer to its own ask, if `takes`, and doesn't, if not; and an owner's end that it reads is one
-// of the kind that it waits for. False too where memory is wanting to tell.
+// the answer to its own ask, if `takes`, and doesn't, if not; and an owner's end that it reads is
+// one of the kind that it waits for. False too where memory is wanting to tell.
 fn may_step<K: Eq + Hash + Clone + Drop, V: Clone + Drop, E: Clone + Drop>(
     desk: &Desk<K, V, E>,
     flow: &Flow<K, V, E>,
@@ -395,8 +395,8 @@ fn is_tested<K, V, E>(flow: &Flow<K, V, E>) -> bool
     }
 }
 
-/// Whether the flow's next visit judges a record by its call's replace test, and nothing was brought
-/// for it.
+/// Whether the flow's next visit judges a record by its call's replace test, and nothing was
+/// brought for it.
 pub(crate) fn is_unasked<K, V, E>(flow: &Flow<K, V, E>, brought: &Brought<V, E>) -> bool
     ensures { OnFalse result (brought.now ≡ Brought.Nothing
         → tested_in (call_of flow.now).plan ≡ None) }

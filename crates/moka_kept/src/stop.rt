@@ -13,7 +13,8 @@ pub enum Stop<K, V, E> {
     Asks(Ask<K, V>),
     /// It has answered.
     Answers(Answer<K, V, E>),
-    /// Memory was wanting. So it is left too where the desk does not allow its next visit, or has an
-    /// end for it that is of another kind: no run is known that comes to that. What was done stands.
+    /// Memory was wanting. So it is left too where the desk does not allow its next visit, or has
+    /// an end for it that is of another kind: no run is known that comes to that. What was done
+    /// stands.
     Memory,
 }

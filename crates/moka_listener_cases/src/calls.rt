@@ -1,10 +1,11 @@
 //! Calls of caches with a listener, at moment 0.
 
 use crate::keeping::{Board, Opens};
-use futures::FutureExt;
 use futures::executor::block_on;
 use moka_cache::{Cache, Listener, PollError, Polled, State};
-use moka_cache_cases::at::At;
+use moka_cache_runs::at::At;
+use moka_cache_runs::numbers::numbers;
+use moka_cache_runs::once::poll_once;
 use std::alloc::{AllocGlobal, Global};
 use std::io;
 use std::random::RandomSource;
@@ -12,16 +13,6 @@ use std::sync::{Arc, Wait};
 
 /// A cache of numbers with this listener.
 pub(crate) type Heard<L> = Cache<u32, u32, u32, L>;
-
-/// Polls a call once. Where it is pending it is dropped, and None is answered.
-pub(crate) fn polled_once<R: Wait + RandomSource + AllocGlobal, S: State<R>>(
-    rt: &R,
-    call: S,
-) -> io::Result<Option<Result<S::Output, PollError>>>
-    requires { S.can_poll call }
-{
-    Polled::new(rt, call, At(0)).now_or_never(rt)
-}
 
 /// Polls a call until it has answered, and lets the listener go after each poll.
 pub(crate) fn opening<R: Wait + RandomSource + AllocGlobal, S: State<R>>(
@@ -41,7 +32,7 @@ pub(crate) fn insert_once<'a, R: Wait + RandomSource + AllocGlobal, L: Listener<
     cache: &'a Heard<L>,
     value: u32,
 ) -> io::Result<Option<Result<(), PollError>>> {
-    polled_once(rt, cache.insert(1, value))
+    poll_once(rt, numbers(cache.insert(1, value)))
 }
 
 /// Polls a get of key 1 once.
@@ -49,7 +40,7 @@ pub(crate) fn get_once<'a, R: Wait + RandomSource + AllocGlobal, L: Listener<u32
     rt: &'a R,
     cache: &'a Heard<L>,
 ) -> io::Result<Option<Result<Option<u32>, PollError>>> {
-    polled_once(rt, cache.get(&1))
+    poll_once(rt, numbers(cache.get(&1)))
 }
 
 /// Polls a removal of key 1 once.
@@ -57,5 +48,5 @@ pub(crate) fn remove_once<'a, R: Wait + RandomSource + AllocGlobal, L: Listener<
     rt: &'a R,
     cache: &'a Heard<L>,
 ) -> io::Result<Option<Result<Option<u32>, PollError>>> {
-    polled_once(rt, cache.remove(&1))
+    poll_once(rt, numbers(cache.remove(&1)))
 }

@@ -1,13 +1,15 @@
 //! Calls of a key whose record leaves, and is being heard.
 ghost use Rattle.std.specs.Prelude.{IsOk};
 
-use crate::calls::{Heard, insert_once, opening, polled_once};
+use crate::calls::{Heard, insert_once, opening};
 use crate::keeping::{Board, KeepListener, Opens, cache_of, left};
 use futures::executor::block_on;
 use futures::future::join;
 use futures::task::{Context, Poll};
 use moka_cache::{Compute, PollError, Polled, State};
-use moka_cache_cases::at::At;
+use moka_cache_runs::at::At;
+use moka_cache_runs::numbers::numbers;
+use moka_cache_runs::once::poll_once;
 use moka_hist::{Cause, CompResult, Entry, Op};
 use std::alloc::{AllocGlobal, Global};
 use std::cell::Cell;
@@ -56,7 +58,7 @@ fn add_once<'a, R: Wait + RandomSource + AllocGlobal>(
     polled: &'a Cell<u64>,
 ) -> io::Result<Option<Result<CompResult<u32, u32>, PollError>>> {
     let compute = AddsOne { next: 0, polled };
-    polled_once(rt, cache.entry(1).and_compute_with(compute))
+    poll_once(rt, numbers(cache.entry(1).and_compute_with(compute)))
 }
 
 // Adds one to key 1, and lets the listener go after each poll.
@@ -67,7 +69,8 @@ fn add_opening<'a, R: Wait + RandomSource + AllocGlobal>(
     board: Arc<Board, Global>,
 ) -> io::Result<Result<CompResult<u32, u32>, PollError>> {
     let compute = AddsOne { next: 0, polled };
-    opening(rt, cache.entry(1).and_compute_with(compute), board)
+    let state = numbers(cache.entry(1).and_compute_with(compute));
+    opening(rt, state, board)
 }
 
 // What a removal and two calls beside it answered.
@@ -103,9 +106,9 @@ fn store_beside_removal<'a, R: Wait + RandomSource + AllocGlobal>(
     cache: &'a Heard<KeepListener>,
     board: Arc<Board, Global>,
 ) -> io::Result<Three<Option<u32>, Entry<u32, u32>>> {
-    let one = cache.entry(1).or_insert(6);
-    let other = cache.entry_by_ref(&1).or_insert(7);
-    beside_first(rt, cache.remove(&1), one, other, board)
+    let one = numbers(cache.entry(1).or_insert(6));
+    let other = numbers(cache.entry_by_ref(&1).or_insert(7));
+    beside_first(rt, numbers(cache.remove(&1)), one, other, board)
 }
 
 #[test]

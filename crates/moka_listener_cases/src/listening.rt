@@ -2,7 +2,6 @@
 
 use crate::calls::{Heard, get_once, insert_once, opening, remove_once};
 use crate::keeping::{Board, KeepListener, cache_of, left};
-use futures::FutureExt;
 use futures::executor::block_on;
 use futures::future::join;
 use futures::task::{Context, Poll};
@@ -10,9 +9,11 @@ use moka_cache::{
     Cache, CacheBuilder, Listener, ListenerEnd, NoListener, PollError, Polled, RetriesExhausted,
     State,
 };
-use moka_cache_cases::at::At;
-use moka_cache_cases::inits::{After, DropsAfter};
-use moka_cache_cases::run::run;
+use moka_cache_runs::at::At;
+use moka_cache_runs::inits::{After, DropsAfter};
+use moka_cache_runs::numbers::numbers;
+use moka_cache_runs::once::poll_once;
+use moka_cache_runs::run::run;
 use moka_hist::Cause;
 use std::alloc::{AllocError, AllocGlobal, Global};
 use std::random::RandomSource;
@@ -111,7 +112,7 @@ fn get_opening<'a, R: Wait + RandomSource + AllocGlobal>(
     cache: &'a Heard<KeepListener>,
     board: Arc<Board, Global>,
 ) -> io::Result<Result<Option<u32>, PollError>> {
-    opening(rt, cache.get(&1), board)
+    opening(rt, numbers(cache.get(&1)), board)
 }
 
 // Loads key 1 twice, and stores 5 under it, in one task. The first load is dropped after two polls.
@@ -121,9 +122,9 @@ fn load_beside_insert<'a, R: Wait + RandomSource + AllocGlobal>(
     owner: After<'a>,
     waiter: After<'a>,
 ) -> io::Result<Both<Result<u32, RetriesExhausted>, ()>> {
-    let owner = cache.get_with(1, owner);
-    let waiter = cache.get_with(1, waiter);
-    beside(rt, owner, waiter, cache.insert(1, 5))
+    let owner = numbers(cache.get_with(1, owner));
+    let waiter = numbers(cache.get_with(1, waiter));
+    beside(rt, owner, waiter, numbers(cache.insert(1, 5)))
 }
 
 // Inserts under key 1, as long as it takes, and tells whether it did.
@@ -233,7 +234,7 @@ fn a_hasher_is_kept(rt: HostRuntime) -> Result<(), Fail> {
         rt.alloc(),
         3,
     )?;
-    let inserted = Polled::new(&rt, cache.insert(1, 5), At(0)).now_or_never(&rt)?;
+    let inserted = poll_once(&rt, numbers(cache.insert(1, 5)))?;
     assert_eq!(rt; inserted, Some(Ok(())));
     assert!(rt; cache.contains_key(&rt, &1, 0)?);
     Ok(())

@@ -1,10 +1,11 @@
 //! Loads of entries.
 
 use moka_cache::{Cache, LoadError, PollError, RetriesExhausted};
-use moka_cache_cases::at::{Numbers, get};
-use moka_cache_cases::inits::After;
-use moka_cache_cases::pairs::both;
-use moka_cache_cases::run::run;
+use moka_cache_runs::at::{Numbers, get};
+use moka_cache_runs::inits::After;
+use moka_cache_runs::numbers::numbers;
+use moka_cache_runs::pairs::both;
+use moka_cache_runs::run::run;
 use moka_hist::Entry;
 use std::alloc::AllocGlobal;
 use std::io;
@@ -37,8 +38,9 @@ fn load_twice<'a, R: Wait + RandomSource + AllocGlobal>(
     one: After<'a>,
     other: After<'a>,
 ) -> io::Result<(Loaded, Loaded)> {
-    let other = cache.entry_by_ref(&1).or_insert_with(other);
-    both(rt, cache.entry(1).or_insert_with(one), other)
+    let one = numbers(cache.entry(1).or_insert_with(one));
+    let other = numbers(cache.entry_by_ref(&1).or_insert_with(other));
+    both(rt, one, other)
 }
 
 // Loads the entry of key 1 by an initializer that may find nothing, and by one that may fail.
@@ -48,8 +50,9 @@ fn load_both<'a, R: Wait + RandomSource + AllocGlobal>(
     one: After<'a, Option<u32>>,
     other: After<'a, Result<u32, u32>>,
 ) -> io::Result<(Found, Tried)> {
-    let other = cache.entry_by_ref(&1).or_try_insert_with(other);
-    both(rt, cache.entry(1).or_optionally_insert_with(one), other)
+    let one = numbers(cache.entry(1).or_optionally_insert_with(one));
+    let other = numbers(cache.entry_by_ref(&1).or_try_insert_with(other));
+    both(rt, one, other)
 }
 
 // Stores the value under key 1, where there is none.
@@ -78,8 +81,8 @@ fn load_beside_or_insert<'a, R: Wait + RandomSource + AllocGlobal>(
     init: After<'a>,
     value: u32,
 ) -> io::Result<(Loaded, Result<Entry<u32, u32>, PollError>)> {
-    let load = cache.entry(1).or_insert_with(init);
-    both(rt, load, cache.entry(1).or_insert(value))
+    let load = numbers(cache.entry(1).or_insert_with(init));
+    both(rt, load, numbers(cache.entry(1).or_insert(value)))
 }
 
 #[test]

@@ -1,10 +1,11 @@
 //! Loads that fail, or find nothing.
 
 use moka_cache::{Cache, LoadError, PollError, RetriesExhausted};
-use moka_cache_cases::at::{Numbers, get, remove};
-use moka_cache_cases::inits::After;
-use moka_cache_cases::pairs::{both, first_dropped};
-use moka_cache_cases::run::run;
+use moka_cache_runs::at::{Numbers, get, remove};
+use moka_cache_runs::inits::After;
+use moka_cache_runs::numbers::numbers;
+use moka_cache_runs::pairs::{both, first_dropped};
+use moka_cache_runs::run::run;
 use std::alloc::AllocGlobal;
 use std::io;
 use std::random::RandomSource;
@@ -35,8 +36,8 @@ fn try_load_twice<'a, R: Wait + RandomSource + AllocGlobal>(
     one: After<'a, Result<u32, u32>>,
     other: After<'a, Result<u32, u32>>,
 ) -> io::Result<(Tried, Tried)> {
-    let other = cache.try_get_with_by_ref(&1, other);
-    both(rt, cache.try_get_with(1, one), other)
+    let other = numbers(cache.try_get_with_by_ref(&1, other));
+    both(rt, numbers(cache.try_get_with(1, one)), other)
 }
 
 // The same twice, in one task, and drops the first load after so many polls of it.
@@ -47,8 +48,8 @@ fn try_load_after_dropped<'a, R: Wait + RandomSource + AllocGlobal>(
     polls: u64,
     other: After<'a, Result<u32, u32>>,
 ) -> io::Result<((), Tried)> {
-    let other = cache.try_get_with(1, other);
-    first_dropped(rt, polls, cache.try_get_with(1, one), other)
+    let one = numbers(cache.try_get_with(1, one));
+    first_dropped(rt, polls, one, numbers(cache.try_get_with(1, other)))
 }
 
 // Loads key 1 by an initializer that may find nothing.
@@ -68,8 +69,12 @@ fn load_twice<'a, R: Wait + RandomSource + AllocGlobal>(
     one: After<'a, Option<u32>>,
     other: After<'a, Option<u32>>,
 ) -> io::Result<(Found, Found)> {
-    let other = cache.optionally_get_with_by_ref(&1, other);
-    both(rt, cache.optionally_get_with(1, one), other)
+    let one = numbers(cache.optionally_get_with(1, one));
+    both(
+        rt,
+        one,
+        numbers(cache.optionally_get_with_by_ref(&1, other)),
+    )
 }
 
 // Loads key 1 by an initializer that may find nothing and by one that finds a value, in one task.
@@ -79,8 +84,8 @@ fn load_both<'a, R: Wait + RandomSource + AllocGlobal>(
     one: After<'a, Option<u32>>,
     other: After<'a>,
 ) -> io::Result<(Found, Loaded)> {
-    let other = cache.get_with_by_ref(&1, other);
-    both(rt, cache.optionally_get_with(1, one), other)
+    let one = numbers(cache.optionally_get_with(1, one));
+    both(rt, one, numbers(cache.get_with_by_ref(&1, other)))
 }
 
 // Loads key 1 by an initializer that gives a value and by one that may fail, in one task.
@@ -90,7 +95,8 @@ fn load_beside_try<'a, R: Wait + RandomSource + AllocGlobal>(
     one: After<'a>,
     other: After<'a, Result<u32, u32>>,
 ) -> io::Result<(Loaded, Tried)> {
-    both(rt, cache.get_with(1, one), cache.try_get_with(1, other))
+    let one = numbers(cache.get_with(1, one));
+    both(rt, one, numbers(cache.try_get_with(1, other)))
 }
 
 #[test]

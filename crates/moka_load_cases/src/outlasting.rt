@@ -6,9 +6,12 @@ ghost use Rattle.futures.specs.Task.{IsArmed, Keeps};
 use futures::Future;
 use futures::executor::block_on;
 use futures::task::{Context, Poll};
-use moka_cache::{Cache, Compute, ComputeWith, GetWith, Init, PollError, RetriesExhausted, State};
-use moka_cache_cases::at::Numbers;
-use moka_cache_cases::inits::After;
+use moka_cache::{
+    ByCompute, ByInit, Cache, Compute, Init, PollError, RetriesExhausted, State, ToCompute, ToLoad,
+};
+use moka_cache_runs::at::Numbers;
+use moka_cache_runs::inits::After;
+use moka_cache_runs::numbers::{NumberCall, numbers};
 use moka_hist::{CompResult, Entry, Op};
 use std::alloc::AllocGlobal;
 use std::io;
@@ -111,6 +114,11 @@ fn poll_after<R: Wait, S: State<R, Output: Drop>>(
     polled
 }
 
+// A load, and a compute.
+type Load<'a> = NumberCall<'a, ToLoad<'a, u32>, ByInit<After<'a>>>;
+
+type Computing<'a> = NumberCall<'a, ToCompute<'a, u32>, ByCompute<Puts<'a>>>;
+
 // Loads of key 1 that never end.
 #[derive(Drop)]
 struct Loads<'a> {
@@ -118,10 +126,10 @@ struct Loads<'a> {
     polled: &'a AtomicU64,
 }
 
-impl<'a, R: Wait> Owns<R, GetWith<'a, u32, u32, u32, After<'a>>> for Loads<'a> {
-    fn owner(&self) -> GetWith<'a, u32, u32, u32, After<'a>> {
-        self.cache
-            .get_with(1, After::polls(u64::MAX, 0, self.polled))
+impl<'a, R: Wait> Owns<R, Load<'a>> for Loads<'a> {
+    fn owner(&self) -> Load<'a> {
+        let init = After::polls(u64::MAX, 0, self.polled);
+        numbers(self.cache.get_with(1, init))
     }
 }
 
@@ -137,7 +145,8 @@ fn load_after<'a, R: Wait + RandomSource + AllocGlobal>(
         cache,
         polled: dropped,
     };
-    let waiter = Some(cache.get_with(1, After::polls(1, 5, polled)));
+    let init = After::polls(1, 5, polled);
+    let waiter = Some(numbers(cache.get_with(1, init)));
     block_on(
         rt,
         Outlasts {
@@ -175,10 +184,10 @@ struct Computes<'a> {
     polled: &'a AtomicU64,
 }
 
-impl<'a, R: Wait> Owns<R, ComputeWith<'a, u32, u32, u32, Puts<'a>>> for Computes<'a> {
-    fn owner(&self) -> ComputeWith<'a, u32, u32, u32, Puts<'a>> {
+impl<'a, R: Wait> Owns<R, Computing<'a>> for Computes<'a> {
+    fn owner(&self) -> Computing<'a> {
         let init = After::polls(u64::MAX, 0, self.polled);
-        self.cache.entry(1).and_compute_with(Puts { init })
+        numbers(self.cache.entry(1).and_compute_with(Puts { init }))
     }
 }
 
@@ -195,7 +204,7 @@ fn compute_after<'a, R: Wait + RandomSource + AllocGlobal>(
         polled: dropped,
     };
     let init = After::polls(1, 5, polled);
-    let waiter = Some(cache.entry(1).and_compute_with(Puts { init }));
+    let waiter = Some(numbers(cache.entry(1).and_compute_with(Puts { init })));
     block_on(
         rt,
         Outlasts {

@@ -11,12 +11,13 @@ ghost use Rattle.moka_layers.specs.Counted.{counted};
 ghost use Rattle.moka_machine.specs.NumberTest.{number_tests};
 ghost use Rattle.moka_machine.specs.Machine.{IsOut, IsValid, TakenOut};
 
-use moka_hist::{Event, Got, Refusal, Reply, Rules, Tests, Want};
+use crate::fresh::{machine_for, schedule_of};
+use moka_hist::{Event, Got, Refusal, Reply, Tests, Want};
 use moka_init::{Alone, Flow, Ground, step};
 use moka_run::{Machine, NumberTests, run};
-use moka_text::read_schedule;
 use std::alloc::{AllocError, Global};
 use std::hash::Hash;
+use std::process::Abort;
 use std::slice;
 use std::test::Fail;
 
@@ -190,7 +191,9 @@ fn drive_step(machine: Machine<u32, u32, u32, NumberTests>, call: u64) -> (Drive
         accesses,
     } = counted_step(machine, call);
     let accesses = (accesses == 1 && reply.is_some()).then_some(1);
-    (Driven { machine, accesses }, reply == Some(Reply::Going))
+    let going = reply == Some(Reply::Going);
+    drop(reply);
+    (Driven { machine, accesses }, going)
 }
 
 // Makes steps of a call, at most a hundred, up to the first that doesn't leave it going.
@@ -239,139 +242,150 @@ fn drive(
     }
 }
 
-// How many accesses the steps of the schedule make, each one. Its lines are parted by ` / `.
-fn accesses_of(alloc: Global, row: &str) -> Result<Option<u64>, AllocError> {
-    let mut text = String::new(alloc);
-    for line in row.split(" / ") {
-        text.push_str(line)?;
-        text.push('\n')?;
-    }
-    let schedule = read_schedule(alloc, text.as_bytes()).map_err(|_| AllocError)?;
-    if schedule.log < 1 || schedule.log > 65536 {
-        return Err(AllocError);
-    }
-    let rules = Rules {
-        max_capacity: schedule.rules.max_capacity,
-        time_to_live: None,
-        time_to_idle: None,
-        listener: schedule.rules.listener,
-        closures: false,
-    };
-    let mut machine = Machine::build(alloc, rules, schedule.log, NumberTests)?;
+// Carries the events out, and tells how many accesses their steps made.
+fn drive_all(
+    alloc: Global,
+    mut machine: Machine<u32, u32, u32, NumberTests>,
+    events: &[Event<u32, u32, u32>],
+) -> Driven
+    requires { IsValid nat_eq number_tests machine }
+{
     let mut total: u64 = 0;
-    for event in &schedule.events {
+    for event in events {
         let driven = drive(alloc, machine, event);
-        machine = driven.machine;
         match driven.accesses {
             Some(accesses) => total = total.saturating_add(accesses),
-            None => return Ok(None),
+            None => return driven,
         }
+        machine = driven.machine;
     }
-    Ok(Some(total))
+    Driven {
+        machine,
+        accesses: Some(total),
+    }
 }
+
+// How many accesses the steps of the schedule make, each one. Its lines are parted by ` / `.
+fn accesses_of(alloc: Global, row: &str) -> Result<Option<u64>, AllocError> {
+    let schedule = schedule_of(alloc, row)?;
+    let machine = machine_for(alloc, &schedule)?;
+    let driven = drive_all(alloc, machine, &schedule.events);
+    let Driven { machine, accesses } = driven;
+    drop(machine);
+    Ok(accesses)
+}
+
+/// Plays each of the schedules, and compares how many accesses its steps make.
+fn are_counted(rt: &(impl AllocGlobal + Abort), rows: &[(&str, u64)]) -> Result<(), Fail> {
+    for row in rows {
+        let schedule = row.0;
+        let accesses = accesses_of(rt.alloc(), schedule)?;
+        assert_eq!(rt; accesses, Some(row.1), "{schedule}");
+    }
+    Ok(())
+}
+
+/// Schedules, with how many accesses the steps of each make, call by call.
+const SCHEDULES: [(&str, u64); 19] = [
+    ("cache / start get 1 / poll 1", 2),
+    (
+        "cache log=8 / start insert 1 5 / poll 1 / start get 1 / poll 2",
+        4 + 3,
+    ),
+    (
+        "cache log=1 / start insert 1 5 / poll 1 / start insert 2 6 / poll 2",
+        4 + 9,
+    ),
+    // Call 3 waits for the turn of call 2, and is dropped; call 4 posts its write.
+    (
+        "cache log=1 / start insert 1 5 / poll 1 / start insert 2 6 / step 2 / step 2 / \
+         step 2 / step 2 / step 2 / start insert 3 7 / poll 3 / drop 3 / poll 2 / \
+         start get 3 / poll 4",
+        4 + 5 + 5 + 4 + 10,
+    ),
+    (
+        "cache log=8 / start get_with 1 / start get_with 1 / poll 1 / poll 1 / poll 2 / \
+         tell 1 value 7 / poll 2 / poll 1 / poll 2",
+        5 + 1 + 4 + 1 + 6 + 1,
+    ),
+    (
+        "cache log=8 / start get_with 1 / start get_with 1 / poll 1 / poll 2 / drop 1 / \
+         poll 2 / tell 2 value 9 / poll 2",
+        5 + 4 + 4 + 6,
+    ),
+    // Removals that find their record, and nothing.
+    (
+        "cache log=8 / start insert 1 5 / poll 1 / start remove 1 / poll 2 / \
+         start invalidate 1 / poll 3",
+        4 + 4 + 4,
+    ),
+    (
+        "cache cap=1 log=8 / start insert 1 5 / poll 1 / start evict 1 2 Size / poll 2 / \
+         start evict 1 1 Explicit / poll 3 / start evict 1 1 Size / poll 4",
+        4 + 1 + 2 + 5,
+    ),
+    (
+        "cache log=8 listener / start insert 1 5 / poll 1 / start remove 1 / poll 2 / \
+         tell 2 done / poll 2 / start evict 1 1 Size / poll 3",
+        6 + 5 + 3 + 3,
+    ),
+    // Loads that fail, find nothing, or load again, and values stored where none is.
+    (
+        "cache log=8 / start optional 1 / start optional 1 / poll 1 / poll 2 / \
+         tell 1 nothing / poll 1 / poll 2",
+        5 + 4 + 2 + 1,
+    ),
+    (
+        "cache log=8 / start try 1 / start try 1 / poll 1 / poll 2 / tell 1 error 3 / \
+         poll 1 / poll 2",
+        5 + 4 + 2 + 1,
+    ),
+    (
+        "cache log=8 / start insert 1 4 / poll 1 / start get_with 1 if 2 / poll 2 / \
+         tell 2 value 5 / poll 2 / start get_with 1 if 2 / poll 3",
+        4 + 7 + 6 + 3,
+    ),
+    (
+        "cache log=8 / start or_insert 1 6 / poll 1 / start or_insert 1 7 / poll 2",
+        6 + 3,
+    ),
+    // Computes that put, keep, remove and wait; one that computes alone beside an owner.
+    (
+        "cache log=8 / start compute 1 / poll 1 / tell 1 put 5 / poll 1 / start compute 1 / \
+         poll 2 / tell 2 nop / poll 2 / start compute_alone 1 / poll 3 / tell 3 remove / \
+         poll 3",
+        4 + 6 + 5 + 2 + 5 + 6,
+    ),
+    (
+        "cache log=8 / start upsert 1 / start try_compute 1 / poll 1 / poll 2 / \
+         start compute_alone 1 / poll 3 / tell 1 value 5 / poll 1 / poll 2 / tell 2 error 3 / \
+         poll 2",
+        4 + 2 + 3 + 6 + 6 + 2,
+    ),
+    (
+        "cache log=8 listener / start insert 1 5 / poll 1 / start compute 1 / poll 2 / \
+         tell 2 put 6 / poll 2 / tell 2 done / poll 2",
+        6 + 5 + 6 + 4,
+    ),
+    // A disabled cache.
+    (
+        "cache cap=0 / start insert 1 5 / poll 1 / start get_with 1 / poll 2 / \
+         tell 2 value 7 / poll 2",
+        1 + 3 + 2,
+    ),
+    (
+        "cache cap=0 / start or_insert 1 6 / poll 1 / start try 1 / poll 2 / \
+         tell 2 error 7 / poll 2",
+        1 + 3 + 2,
+    ),
+    (
+        "cache cap=0 / start compute 1 / poll 1 / tell 1 put 5 / poll 1 / \
+         start compute_alone 1 / poll 2 / tell 2 remove / poll 2",
+        3 + 2 + 3 + 6,
+    ),
+];
 
 #[test]
 fn each_step_makes_one_access_at_every_point_of_every_flow(rt: HostRuntime) -> Result<(), Fail> {
-    let schedules = [
-        ("cache / start get 1 / poll 1", 2),
-        (
-            "cache log=8 / start insert 1 5 / poll 1 / start get 1 / poll 2",
-            4 + 3,
-        ),
-        (
-            "cache log=1 / start insert 1 5 / poll 1 / start insert 2 6 / poll 2",
-            4 + 9,
-        ),
-        // Call 3 waits for the turn of call 2, and is dropped; call 4 posts its write.
-        (
-            "cache log=1 / start insert 1 5 / poll 1 / start insert 2 6 / step 2 / step 2 / \
-             step 2 / step 2 / step 2 / start insert 3 7 / poll 3 / drop 3 / poll 2 / \
-             start get 3 / poll 4",
-            4 + 5 + 5 + 4 + 10,
-        ),
-        (
-            "cache log=8 / start get_with 1 / start get_with 1 / poll 1 / poll 1 / poll 2 / \
-             tell 1 value 7 / poll 2 / poll 1 / poll 2",
-            5 + 1 + 4 + 1 + 6 + 1,
-        ),
-        (
-            "cache log=8 / start get_with 1 / start get_with 1 / poll 1 / poll 2 / drop 1 / \
-             poll 2 / tell 2 value 9 / poll 2",
-            5 + 4 + 4 + 6,
-        ),
-        // Removals that find their record, and nothing.
-        (
-            "cache log=8 / start insert 1 5 / poll 1 / start remove 1 / poll 2 / \
-             start invalidate 1 / poll 3",
-            4 + 4 + 4,
-        ),
-        (
-            "cache cap=1 log=8 / start insert 1 5 / poll 1 / start evict 1 2 Size / poll 2 / \
-             start evict 1 1 Explicit / poll 3 / start evict 1 1 Size / poll 4",
-            4 + 1 + 2 + 5,
-        ),
-        (
-            "cache log=8 listener / start insert 1 5 / poll 1 / start remove 1 / poll 2 / \
-             tell 2 done / poll 2 / start evict 1 1 Size / poll 3",
-            6 + 5 + 3 + 3,
-        ),
-        // Loads that fail, find nothing, or load again, and values stored where none is.
-        (
-            "cache log=8 / start optional 1 / start optional 1 / poll 1 / poll 2 / \
-             tell 1 nothing / poll 1 / poll 2",
-            5 + 4 + 2 + 1,
-        ),
-        (
-            "cache log=8 / start try 1 / start try 1 / poll 1 / poll 2 / tell 1 error 3 / \
-             poll 1 / poll 2",
-            5 + 4 + 2 + 1,
-        ),
-        (
-            "cache log=8 / start insert 1 4 / poll 1 / start get_with 1 if 2 / poll 2 / \
-             tell 2 value 5 / poll 2 / start get_with 1 if 2 / poll 3",
-            4 + 7 + 6 + 3,
-        ),
-        (
-            "cache log=8 / start or_insert 1 6 / poll 1 / start or_insert 1 7 / poll 2",
-            6 + 3,
-        ),
-        // Computes that put, keep, remove and wait; one that computes alone beside an owner.
-        (
-            "cache log=8 / start compute 1 / poll 1 / tell 1 put 5 / poll 1 / start compute 1 / \
-             poll 2 / tell 2 nop / poll 2 / start compute_alone 1 / poll 3 / tell 3 remove / \
-             poll 3",
-            4 + 6 + 5 + 2 + 5 + 6,
-        ),
-        (
-            "cache log=8 / start upsert 1 / start try_compute 1 / poll 1 / poll 2 / \
-             start compute_alone 1 / poll 3 / tell 1 value 5 / poll 1 / poll 2 / tell 2 error 3 / \
-             poll 2",
-            4 + 2 + 3 + 6 + 6 + 2,
-        ),
-        (
-            "cache log=8 listener / start insert 1 5 / poll 1 / start compute 1 / poll 2 / \
-             tell 2 put 6 / poll 2 / tell 2 done / poll 2",
-            6 + 5 + 6 + 4,
-        ),
-        // A disabled cache.
-        (
-            "cache cap=0 / start insert 1 5 / poll 1 / start get_with 1 / poll 2 / \
-             tell 2 value 7 / poll 2",
-            1 + 3 + 2,
-        ),
-        (
-            "cache cap=0 / start or_insert 1 6 / poll 1 / start try 1 / poll 2 / \
-             tell 2 error 7 / poll 2",
-            1 + 3 + 2,
-        ),
-        (
-            "cache cap=0 / start compute 1 / poll 1 / tell 1 put 5 / poll 1 / \
-             start compute_alone 1 / poll 2 / tell 2 remove / poll 2",
-            3 + 2 + 3 + 6,
-        ),
-    ];
-    for (row, accesses) in schedules {
-        assert_eq!(rt; accesses_of(rt.alloc(), row)?, Some(accesses), "{row}");
-    }
-    Ok(())
+    are_counted(&rt, &SCHEDULES)
 }

@@ -1,5 +1,29 @@
-//! Worked cases of the schedule machine: what no clause of it says.
+//! Worked cases of the schedule machine and of plays: what no clause of them says.
 #![tactic(auto)]
 
 #[cfg(test)]
+mod computes;
+#[cfg(test)]
 mod counting;
+#[cfg(test)]
+mod drops;
+#[cfg(test)]
+mod faults;
+#[cfg(test)]
+mod fresh;
+#[cfg(test)]
+mod in_memory;
+#[cfg(test)]
+mod listener;
+#[cfg(test)]
+mod loads;
+#[cfg(test)]
+mod memory;
+#[cfg(test)]
+mod pieces;
+#[cfg(test)]
+mod removals;
+#[cfg(test)]
+mod rows;
+#[cfg(test)]
+mod stepping;

@@ -13,8 +13,6 @@ use Rattle.moka_hist.specs.Step.{Gets, access_of, next_of}
 use Rattle.moka_hist.specs.Writing.{nothing_answer, removed_answer, said}
 use Rattle.moka_hist.specs.declared.accesses.Got.{Got}
 use Rattle.moka_hist.specs.declared.accesses.Got.TheVariants as got
-use Rattle.moka_hist.specs.declared.accesses.Turn.{Turn}
-use Rattle.moka_hist.specs.declared.accesses.Turn.TheVariants as turn
 use Rattle.moka_hist.specs.declared.events.Op.TheVariants as op
 use Rattle.moka_hist.specs.declared.events.Start.{Start}
 use Rattle.moka_hist.specs.declared.events.Start.TheVariants as start
@@ -32,9 +30,7 @@ use Rattle.moka_laws.proofs.Owning.{plan_left}
 use Rattle.moka_laws.proofs.Rules.{put_plans, read_key_next}
 use Rattle.moka_laws.proofs.StepCases.{OnStep, by_plan}
 use Rattle.moka_shapes.specs.Computes.{Answers, ComputesTell, Follows, key_computed, taken}
-
-pub same_answer : {K V E : Type 0} (a b : Answer K V E) → ◌≡◌ {A = Turn K V E} (turn.Answer a) (turn.Answer b) → a ≡ b
-same_answer a b e = cc
+use Rattle.moka_shapes.proofs.Leaving.{AllSuit, Leaves, answers_so, goes_suits, on}
 
 -- ---- what suits a compute of the key, which is told such, and may answer so
 
@@ -68,117 +64,93 @@ module _ {K V E : Type 0} (key : K) (May : Answer K V E → Type 0) where
   Suits (plan.Reply a) = May a
   Suits _ = Unit {0}
 
-  abbrev AllSuit : List (Item K V E) → Type 0
-  AllSuit [] = Unit {0}
-  AllSuit (item ∷ rest) = Suits item × AllSuit rest
-
-  -- what a step has to show
-  record Leaves (next : Next K V E) : Type 0 where
-    suits : AllSuit (plan_left next.left)
-    now : (a : Answer K V E) → next.turn ≡ turn.Answer a → May a
-
-  answers_so : (a : Answer K V E) (next : Next K V E) → next.left ≡ None → next.turn ≡ turn.Answer a → May a → Leaves next
-  answers_so a next none is may = record {
-    suits = subst (λ v. AllSuit (plan_left v)) (sym none) tt;
-    now = λ b e. subst May (same_answer {K = K} a b (sym is ∙ e)) may;
-  }
-
-  on : (next : Next K V E) → ((a : Answer K V E) → next.turn ≡ turn.Answer a → ⊥) → AllSuit (plan_left next.left) → Leaves next
-  on next going q = record { suits = q; now = λ a e. absurd (going a e) }
-
   -- so does what is left of a removal
-  said_suits : (removal : Removal K) (a : Answer K V E) → May a → AllSuit (said removal a)
+  said_suits : (removal : Removal K) (a : Answer K V E) → May a → AllSuit Suits (said removal a)
   said_suits plan.To_invalidate a may = (may, tt)
   said_suits plan.To_remove a may = (may, tt)
   said_suits (plan.To_evict_chosen stamp cause) a may = (may, tt)
   said_suits (plan.To_remove_as_told under) a may = (tt, (may, tt))
 
   module _ (c : Call K V E) where
-    goes_suits : (rest : List (Item K V E)) → AllSuit rest → Leaves (goes c rest)
-    goes_suits (plan.Reply a ∷ []) q = answers_so a _ refl refl q.0
-    goes_suits (plan.Reply a ∷ x ∷ rest) q = on _ (λ b e. cc) q
-    goes_suits [] q = on _ (λ b e. cc) q
-    goes_suits (item ∷ rest) q = on _ (λ b e. cc) q
-
-    misses_suit : (aim : Aim K V) → SuitsAim aim → Leaves (misses c aim)
-    misses_suit (plan.To_compute compute) s = on _ (λ b e. cc) (s, tt)
-    misses_suit (plan.To_report under) s = answers_so (unchanged under None) _ refl refl (s None)
+    misses_suit : (aim : Aim K V) → SuitsAim aim → Leaves Suits May (misses c aim)
+    misses_suit (plan.To_compute compute) s = on Suits May _ (λ b e. cc) (s, tt)
+    misses_suit (plan.To_report under) s = answers_so Suits May (unchanged under None) _ refl refl (s None)
     misses_suit _ s = absurd s
 
-    hits_suit : (aim : Aim K V) (there : K) (value : V) → SuitsAim aim → Leaves (hits c aim there value)
-    hits_suit (plan.To_compute compute) there value s = on _ (λ b e. cc) (s, tt)
-    hits_suit (plan.To_report under) there value s = answers_so (unchanged under (Some (there, value))) _ refl refl (s (Some (there, value)))
+    hits_suit : (aim : Aim K V) (there : K) (value : V) → SuitsAim aim → Leaves Suits May (hits c aim there value)
+    hits_suit (plan.To_compute compute) there value s = on Suits May _ (λ b e. cc) (s, tt)
+    hits_suit (plan.To_report under) there value s = answers_so Suits May (unchanged under (Some (there, value))) _ refl refl (s (Some (there, value)))
     hits_suit _ there value s = absurd s
 
-    finds_suit : (aim : Aim K V) (there : K) (stored : Stored V) → SuitsAim aim → Leaves (finds_pair c aim there stored)
-    finds_suit (plan.To_compute compute) there stored s = on _ (λ b e. cc) (s, tt)
-    finds_suit (plan.To_report under) there stored s = on _ (λ b e. cc) (s, tt)
+    finds_suit : (aim : Aim K V) (there : K) (stored : Stored V) → SuitsAim aim → Leaves Suits May (finds_pair c aim there stored)
+    finds_suit (plan.To_compute compute) there stored s = on Suits May _ (λ b e. cc) (s, tt)
+    finds_suit (plan.To_report under) there stored s = on Suits May _ (λ b e. cc) (s, tt)
     finds_suit _ there stored s = absurd s
 
-    puts_suit : (under : K) (pair : Option (K × V)) (value : V) → May (put_answer under pair value) → Leaves (goes c (put_told (is_disabled c.rules) c under pair value))
+    puts_suit : (under : K) (pair : Option (K × V)) (value : V) → May (put_answer under pair value) → Leaves Suits May (goes c (put_told (is_disabled c.rules) c under pair value))
     puts_suit under pair value may = by (is_disabled c.rules)
       where
-        by : (b : Bool) → Leaves (goes c (put_told b c under pair value))
-        by true = on _ (λ b e. cc) (tt, (may, tt))
-        by false = put_plans (λ p. Leaves (goes c p)) c.rules under value (end_compute (put_answer under pair value))
-            (on _ (λ b e. cc) (tt, (tt, (tt, (may, tt))))) (on _ (λ b e. cc) (tt, (tt, (tt, (tt, (may, tt))))))
+        by : (b : Bool) → Leaves Suits May (goes c (put_told b c under pair value))
+        by true = on Suits May _ (λ b e. cc) (tt, (may, tt))
+        by false = put_plans (λ p. Leaves Suits May (goes c p)) c.rules under value (end_compute (put_answer under pair value))
+            (on Suits May _ (λ b e. cc) (tt, (tt, (tt, (may, tt))))) (on Suits May _ (λ b e. cc) (tt, (tt, (tt, (tt, (may, tt))))))
 
-    out_suits : (under : K) → SuitsRemoval (plan.To_remove_as_told under) → Leaves (goes c (take_out c.rules (plan.To_remove_as_told under) under))
+    out_suits : (under : K) → SuitsRemoval (plan.To_remove_as_told under) → Leaves Suits May (goes c (take_out c.rules (plan.To_remove_as_told under) under))
     out_suits under s = by c.rules.listener
       where
-        by : (b : Bool) → Leaves (goes c (plan.Drain ∷ under_lock b under (plan.Moment (plan.To_take_out (plan.To_remove_as_told under) under) ∷ [])))
-        by true = on _ (λ b e. cc) (tt, (tt, (s, tt)))
-        by false = on _ (λ b e. cc) (tt, (s, tt))
+        by : (b : Bool) → Leaves Suits May (goes c (plan.Drain ∷ under_lock b under (plan.Moment (plan.To_take_out (plan.To_remove_as_told under) under) ∷ [])))
+        by true = on Suits May _ (λ b e. cc) (tt, (tt, (s, tt)))
+        by false = on Suits May _ (λ b e. cc) (tt, (s, tt))
 
 module _ {K V E : Type 0} (key : K) (May : Answer K V E → Type 0) (such : Told V E → Type 0)
     (follows : (given : Told V E) (a : Answer K V E) → such given → Follows key given a → May a) (c : Call K V E) where
   -- what follows from what it was told
-  told_suits : (compute : Compute K) (pair : Option (K × V)) (given : Told V E) → AllSuit key May c.plan → compute.key ≡ key → such given
-      → Leaves key May (after_told_op c compute pair (found.TakeTold (Some given)))
+  told_suits : (compute : Compute K) (pair : Option (K × V)) (given : Told V E) → AllSuit (Suits key May) c.plan → compute.key ≡ key → such given
+      → Leaves (Suits key May) May (after_told_op c compute pair (found.TakeTold (Some given)))
   told_suits compute pair (told.Value value) p is tells =
       puts_suit key May c compute.key pair value (follows (told.Value value) _ tells (pair, ap (λ k. put_answer k pair value) is))
   told_suits compute pair (told.Op (op.Put value)) p is tells =
       puts_suit key May c compute.key pair value (follows (told.Op (op.Put value)) _ tells (pair, ap (λ k. put_answer k pair value) is))
   told_suits compute pair (told.Op op.Nop) p is tells =
-      on key May _ (λ b e. cc) (tt, (follows (told.Op op.Nop) _ tells (pair, ap (λ k. unchanged k pair) is), tt))
+      on (Suits key May) May _ (λ b e. cc) (tt, (follows (told.Op op.Nop) _ tells (pair, ap (λ k. unchanged k pair) is), tt))
   told_suits compute pair (told.Op op.Remove) p is tells =
       out_suits key May c compute.key (
         λ value. follows (told.Op op.Remove) _ tells (inl (value, ap (λ k. removed_value k value) is)),
         follows (told.Op op.Remove) _ tells (inr (ap (λ k. unchanged k None) is)),
       )
   told_suits compute pair (told.Err error) p is tells =
-      on key May _ (λ b e. cc) (tt, (follows (told.Err error) _ tells refl, tt))
-  told_suits compute pair told.Nothing p is tells = on key May _ (λ b e. cc) p
-  told_suits compute pair told.Done p is tells = on key May _ (λ b e. cc) p
-  told_suits compute pair told.Off p is tells = on key May _ (λ b e. cc) p
+      on (Suits key May) May _ (λ b e. cc) (tt, (follows (told.Err error) _ tells refl, tt))
+  told_suits compute pair told.Nothing p is tells = on (Suits key May) May _ (λ b e. cc) p
+  told_suits compute pair told.Done p is tells = on (Suits key May) May _ (λ b e. cc) p
+  told_suits compute pair told.Off p is tells = on (Suits key May) May _ (λ b e. cc) p
 
-  module _ (eq : K → K → Bool) (w : World K V E) (n : ℕ) (p : AllSuit key May c.plan)
+  module _ (eq : K → K → Bool) (w : World K V E) (n : ℕ) (p : AllSuit (Suits key May) c.plan)
       (reads : (compute : Compute K) (pair : Option (K × V)) (rest : List (Item K V E)) (given : Told V E) → c.plan ≡ plan.Told_op compute pair ∷ rest → w.desk.told n ≡ Some given → such given) where
     abbrev After : World K V E → Next K V E → Type 0
-    After new next = Leaves key May next
+    After new next = Leaves (Suits key May) May next
 
-    parks : Leaves key May (waits c)
-    parks = on key May _ (λ b e. cc) p
+    parks : Leaves (Suits key May) May (waits c)
+    parks = on (Suits key May) May _ (λ b e. cc) p
 
-    on_item : (item : Item K V E) (rest : List (Item K V E)) → c.plan ≡ item ∷ rest → AllSuit key May (item ∷ rest) → Outcomes eq After w n c item rest
+    on_item : (item : Item K V E) (rest : List (Item K V E)) → c.plan ≡ item ∷ rest → AllSuit (Suits key May) (item ∷ rest) → Outcomes eq After w n c item rest
     on_item plan.Drain rest e q = (
-      λ f. goes_suits key May c rest q.1,
-      λ x xs f. on key May _ (λ b g. cc) (tt, q),
-      λ x number xs f. on key May _ (λ b g. cc) (tt, (tt, q)),
+      λ f. goes_suits (Suits key May) May (λ a may. may) c rest q.1,
+      λ x xs f. on (Suits key May) May _ (λ b g. cc) (tt, q),
+      λ x number xs f. on (Suits key May) May _ (λ b g. cc) (tt, (tt, q)),
     )
-    on_item (plan.Ended number) rest e q = (λ f. goes_suits key May c rest q.1, λ f. parks)
-    on_item plan.Heard rest e q = (λ f. goes_suits key May c rest q.1, λ f. parks)
-    on_item (plan.Lock under) rest e q = (λ f. goes_suits key May c rest q.1, λ f. parks)
-    on_item (plan.Unlock wrote) rest e q = goes_suits key May c rest q.1
+    on_item (plan.Ended number) rest e q = (λ f. goes_suits (Suits key May) May (λ a may. may) c rest q.1, λ f. parks)
+    on_item plan.Heard rest e q = (λ f. goes_suits (Suits key May) May (λ a may. may) c rest q.1, λ f. parks)
+    on_item (plan.Lock under) rest e q = (λ f. goes_suits (Suits key May) May (λ a may. may) c rest q.1, λ f. parks)
+    on_item (plan.Unlock wrote) rest e q = goes_suits (Suits key May) May (λ a may. may) c rest q.1
     on_item (plan.Notice under old cause upsert) rest e q =
-        (λ f. goes_suits key May c rest q.1, λ f. on key May _ (λ b g. cc) (tt, q.1))
+        (λ f. goes_suits (Suits key May) May (λ a may. may) c rest q.1, λ f. on (Suits key May) May _ (λ b g. cc) (tt, q.1))
     on_item (plan.Post write) rest e q =
-        (λ f. goes_suits key May c rest q.1, λ f. on key May _ (λ b g. cc) (tt, (tt, (tt, q))))
-    on_item plan.Turn rest e q = (λ f. goes_suits key May c rest q.1, λ f. parks)
-    on_item plan.Apply rest e q = (λ f. goes_suits key May c rest q.1, λ x xs f. on key May _ (λ b g. cc) q)
-    on_item plan.End rest e q = goes_suits key May c rest q.1
+        (λ f. goes_suits (Suits key May) May (λ a may. may) c rest q.1, λ f. on (Suits key May) May _ (λ b g. cc) (tt, (tt, (tt, q))))
+    on_item plan.Turn rest e q = (λ f. goes_suits (Suits key May) May (λ a may. may) c rest q.1, λ f. parks)
+    on_item plan.Apply rest e q = (λ f. goes_suits (Suits key May) May (λ a may. may) c rest q.1, λ x xs f. on (Suits key May) May _ (λ b g. cc) q)
+    on_item plan.End rest e q = goes_suits (Suits key May) May (λ a may. may) c rest q.1
     on_item (plan.Get aim under) rest e q = (
-      (λ more. on key May _ (λ b g. cc) p),
+      (λ more. on (Suits key May) May _ (λ b g. cc) p),
       (λ none. misses_suit key May c aim q.0),
       λ k stored some. finds_suit key May c aim k stored q.0,
     )
@@ -187,54 +159,54 @@ module _ {K V E : Type 0} (key : K) (May : Answer K V E → Type 0) (such : Told
     on_item (plan.Own sought) rest e q = absurd q.0
     on_item (plan.Own_key compute) rest e q = (
       (
-        (λ able none. on key May _ (λ b g. cc) (tt, (q.0, tt))),
-        λ disabled none. on key May _ (λ b g. cc) (tt, (q.0, tt)),
+        (λ able none. on (Suits key May) May _ (λ b g. cc) (tt, (q.0, tt))),
+        λ disabled none. on (Suits key May) May _ (λ b g. cc) (tt, (q.0, tt)),
       ),
-      λ owner some. on key May _ (λ b g. cc) (q.0, tt),
+      λ owner some. on (Suits key May) May _ (λ b g. cc) (q.0, tt),
     )
     on_item (plan.Own_alone under) rest e q = (
       (
-        (λ able none. on key May _ (λ b g. cc) (tt, (q.0.0, tt))),
-        λ disabled none. on key May _ (λ b g. cc) (tt, (q.0.0, tt)),
+        (λ able none. on (Suits key May) May _ (λ b g. cc) (tt, (q.0.0, tt))),
+        λ disabled none. on (Suits key May) May _ (λ b g. cc) (tt, (q.0.0, tt)),
       ),
       λ owner some. (
-        (λ able. on key May _ (λ b g. cc) (tt, (q.0.1, tt))),
-        λ not. on key May _ (λ b g. cc) (tt, (q.0.1 None, tt)),
+        (λ able. on (Suits key May) May _ (λ b g. cc) (tt, (q.0.1, tt))),
+        λ not. on (Suits key May) May _ (λ b g. cc) (tt, (q.0.1 None, tt)),
       ),
     )
     on_item (plan.Read sought) rest e q = absurd q.0
     on_item (plan.Read_key compute) rest e q = (
       λ none. parks,
-      λ with some. read_key_next (Leaves key May) c compute with parks (on key May _ (λ b g. cc) (q.0, tt)),
+      λ with some. read_key_next (Leaves (Suits key May) May) c compute with parks (on (Suits key May) May _ (λ b g. cc) (q.0, tt)),
     )
-    on_item (plan.Settle with) rest e q = goes_suits key May c rest q.1
+    on_item (plan.Settle with) rest e q = goes_suits (Suits key May) May (λ a may. may) c rest q.1
     on_item (plan.Ask load) rest e q = absurd q.0
-    on_item (plan.Ask_op compute pair) rest e q = on key May _ (λ b g. cc) (q.0, tt)
+    on_item (plan.Ask_op compute pair) rest e q = on (Suits key May) May _ (λ b g. cc) (q.0, tt)
     on_item (plan.Told load) rest e q = absurd q.0
     on_item (plan.Told_op compute pair) rest e q = (
       λ none. parks,
       λ given some. told_suits compute pair given p q.0 (reads compute pair rest given e some),
     )
     on_item (plan.Holds under stamp cause there stored) rest e q = absurd q.0
-    on_item (plan.Moment (plan.To_store under value)) rest e q = on key May _ (λ b g. cc) (tt, q.1)
-    on_item (plan.Moment (plan.To_take_out removal under)) rest e q = on key May _ (λ b g. cc) q
+    on_item (plan.Moment (plan.To_store under value)) rest e q = on (Suits key May) May _ (λ b g. cc) (tt, q.1)
+    on_item (plan.Moment (plan.To_take_out removal under)) rest e q = on (Suits key May) May _ (λ b g. cc) q
     on_item (plan.Write under value moment) rest e q = (
-      (λ more. on key May _ (λ b g. cc) p),
-      (λ off old. on key May _ (λ b g. cc) (tt, q.1)),
-      (λ is_on. on key May _ (λ b g. cc) (tt, (tt, q.1))),
-      λ k old is_on some. on key May _ (λ b g. cc) (tt, (tt, (tt, q.1))),
+      (λ more. on (Suits key May) May _ (λ b g. cc) p),
+      (λ off old. on (Suits key May) May _ (λ b g. cc) (tt, q.1)),
+      (λ is_on. on (Suits key May) May _ (λ b g. cc) (tt, (tt, q.1))),
+      λ k old is_on some. on (Suits key May) May _ (λ b g. cc) (tt, (tt, (tt, q.1))),
     )
     on_item (plan.Out removal under) rest e q = (
-      (λ more. on key May _ (λ b g. cc) p),
-      (λ off none. on key May _ (λ b g. cc) (tt, said_suits key May removal _ q.0.1)),
-      (λ is_on none. on key May _ (λ b g. cc) (tt, said_suits key May removal _ q.0.1)),
-      (λ k old off some. on key May _ (λ b g. cc) (tt, said_suits key May removal _ (q.0.0 old.value))),
-      λ k old is_on some. on key May _ (λ b g. cc) (tt, (tt, (tt, said_suits key May removal _ (q.0.0 old.value)))),
+      (λ more. on (Suits key May) May _ (λ b g. cc) p),
+      (λ off none. on (Suits key May) May _ (λ b g. cc) (tt, said_suits key May removal _ q.0.1)),
+      (λ is_on none. on (Suits key May) May _ (λ b g. cc) (tt, said_suits key May removal _ q.0.1)),
+      (λ k old off some. on (Suits key May) May _ (λ b g. cc) (tt, said_suits key May removal _ (q.0.0 old.value))),
+      λ k old is_on some. on (Suits key May) May _ (λ b g. cc) (tt, (tt, (tt, said_suits key May removal _ (q.0.0 old.value)))),
     )
-    on_item plan.Idle rest e q = goes_suits key May c rest q.1
-    on_item (plan.Reply a) rest e q = answers_so key May a _ refl refl q.0
+    on_item plan.Idle rest e q = goes_suits (Suits key May) May (λ a may. may) c rest q.1
+    on_item (plan.Reply a) rest e q = answers_so (Suits key May) May a _ refl refl q.0
 
-    on_plan : (q : List (Item K V E)) → c.plan ≡ q → AllSuit key May q → OnStep eq After w n c q
+    on_plan : (q : List (Item K V E)) → c.plan ≡ q → AllSuit (Suits key May) q → OnStep eq After w n c q
     on_plan [] e q = parks
     on_plan (item ∷ rest) e q = outcomes eq After w n c item rest (on_item item rest e q)
 
@@ -254,25 +226,25 @@ module _ {K V E : Type 0} (eq : K → K → Bool) (n : ℕ) where
 module _ {K V E : Type 0} (eq : K → K → Bool) (key : K) (May : Answer K V E → Type 0) (such : Told V E → Type 0)
     (follows : (given : Told V E) (a : Answer K V E) → such given → Follows key given a → May a) (n : ℕ) where
   -- one step
-  step_suits : (c : Call K V E) (given : Got K V E) → AllSuit key May c.plan → MayGive eq n c given → ((t : Told V E) → given ≡ taken t → such t)
-      → Leaves key May (next_of n c given)
+  step_suits : (c : Call K V E) (given : Got K V E) → AllSuit (Suits key May) c.plan → MayGive eq n c given → ((t : Told V E) → given ≡ taken t → such t)
+      → Leaves (Suits key May) May (next_of n c given)
   step_suits c given suits gives tells =
-      by_plan eq (λ w next. Leaves key May next) gives.world n c.rules c.mode c.plan c.aborts given gives.after gives.gets
+      by_plan eq (λ w next. Leaves (Suits key May) May next) gives.world n c.rules c.mode c.plan c.aborts given gives.after gives.gets
       (on_plan key May such follows c eq gives.world n suits
       (λ compute pair rest t is some. tells t (took eq n gives.world gives.after c compute pair rest given t is some gives.gets)) c.plan refl suits)
 
-  path_suits : (path : List (Got K V E)) (c d : Call K V E) → AllSuit key May c.plan → MayLead eq n c path d → ((given : Got K V E) → Contains path given → (t : Told V E) → given ≡ taken t → such t)
-      → AllSuit key May d.plan
-  path_suits [] c d suits led tells = subst (λ (v : Call K V E). AllSuit key May v.plan) (sym led) suits
+  path_suits : (path : List (Got K V E)) (c d : Call K V E) → AllSuit (Suits key May) c.plan → MayLead eq n c path d → ((given : Got K V E) → Contains path given → (t : Told V E) → given ≡ taken t → such t)
+      → AllSuit (Suits key May) d.plan
+  path_suits [] c d suits led tells = subst (λ (v : Call K V E). AllSuit (Suits key May) v.plan) (sym led) suits
   path_suits (given ∷ more) c d suits led tells =
       let next = step_suits c given suits led.1 (tells given (Contains-append_left (given ∷ []) more given (Contains-push [] given))) in
-      path_suits more led.0 d (subst (λ v. AllSuit key May (plan_left v)) led.2 next.suits) led.3
+      path_suits more led.0 d (subst (λ v. AllSuit (Suits key May) (plan_left v)) led.2 next.suits) led.3
       (λ other there. tells other (Contains-append_right (given ∷ []) more other there))
 
 -- ---- as a compute is started
 
 module _ {K V E : Type 0} (eq : K → K → Bool) (rules : Rules) (key : K) (path : List (Got K V E)) where
-  fresh_suits : (begin : Start K V) → key_computed begin ≡ Some key → AllSuit key (Answers begin key path) (plan_of rules begin)
+  fresh_suits : (begin : Start K V) → key_computed begin ≡ Some key → AllSuit (Suits key (Answers begin key path)) (plan_of rules begin)
   fresh_suits (start.Compute under) is = (some_same is, tt)
   fresh_suits (start.TryCompute under) is = (some_same is, tt)
   fresh_suits (start.Upsert under) is = (some_same is, tt)

@@ -1,2 +1,3 @@
+mod Leaving
 pub mod Computing
 pub mod Loading

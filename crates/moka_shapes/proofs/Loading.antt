@@ -14,7 +14,6 @@ use Rattle.moka_hist.specs.Step.{Gets, access_of, next_of}
 use Rattle.moka_hist.specs.Visits.{settlement_for}
 use Rattle.moka_hist.specs.declared.accesses.Got.{Got}
 use Rattle.moka_hist.specs.declared.accesses.Got.TheVariants as got
-use Rattle.moka_hist.specs.declared.accesses.Turn.TheVariants as turn
 use Rattle.moka_hist.specs.declared.events.Start.{Start}
 use Rattle.moka_hist.specs.declared.events.Start.TheVariants as start
 use Rattle.moka_hist.specs.declared.events.Told.{Told}
@@ -38,7 +37,7 @@ use Rattle.moka_laws.proofs.StepCases.{OnStep, by_plan}
 use Rattle.moka_needs.specs.Reads.{EndedAs, ReadsItsKind, kind_read}
 use Rattle.moka_shapes.specs.Computes.{taken}
 use Rattle.moka_shapes.specs.Loads.{FollowsEnd, FollowsTold, LoadAnswers, LoadsTell, MayGiveLoad, MayLeadLoad, kind_loaded, read}
-use Rattle.moka_shapes.proofs.Computing.{same_answer}
+use Rattle.moka_shapes.proofs.Leaving.{AllSuit, Leaves, answers_so, goes_suits, on}
 
 -- what a load of this kind may answer that is given this
 record Says {K V E : Type 0} (kind : Kind) (given : Got K V E) (May : Answer K V E → Type 0) : Type 0 where
@@ -73,111 +72,87 @@ module _ {K V E : Type 0} (kind : Kind) (May : Answer K V E → Type 0) where
   Suits (plan.Reply a) = May a
   Suits _ = Unit {0}
 
-  abbrev AllSuit : List (Item K V E) → Type 0
-  AllSuit [] = Unit {0}
-  AllSuit (item ∷ rest) = Suits item × AllSuit rest
-
-  -- what a step has to show
-  record Leaves (next : Next K V E) : Type 0 where
-    suits : AllSuit (plan_left next.left)
-    now : (a : Answer K V E) → next.turn ≡ turn.Answer a → May a
-
-  answers_so : (a : Answer K V E) (next : Next K V E) → next.left ≡ None → next.turn ≡ turn.Answer a → May a → Leaves next
-  answers_so a next none is may = record {
-    suits = subst (λ v. AllSuit (plan_left v)) (sym none) tt;
-    now = λ b e. subst May (same_answer {K = K} a b (sym is ∙ e)) may;
-  }
-
-  on : (next : Next K V E) → ((a : Answer K V E) → next.turn ≡ turn.Answer a → ⊥) → AllSuit (plan_left next.left) → Leaves next
-  on next going q = record { suits = q; now = λ a e. absurd (going a e) }
-
   module _ (c : Call K V E) where
-    goes_suits : (rest : List (Item K V E)) → AllSuit rest → Leaves (goes c rest)
-    goes_suits (plan.Reply a ∷ []) q = answers_so a _ refl refl q.0
-    goes_suits (plan.Reply a ∷ x ∷ rest) q = on _ (λ b e. cc) q
-    goes_suits [] q = on _ (λ b e. cc) q
-    goes_suits (item ∷ rest) q = on _ (λ b e. cc) q
-
-    misses_suit : (aim : Aim K V) → SuitsAim aim → Leaves (misses c aim)
-    misses_suit (plan.To_load sought) s = on _ (λ b e. cc) (s, tt)
-    misses_suit (plan.To_own sought) s = on _ (λ b e. cc) (tt, tt)
+    misses_suit : (aim : Aim K V) → SuitsAim aim → Leaves Suits May (misses c aim)
+    misses_suit (plan.To_load sought) s = on Suits May _ (λ b e. cc) (s, tt)
+    misses_suit (plan.To_own sought) s = on Suits May _ (λ b e. cc) (tt, tt)
     misses_suit _ s = absurd s
 
-    finds_suit : (aim : Aim K V) (there : K) (stored : Stored V) → SuitsAim aim → Leaves (finds_pair c aim there stored)
-    finds_suit (plan.To_load sought) there stored s = on _ (λ b e. cc) (s, tt)
-    finds_suit (plan.To_own sought) there stored s = on _ (λ b e. cc) (s, tt)
+    finds_suit : (aim : Aim K V) (there : K) (stored : Stored V) → SuitsAim aim → Leaves Suits May (finds_pair c aim there stored)
+    finds_suit (plan.To_load sought) there stored s = on Suits May _ (λ b e. cc) (s, tt)
+    finds_suit (plan.To_own sought) there stored s = on Suits May _ (λ b e. cc) (s, tt)
     finds_suit _ there stored s = absurd s
 
-    hits_suit : (aim : Aim K V) (there : K) (value : V) → May (answer.Loaded value false) → SuitsAim aim → Leaves (hits c aim there value)
-    hits_suit (plan.To_load sought) there value may s = answers_so (answer.Loaded value false) _ refl refl may
-    hits_suit (plan.To_own sought) there value may s = on _ (λ b e. cc) (tt, (may, tt))
+    hits_suit : (aim : Aim K V) (there : K) (value : V) → May (answer.Loaded value false) → SuitsAim aim → Leaves Suits May (hits c aim there value)
+    hits_suit (plan.To_load sought) there value may s = answers_so Suits May (answer.Loaded value false) _ refl refl may
+    hits_suit (plan.To_own sought) there value may s = on Suits May _ (λ b e. cc) (tt, (may, tt))
     hits_suit _ there value may s = absurd s
 
 module _ {K V E : Type 0} (kind : Kind) (May : Answer K V E → Type 0) (given : Got K V E) (says : Says kind given May) (c : Call K V E) where
   -- what follows from what it was told
-  told_suits : (load : Load K) (gave : Told V E) → AllSuit kind May c.plan → given ≡ taken gave → Leaves kind May (after_told c load (found.TakeTold (Some gave)))
+  told_suits : (load : Load K) (gave : Told V E) → AllSuit (Suits kind May) c.plan → given ≡ taken gave → Leaves (Suits kind May) May (after_told c load (found.TakeTold (Some gave)))
   told_suits load (told.Value value) p is =
       let may : May (answer.Loaded value true) = says.told (told.Value value) _ is refl in
-      loaded_plans (λ q. Leaves kind May (goes c q)) c.rules load value
-      (on kind May _ (λ b e. cc) (tt, (may, tt))) (on kind May _ (λ b e. cc) (tt, (tt, (tt, (may, tt)))))
-      (on kind May _ (λ b e. cc) (tt, (tt, (tt, (tt, (may, tt))))))
-  told_suits load (told.Err error) p is = on kind May _ (λ b e. cc) (tt, (says.told (told.Err error) _ is refl, tt))
-  told_suits load told.Nothing p is = on kind May _ (λ b e. cc) (tt, (says.told told.Nothing _ is refl, tt))
-  told_suits load (told.Op op) p is = on kind May _ (λ b e. cc) p
-  told_suits load told.Done p is = on kind May _ (λ b e. cc) p
-  told_suits load told.Off p is = on kind May _ (λ b e. cc) p
+      loaded_plans (λ q. Leaves (Suits kind May) May (goes c q)) c.rules load value
+      (on (Suits kind May) May _ (λ b e. cc) (tt, (may, tt))) (on (Suits kind May) May _ (λ b e. cc) (tt, (tt, (tt, (may, tt)))))
+      (on (Suits kind May) May _ (λ b e. cc) (tt, (tt, (tt, (tt, (may, tt))))))
+  told_suits load (told.Err error) p is = on (Suits kind May) May _ (λ b e. cc) (tt, (says.told (told.Err error) _ is refl, tt))
+  told_suits load told.Nothing p is = on (Suits kind May) May _ (λ b e. cc) (tt, (says.told told.Nothing _ is refl, tt))
+  told_suits load (told.Op op) p is = on (Suits kind May) May _ (λ b e. cc) p
+  told_suits load told.Done p is = on (Suits kind May) May _ (λ b e. cc) p
+  told_suits load told.Off p is = on (Suits kind May) May _ (λ b e. cc) p
 
   -- what follows from how its owner ended
-  read_suits : (sought : Sought K) (with : Settled V E) → AllSuit kind May c.plan → sought.load.kind ≡ kind → given ≡ read with → may_end kind with ≡ true
-      → Leaves kind May (after_read c sought (found.ReadSettled with))
-  read_suits sought (settled.Ready value) p same is may = answers_so kind May (answer.Loaded value false) _ refl refl (says.ended (settled.Ready value) _ is (may, refl))
-  read_suits sought (settled.Err error) p same is may = answers_so kind May (answer.InitErr error) _ refl refl (says.ended (settled.Err error) _ is (may, refl))
-  read_suits sought settled.Nothing p same is may = answers_so kind May answer.Nothing _ refl refl (says.ended settled.Nothing _ is (may, refl))
-  read_suits sought settled.NotYet p same is may = on kind May _ (λ b e. cc) p
+  read_suits : (sought : Sought K) (with : Settled V E) → AllSuit (Suits kind May) c.plan → sought.load.kind ≡ kind → given ≡ read with → may_end kind with ≡ true
+      → Leaves (Suits kind May) May (after_read c sought (found.ReadSettled with))
+  read_suits sought (settled.Ready value) p same is may = answers_so (Suits kind May) May (answer.Loaded value false) _ refl refl (says.ended (settled.Ready value) _ is (may, refl))
+  read_suits sought (settled.Err error) p same is may = answers_so (Suits kind May) May (answer.InitErr error) _ refl refl (says.ended (settled.Err error) _ is (may, refl))
+  read_suits sought settled.Nothing p same is may = answers_so (Suits kind May) May answer.Nothing _ refl refl (says.ended settled.Nothing _ is (may, refl))
+  read_suits sought settled.NotYet p same is may = on (Suits kind May) May _ (λ b e. cc) p
   read_suits sought settled.Aborted p same is may = by (c.aborts + 1 == retries) refl
     where
-      by : (b : Bool) → (c.aborts + 1 == retries) ≡ b → Leaves kind May (after_abort c sought)
-      by true e = rw e (answers_so kind May answer.RetriesExhausted _ refl refl (says.gives_up is))
-      by false e = rw e (on kind May _ (λ b e. cc) (same, tt))
+      by : (b : Bool) → (c.aborts + 1 == retries) ≡ b → Leaves (Suits kind May) May (after_abort c sought)
+      by true e = rw e (answers_so (Suits kind May) May answer.RetriesExhausted _ refl refl (says.gives_up is))
+      by false e = rw e (on (Suits kind May) May _ (λ b e. cc) (same, tt))
 
-  module _ (eq : K → K → Bool) (w : World K V E) (n : ℕ) (p : AllSuit kind May c.plan)
+  module _ (eq : K → K → Bool) (w : World K V E) (n : ℕ) (p : AllSuit (Suits kind May) c.plan)
       (tells : (load : Load K) (rest : List (Item K V E)) (gave : Told V E) → c.plan ≡ plan.Told load ∷ rest → w.desk.told n ≡ Some gave → given ≡ taken gave)
       (reads : (sought : Sought K) (rest : List (Item K V E)) (with : Settled V E) → c.plan ≡ plan.Read sought ∷ rest → settlement_for w.desk n ≡ Some with
       → (given ≡ read with) × (may_end sought.load.kind with ≡ true)) where
     abbrev After : World K V E → Next K V E → Type 0
-    After new next = Leaves kind May next
+    After new next = Leaves (Suits kind May) May next
 
-    parks : Leaves kind May (waits c)
-    parks = on kind May _ (λ b e. cc) p
+    parks : Leaves (Suits kind May) May (waits c)
+    parks = on (Suits kind May) May _ (λ b e. cc) p
 
-    on_item : (item : Item K V E) (rest : List (Item K V E)) → c.plan ≡ item ∷ rest → AllSuit kind May (item ∷ rest) → Outcomes eq After w n c item rest
+    on_item : (item : Item K V E) (rest : List (Item K V E)) → c.plan ≡ item ∷ rest → AllSuit (Suits kind May) (item ∷ rest) → Outcomes eq After w n c item rest
     on_item plan.Drain rest e q = (
-      λ f. goes_suits kind May c rest q.1,
-      λ x xs f. on kind May _ (λ b g. cc) (tt, q),
-      λ x number xs f. on kind May _ (λ b g. cc) (tt, (tt, q)),
+      λ f. goes_suits (Suits kind May) May (λ a may. may) c rest q.1,
+      λ x xs f. on (Suits kind May) May _ (λ b g. cc) (tt, q),
+      λ x number xs f. on (Suits kind May) May _ (λ b g. cc) (tt, (tt, q)),
     )
-    on_item (plan.Ended number) rest e q = (λ f. goes_suits kind May c rest q.1, λ f. parks)
-    on_item plan.Heard rest e q = (λ f. goes_suits kind May c rest q.1, λ f. parks)
-    on_item (plan.Lock key) rest e q = (λ f. goes_suits kind May c rest q.1, λ f. parks)
-    on_item (plan.Unlock wrote) rest e q = goes_suits kind May c rest q.1
+    on_item (plan.Ended number) rest e q = (λ f. goes_suits (Suits kind May) May (λ a may. may) c rest q.1, λ f. parks)
+    on_item plan.Heard rest e q = (λ f. goes_suits (Suits kind May) May (λ a may. may) c rest q.1, λ f. parks)
+    on_item (plan.Lock key) rest e q = (λ f. goes_suits (Suits kind May) May (λ a may. may) c rest q.1, λ f. parks)
+    on_item (plan.Unlock wrote) rest e q = goes_suits (Suits kind May) May (λ a may. may) c rest q.1
     on_item (plan.Notice key old cause upsert) rest e q =
-        (λ f. goes_suits kind May c rest q.1, λ f. on kind May _ (λ b g. cc) (tt, q.1))
+        (λ f. goes_suits (Suits kind May) May (λ a may. may) c rest q.1, λ f. on (Suits kind May) May _ (λ b g. cc) (tt, q.1))
     on_item (plan.Post write) rest e q =
-        (λ f. goes_suits kind May c rest q.1, λ f. on kind May _ (λ b g. cc) (tt, (tt, (tt, q))))
-    on_item plan.Turn rest e q = (λ f. goes_suits kind May c rest q.1, λ f. parks)
-    on_item plan.Apply rest e q = (λ f. goes_suits kind May c rest q.1, λ x xs f. on kind May _ (λ b g. cc) q)
-    on_item plan.End rest e q = goes_suits kind May c rest q.1
+        (λ f. goes_suits (Suits kind May) May (λ a may. may) c rest q.1, λ f. on (Suits kind May) May _ (λ b g. cc) (tt, (tt, (tt, q))))
+    on_item plan.Turn rest e q = (λ f. goes_suits (Suits kind May) May (λ a may. may) c rest q.1, λ f. parks)
+    on_item plan.Apply rest e q = (λ f. goes_suits (Suits kind May) May (λ a may. may) c rest q.1, λ x xs f. on (Suits kind May) May _ (λ b g. cc) q)
+    on_item plan.End rest e q = goes_suits (Suits kind May) May (λ a may. may) c rest q.1
     on_item (plan.Get aim key) rest e q = (
-      (λ more. on kind May _ (λ b g. cc) p),
+      (λ more. on (Suits kind May) May _ (λ b g. cc) p),
       (λ none. misses_suit kind May c aim q.0),
       λ k stored some. finds_suit kind May c aim k stored q.0,
     )
     on_item (plan.Judge aim key stored) rest e q =
         ((λ seen. hits_suit kind May c aim key stored.value (says.finds stored.value) q.0), λ unseen. misses_suit kind May c aim q.0)
     on_item (plan.Own sought) rest e q = (
-      λ able none. on kind May _ (λ b g. cc) (q.0, tt),
-      λ disabled none. on kind May _ (λ b g. cc) (tt, tt),
-      λ owner some. on kind May _ (λ b g. cc) (q.0, tt),
+      λ able none. on (Suits kind May) May _ (λ b g. cc) (q.0, tt),
+      λ disabled none. on (Suits kind May) May _ (λ b g. cc) (tt, tt),
+      λ owner some. on (Suits kind May) May _ (λ b g. cc) (q.0, tt),
     )
     on_item (plan.Own_key compute) rest e q = absurd q.0
     on_item (plan.Own_alone key) rest e q = absurd q.0
@@ -187,25 +162,25 @@ module _ {K V E : Type 0} (kind : Kind) (May : Answer K V E → Type 0) (given :
           read_suits sought with p q.0 ends.0 (subst (λ k. may_end k with ≡ true) q.0 ends.1),
     )
     on_item (plan.Read_key compute) rest e q = absurd q.0
-    on_item (plan.Settle with) rest e q = goes_suits kind May c rest q.1
-    on_item (plan.Ask load) rest e q = on kind May _ (λ b g. cc) (tt, tt)
+    on_item (plan.Settle with) rest e q = goes_suits (Suits kind May) May (λ a may. may) c rest q.1
+    on_item (plan.Ask load) rest e q = on (Suits kind May) May _ (λ b g. cc) (tt, tt)
     on_item (plan.Ask_op compute pair) rest e q = absurd q.0
     on_item (plan.Told load) rest e q = (λ none. parks, λ gave some. told_suits load gave p (tells load rest gave e some))
     on_item (plan.Told_op compute pair) rest e q = absurd q.0
     on_item (plan.Holds key stamp cause there stored) rest e q = absurd q.0
-    on_item (plan.Moment (plan.To_store key value)) rest e q = on kind May _ (λ b g. cc) (tt, q.1)
+    on_item (plan.Moment (plan.To_store key value)) rest e q = on (Suits kind May) May _ (λ b g. cc) (tt, q.1)
     on_item (plan.Moment (plan.To_take_out removal key)) rest e q = absurd q.0
     on_item (plan.Write key value moment) rest e q = (
-      (λ more. on kind May _ (λ b g. cc) p),
-      (λ off old. on kind May _ (λ b g. cc) (tt, q.1)),
-      (λ is_on. on kind May _ (λ b g. cc) (tt, (tt, q.1))),
-      λ k old is_on some. on kind May _ (λ b g. cc) (tt, (tt, (tt, q.1))),
+      (λ more. on (Suits kind May) May _ (λ b g. cc) p),
+      (λ off old. on (Suits kind May) May _ (λ b g. cc) (tt, q.1)),
+      (λ is_on. on (Suits kind May) May _ (λ b g. cc) (tt, (tt, q.1))),
+      λ k old is_on some. on (Suits kind May) May _ (λ b g. cc) (tt, (tt, (tt, q.1))),
     )
     on_item (plan.Out removal key) rest e q = absurd q.0
-    on_item plan.Idle rest e q = goes_suits kind May c rest q.1
-    on_item (plan.Reply a) rest e q = answers_so kind May a _ refl refl q.0
+    on_item plan.Idle rest e q = goes_suits (Suits kind May) May (λ a may. may) c rest q.1
+    on_item (plan.Reply a) rest e q = answers_so (Suits kind May) May a _ refl refl q.0
 
-    on_plan : (q : List (Item K V E)) → c.plan ≡ q → AllSuit kind May q → OnStep eq After w n c q
+    on_plan : (q : List (Item K V E)) → c.plan ≡ q → AllSuit (Suits kind May) q → OnStep eq After w n c q
     on_plan [] e q = parks
     on_plan (item ∷ rest) e q = outcomes eq After w n c item rest (on_item item rest e q)
 
@@ -238,27 +213,27 @@ module _ {K V E : Type 0} (n : ℕ) (w : World K V E) (c : Call K V E) where
 
 module _ {K V E : Type 0} (eq : K → K → Bool) (kind : Kind) (May : Answer K V E → Type 0) (n : ℕ) where
   -- one step
-  step_suits : (c : Call K V E) (given : Got K V E) → Says kind given May → AllSuit kind May c.plan → MayGiveLoad eq n c given → Leaves kind May (next_of n c given)
+  step_suits : (c : Call K V E) (given : Got K V E) → Says kind given May → AllSuit (Suits kind May) c.plan → MayGiveLoad eq n c given → Leaves (Suits kind May) May (next_of n c given)
   step_suits c given says suits by =
-      by_plan eq (λ w next. Leaves kind May next) by.gives.world n c.rules c.mode c.plan c.aborts given by.gives.after by.gives.gets
+      by_plan eq (λ w next. Leaves (Suits kind May) May next) by.gives.world n c.rules c.mode c.plan c.aborts given by.gives.after by.gives.gets
       (on_plan kind May given says c eq by.gives.world n suits (took eq n by.gives.world by.gives.after c given by.gives.gets)
       (λ sought rest with is some. (did_read eq n by.gives.world by.gives.after c given by.gives.gets sought rest with is some, ends_so n by.gives.world c sought rest with by.ends is some)) c.plan refl suits)
 
-  path_suits : (path : List (Got K V E)) (c d : Call K V E) → ((given : Got K V E) → Contains path given → Says kind given May) → AllSuit kind May c.plan → MayLeadLoad eq n c path d
-      → AllSuit kind May d.plan
-  path_suits [] c d says suits led = subst (λ (v : Call K V E). AllSuit kind May v.plan) (sym led) suits
+  path_suits : (path : List (Got K V E)) (c d : Call K V E) → ((given : Got K V E) → Contains path given → Says kind given May) → AllSuit (Suits kind May) c.plan → MayLeadLoad eq n c path d
+      → AllSuit (Suits kind May) d.plan
+  path_suits [] c d says suits led = subst (λ (v : Call K V E). AllSuit (Suits kind May) v.plan) (sym led) suits
   path_suits (given ∷ more) c d says suits led =
       let next = step_suits c given (says given (Contains-append_left (given ∷ []) more given (Contains-push [] given))) suits led.1 in
-      path_suits more led.0 d (λ other there. says other (Contains-append_right (given ∷ []) more other there)) (subst (λ v. AllSuit kind May (plan_left v)) led.2 next.suits) led.3
+      path_suits more led.0 d (λ other there. says other (Contains-append_right (given ∷ []) more other there)) (subst (λ v. AllSuit (Suits kind May) (plan_left v)) led.2 next.suits) led.3
 
 -- ---- as a load is started
 
 module _ {K V E : Type 0} (May : Answer K V E → Type 0) where
-  load_suits : (b : Bool) (sought : Sought K) (kind : Kind) → sought.load.kind ≡ kind → AllSuit kind May (load_plan b sought)
+  load_suits : (b : Bool) (sought : Sought K) (kind : Kind) → sought.load.kind ≡ kind → AllSuit (Suits kind May) (load_plan b sought)
   load_suits true sought kind is = (tt, (is, tt))
   load_suits false sought kind is = (tt, (is, tt))
 
-  fresh_suits : (rules : Rules) (begin : Start K V) (k : Kind) → kind_loaded begin ≡ Some k → AllSuit k May (plan_of rules begin)
+  fresh_suits : (rules : Rules) (begin : Start K V) (k : Kind) → kind_loaded begin ≡ Some k → AllSuit (Suits k May) (plan_of rules begin)
   fresh_suits rules (start.GetWith key replace) k is = load_suits (is_disabled rules) (seek kind.GetWith key replace) k (some_same is)
   fresh_suits rules (start.Optional key) k is = load_suits (is_disabled rules) (seek kind.Optional key None) k (some_same is)
   fresh_suits rules (start.Try key) k is = load_suits (is_disabled rules) (seek kind.Try key None) k (some_same is)

@@ -2,9 +2,10 @@
 
 use crate::calls::{Loaded, run_setting};
 use moka_cache::Cache;
-use moka_cache_cases::at::Numbers;
-use moka_cache_cases::inits::After;
-use moka_cache_cases::run::run;
+use moka_cache_runs::at::Numbers;
+use moka_cache_runs::inits::After;
+use moka_cache_runs::numbers::numbers;
+use moka_cache_runs::run::run;
 use std::alloc::AllocGlobal;
 use std::random::RandomSource;
 use std::sync::Wait;
@@ -51,7 +52,8 @@ fn join_owner<'a, R: Wait + RandomSource + AllocGlobal>(
     polled: &'a AtomicU64,
 ) -> io::Result<Loaded> {
     wait_for(owner);
-    run_setting(rt, flag, cache.get_with(1, After::polls(0, 6, polled)))
+    let state = numbers(cache.get_with(1, After::polls(0, 6, polled)));
+    run_setting(rt, flag, state)
 }
 
 /// Makes both, each in a thread of its own.

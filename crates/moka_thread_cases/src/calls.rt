@@ -1,10 +1,9 @@
 //! Calls of any state, at moment 0.
 
-use futures::FutureExt;
 use futures::executor::block_on;
 use moka_cache::{PollError, Polled, RetriesExhausted, State};
-use moka_cache_cases::at::At;
-use moka_cache_cases::inits::Sets;
+use moka_cache_runs::at::At;
+use moka_cache_runs::inits::Sets;
 use std::alloc::AllocGlobal;
 use std::io;
 use std::random::RandomSource;
@@ -13,16 +12,6 @@ use std::sync::atomic::AtomicBool;
 
 /// What a load answers.
 pub(crate) type Loaded = Result<Result<u32, RetriesExhausted>, PollError>;
-
-/// Polls the call once. Where that is pending it is dropped, and None is answered.
-pub(crate) fn poll_once<R: Wait + RandomSource + AllocGlobal, S: State<R, Output: Drop>>(
-    rt: &R,
-    state: S,
-) -> io::Result<Option<Result<S::Output, PollError>>>
-    requires { S.can_poll state }
-{
-    Polled::new(rt, state, At(0)).now_or_never(rt)
-}
 
 /// Runs the call to its end, and sets the flag after each poll.
 pub(crate) fn run_setting<R: Wait + RandomSource + AllocGlobal, S: State<R, Output: Drop>>(

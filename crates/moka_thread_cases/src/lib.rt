@@ -1,4 +1,4 @@
-//! Worked cases of loads by threads, and of a cache of names: what no clause of `Cache` says.
+//! Worked cases of a cache that threads share, and of a cache of names: what no clause of `Cache` says.
 #![tactic(auto)]
 
 #[cfg(test)]
@@ -9,5 +9,7 @@ mod calls;
 mod naming;
 #[cfg(test)]
 mod same_keys;
+#[cfg(test)]
+mod threads;
 #[cfg(test)]
 mod trying;

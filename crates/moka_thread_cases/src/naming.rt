@@ -2,7 +2,7 @@
 
 use bytes::ByteStr;
 use moka_cache::{Cache, CacheBuilder, PollError};
-use moka_cache_cases::run::run;
+use moka_cache_runs::run::run;
 use std::alloc::AllocGlobal;
 use std::io;
 use std::random::RandomSource;

@@ -1,10 +1,11 @@
 //! Loads of the same keys, by threads that share a cache.
 
-use crate::calls::poll_once;
 use moka_cache::Cache;
-use moka_cache_cases::at::Numbers;
-use moka_cache_cases::inits::After;
-use moka_cache_cases::run::run;
+use moka_cache_runs::at::Numbers;
+use moka_cache_runs::inits::After;
+use moka_cache_runs::numbers::numbers;
+use moka_cache_runs::once::poll_once;
+use moka_cache_runs::run::run;
 use std::alloc::AllocGlobal;
 use std::random::RandomSource;
 use std::sync::Wait;
@@ -40,7 +41,7 @@ fn load_dropped<'a, R: Wait + RandomSource + AllocGlobal>(
     key: u32,
     polled: &'a AtomicU64,
 ) -> io::Result<bool> {
-    let loaded = poll_once(rt, cache.get_with(key, init_of(key, polled)))?;
+    let loaded = poll_once(rt, numbers(cache.get_with(key, init_of(key, polled))))?;
     Ok(loaded.is_none() || loaded == Some(Ok(Ok(key.wrapping_mul(3)))))
 }
 

@@ -2,8 +2,8 @@
 
 use futures::task::{Context, Poll};
 use moka_cache::{Cache, Init, LoadError};
-use moka_cache_cases::at::Numbers;
-use moka_cache_cases::run::run;
+use moka_cache_runs::at::Numbers;
+use moka_cache_runs::run::run;
 use std::alloc::{AllocError, AllocGlobal, Global};
 use std::random::RandomSource;
 use std::sync::Wait;

@@ -4,6 +4,8 @@ ghost use Rattle.std.specs.Hash as fed;
 ghost use Rattle.std.specs.Ordering.{on};
 ghost use Rattle.std.specs.Cmp.Rules.{comparing, hashing};
 ghost use Rattle.std.proofs.Common.{rules};
+ghost use Rattle.moka_machine.specs.Machine.{IsValid};
+ghost use Rattle.moka_uses.specs.ReadBack.{no_tests};
 
 use crate::NoTests;
 use crate::reading::{LOG, RULES, run_all};
@@ -76,15 +78,28 @@ fn of_reply(reply: &Reply<Name, u32, u16>) -> char {
     }
 }
 
-/// The spellings in the replies to the events on a fresh cache.
-fn spellings(alloc: Global, events: &[Event<Name, u32, u16>]) -> Result<String, AllocError> {
-    let mut cache = Machine::build(alloc, RULES, LOG, NoTests)?;
-    let report = run_all(alloc, &mut cache, events)?;
+/// The spellings in the replies to the events.
+fn spellings_on(
+    alloc: Global,
+    cache: &mut Machine<Name, u32, u16, NoTests>,
+    events: &[Event<Name, u32, u16>],
+) -> Result<String, AllocError>
+    requires { IsValid (on (λ name. name.number) nat_eq) no_tests cache.old }
+{
+    let report = run_all(alloc, cache, events)?;
     let mut spelled = String::new(alloc);
     for reply in report.replies.as_slice() {
         spelled.push(of_reply(reply))?;
     }
     Ok(spelled)
+}
+
+/// The same on a fresh cache.
+fn spellings(alloc: Global, events: &[Event<Name, u32, u16>]) -> Result<String, AllocError> {
+    let mut cache = Machine::build(alloc, RULES, LOG, NoTests)?;
+    let spelled = spellings_on(alloc, &mut cache, events);
+    drop(cache);
+    spelled
 }
 
 /// Starts the call, polls it to its ask, tells that, and polls it to its answer.

@@ -132,7 +132,12 @@ pub fn read_back<K: Eq + Hash + Clone + Drop, V: Clone + Drop>(
     let looks = looking(alloc, key.clone()?)?;
     let stores = storing(alloc, key, value)?;
     let mut cache = Machine::build(alloc, RULES, LOG, NoTests)?;
-    run_all(alloc, &mut cache, &stores)?;
-    let report = run_all(alloc, &mut cache, &looks)?;
+    let Ok(_) = run_all(alloc, &mut cache, &stores) else {
+        drop(cache);
+        return Err(AllocError);
+    };
+    let looked = run_all(alloc, &mut cache, &looks);
+    drop(cache);
+    let report = looked?;
     found(report.replies.as_slice())
 }

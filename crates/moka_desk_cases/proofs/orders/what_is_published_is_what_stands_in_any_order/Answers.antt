@@ -3,8 +3,8 @@ use Rattle.std.proofs.Common.{false, []}
 use Rattle.moka_desk_cases.specs.Rests.{untouched}
 use Rattle.moka_desk_cases.proofs.orders.what_is_published_is_what_stands_in_any_order.Goals as goal
 
-pub are_counted-requires : goal.are_counted-requires
-are_counted-requires g c = ([], (untouched c.rules_with.result, c.in_ok-whole.ensures.stands (λ test key value. false)))
+pub are_counted-in_whole-requires : goal.are_counted-in_whole-requires
+are_counted-in_whole-requires g c = ([], (untouched c.rules_with.result, c.in_ok-whole.ensures.stands (λ test key value. false)))
 
-pub are_counted-requires-in-loop-order : goal.are_counted-requires-in-loop-order
-are_counted-requires-in-loop-order g c = ([], (untouched c.rules_with-in-loop-order.result, c.in_ok-brief.ensures.stands (λ test key value. false)))
+pub are_counted-in_brief-requires : goal.are_counted-in_brief-requires
+are_counted-in_brief-requires g c = ([], (untouched c.rules_with-in-loop-order.result, c.in_ok-brief.ensures.stands (λ test key value. false)))

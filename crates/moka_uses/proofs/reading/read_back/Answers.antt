@@ -11,10 +11,10 @@ returns g c =
     let same = c.requires.keys c.args.key c.in_ok-clone.field-0 c.in_ok-clone.ensures.cases in
     let looks = c.deref-2.ensures.value ∙ c.in_ok-looks.ensures ∙ ap looking same in
     IfOk-weaker c.found.result _ (λ found. IsReadBack eq c.args.key c.args.value found)
-    (λ found is. read_back_of eq c.in_ok-cache.cache c.run_all.new.cache c.run_all-2.new.cache c.args.key c.args.value c.deref.result.now
-    c.deref-2.result.now c.in_ok-run_all.field-0.replies c.in_ok-report.report.replies is.0 is.1 found
+    (λ found is. read_back_of eq c.in_ok-cache.cache c.run_all.new.cache c.run_all-looked.new.cache c.args.key c.args.value c.deref.result.now
+    c.deref-2.result.now c.in-Ok.field-0.replies c.in_ok-report.report.replies is.0 is.1 found
     c.reached_by_lawful_run.ensures.reached c.in_ok-cache.ensures.fresh (c.deref.ensures.value ∙ c.in_ok-stores.ensures)
-    c.in_ok-run_all.ensures.run looks c.in_ok-report.ensures.run (sym c.as_slice.ensures ∙ is.2) is.3)
+    c.in-Ok.ensures.run looks c.in_ok-report.ensures.run (sym c.as_slice.ensures ∙ is.2) is.3)
     c.found.ensures
 
 pub found-requires-clause-two : goal.found-requires-clause-two

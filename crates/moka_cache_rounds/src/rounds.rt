@@ -1,0 +1,260 @@
+//! Where the calls of each kind come from.
+
+use crate::calls::Begins;
+use crate::later::{Later, MayFail, Puts};
+use crate::ways::Way;
+use moka_cache::{
+    Cache, ComputeWith, Get, GetWith, Insert, Listener, NoListener, OptionallyGetWith, OrInsert,
+    OrInsertWith, OrOptionallyInsertWith, OrTryInsertWith, Remove, TryComputeAlone, TryComputeWith,
+    TryGetWith, UpsertWith,
+};
+use std::sync::Wait;
+
+/// A cache of numbers, with this listener.
+pub type Numbers<L = NoListener> = Cache<u64, u64, u64, L>;
+
+/// What a value is loaded by where there may be none, and where that may fail.
+type Optional = Later<Option<u64>>;
+
+type Tried = Later<Result<u64, u64>>;
+
+/// The states of the calls.
+pub type Gets<'a, L> = Get<'a, u64, u64, u64, L>;
+
+pub type Inserts<'a, L> = Insert<'a, u64, u64, u64, L>;
+
+pub type Removals<'a, L> = Remove<'a, u64, u64, u64, L>;
+
+pub type Loads<'a, L> = GetWith<'a, u64, u64, u64, Later<u64>, L>;
+
+pub type OptionalLoads<'a, L> = OptionallyGetWith<'a, u64, u64, u64, Optional, L>;
+
+pub type TriedLoads<'a, L> = TryGetWith<'a, u64, u64, u64, Tried, L>;
+
+pub type OrInserts<'a, L> = OrInsert<'a, u64, u64, u64, L>;
+
+pub type Entries<'a, L> = OrInsertWith<'a, u64, u64, u64, Later<u64>, L>;
+
+pub type OptionalEntries<'a, L> = OrOptionallyInsertWith<'a, u64, u64, u64, Optional, L>;
+
+pub type TriedEntries<'a, L> = OrTryInsertWith<'a, u64, u64, u64, Tried, L>;
+
+pub type Computes<'a, L> = ComputeWith<'a, u64, u64, u64, Puts, L>;
+
+pub type TriedComputes<'a, L> = TryComputeWith<'a, u64, u64, u64, MayFail, L>;
+
+pub type LoneComputes<'a, L> = TryComputeAlone<'a, u64, u64, u64, MayFail, L>;
+
+pub type Upserts<'a, L> = UpsertWith<'a, u64, u64, u64, Puts, L>;
+
+/// The rounds of a thread: a cache, and what its calls are made of.
+#[derive(Drop)]
+pub struct Rounds<'a, L> {
+    pub cache: &'a Numbers<L>,
+    /// The keys that are lent, and the one that is where there are none.
+    lent: &'a [u64],
+    other: &'a u64,
+    /// How many keys there are, how far each is from the one before, and which is the first.
+    keys: u64,
+    step: u64,
+    first: u64,
+    /// Who is asked pends at its first poll.
+    pends: bool,
+    /// Who is asked fails or finds nothing, and a replace test holds.
+    pub otherwise: bool,
+}
+
+impl<'a, L> Rounds<'a, L> {
+    /// Rounds of this thread over these keys: each call's is another, far from the one before.
+    pub fn over(cache: &'a Numbers<L>, lent: &'a [u64], thread: u64) -> Self {
+        Rounds {
+            cache,
+            lent,
+            other: &0,
+            keys: lent.len() as u64,
+            step: 7919,
+            first: thread,
+            pends: false,
+            otherwise: false,
+        }
+    }
+
+    /// Rounds over these keys, one after the other.
+    pub fn in_order(cache: &'a Numbers<L>, lent: &'a [u64]) -> Self {
+        let mut rounds = Rounds::over(cache, lent, 0);
+        rounds.step = 1;
+        rounds
+    }
+
+    /// Rounds over the keys below a number, one after the other. None is lent.
+    pub fn below(cache: &'a Numbers<L>, keys: u64) -> Self {
+        let mut rounds = Rounds::in_order(cache, &[]);
+        rounds.keys = keys;
+        rounds
+    }
+
+    /// The same for calls that are made in this way.
+    pub fn made(&self, way: Way) -> Self {
+        Rounds {
+            cache: self.cache,
+            lent: self.lent,
+            other: self.other,
+            keys: self.keys,
+            step: self.step,
+            first: self.first,
+            pends: way.pends(),
+            otherwise: self.otherwise,
+        }
+    }
+
+    /// The same where who is asked fails or finds nothing, and a replace test holds.
+    pub fn turned(self) -> Self {
+        let mut turned = self;
+        turned.otherwise = true;
+        turned
+    }
+
+    /// The key of a round.
+    pub fn key(&self, round: u64) -> u64 {
+        let place = round.wrapping_mul(self.step).wrapping_add(self.first);
+        place.checked_rem(self.keys).unwrap_or(0)
+    }
+
+    // The same key, lent.
+    fn lent(&self, round: u64) -> &'a u64 {
+        self.lent
+            .get(self.key(round) as usize)
+            .unwrap_or(self.other)
+    }
+
+    /// Who gives the value.
+    pub fn value(&self, value: u64) -> Later<u64> {
+        self.later(value)
+    }
+
+    // Who gives it, or tells that there is none.
+    fn option(&self, value: u64) -> Optional {
+        if self.otherwise {
+            return self.later(None);
+        }
+        self.later(Some(value))
+    }
+
+    // Who gives it, or fails.
+    fn result(&self, value: u64) -> Tried {
+        if self.otherwise {
+            return self.later(Err(value));
+        }
+        self.later(Ok(value))
+    }
+
+    fn later<T>(&self, output: T) -> Later<T> {
+        Later {
+            output,
+            pends: self.pends,
+        }
+    }
+}
+
+impl<'a, R: Wait, L: Listener<u64, u64>> Begins<R, Gets<'a, L>> for Rounds<'a, L> {
+    fn begin(&self, round: u64) -> Gets<'a, L> {
+        self.cache.get(self.lent(round))
+    }
+}
+
+impl<'a, R: Wait, L: Listener<u64, u64>> Begins<R, Inserts<'a, L>> for Rounds<'a, L> {
+    fn begin(&self, round: u64) -> Inserts<'a, L> {
+        self.cache.insert(self.key(round), round)
+    }
+}
+
+impl<'a, R: Wait, L: Listener<u64, u64>> Begins<R, Removals<'a, L>> for Rounds<'a, L> {
+    fn begin(&self, round: u64) -> Removals<'a, L> {
+        self.cache.remove(self.lent(round))
+    }
+}
+
+impl<'a, R: Wait, L: Listener<u64, u64>> Begins<R, Loads<'a, L>> for Rounds<'a, L> {
+    fn begin(&self, round: u64) -> Loads<'a, L> {
+        let key = self.key(round);
+        self.cache.get_with(key, self.value(key))
+    }
+}
+
+impl<'a, R: Wait, L: Listener<u64, u64>> Begins<R, OptionalLoads<'a, L>> for Rounds<'a, L> {
+    fn begin(&self, round: u64) -> OptionalLoads<'a, L> {
+        let key = self.key(round);
+        self.cache.optionally_get_with(key, self.option(key))
+    }
+}
+
+impl<'a, R: Wait, L: Listener<u64, u64>> Begins<R, TriedLoads<'a, L>> for Rounds<'a, L> {
+    fn begin(&self, round: u64) -> TriedLoads<'a, L> {
+        let key = self.key(round);
+        self.cache.try_get_with(key, self.result(key))
+    }
+}
+
+impl<'a, R: Wait, L: Listener<u64, u64>> Begins<R, OrInserts<'a, L>> for Rounds<'a, L> {
+    fn begin(&self, round: u64) -> OrInserts<'a, L> {
+        let key = self.key(round);
+        self.cache.entry(key).or_insert(key)
+    }
+}
+
+impl<'a, R: Wait, L: Listener<u64, u64>> Begins<R, Entries<'a, L>> for Rounds<'a, L> {
+    fn begin(&self, round: u64) -> Entries<'a, L> {
+        let key = self.key(round);
+        self.cache.entry(key).or_insert_with(self.value(key))
+    }
+}
+
+impl<'a, R: Wait, L: Listener<u64, u64>> Begins<R, OptionalEntries<'a, L>> for Rounds<'a, L> {
+    fn begin(&self, round: u64) -> OptionalEntries<'a, L> {
+        let key = self.key(round);
+        self.cache
+            .entry(key)
+            .or_optionally_insert_with(self.option(key))
+    }
+}
+
+impl<'a, R: Wait, L: Listener<u64, u64>> Begins<R, TriedEntries<'a, L>> for Rounds<'a, L> {
+    fn begin(&self, round: u64) -> TriedEntries<'a, L> {
+        let key = self.key(round);
+        self.cache.entry(key).or_try_insert_with(self.result(key))
+    }
+}
+
+impl<'a, R: Wait, L: Listener<u64, u64>> Begins<R, Computes<'a, L>> for Rounds<'a, L> {
+    fn begin(&self, round: u64) -> Computes<'a, L> {
+        let key = self.key(round);
+        self.cache
+            .entry(key)
+            .and_compute_with(Puts(self.value(key)))
+    }
+}
+
+impl<'a, R: Wait, L: Listener<u64, u64>> Begins<R, TriedComputes<'a, L>> for Rounds<'a, L> {
+    fn begin(&self, round: u64) -> TriedComputes<'a, L> {
+        let key = self.key(round);
+        self.cache
+            .entry(key)
+            .and_try_compute_with(MayFail(self.result(key)))
+    }
+}
+
+impl<'a, R: Wait, L: Listener<u64, u64>> Begins<R, LoneComputes<'a, L>> for Rounds<'a, L> {
+    fn begin(&self, round: u64) -> LoneComputes<'a, L> {
+        let key = self.key(round);
+        self.cache
+            .entry(key)
+            .and_try_compute_if_nobody_else(MayFail(self.result(key)))
+    }
+}
+
+impl<'a, R: Wait, L: Listener<u64, u64>> Begins<R, Upserts<'a, L>> for Rounds<'a, L> {
+    fn begin(&self, round: u64) -> Upserts<'a, L> {
+        let key = self.key(round);
+        self.cache.entry(key).and_upsert_with(Puts(self.value(key)))
+    }
+}

@@ -1,0 +1,19 @@
+//! Calls of a cache that are polled once.
+
+use crate::at::At;
+use futures::FutureExt;
+use moka_cache::{PollError, Polled, State};
+use std::alloc::AllocGlobal;
+use std::io;
+use std::random::RandomSource;
+use std::sync::Wait;
+
+/// Polls the call once, at moment 0. Where that is pending it is dropped, and None is answered.
+pub fn poll_once<R: Wait + RandomSource + AllocGlobal, S: State<R>>(
+    rt: &R,
+    call: S,
+) -> io::Result<Option<Result<S::Output, PollError>>>
+    requires { S.can_poll call }
+{
+    Polled::new(rt, call, At(0)).now_or_never(rt)
+}

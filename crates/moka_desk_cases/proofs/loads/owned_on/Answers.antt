@@ -1,0 +1,33 @@
+use Rattle.std.proofs.Common.{ℕ, None, nat_eq, refl}
+use Rattle.moka_hist.specs.State.{DeskPart}
+use Rattle.moka_hist.specs.Visits.{claimed, settled_as}
+use Rattle.moka_hist.specs.declared.loads.Kind.TheVariants as kind
+use Rattle.moka_hist.specs.declared.rules.Rules.{Rules}
+use Rattle.moka_hist.specs.declared.visits.Settled.TheVariants as settled
+use Rattle.moka_desk_cases.specs.Rests.{untouched}
+use Rattle.moka_desk_cases.proofs.loads.owned_on.Goals as goal
+
+-- call 1 computes alone
+abbrev alone : Rules → DeskPart ℕ ℕ ℕ
+alone rules = claimed nat_eq (untouched rules) 1 (record { key = 5; kind = kind.Compute }) None
+
+pub owned-requires-clause-free : goal.owned-requires-clause-free
+owned-requires-clause-free c = (untouched c.requires.0, c.requires.1, (refl, refl))
+
+pub owned-requires-2-clause-free : goal.owned-requires-2-clause-free
+owned-requires-2-clause-free c =
+    let rules = c.requires.0 in
+    (alone rules, c.in_ok-alone.ensures.makes (untouched rules) c.requires.1 (refl, refl), (refl, refl))
+
+pub settle-requires : goal.settle-requires
+settle-requires c =
+    let rules = c.requires.0 in
+    let owns = c.in_ok-alone.ensures.makes (untouched rules) c.requires.1 (refl, refl) in
+    (alone rules, c.in_ok-beside.ensures.makes (alone rules) owns (refl, refl), refl)
+
+pub owned-requires-3-clause-free : goal.owned-requires-3-clause-free
+owned-requires-3-clause-free c =
+    let rules = c.requires.0 in
+    let owns = c.in_ok-alone.ensures.makes (untouched rules) c.requires.1 (refl, refl) in
+    let beside = c.in_ok-beside.ensures.makes (alone rules) owns (refl, refl) in
+    (settled_as (alone rules) 1 settled.Nothing, c.settle.ensures.makes (alone rules) beside refl, (refl, refl))

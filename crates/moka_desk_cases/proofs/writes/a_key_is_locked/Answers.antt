@@ -1,0 +1,8 @@
+use Rattle.std.proofs.Common.{refl}
+use Rattle.moka_desk_cases.specs.Rests.{untouched}
+use Rattle.moka_desk_cases.proofs.writes.a_key_is_locked.Goals as goal
+
+pub lock_key-locked-requires-clause-free : goal.lock_key-locked-requires-clause-free
+lock_key-locked-requires-clause-free g c =
+    let new = c.in_ok-desk.ensures in
+    (untouched new.0, new.1, refl)

@@ -1,0 +1,150 @@
+//! Worked schedules in which calls are dropped. ` / ` parts lines.
+
+use crate::in_memory::{are_reported, first_misreported};
+use std::alloc::{AllocError, Global};
+use std::test::Fail;
+
+const DROPPED_OWNERS: [(&str, &str); 3] = [
+    (
+        "cache log=8 / start get_with 1 / start get_with 1 / poll 1 / poll 2 / drop 1 / poll 2 / tell 2 value 9 / poll 2",
+        "call 1 / call 2 / ask init / wait / dropped / ask init / told / answer value 9 fresh / entry 1 9 stamp 2 at 0 / write 2 logged",
+    ),
+    (
+        "cache log=8 / start get_with 1 / start get_with 1 / start get_with 1 / start get_with 1 / poll 1 / poll 2 / poll 3 / poll 4 / drop 1 / poll 2 / poll 3 / drop 2 / poll 3 / poll 4 / tell 3 value 9 / poll 3 / poll 4",
+        "call 1 / call 2 / call 3 / call 4 / ask init / wait / wait / wait / dropped / ask init / wait / dropped / ask init / wait / told / answer value 9 fresh / answer value 9 / entry 1 9 stamp 3 at 0 / write 3 logged",
+    ),
+    (
+        "cache log=8 / start get_with 1 / poll 1 / start get_with 1 / poll 2 / tell 1 value 7 / drop 1 / poll 2 / tell 2 value 8 / poll 2",
+        "call 1 / ask init / call 2 / wait / told / dropped / ask init / told / answer value 8 fresh / entry 1 8 stamp 2 at 0 / write 2 logged",
+    ),
+];
+
+#[test]
+fn a_dropped_owner_leaves_the_load_to_one_that_waits(rt: HostRuntime) -> Result<(), Fail> {
+    are_reported(&rt, &DROPPED_OWNERS)
+}
+
+const DROPPED_WAITER: [(&str, &str); 1] = [(
+    "cache log=8 / start get_with 1 / poll 1 / start get_with 1 / poll 2 / drop 2 / poll 2 / tell 1 value 7 / poll 1",
+    "call 1 / ask init / call 2 / wait / dropped / refused UnknownCall / told / answer value 7 fresh / entry 1 7 stamp 1 at 0 / write 1 logged",
+)];
+
+#[test]
+fn a_dropped_waiter_leaves_the_owner(rt: HostRuntime) -> Result<(), Fail> {
+    are_reported(&rt, &DROPPED_WAITER)
+}
+
+#[test]
+fn a_dropped_write_is_owed_and_drained_by_the_next_call(rt: HostRuntime) -> Result<(), Fail> {
+    let schedule =
+        "cache log=1 / start insert 1 5 / poll 1 / start insert 2 6 / start insert 3 7 / step 2 / step 2 / step 2 / step 2 / step 3 / step 3 / step 3 / step 3 / step 3 / step 2 / drop 2 / poll 3";
+    let replies =
+        "call 1 / answer done / call 2 / call 3 / going / going / going / going / going / going / going / going / going / wait / dropped / answer done";
+    let entries = "entry 1 5 stamp 1 at 0 / entry 2 6 stamp 2 at 0 / entry 3 7 stamp 3 at 0";
+    let owed = format!(in rt.alloc();
+        "{replies} / {entries} / write 1 applied / write 2 owed / write 3 logged"
+    )?;
+    let drains = format!(in rt.alloc(); "{schedule} / start get 2 / poll 4")?;
+    let drained = format!(in rt.alloc();
+        "{replies} / call 4 / answer some 6 / {entries} / write 1 applied / write 2 logged / write 3 applied"
+    )?;
+    let rows = [
+        (
+            "cache log=8 / start insert 1 5 / step 1 / step 1 / step 1",
+            "call 1 / going / going / going / entry 1 5 stamp 1 at 0 / write 1 held",
+        ),
+        (schedule, owed.as_str()),
+        (drains.as_str(), drained.as_str()),
+    ];
+    are_reported(&rt, &rows)
+}
+
+/// A schedule in which so many owners of one load are dropped, each before the call that waits for
+/// it is polled, and its report. `start` is what an owner is started for, and `waiting` what call 2
+/// is, which waits for each of them.
+fn dropped_owners(
+    alloc: Global,
+    start: &str,
+    waiting: &str,
+    owners: u64,
+) -> Result<(String, String), AllocError> {
+    let mut schedule = format!(in alloc;
+        "cache log=8 / start {start} / poll 1 / start {waiting} / poll 2 / drop 1"
+    )?;
+    let mut report = String::from_str(alloc, "call 1 / ask init / call 2 / wait / dropped")?;
+    for owner in 3..owners.saturating_add(2) {
+        write!(
+            schedule,
+            " / start {start} / poll {owner} / poll 2 / drop {owner}"
+        )?;
+        write!(report, " / call {owner} / ask init / wait / dropped")?;
+    }
+    Ok((schedule, report))
+}
+
+/// A schedule in which so many owners of a key's computes are dropped, each before the compute that
+/// waits for it is polled, and its report. The last is the waiting one's.
+fn dropped_computes(alloc: Global, owners: u64) -> Result<(String, String), AllocError> {
+    let mut schedule = String::from_str(
+        alloc,
+        "cache log=8 / start compute 1 / poll 1 / start compute 1 / poll 2 / drop 1",
+    )?;
+    let mut report = String::from_str(
+        alloc,
+        "call 1 / ask compute none / call 2 / wait / dropped",
+    )?;
+    for owner in 3..owners.saturating_add(2) {
+        write!(
+            schedule,
+            " / start upsert 1 / poll {owner} / poll 2 / drop {owner}"
+        )?;
+        write!(
+            report,
+            " / call {owner} / ask compute none / wait / dropped"
+        )?;
+    }
+    schedule.push_str(" / poll 2 / tell 2 put 5 / poll 2")?;
+    report.push_str(" / ask compute none / told / answer inserted 5")?;
+    report.push_str(" / entry 1 5 stamp 2 at 0 / write 2 logged")?;
+    Ok((schedule, report))
+}
+
+#[test]
+fn a_compute_never_gives_up(rt: HostRuntime) -> Result<(), Fail> {
+    let (schedule, report) = dropped_computes(rt.alloc(), 300)?;
+    let rows = [(schedule.as_str(), report.as_str())];
+    are_reported(&rt, &rows)
+}
+
+/// What the owners of a load are started for, and what the call is that waits for them.
+const LOADS: [(&str, &str); 4] = [
+    ("get_with 1", "get_with 1"),
+    ("get_with 1", "get_with 1 if 2"),
+    ("optional 1", "optional 1"),
+    ("try 1", "try 1"),
+];
+
+#[test]
+fn a_load_gives_up_at_the_200th_dropped_owner(rt: HostRuntime) -> Result<(), Fail> {
+    for (start, waiting) in LOADS {
+        let (mut schedule, mut report) = dropped_owners(rt.alloc(), start, waiting, 200)?;
+        schedule.push_str(" / poll 2")?;
+        report.push_str(" / answer exhausted")?;
+        let rows = [(schedule.as_str(), report.as_str())];
+        assert_eq!(rt; first_misreported(rt.alloc(), &rows)?, None, "{waiting}");
+    }
+    Ok(())
+}
+
+#[test]
+fn a_load_that_saw_199_dropped_owners_goes_on(rt: HostRuntime) -> Result<(), Fail> {
+    for (start, waiting) in LOADS {
+        let (mut schedule, mut report) = dropped_owners(rt.alloc(), start, waiting, 199)?;
+        schedule.push_str(" / poll 2 / tell 2 value 7 / poll 2")?;
+        report.push_str(" / ask init / told / answer value 7 fresh")?;
+        report.push_str(" / entry 1 7 stamp 2 at 0 / write 2 logged")?;
+        let rows = [(schedule.as_str(), report.as_str())];
+        assert_eq!(rt; first_misreported(rt.alloc(), &rows)?, None, "{waiting}");
+    }
+    Ok(())
+}

@@ -1,0 +1,224 @@
+//! Schedules driven by single steps come to what they come to by polls.
+ghost use Rattle.std.specs.Prelude.{nat_eq};
+ghost use Rattle.moka_machine.specs.Machine.{IsValid};
+ghost use Rattle.moka_machine.specs.NumberTest.{number_tests};
+
+use crate::fresh::{machine_for, schedule_of};
+use moka_hist::{Event, Notice, Place, Reply, Stored};
+use moka_run::{Machine, NumberTests, run};
+use std::alloc::{AllocError, Global};
+use std::slice;
+use std::test::Fail;
+
+/// What a schedule came to: the replies, what is stored by key, where the writes stand, and how far
+/// the notices are.
+#[derive(PartialEq, Debug, Drop)]
+struct Outcome {
+    replies: Vec<Reply<u32, u32, u32>>,
+    entries: Vec<(u32, Stored<u32>)>,
+    places: Vec<(u64, Place)>,
+    notices: Vec<Notice<u32, u32>>,
+}
+
+/// Ten schedules without single steps. ` / ` parts lines.
+const SCHEDULES: [&str; 10] = [
+    "cache / start get 1 / poll 1",
+    "cache log=8 / start insert 1 5 / poll 1 / start get 1 / poll 2",
+    "cache log=8 / start insert 1 5 / poll 1 / start insert 1 6 / poll 2 / start get 1 / poll 3",
+    "cache log=1 / start insert 1 5 / poll 1 / start insert 2 6 / poll 2 / start insert 3 7 / poll 3",
+    "cache log=2 / at 3 / start insert 1 5 / start insert 2 6 / poll 2 / poll 1 / at 9 / start get 1 / poll 3",
+    "cache log=8 / start get_with 1 / poll 1 / tell 1 value 7 / poll 1 / start get_with 1 / poll 2",
+    "cache log=8 / start get_with 1 / start get_with 1 / poll 1 / poll 2 / tell 1 value 7 / poll 2 / poll 1 / poll 2",
+    "cache log=8 / start get_with 1 / start get_with 1 / poll 1 / poll 2 / drop 1 / poll 2 / tell 2 value 9 / poll 2",
+    "cache log=1 / start get_with 1 / start get_with 2 / poll 1 / poll 2 / tell 2 value 4 / tell 1 value 3 / poll 1 / poll 2",
+    "cache log=8 / start get_with 1 / poll 1 / start insert 1 5 / poll 2 / tell 1 done / tell 1 value 6 / drop 2 / poll 1",
+];
+
+/// Schedules under a listener.
+const HEARD: [&str; 10] = [
+    "cache log=8 listener / start insert 1 5 / poll 1 / start insert 1 6 / poll 2 / tell 2 done / poll 2 / start get 1 / poll 3",
+    "cache log=8 listener / start insert 1 5 / poll 1 / start insert 1 6 / poll 2 / drop 2 / start get 1 / poll 3 / tell 2 done / poll 3",
+    "cache log=8 listener / start insert 1 5 / poll 1 / start insert 1 6 / poll 2 / drop 2 / start get 1 / poll 3 / tell 2 done / drop 3 / start get 1 / poll 4",
+    "cache log=8 listener / start insert 1 5 / poll 1 / start insert 1 6 / poll 2 / drop 2 / start get 1 / poll 3 / drop 3 / tell 2 done / start get 1 / poll 4",
+    "cache log=8 listener / start insert 1 5 / poll 1 / start insert 1 6 / poll 2 / tell 2 off / poll 2 / start insert 1 7 / poll 3",
+    "cache log=8 listener / start insert 1 5 / poll 1 / start insert 1 6 / poll 2 / start insert 1 7 / poll 3 / at 9 / tell 2 done / poll 3 / poll 2 / poll 3",
+    "cache log=8 listener / start insert 1 5 / poll 1 / start insert 1 6 / poll 2 / start insert 1 7 / poll 3 / drop 2 / poll 3",
+    "cache log=8 listener / start get_with 1 / start get_with 1 / poll 1 / poll 2 / start insert 1 5 / poll 3 / tell 1 value 7 / poll 1 / drop 1 / poll 2",
+    "cache log=8 listener / start insert 1 5 / poll 1 / start insert 1 6 / poll 2 / tell 2 value 9 / tell 2 done / tell 2 done / start get_with 2 / poll 3 / tell 3 done / tell 3 off",
+    "cache log=1 listener / start insert 1 5 / poll 1 / start insert 1 6 / poll 2 / tell 2 done / poll 2 / start insert 1 7 / poll 3 / tell 3 done / poll 3",
+];
+
+/// Schedules in which records are taken out, or which store nothing.
+const REMOVALS: [&str; 10] = [
+    "cache log=8 / start insert 1 5 / poll 1 / start remove 1 / poll 2 / start remove 1 / poll 3 / start get 1 / poll 4",
+    "cache log=8 / start insert 1 5 / poll 1 / start invalidate 1 / poll 2 / start invalidate 1 / poll 3",
+    "cache log=1 / start insert 1 5 / poll 1 / start remove 1 / poll 2 / start insert 2 6 / poll 3",
+    "cache cap=1 log=8 / start insert 1 5 / poll 1 / start evict 1 9 Size / poll 2 / start evict 1 1 Expired / poll 3 / start evict 1 1 Size / poll 4 / start remove 1 / poll 5 / start invalidate 1 / poll 6",
+    "cache cap=0 log=8 / start insert 1 5 / poll 1 / start get 1 / poll 2 / start get_with 1 / poll 3 / tell 3 value 3 / poll 3",
+    "cache cap=0 log=8 / start get_with 1 / start get_with 1 / poll 1 / poll 2 / drop 1 / poll 2 / tell 2 value 8 / poll 2",
+    "cache log=8 listener / start insert 1 5 / poll 1 / start remove 1 / poll 2 / start insert 1 6 / poll 3 / start invalidate 1 / poll 4 / tell 2 done / poll 2 / poll 3 / poll 4",
+    "cache cap=1 log=8 listener / start insert 1 5 / poll 1 / start evict 1 1 Size / poll 2 / drop 2 / tell 2 done / start evict 1 1 Size / poll 3 / start get 1 / poll 4",
+    "cache log=8 listener / start insert 1 5 / poll 1 / start insert 1 6 / poll 2 / tell 2 off / poll 2 / start invalidate 1 / poll 3",
+    "cache cap=0 log=8 listener / start remove 1 / poll 1 / start invalidate 1 / poll 2 / start evict 1 1 Size / poll 3",
+];
+
+/// Schedules of loads that fail, find nothing, load again or insert.
+const LOADS: [&str; 10] = [
+    "cache log=8 / start get_with 1 / start optional 1 / start try 1 / poll 1 / poll 2 / poll 3 / tell 3 error 1 / tell 2 nothing / tell 1 value 1 / poll 3 / poll 2 / poll 1",
+    "cache log=8 / start try 1 / start try 1 / poll 1 / poll 2 / tell 1 error 3 / poll 1 / poll 2",
+    "cache log=8 / start try 1 / start try 1 / poll 1 / poll 2 / tell 1 error 3 / poll 2 / drop 1 / poll 2",
+    "cache log=1 / start optional 1 / start optional 1 / poll 1 / poll 2 / tell 1 value 3 / poll 1 / poll 2 / start try 1 / poll 3",
+    "cache log=8 / start insert 1 4 / poll 1 / start get_with 1 if 2 / poll 2 / tell 2 value 5 / poll 2 / start get_with 1 if 2 / poll 3",
+    "cache log=8 listener / start insert 1 4 / poll 1 / start get_with 1 if 2 / start get_with 1 if 2 / poll 2 / poll 3 / tell 2 value 6 / poll 2 / poll 3 / tell 2 done / poll 2 / poll 3",
+    "cache log=8 listener / start insert 1 5 / poll 1 / start remove 1 / poll 2 / start or_insert 1 6 / poll 3 / start or_insert 1 7 / poll 4 / tell 2 done / poll 2 / poll 3 / poll 4 / tell 4 done / poll 4",
+    "cache log=1 / start or_insert 1 6 / poll 1 / start or_insert 2 7 / poll 2 / start or_insert 1 8 / poll 3",
+    "cache cap=0 log=8 / start or_insert 1 6 / poll 1 / start optional 1 / start optional 1 / poll 2 / poll 3 / tell 2 nothing / poll 2 / poll 3",
+    "cache cap=0 log=8 / start try 1 / start try 1 / poll 1 / poll 2 / drop 1 / poll 2 / tell 2 value 8 / poll 2",
+];
+
+/// Schedules of computes.
+const COMPUTES: [&str; 10] = [
+    "cache log=8 / start compute 1 / poll 1 / start compute_alone 1 / poll 2 / tell 1 put 5 / poll 1 / start upsert 1 / poll 3 / tell 3 value 8 / poll 3 / start compute 1 / poll 4 / tell 4 nop / poll 4",
+    "cache log=8 / start try_compute 1 / start compute 1 / poll 1 / poll 2 / tell 1 error 4 / poll 1 / poll 2 / tell 2 put 5 / poll 2",
+    "cache log=8 / start insert 1 5 / poll 1 / start compute 1 / poll 2 / start insert 1 6 / poll 3 / tell 2 remove / poll 2",
+    "cache log=8 / start insert 1 5 / poll 1 / start compute 1 / poll 2 / start remove 1 / poll 3 / tell 2 remove / poll 2",
+    "cache log=1 / start upsert 1 / start upsert 1 / poll 1 / poll 2 / tell 1 value 5 / poll 1 / poll 2 / tell 2 value 6 / poll 2",
+    "cache log=8 / start compute 1 / start compute 1 / start compute 1 / poll 1 / poll 2 / poll 3 / drop 1 / poll 3 / poll 2 / tell 3 put 5 / poll 3 / poll 2 / tell 2 remove / poll 2",
+    "cache log=8 listener / start insert 1 5 / poll 1 / start compute 1 / poll 2 / tell 2 put 6 / poll 2 / start compute 1 / poll 3 / drop 2 / poll 3 / tell 2 done / poll 3",
+    "cache log=8 listener / start insert 1 5 / poll 1 / start compute 1 / poll 2 / tell 2 remove / poll 2 / start upsert 1 / poll 3 / tell 2 done / poll 2 / poll 3 / tell 3 value 6 / poll 3",
+    "cache log=8 listener / start compute 1 / poll 1 / tell 1 remove / poll 1 / start compute_alone 1 / poll 2 / tell 2 error 3 / poll 2",
+    "cache cap=0 log=8 / start compute 1 / start compute 1 / poll 1 / poll 2 / start compute_alone 1 / poll 3 / tell 1 put 5 / poll 1 / poll 2 / tell 2 remove / poll 2",
+];
+
+/// The reply to one event. None where memory is wanting.
+fn reply_to(
+    alloc: Global,
+    machine: &mut Machine<u32, u32, u32, NumberTests>,
+    event: &Event<u32, u32, u32>,
+) -> Option<Reply<u32, u32, u32>>
+    requires { IsValid nat_eq number_tests machine.old }
+    ensures { IsValid nat_eq number_tests machine.new }
+{
+    let report = match run(alloc, machine, slice::from_ref(event)) {
+        Ok(report) => report,
+        Err(_) => return None,
+    };
+    match report.replies.as_slice() {
+        [reply] => reply.clone().ok(),
+        _ => None,
+    }
+}
+
+/// The reply that a poll gives, by single steps, of which there are at most a hundred.
+fn reply_by_steps(
+    alloc: Global,
+    machine: &mut Machine<u32, u32, u32, NumberTests>,
+    call: u64,
+) -> Option<Reply<u32, u32, u32>>
+    requires { IsValid nat_eq number_tests machine.old }
+    ensures { IsValid nat_eq number_tests machine.new }
+{
+    for _step in 0..100 {
+        let reply = reply_to(alloc, machine, &Event::Step { call })?;
+        if reply != Reply::Going {
+            return Some(reply);
+        }
+        drop(reply);
+    }
+    None
+}
+
+/// What the schedule comes to, its polls made by single steps where so is asked.
+fn comes_to(alloc: Global, row: &str, by_steps: bool) -> Result<Outcome, AllocError> {
+    let schedule = schedule_of(alloc, row)?;
+    let mut machine = machine_for(alloc, &schedule)?;
+    let outcome = played(alloc, &mut machine, &schedule.events, by_steps);
+    drop(machine);
+    outcome
+}
+
+/// What the events come to on the machine.
+fn played(
+    alloc: Global,
+    machine: &mut Machine<u32, u32, u32, NumberTests>,
+    events: &[Event<u32, u32, u32>],
+    by_steps: bool,
+) -> Result<Outcome, AllocError>
+    requires { IsValid nat_eq number_tests machine.old }
+{
+    let mut replies = Vec::new(alloc);
+    for event in events {
+        replies.push(served(alloc, machine, event, by_steps)?)?;
+    }
+    let mut entries = machine.entries(alloc)?.into_vec();
+    entries.sort_unstable_by_key(|entry| entry.0);
+    let places = machine.places(alloc)?.as_slice().to_vec(alloc)?;
+    let notices = machine.notices(alloc)?.as_slice().to_vec(alloc)?;
+    Ok(Outcome {
+        replies,
+        entries,
+        places,
+        notices,
+    })
+}
+
+fn served(
+    alloc: Global,
+    machine: &mut Machine<u32, u32, u32, NumberTests>,
+    event: &Event<u32, u32, u32>,
+    by_steps: bool,
+) -> Result<Reply<u32, u32, u32>, AllocError>
+    requires { IsValid nat_eq number_tests machine.old }
+    ensures { IsValid nat_eq number_tests machine.new }
+{
+    let reply = match event {
+        Event::Poll { call } if by_steps => reply_by_steps(alloc, machine, *call),
+        _ => reply_to(alloc, machine, event),
+    };
+    reply.ok_or(AllocError)
+}
+
+/// The first schedule that comes to something else by single steps than by polls.
+fn first_other(
+    alloc: Global,
+    schedules: &[&'static str],
+) -> Result<Option<&'static str>, AllocError> {
+    for row in schedules {
+        if comes_to(alloc, row, true)? != comes_to(alloc, row, false)? {
+            return Ok(Some(*row));
+        }
+    }
+    Ok(None)
+}
+
+#[test]
+fn single_steps_come_to_what_polls_do_in_ten_schedules(rt: HostRuntime) -> Result<(), Fail> {
+    assert_eq!(rt; first_other(rt.alloc(), &SCHEDULES)?, None);
+    Ok(())
+}
+
+#[test]
+fn single_steps_come_to_what_polls_do_under_a_listener(rt: HostRuntime) -> Result<(), Fail> {
+    assert_eq!(rt; first_other(rt.alloc(), &HEARD)?, None);
+    Ok(())
+}
+
+#[test]
+fn single_steps_come_to_what_polls_do_in_loads_of_each_kind(rt: HostRuntime) -> Result<(), Fail> {
+    assert_eq!(rt; first_other(rt.alloc(), &LOADS)?, None);
+    Ok(())
+}
+
+#[test]
+fn single_steps_come_to_what_polls_do_in_computes(rt: HostRuntime) -> Result<(), Fail> {
+    assert_eq!(rt; first_other(rt.alloc(), &COMPUTES)?, None);
+    Ok(())
+}
+
+#[test]
+fn single_steps_come_to_what_polls_do_where_records_are_taken_out(
+    rt: HostRuntime,
+) -> Result<(), Fail> {
+    assert_eq!(rt; first_other(rt.alloc(), &REMOVALS)?, None);
+    Ok(())
+}
