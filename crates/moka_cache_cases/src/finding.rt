@@ -1,8 +1,7 @@
 //! What was inserted, and what is found.
 
 use moka_cache::{Cache, Listener};
-use moka_cache_runs::at::{Numbers, get, insert};
-use moka_cache_runs::run::run_at;
+use moka_cache_runs::at::{At, Numbers, get, insert};
 use std::hash::Hash;
 use std::test::Fail;
 
@@ -36,9 +35,9 @@ fn a_later_insert_replaces(rt: HostRuntime) -> Result<(), Fail> {
     let shared = cache.clone()?;
     crosses_threads(&shared);
     for value in 0..1000 {
-        let inserted = run_at(&rt, cache.insert(7, value), 3)?;
+        let inserted = cache.insert(7, value).block_on(&rt, At(3))?;
         assert_eq!(rt; inserted, Ok(()));
-        let found = run_at(&rt, shared.get(&7), 2)?;
+        let found = shared.get(&7).block_on(&rt, At(2))?;
         assert_eq!(rt; found, Ok(Some(value)));
     }
     Ok(())

@@ -14,6 +14,10 @@ mod finding;
 #[cfg(test)]
 mod loading;
 #[cfg(test)]
+mod naming;
+#[cfg(test)]
 mod removing;
 #[cfg(test)]
 mod replacing;
+#[cfg(test)]
+mod threads;

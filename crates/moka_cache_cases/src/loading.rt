@@ -1,30 +1,16 @@
 //! Loads.
 
-use moka_cache::{Cache, PollError, RetriesExhausted};
-use moka_cache_runs::at::Numbers;
+use moka_cache::Cache;
+use moka_cache_runs::at::{Loaded, Numbers, load};
 use moka_cache_runs::inits::After;
 use moka_cache_runs::numbers::numbers;
-use moka_cache_runs::pairs::{both, first_dropped, second_sets};
-use moka_cache_runs::run::run;
+use moka_cache_runs::pairs::{both_alike, first_dropped, second_sets};
 use std::alloc::AllocGlobal;
 use std::io;
 use std::random::RandomSource;
 use std::sync::Wait;
 use std::sync::atomic::{AtomicBool, AtomicU64, Ordering};
 use std::test::Fail;
-
-/// What a load answers.
-pub(crate) type Loaded = Result<Result<u32, RetriesExhausted>, PollError>;
-
-/// Loads the key.
-pub(crate) fn load<'a, R: Wait + RandomSource + AllocGlobal>(
-    rt: &'a R,
-    cache: &'a Numbers,
-    key: u32,
-    init: After<'a>,
-) -> io::Result<Loaded> {
-    run(rt, cache.get_with(key, init))
-}
 
 // Loads key 1 twice, in one task.
 fn load_twice<'a, R: Wait + RandomSource + AllocGlobal>(
@@ -34,7 +20,7 @@ fn load_twice<'a, R: Wait + RandomSource + AllocGlobal>(
     other: After<'a>,
 ) -> io::Result<(Loaded, Loaded)> {
     let one = numbers(cache.get_with(1, one));
-    both(rt, one, numbers(cache.get_with(1, other)))
+    both_alike(rt, one, numbers(cache.get_with(1, other)))
 }
 
 // Loads key 1 twice, in one task, and drops the first load after so many polls of it.

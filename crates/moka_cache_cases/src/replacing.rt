@@ -1,7 +1,7 @@
 //! Loads that are made anew where a test holds on the value that is there.
 
 use moka_cache::{Cache, PollError, RetriesExhausted};
-use moka_cache_runs::at::{Numbers, get, insert};
+use moka_cache_runs::at::{Loaded, Numbers, get, insert};
 use moka_cache_runs::inits::After;
 use moka_cache_runs::numbers::numbers;
 use moka_cache_runs::pairs::both;
@@ -14,9 +14,7 @@ use std::sync::Wait;
 use std::sync::atomic::{AtomicU64, Ordering};
 use std::test::Fail;
 
-/// What loads answer, and loads of entries.
-type Loaded = Result<Result<u32, RetriesExhausted>, PollError>;
-
+/// What loads of entries answer.
 type Found = Result<Result<Entry<u32, u32>, RetriesExhausted>, PollError>;
 
 // Loads key 1, anew where its value is even. It counts how often that was asked.

@@ -1,5 +1,6 @@
 //! Calls of each kind.
 
+use crate::numbers::numbers;
 use crate::rounds::{
     Computes, Entries, Gets, Inserts, Loads, LoneComputes, OptionalEntries, OptionalLoads,
     OrInserts, Removals, Rounds, TriedComputes, TriedEntries, TriedLoads, Upserts,
@@ -125,15 +126,19 @@ fn load_if<R: Wait + RandomSource + AllocGlobal, L: Listener<u64, u64>>(
     round: u64,
 ) -> io::Result<bool> {
     let (key, holds) = (rounds.key(round), rounds.otherwise);
-    let one = rounds
-        .cache
-        .get_with_if(key, rounds.value(key), move |_value: &u64| holds);
+    let one = numbers(
+        rounds
+            .cache
+            .get_with_if(key, rounds.value(key), move |_value: &u64| holds),
+    );
     if !matches!(way, Way::Twice) {
         return make_alone(rt, way, one);
     }
-    let other = rounds
-        .cache
-        .get_with_if(key, rounds.value(key), move |_value: &u64| holds);
+    let other = numbers(
+        rounds
+            .cache
+            .get_with_if(key, rounds.value(key), move |_value: &u64| holds),
+    );
     finish_both(rt, one, other)
 }
 
@@ -144,16 +149,20 @@ fn load_entry_if<R: Wait + RandomSource + AllocGlobal, L: Listener<u64, u64>>(
     round: u64,
 ) -> io::Result<bool> {
     let (key, holds) = (rounds.key(round), rounds.otherwise);
-    let one = rounds
-        .cache
-        .entry(key)
-        .or_insert_with_if(rounds.value(key), move |_value: &u64| holds);
+    let one = numbers(
+        rounds
+            .cache
+            .entry(key)
+            .or_insert_with_if(rounds.value(key), move |_value: &u64| holds),
+    );
     if !matches!(way, Way::Twice) {
         return make_alone(rt, way, one);
     }
-    let other = rounds
-        .cache
-        .entry(key)
-        .or_insert_with_if(rounds.value(key), move |_value: &u64| holds);
+    let other = numbers(
+        rounds
+            .cache
+            .entry(key)
+            .or_insert_with_if(rounds.value(key), move |_value: &u64| holds),
+    );
     finish_both(rt, one, other)
 }

@@ -4,6 +4,7 @@
 pub mod calls;
 pub mod kinds;
 pub mod later;
+pub mod numbers;
 pub mod rounds;
 pub mod runs;
 pub mod ways;

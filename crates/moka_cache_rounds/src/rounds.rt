@@ -2,50 +2,58 @@
 
 use crate::calls::Begins;
 use crate::later::{Later, MayFail, Puts};
+use crate::numbers::{NumberCall, Numbers, numbers};
 use crate::ways::Way;
 use moka_cache::{
-    Cache, ComputeWith, Get, GetWith, Insert, Listener, NoListener, OptionallyGetWith, OrInsert,
-    OrInsertWith, OrOptionallyInsertWith, OrTryInsertWith, Remove, TryComputeAlone, TryComputeWith,
-    TryGetWith, UpsertWith,
+    ByCompute, ByInit, ByOptionalInit, ByTryInit, ByUpsert, Listener, Nobody, ToCompute,
+    ToComputeAlone, ToGet, ToInsert, ToInsertEntry, ToLoad, ToLoadEntry, ToLoadEntryOptionally,
+    ToLoadOptionally, ToRemove, ToTryCompute, ToTryLoad, ToTryLoadEntry, ToUpsert,
 };
 use std::sync::Wait;
-
-/// A cache of numbers, with this listener.
-pub type Numbers<L = NoListener> = Cache<u64, u64, u64, L>;
 
 /// What a value is loaded by where there may be none, and where that may fail.
 type Optional = Later<Option<u64>>;
 
 type Tried = Later<Result<u64, u64>>;
 
-/// The states of the calls.
-pub type Gets<'a, L> = Get<'a, u64, u64, u64, L>;
+/// The calls, as states.
+pub type Gets<'a, L> = NumberCall<'a, ToGet<'a, u64>, Nobody, L>;
 
-pub type Inserts<'a, L> = Insert<'a, u64, u64, u64, L>;
+pub type Inserts<'a, L> = NumberCall<'a, ToInsert<u64, u64>, Nobody, L>;
 
-pub type Removals<'a, L> = Remove<'a, u64, u64, u64, L>;
+pub type Removals<'a, L> = NumberCall<'a, ToRemove<'a, u64>, Nobody, L>;
 
-pub type Loads<'a, L> = GetWith<'a, u64, u64, u64, Later<u64>, L>;
+pub type Loads<'a, L> = NumberCall<'a, ToLoad<'a, u64>, ByInit<Later<u64>>, L>;
 
-pub type OptionalLoads<'a, L> = OptionallyGetWith<'a, u64, u64, u64, Optional, L>;
+pub type OptionalLoads<'a, L> = NumberCall<
+    'a,
+    ToLoadOptionally<'a, u64>,
+    ByOptionalInit<Optional>,
+    L,
+>;
 
-pub type TriedLoads<'a, L> = TryGetWith<'a, u64, u64, u64, Tried, L>;
+pub type TriedLoads<'a, L> = NumberCall<'a, ToTryLoad<'a, u64>, ByTryInit<Tried>, L>;
 
-pub type OrInserts<'a, L> = OrInsert<'a, u64, u64, u64, L>;
+pub type OrInserts<'a, L> = NumberCall<'a, ToInsertEntry<'a, u64, u64>, Nobody, L>;
 
-pub type Entries<'a, L> = OrInsertWith<'a, u64, u64, u64, Later<u64>, L>;
+pub type Entries<'a, L> = NumberCall<'a, ToLoadEntry<'a, u64>, ByInit<Later<u64>>, L>;
 
-pub type OptionalEntries<'a, L> = OrOptionallyInsertWith<'a, u64, u64, u64, Optional, L>;
+pub type OptionalEntries<'a, L> = NumberCall<
+    'a,
+    ToLoadEntryOptionally<'a, u64>,
+    ByOptionalInit<Optional>,
+    L,
+>;
 
-pub type TriedEntries<'a, L> = OrTryInsertWith<'a, u64, u64, u64, Tried, L>;
+pub type TriedEntries<'a, L> = NumberCall<'a, ToTryLoadEntry<'a, u64>, ByTryInit<Tried>, L>;
 
-pub type Computes<'a, L> = ComputeWith<'a, u64, u64, u64, Puts, L>;
+pub type Computes<'a, L> = NumberCall<'a, ToCompute<'a, u64>, ByCompute<Puts>, L>;
 
-pub type TriedComputes<'a, L> = TryComputeWith<'a, u64, u64, u64, MayFail, L>;
+pub type TriedComputes<'a, L> = NumberCall<'a, ToTryCompute<'a, u64>, ByCompute<MayFail>, L>;
 
-pub type LoneComputes<'a, L> = TryComputeAlone<'a, u64, u64, u64, MayFail, L>;
+pub type LoneComputes<'a, L> = NumberCall<'a, ToComputeAlone<'a, u64>, ByCompute<MayFail>, L>;
 
-pub type Upserts<'a, L> = UpsertWith<'a, u64, u64, u64, Puts, L>;
+pub type Upserts<'a, L> = NumberCall<'a, ToUpsert<'a, u64>, ByUpsert<Puts>, L>;
 
 /// The rounds of a thread: a cache, and what its calls are made of.
 #[derive(Drop)]
@@ -158,103 +166,111 @@ impl<'a, L> Rounds<'a, L> {
 
 impl<'a, R: Wait, L: Listener<u64, u64>> Begins<R, Gets<'a, L>> for Rounds<'a, L> {
     fn begin(&self, round: u64) -> Gets<'a, L> {
-        self.cache.get(self.lent(round))
+        numbers(self.cache.get(self.lent(round)))
     }
 }
 
 impl<'a, R: Wait, L: Listener<u64, u64>> Begins<R, Inserts<'a, L>> for Rounds<'a, L> {
     fn begin(&self, round: u64) -> Inserts<'a, L> {
-        self.cache.insert(self.key(round), round)
+        numbers(self.cache.insert(self.key(round), round))
     }
 }
 
 impl<'a, R: Wait, L: Listener<u64, u64>> Begins<R, Removals<'a, L>> for Rounds<'a, L> {
     fn begin(&self, round: u64) -> Removals<'a, L> {
-        self.cache.remove(self.lent(round))
+        numbers(self.cache.remove(self.lent(round)))
     }
 }
 
 impl<'a, R: Wait, L: Listener<u64, u64>> Begins<R, Loads<'a, L>> for Rounds<'a, L> {
     fn begin(&self, round: u64) -> Loads<'a, L> {
         let key = self.key(round);
-        self.cache.get_with(key, self.value(key))
+        numbers(self.cache.get_with(key, self.value(key)))
     }
 }
 
 impl<'a, R: Wait, L: Listener<u64, u64>> Begins<R, OptionalLoads<'a, L>> for Rounds<'a, L> {
     fn begin(&self, round: u64) -> OptionalLoads<'a, L> {
         let key = self.key(round);
-        self.cache.optionally_get_with(key, self.option(key))
+        numbers(self.cache.optionally_get_with(key, self.option(key)))
     }
 }
 
 impl<'a, R: Wait, L: Listener<u64, u64>> Begins<R, TriedLoads<'a, L>> for Rounds<'a, L> {
     fn begin(&self, round: u64) -> TriedLoads<'a, L> {
         let key = self.key(round);
-        self.cache.try_get_with(key, self.result(key))
+        numbers(self.cache.try_get_with(key, self.result(key)))
     }
 }
 
 impl<'a, R: Wait, L: Listener<u64, u64>> Begins<R, OrInserts<'a, L>> for Rounds<'a, L> {
     fn begin(&self, round: u64) -> OrInserts<'a, L> {
         let key = self.key(round);
-        self.cache.entry(key).or_insert(key)
+        numbers(self.cache.entry(key).or_insert(key))
     }
 }
 
 impl<'a, R: Wait, L: Listener<u64, u64>> Begins<R, Entries<'a, L>> for Rounds<'a, L> {
     fn begin(&self, round: u64) -> Entries<'a, L> {
         let key = self.key(round);
-        self.cache.entry(key).or_insert_with(self.value(key))
+        numbers(self.cache.entry(key).or_insert_with(self.value(key)))
     }
 }
 
 impl<'a, R: Wait, L: Listener<u64, u64>> Begins<R, OptionalEntries<'a, L>> for Rounds<'a, L> {
     fn begin(&self, round: u64) -> OptionalEntries<'a, L> {
         let key = self.key(round);
-        self.cache
-            .entry(key)
-            .or_optionally_insert_with(self.option(key))
+        numbers(
+            self.cache
+                .entry(key)
+                .or_optionally_insert_with(self.option(key)),
+        )
     }
 }
 
 impl<'a, R: Wait, L: Listener<u64, u64>> Begins<R, TriedEntries<'a, L>> for Rounds<'a, L> {
     fn begin(&self, round: u64) -> TriedEntries<'a, L> {
         let key = self.key(round);
-        self.cache.entry(key).or_try_insert_with(self.result(key))
+        numbers(self.cache.entry(key).or_try_insert_with(self.result(key)))
     }
 }
 
 impl<'a, R: Wait, L: Listener<u64, u64>> Begins<R, Computes<'a, L>> for Rounds<'a, L> {
     fn begin(&self, round: u64) -> Computes<'a, L> {
         let key = self.key(round);
-        self.cache
-            .entry(key)
-            .and_compute_with(Puts(self.value(key)))
+        numbers(
+            self.cache
+                .entry(key)
+                .and_compute_with(Puts(self.value(key))),
+        )
     }
 }
 
 impl<'a, R: Wait, L: Listener<u64, u64>> Begins<R, TriedComputes<'a, L>> for Rounds<'a, L> {
     fn begin(&self, round: u64) -> TriedComputes<'a, L> {
         let key = self.key(round);
-        self.cache
-            .entry(key)
-            .and_try_compute_with(MayFail(self.result(key)))
+        numbers(
+            self.cache
+                .entry(key)
+                .and_try_compute_with(MayFail(self.result(key))),
+        )
     }
 }
 
 impl<'a, R: Wait, L: Listener<u64, u64>> Begins<R, LoneComputes<'a, L>> for Rounds<'a, L> {
     fn begin(&self, round: u64) -> LoneComputes<'a, L> {
         let key = self.key(round);
-        self.cache
-            .entry(key)
-            .and_try_compute_if_nobody_else(MayFail(self.result(key)))
+        numbers(
+            self.cache
+                .entry(key)
+                .and_try_compute_if_nobody_else(MayFail(self.result(key))),
+        )
     }
 }
 
 impl<'a, R: Wait, L: Listener<u64, u64>> Begins<R, Upserts<'a, L>> for Rounds<'a, L> {
     fn begin(&self, round: u64) -> Upserts<'a, L> {
         let key = self.key(round);
-        self.cache.entry(key).and_upsert_with(Puts(self.value(key)))
+        numbers(self.cache.entry(key).and_upsert_with(Puts(self.value(key))))
     }
 }

@@ -1,6 +1,7 @@
 //! Moments and calls of the tests.
+use crate::inits::After;
 use crate::run::run;
-use moka_cache::{Cache, Moments, PollError};
+use moka_cache::{Cache, Moments, PollError, RetriesExhausted};
 use std::alloc::AllocGlobal;
 use std::io;
 use std::random::RandomSource;
@@ -18,6 +19,9 @@ impl Moments for At {
 
 /// A cache of numbers.
 pub type Numbers = Cache<u32, u32, u32>;
+
+/// What a load answers.
+pub type Loaded = Result<Result<u32, RetriesExhausted>, PollError>;
 
 /// Stores the value under the key, at moment 0.
 pub fn insert<R: Wait + RandomSource + AllocGlobal>(
@@ -54,4 +58,14 @@ pub fn remove<R: Wait + RandomSource + AllocGlobal>(
     key: u32,
 ) -> io::Result<Result<Option<u32>, PollError>> {
     run(rt, cache.remove(&key))
+}
+
+/// Loads the key, at moment 0.
+pub fn load<'a, R: Wait + RandomSource + AllocGlobal>(
+    rt: &'a R,
+    cache: &'a Numbers,
+    key: u32,
+    init: After<'a>,
+) -> io::Result<Loaded> {
+    run(rt, cache.get_with(key, init))
 }

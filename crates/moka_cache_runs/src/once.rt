@@ -1,4 +1,4 @@
-//! Calls of a cache that are polled once.
+//! Calls of a cache that are dropped after one poll, or before it.
 
 use crate::at::At;
 use futures::FutureExt;
@@ -16,4 +16,9 @@ pub fn poll_once<R: Wait + RandomSource + AllocGlobal, S: State<R>>(
     requires { S.can_poll call }
 {
     Polled::new(rt, call, At(0)).now_or_never(rt)
+}
+
+/// Drops the call before it was polled.
+pub fn drop_unpolled<R: Wait, S: State<R>>(rt: &R, call: S) {
+    drop(Polled::new(rt, call, At(0)));
 }

@@ -29,6 +29,21 @@ where
     block_on(rt, join(one, other))
 }
 
+/// The same of two calls of one type, which is shown once to be a state.
+pub fn both_alike<R, S>(
+    rt: &R,
+    one: S,
+    other: S,
+) -> io::Result<(Result<S::Output, PollError>, Result<S::Output, PollError>)>
+where
+    R: Wait + RandomSource + AllocGlobal,
+    S: State<R, Output: Drop>,
+    requires one { S.can_poll one }
+    requires other { S.can_poll other }
+{
+    both(rt, one, other)
+}
+
 /// Runs both, and drops the first after so many polls of it.
 pub fn first_dropped<R: Wait + RandomSource + AllocGlobal, S: State<R, Output: Drop>>(
     rt: &R,

@@ -1,19 +1,21 @@
 //! Calls of a cache, each run by one task.
 //!
-//! What runs a call is generic over it. That a call is a `State` is shown once here, and not where
-//! each test runs one.
+//! What runs a call is generic over it. That a call is a `State` is shown in `CacheCall::block_on`,
+//! and not where each test runs one.
 ghost use Rattle.moka_hist.specs.Finite.{IsExact};
 ghost use Rattle.moka_cache.specs.Settings.{rules_of};
 ghost use Rattle.moka_cache_runs.specs.Runs.{CanRun};
 
 use crate::at::At;
+use crate::inits::Sets;
 use futures::executor::block_on;
-use moka_cache::{Asked, Begin, CacheCall, Listener, PollError, Polled};
+use moka_cache::{Asked, Begin, CacheCall, Listener, PollError, Polled, State};
 use std::alloc::AllocGlobal;
 use std::hash::Hash;
 use std::io;
 use std::random::RandomSource;
 use std::sync::Wait;
+use std::sync::atomic::AtomicBool;
 
 /// Runs the call to its end, at moment 0.
 pub fn run<R, A, K, V, E, Q, L, S>(
@@ -35,29 +37,17 @@ where
     requires can { CanRun K.eq A.start A.output Q.can_poll Q.gives (rules_of call.cache.now)
         call.stage call.asked }
 {
-    run_at(rt, call, 0)
+    call.block_on(rt, At(0))
 }
 
-/// Runs the call to its end, each poll at this moment.
-pub fn run_at<R, A, K, V, E, Q, L, S>(
+/// Runs a call of any kind to its end, and sets the flag after each poll.
+pub fn run_setting<R: Wait + RandomSource + AllocGlobal, S: State<R, Output: Drop>>(
     rt: &R,
-    call: CacheCall<'_, A, K, V, E, Q, L, S>,
-    moment: u64,
-) -> io::Result<Result<A::Output, PollError>>
-where
-    R: Wait + RandomSource + AllocGlobal,
-    A: Begin<K, V, E>,
-    K: Eq + Hash + Clone + Drop,
-    V: Clone + Drop,
-    E: Clone + Drop,
-    Q: Asked<K, V, E>,
-    L: Listener<K, V>,
-    S: Drop,
-    requires keys { IsExact K.is_clone }
-    requires values { IsExact V.is_clone }
-    requires errors { IsExact E.is_clone }
-    requires can { CanRun K.eq A.start A.output Q.can_poll Q.gives (rules_of call.cache.now)
-        call.stage call.asked }
+    flag: &AtomicBool,
+    state: S,
+) -> io::Result<Result<S::Output, PollError>>
+    requires { S.can_poll state }
 {
-    block_on(rt, Polled::new(rt, call, At(moment)))
+    let future = Polled::new(rt, state, At(0));
+    block_on(rt, Sets { future, flag })
 }

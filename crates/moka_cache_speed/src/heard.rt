@@ -2,7 +2,7 @@
 
 use futures::task::{Context, Poll};
 use moka_cache::{BuildError, CacheBuilder, Listener, ListenerEnd};
-use moka_cache_rounds::rounds::Numbers;
+use moka_cache_rounds::numbers::Numbers;
 use moka_hist::Cause;
 use std::alloc::{AllocError, Global};
 use std::sync::atomic::{AtomicU64, Ordering};

@@ -15,7 +15,7 @@ mod works;
 use asked::Asked;
 use cached::{come_and_store, keys_below};
 use moka_cache::{Cache, Listener};
-use moka_cache_rounds::rounds::Numbers;
+use moka_cache_rounds::numbers::Numbers;
 use moka_cache_rounds::ways::{WAYS, Way};
 use std::alloc::{AllocError, AllocGlobal, Global};
 use std::collections::HashMap;

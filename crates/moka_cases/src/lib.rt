@@ -4,9 +4,13 @@
 #[cfg(test)]
 mod buckets;
 #[cfg(test)]
+mod calls;
+#[cfg(test)]
 mod ends;
 #[cfg(test)]
 mod engine;
+#[cfg(test)]
+mod room;
 #[cfg(test)]
 mod sync;
 #[cfg(test)]

@@ -49,10 +49,7 @@ fn a_list_that_most_calls_left_keeps_its_order(rt: HostRuntime) -> Result<(), Fa
     Ok(())
 }
 
-#[test]
-fn a_mutex_hands_out_all_that_waited(rt: HostRuntime) -> Result<(), Fail> {
-    let alloc = rt.alloc();
-    let mut mutex = PolledMutex::new(alloc);
+fn wait_for_a_mutex(rt: &impl Abort, mutex: &mut PolledMutex) -> Result<(), Fail> {
     mutex.reserve(1)?;
     for (call, taken) in [(1, true), (2, false), (1, true), (3, false), (2, false)] {
         assert_eq!(rt; mutex.try_take(call)?, taken, "call {call}");
@@ -62,6 +59,14 @@ fn a_mutex_hands_out_all_that_waited(rt: HostRuntime) -> Result<(), Fail> {
     assert!(rt; has(&mutex.release(1), &[2]));
     assert_eq!(rt; mutex.holder(), None);
     Ok(())
+}
+
+#[test]
+fn a_mutex_hands_out_all_that_waited(rt: HostRuntime) -> Result<(), Fail> {
+    let mut mutex = PolledMutex::new(rt.alloc());
+    let waited = wait_for_a_mutex(&rt, &mut mutex);
+    drop(mutex);
+    waited
 }
 
 /// What a call asks of a lock: whether to write, and whether it is to get it.

@@ -1,2 +1,4 @@
+pub mod EmptyCache
+pub mod Fitting
 pub mod Steps
 pub mod Publishing

@@ -1,1 +1,3 @@
+pub mod EmptyCache
+pub mod Fitting
 pub mod Rests

@@ -1,10 +1,12 @@
-//! Worked cases of `Desk`: what no clause of it says.
+//! Worked cases of `Desk`, and of the calls as flows: what no clause of these says.
 #![tactic(auto)]
 
 #[cfg(test)]
 mod asks;
 #[cfg(test)]
 mod desks;
+#[cfg(test)]
+mod flows;
 #[cfg(test)]
 mod loads;
 #[cfg(test)]

@@ -1,5 +1,7 @@
 pub mod Asking
 pub mod Begun
+pub mod Same
+pub mod AtPoint
 pub mod Going
 pub mod Told
 pub mod Near

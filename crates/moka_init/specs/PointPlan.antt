@@ -34,6 +34,7 @@ use Rattle.moka_init.specs.declared.points.Drained.{Drained}
 use Rattle.moka_init.specs.declared.points.Drained.TheVariants as drained
 use Rattle.moka_init.specs.declared.points.Posted.{Posted}
 use Rattle.moka_init.specs.declared.points.Posted.TheVariants as posted
+use Rattle.moka_init.specs.declared.points.PostStep.TheVariants as step
 use Rattle.moka_init.specs.declared.points.Posting.{Posting}
 use Rattle.moka_init.specs.declared.points.Posting.TheVariants as posting
 use Rattle.moka_init.specs.declared.points.Looking.{Looking}
@@ -204,12 +205,17 @@ module _ {K V E : Type 0} where
 
   abbrev pub posting_plan : Posting K V → List (Item K V E)
   posting_plan (posting.Drain then) = plan.Drain ∷ drained_rest then
-  posting_plan (posting.Post write then) = plan.Post write ∷ posted_rest then
-  posting_plan (posting.Turn write then) =
+  posting_plan (posting.Held step.Hear write then) =
+      plan.Heard ∷ plan.Unlock true ∷ plan.Post write ∷ posted_rest then
+  posting_plan (posting.Held step.Unlock write then) =
+      plan.Unlock true ∷ plan.Post write ∷ posted_rest then
+  posting_plan (posting.Held step.Post write then) = plan.Post write ∷ posted_rest then
+  posting_plan (posting.Held step.Turn write then) =
       plan.Turn ∷ plan.Apply ∷ plan.End ∷ plan.Post write ∷ posted_rest then
-  posting_plan (posting.Apply write then) =
+  posting_plan (posting.Held step.Apply write then) =
       plan.Apply ∷ plan.End ∷ plan.Post write ∷ posted_rest then
-  posting_plan (posting.End write then) = plan.End ∷ plan.Post write ∷ posted_rest then
+  posting_plan (posting.Held step.End write then) =
+      plan.End ∷ plan.Post write ∷ posted_rest then
 
   abbrev pub looking_plan : Looking K V → List (Item K V E)
   looking_plan (looking.Get l) = plan.Get (aim_of l) (key_sought l) ∷ []
@@ -251,10 +257,6 @@ module _ {K V E : Type 0} where
   listening_plan (listening.Uncopied key old write then) =
       plan.Notice key old None (is_upsert then) ∷ plan.Unlock true ∷ plan.Post write ∷
       posted_rest (posted_with then key old.value)
-  listening_plan (listening.Heard write then) =
-      plan.Heard ∷ plan.Unlock true ∷ plan.Post write ∷ posted_rest then
-  listening_plan (listening.Unlock write then) =
-      plan.Unlock true ∷ plan.Post write ∷ posted_rest then
   listening_plan (listening.Release t) = plan.Unlock false ∷ says_nothing t
 
   -- what a call that stands there has still to do
@@ -277,8 +279,6 @@ module _ {K V : Type 0} where
   is_copied_in (listening.Lock l) = true
   is_copied_in (listening.Notice key old cause upsert write then) = true
   is_copied_in (listening.Uncopied key old write then) = false
-  is_copied_in (listening.Heard write then) = true
-  is_copied_in (listening.Unlock write then) = true
   is_copied_in (listening.Release t) = true
 
 module _ {K V E : Type 0} where

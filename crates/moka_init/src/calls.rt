@@ -12,7 +12,7 @@ ghost use Rattle.moka_init.specs.FlowPlan.{opening, owed_in, tested_in};
 
 use crate::copies::replace_of;
 use crate::flow::Flow;
-use crate::points::{Computing, Listening, Loading, Look, Looking, Point, Posting};
+use crate::points::{Computing, Listening, Loading, Look, Looking, Point, PostStep, Posting};
 use moka_hist::{Cause, Kind, Mode, Owed, Rules, Start, Stored, Visit, Write};
 use std::alloc::AllocError;
 
@@ -62,6 +62,7 @@ impl<K, V, E> Flow<K, V, E> {
         ensures { result ≡ hearing self.now.call (call_of self.now).plan }
     {
         match &self.point {
+            Point::Posting(posting) => self.notice_in_posting(posting),
             Point::Listening(listening) => self.notice_in_listening(listening),
             _ => None,
         }
@@ -109,21 +110,50 @@ impl<K, V, E> Flow<K, V, E> {
         }
     }
 
-    // The write that a call holds that is posting.
+    // The write that a call holds that passes it on, with the notice that it hears.
     fn held_in_posting(&self, posting: &Posting<K, V>) -> Option<Owed>
         ensures { result ≡ owed_in {E = E} self.now.call (posting_plan posting.now) }
     {
         match posting {
             Posting::Drain(_) => None,
-            Posting::Post { write, .. } => Some(unheard(*write)),
-            Posting::Turn { write, .. } => Some(unheard(*write)),
-            Posting::Apply { write, .. } => Some(unheard(*write)),
-            Posting::End { write, .. } => Some(unheard(*write)),
+            Posting::Held {
+                step: PostStep::Hear,
+                write,
+                ..
+            } => Some(Owed {
+                write: *write,
+                notice: Some(self.call),
+            }),
+            Posting::Held {
+                step: PostStep::Unlock,
+                write,
+                ..
+            } => Some(unheard(*write)),
+            Posting::Held {
+                step: PostStep::Post,
+                write,
+                ..
+            } => Some(unheard(*write)),
+            Posting::Held {
+                step: PostStep::Turn,
+                write,
+                ..
+            } => Some(unheard(*write)),
+            Posting::Held {
+                step: PostStep::Apply,
+                write,
+                ..
+            } => Some(unheard(*write)),
+            Posting::Held {
+                step: PostStep::End,
+                write,
+                ..
+            } => Some(unheard(*write)),
         }
     }
 
-    // The write that a call holds which tells the listener of a record, with the notice that it
-    // hears.
+    // The write that a call holds which is to tell the listener of a record, or awaits the end of
+    // an owed write's notice.
     fn held_in_listening(&self, listening: &Listening<K, V>) -> Option<Owed>
         ensures { result ≡ owed_in {E = E} self.now.call (listening_plan listening.now) }
     {
@@ -135,12 +165,40 @@ impl<K, V, E> Flow<K, V, E> {
             Listening::Lock(_) => None,
             Listening::Notice { write, .. } => Some(unheard(*write)),
             Listening::Uncopied { write, .. } => Some(unheard(*write)),
-            Listening::Heard { write, .. } => Some(Owed {
-                write: *write,
-                notice: Some(self.call),
-            }),
-            Listening::Unlock { write, .. } => Some(unheard(*write)),
             Listening::Release(_) => None,
+        }
+    }
+
+    // The notice whose end a call awaits that passes on its write.
+    fn notice_in_posting(&self, posting: &Posting<K, V>) -> Option<u64>
+        ensures { result ≡ hearing {E = E} self.now.call (posting_plan posting.now) }
+    {
+        match posting {
+            Posting::Drain(_) => None,
+            Posting::Held {
+                step: PostStep::Hear,
+                ..
+            } => Some(self.call),
+            Posting::Held {
+                step: PostStep::Unlock,
+                ..
+            } => None,
+            Posting::Held {
+                step: PostStep::Post,
+                ..
+            } => None,
+            Posting::Held {
+                step: PostStep::Turn,
+                ..
+            } => None,
+            Posting::Held {
+                step: PostStep::Apply,
+                ..
+            } => None,
+            Posting::Held {
+                step: PostStep::End,
+                ..
+            } => None,
         }
     }
 
@@ -153,8 +211,6 @@ impl<K, V, E> Flow<K, V, E> {
             Listening::Lock(_) => None,
             Listening::Notice { .. } => None,
             Listening::Uncopied { .. } => None,
-            Listening::Heard { .. } => Some(self.call),
-            Listening::Unlock { .. } => None,
             Listening::Release(_) => None,
         }
     }

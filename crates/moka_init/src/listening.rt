@@ -5,13 +5,13 @@ ghost use Rattle.moka_hist.specs.Listening.{after_lock, after_unlock, after_noti
 ghost use Rattle.moka_hist.specs.Step.{next_of, access_of};
 ghost use Rattle.moka_init.specs.PointPlan.{says_nothing, drained_rest, is_copied_in};
 ghost use Rattle.moka_init.specs.PointPlan.{key_locked};
-ghost use Rattle.moka_init.specs.PointPlan.{listening_plan, locked_rest, posted_rest};
+ghost use Rattle.moka_init.specs.PointPlan.{listening_plan, locked_rest, posting_plan};
 ghost use Rattle.moka_init.specs.FlowPlan.{standing, mid, GoesOn};
 ghost use Rattle.moka_init.specs.Forms.{HasForm, IsFoundBy};
 
 use crate::flow::Flow;
 use crate::points::{
-    Drained, Listening, Locked, Point, Posted, Posting, Removing, TakeOut, Writing,
+    Drained, Listening, Locked, Point, PostStep, Posted, Posting, Removing, TakeOut, Writing,
 };
 use moka_hist::{Ask, Cause, Found, Got, Stored, Turn, Visit, Write};
 
@@ -44,8 +44,6 @@ impl<K: Drop, V: Drop, E: Drop> Flow<K, V, E> {
                 ..
             } => self.after_notice(key, old, write, then, found),
             Listening::Uncopied { .. } => unreachable!(),
-            Listening::Heard { write, then } => self.after_heard(write, then, found),
-            Listening::Unlock { write, then } => self.after_unlock(write, then, found),
             Listening::Release(out) => self.after_release(out, found),
         }
     }
@@ -65,10 +63,9 @@ impl<K: Drop, V: Drop, E: Drop> Flow<K, V, E> {
             (plan.Post write ∷ plan.Drain ∷ drained_rest then) found) result self.new }
     {
         match found {
-            Found::NoticeEnded(true) => self.goes(Point::Posting(Posting::Post {
-                write,
-                then: Posted::Drain(then),
-            })),
+            Found::NoticeEnded(true) => {
+                self.passes_on(PostStep::Post, write, Posted::Drain(then))
+            }
             Found::NoticeEnded(false) => self.waits(Point::Listening(Listening::Ended {
                 notice,
                 write,
@@ -115,54 +112,23 @@ impl<K: Drop, V: Drop, E: Drop> Flow<K, V, E> {
         ensures { (hand : Option Cause) → (upsert : Bool) → GoesOn self.old
             (after_notice
             (standing self.old (listening_plan (Listening.Notice key old hand upsert write then)))
-            key old (listening_plan (Listening.Unlock write then)) found) result self.new }
+            key old (posting_plan (Posting.Held PostStep.Unlock write then)) found)
+            result self.new }
     {
         match found {
-            Found::OpenNotice(None) => {
-                self.goes(Point::Listening(Listening::Unlock { write, then }))
-            }
+            Found::OpenNotice(None) => self.passes_on(PostStep::Unlock, write, then),
             Found::OpenNotice(Some(cause)) => self.asks(
                 Ask::Listener {
                     key,
                     value: old.value,
                     cause,
                 },
-                Point::Listening(Listening::Heard { write, then }),
+                Point::Posting(Posting::Held {
+                    step: PostStep::Hear,
+                    write,
+                    then,
+                }),
             ),
-            _ => unreachable!(),
-        }
-    }
-
-    fn after_heard(&mut self, write: Write, then: Posted<K, V>, found: Found<V, E>) -> Turn<K, V, E>
-        requires form { IsFoundBy {K = K} (Visit.NoticeEnded self.old.call self.old.call) found }
-        ensures { GoesOn self.old
-            (after_hearing (standing self.old (listening_plan (Listening.Heard write then)))
-            (listening_plan (Listening.Unlock write then)) found) result self.new }
-    {
-        match found {
-            Found::NoticeEnded(true) => {
-                self.goes(Point::Listening(Listening::Unlock { write, then }))
-            }
-            Found::NoticeEnded(false) => {
-                self.waits(Point::Listening(Listening::Heard { write, then }))
-            }
-            _ => unreachable!(),
-        }
-    }
-
-    fn after_unlock(
-        &mut self,
-        write: Write,
-        then: Posted<K, V>,
-        found: Found<V, E>,
-    ) -> Turn<K, V, E>
-        requires form { IsFoundBy {K = K} (Visit.UnlockKey self.old.call true) found }
-        ensures { GoesOn self.old
-            (after_unlock (standing self.old (listening_plan (Listening.Unlock write then)))
-            (plan.Post write ∷ posted_rest then) found) result self.new }
-    {
-        match found {
-            Found::UnlockKey => self.goes(Point::Posting(Posting::Post { write, then })),
             _ => unreachable!(),
         }
     }

@@ -10,7 +10,8 @@ ghost use Rattle.moka_needs.specs.Needs.{ending_of};
 
 use crate::flow::Flow;
 use crate::points::{
-    Computing, Ending as Ends, Listening, Loading, Looking, Point, Posting, Removing, Writing,
+    Computing, Ending as Ends, Listening, Loading, Looking, Point, PostStep, Posting, Removing,
+    Writing,
 };
 use moka_hist::{Kind, Load};
 use moka_needs::{Ending, Need};
@@ -41,10 +42,31 @@ impl<K: Clone + Drop, V, E> Flow<K, V, E> {
     {
         match posting {
             Posting::Drain(_) => Need::TakeOwed,
-            Posting::Post { write, .. } => Need::PostWrite { write: *write },
-            Posting::Turn { .. } => Need::TakeTurn,
-            Posting::Apply { .. } => Need::ApplyOne,
-            Posting::End { .. } => Need::EndTurn,
+            Posting::Held {
+                step: PostStep::Hear,
+                ..
+            } => Need::NoticeEnded,
+            Posting::Held {
+                step: PostStep::Unlock,
+                ..
+            } => Need::UnlockKey { wrote: true },
+            Posting::Held {
+                step: PostStep::Post,
+                write,
+                ..
+            } => Need::PostWrite { write: *write },
+            Posting::Held {
+                step: PostStep::Turn,
+                ..
+            } => Need::TakeTurn,
+            Posting::Held {
+                step: PostStep::Apply,
+                ..
+            } => Need::ApplyOne,
+            Posting::Held {
+                step: PostStep::End,
+                ..
+            } => Need::EndTurn,
         }
     }
 
@@ -117,8 +139,6 @@ impl<K: Clone + Drop, V, E> Flow<K, V, E> {
             Listening::Lock(_) => Need::LockKey,
             Listening::Notice { .. } => Need::OpenNotice,
             Listening::Uncopied { .. } => Need::OpenNotice,
-            Listening::Heard { .. } => Need::NoticeEnded,
-            Listening::Unlock { .. } => Need::UnlockKey { wrote: true },
             Listening::Release(_) => Need::UnlockKey { wrote: false },
         }
     }

@@ -1,5 +1,5 @@
 //! Where a call stands: one variant for each item that can come first, with all that is still to
-//! do.
+//! do; what can be next with a write that the call holds is a step of one variant (`PostStep`).
 //!
 //! These types are public for one reason: a crate whose states hold a `Flow` beside a borrow has to
 //! name all that lies in it. Nothing but a `Flow` makes or reads them.
@@ -141,14 +141,29 @@ pub enum Posted<K, V> {
     Compute(CompResult<K, V>),
 }
 
-/// Taking up owed writes, posting a write, and applying the log where it is full.
+/// What is next done with a write that a call holds.
+#[derive(Clone, Copy)]
+pub enum PostStep {
+    /// Hearing how its notice ended, which the call opened.
+    Hear,
+    /// Freeing its key's lock.
+    Unlock,
+    Post,
+    /// Taking the turn to apply the log, which is full; applying it, and ending that turn.
+    Turn,
+    Apply,
+    End,
+}
+
+/// Taking up owed writes, and what is done with a write until it is posted.
 #[derive(Drop)]
 pub enum Posting<K, V> {
     Drain(Drained<K, V>),
-    Post { write: Write, then: Posted<K, V> },
-    Turn { write: Write, then: Posted<K, V> },
-    Apply { write: Write, then: Posted<K, V> },
-    End { write: Write, then: Posted<K, V> },
+    Held {
+        step: PostStep,
+        write: Write,
+        then: Posted<K, V>,
+    },
 }
 
 /// Looking a key up, and judging the record that was found.
@@ -240,7 +255,7 @@ pub enum Uncopied<V> {
     Put { value: V, replaced: bool },
 }
 
-/// Holding a key's lock, telling the listener of a record that left, and hearing its answer.
+/// Taking a key's lock, and telling the listener of a record that left.
 #[derive(Drop)]
 pub enum Listening<K, V> {
     /// Hearing how the notice of an owed write ended.
@@ -265,14 +280,6 @@ pub enum Listening<K, V> {
         old: Stored<V>,
         write: Write,
         then: Uncopied<V>,
-    },
-    Heard {
-        write: Write,
-        then: Posted<K, V>,
-    },
-    Unlock {
-        write: Write,
-        then: Posted<K, V>,
     },
     /// Freeing the lock, under which nothing was written.
     Release(TakeOut<K>),

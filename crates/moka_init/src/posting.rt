@@ -1,7 +1,8 @@
-//! Taking up owed writes, posting, and applying the log.
-ghost use Rattle.std.specs.Prelude.{◌∷◌};
+//! Taking up owed writes, and what is done with a write until it is posted.
+ghost use Rattle.std.specs.Prelude.{◌≡◌, ◌∷◌, true};
 ghost use Rattle.moka_hist.specs.Plan as plan;
 ghost use Rattle.moka_hist.specs.Next.{goes};
+ghost use Rattle.moka_hist.specs.Listening.{after_hearing, after_unlock};
 ghost use Rattle.moka_hist.specs.Posting.{once_ended, after_drain, after_post, after_turn};
 ghost use Rattle.moka_hist.specs.Posting.{after_apply, after_end};
 ghost use Rattle.moka_hist.specs.Step.{next_of, access_of};
@@ -12,9 +13,10 @@ ghost use Rattle.moka_init.specs.Forms.{HasForm, IsFoundBy};
 use crate::computing::unchanged;
 use crate::flow::Flow;
 use crate::points::{
-    Drained, Ending, Listening, Loading, Looking, Point, Posted, Posting, Removing, Writing,
+    Drained, Ending, Listening, Loading, Looking, Point, PostStep, Posted, Posting, Removing,
+    Writing,
 };
-use moka_hist::{Answer, Found, Got, Owed, Turn, Visit, Write};
+use moka_hist::{Answer, Found, Got, Mode, Owed, Turn, Visit, Write};
 
 impl<K: Drop, V: Drop, E: Drop> Flow<K, V, E> {
     pub(crate) fn after_posting(
@@ -31,11 +33,50 @@ impl<K: Drop, V: Drop, E: Drop> Flow<K, V, E> {
     {
         match posting {
             Posting::Drain(then) => self.after_drain(then, found),
-            Posting::Post { write, then } => self.after_post(write, then, found),
-            Posting::Turn { write, then } => self.after_turn(write, then, found),
-            Posting::Apply { write, then } => self.after_apply(write, then, found),
-            Posting::End { write, then } => self.after_end(write, then, found),
+            Posting::Held { step, write, then } => self.after_step(step, write, then, found),
         }
+    }
+
+    // After what was done with the write that the call holds.
+    fn after_step(
+        &mut self,
+        step: PostStep,
+        write: Write,
+        then: Posted<K, V>,
+        found: Found<V, E>,
+    ) -> Turn<K, V, E>
+        requires form { HasForm
+            (access_of self.old.call
+            (standing self.old (posting_plan (Posting.Held step write then))))
+            (Got.Desk found) }
+        ensures { GoesOn self.old
+            (next_of self.old.call (standing self.old (posting_plan (Posting.Held step write then)))
+            (Got.Desk found)) result self.new }
+    {
+        match step {
+            PostStep::Hear => self.after_heard(write, then, found),
+            PostStep::Unlock => self.after_unlock(write, then, found),
+            PostStep::Post => self.after_post(write, then, found),
+            PostStep::Turn => self.after_turn(write, then, found),
+            PostStep::Apply => self.after_apply(write, then, found),
+            PostStep::End => self.after_end(write, then, found),
+        }
+    }
+
+    // The call goes on with this step of the write.
+    pub(crate) fn passes_on(
+        &mut self,
+        step: PostStep,
+        write: Write,
+        then: Posted<K, V>,
+    ) -> Turn<K, V, E>
+        ensures turn { result ≡ Turn.Going }
+        ensures flow { self.new ≡ record self.old {
+          mode = Mode.Mid;
+          point = Point.Posting (Posting.Held step write then);
+        } }
+    {
+        self.goes(Point::Posting(Posting::Held { step, write, then }))
     }
 
     fn after_drain(&mut self, then: Drained<K, V>, found: Found<V, E>) -> Turn<K, V, E>
@@ -63,10 +104,7 @@ impl<K: Drop, V: Drop, E: Drop> Flow<K, V, E> {
                 write,
                 then,
             })),
-            None => self.goes(Point::Posting(Posting::Post {
-                write,
-                then: Posted::Drain(then),
-            })),
+            None => self.passes_on(PostStep::Post, write, Posted::Drain(then)),
         }
     }
 
@@ -88,6 +126,42 @@ impl<K: Drop, V: Drop, E: Drop> Flow<K, V, E> {
         }
     }
 
+    fn after_heard(&mut self, write: Write, then: Posted<K, V>, found: Found<V, E>) -> Turn<K, V, E>
+        requires form { IsFoundBy {K = K} (Visit.NoticeEnded self.old.call self.old.call) found }
+        ensures { GoesOn self.old
+            (after_hearing
+            (standing self.old (posting_plan (Posting.Held PostStep.Hear write then)))
+            (posting_plan (Posting.Held PostStep.Unlock write then)) found) result self.new }
+    {
+        match found {
+            Found::NoticeEnded(true) => self.passes_on(PostStep::Unlock, write, then),
+            Found::NoticeEnded(false) => self.waits(Point::Posting(Posting::Held {
+                step: PostStep::Hear,
+                write,
+                then,
+            })),
+            _ => unreachable!(),
+        }
+    }
+
+    fn after_unlock(
+        &mut self,
+        write: Write,
+        then: Posted<K, V>,
+        found: Found<V, E>,
+    ) -> Turn<K, V, E>
+        requires form { IsFoundBy {K = K} (Visit.UnlockKey self.old.call true) found }
+        ensures { GoesOn self.old
+            (after_unlock
+            (standing self.old (posting_plan (Posting.Held PostStep.Unlock write then)))
+            (plan.Post write ∷ posted_rest then) found) result self.new }
+    {
+        match found {
+            Found::UnlockKey => self.passes_on(PostStep::Post, write, then),
+            _ => unreachable!(),
+        }
+    }
+
     fn after_post(&mut self, write: Write, then: Posted<K, V>, found: Found<V, E>) -> Turn<K, V, E>
         requires form { IsFoundBy {K = K} (Visit.PostWrite self.old.call write) found }
         ensures { GoesOn self.old
@@ -96,7 +170,7 @@ impl<K: Drop, V: Drop, E: Drop> Flow<K, V, E> {
     {
         match found {
             Found::PostWrite(true) => self.posted(then),
-            Found::PostWrite(false) => self.goes(Point::Posting(Posting::Turn { write, then })),
+            Found::PostWrite(false) => self.passes_on(PostStep::Turn, write, then),
             _ => unreachable!(),
         }
     }
@@ -120,12 +194,16 @@ impl<K: Drop, V: Drop, E: Drop> Flow<K, V, E> {
     fn after_turn(&mut self, write: Write, then: Posted<K, V>, found: Found<V, E>) -> Turn<K, V, E>
         requires form { IsFoundBy {K = K} (Visit.TakeTurn self.old.call) found }
         ensures { GoesOn self.old
-            (after_turn (standing self.old (posting_plan (Posting.Turn write then)))
-            (posting_plan (Posting.Apply write then)) found) result self.new }
+            (after_turn (standing self.old (posting_plan (Posting.Held PostStep.Turn write then)))
+            (posting_plan (Posting.Held PostStep.Apply write then)) found) result self.new }
     {
         match found {
-            Found::TakeTurn(true) => self.goes(Point::Posting(Posting::Apply { write, then })),
-            Found::TakeTurn(false) => self.waits(Point::Posting(Posting::Turn { write, then })),
+            Found::TakeTurn(true) => self.passes_on(PostStep::Apply, write, then),
+            Found::TakeTurn(false) => self.waits(Point::Posting(Posting::Held {
+                step: PostStep::Turn,
+                write,
+                then,
+            })),
             _ => unreachable!(),
         }
     }
@@ -133,12 +211,12 @@ impl<K: Drop, V: Drop, E: Drop> Flow<K, V, E> {
     fn after_apply(&mut self, write: Write, then: Posted<K, V>, found: Found<V, E>) -> Turn<K, V, E>
         requires form { IsFoundBy {K = K} (Visit.ApplyOne self.old.call) found }
         ensures { GoesOn self.old
-            (after_apply (standing self.old (posting_plan (Posting.Apply write then)))
-            (posting_plan (Posting.End write then)) found) result self.new }
+            (after_apply (standing self.old (posting_plan (Posting.Held PostStep.Apply write then)))
+            (posting_plan (Posting.Held PostStep.End write then)) found) result self.new }
     {
         match found {
-            Found::ApplyOne(true) => self.goes(Point::Posting(Posting::Apply { write, then })),
-            Found::ApplyOne(false) => self.goes(Point::Posting(Posting::End { write, then })),
+            Found::ApplyOne(true) => self.passes_on(PostStep::Apply, write, then),
+            Found::ApplyOne(false) => self.passes_on(PostStep::End, write, then),
             _ => unreachable!(),
         }
     }
@@ -146,11 +224,11 @@ impl<K: Drop, V: Drop, E: Drop> Flow<K, V, E> {
     fn after_end(&mut self, write: Write, then: Posted<K, V>, found: Found<V, E>) -> Turn<K, V, E>
         requires form { IsFoundBy {K = K} (Visit.EndTurn self.old.call) found }
         ensures { GoesOn self.old
-            (after_end (standing self.old (posting_plan (Posting.End write then)))
-            (posting_plan (Posting.Post write then)) found) result self.new }
+            (after_end (standing self.old (posting_plan (Posting.Held PostStep.End write then)))
+            (posting_plan (Posting.Held PostStep.Post write then)) found) result self.new }
     {
         match found {
-            Found::EndTurn => self.goes(Point::Posting(Posting::Post { write, then })),
+            Found::EndTurn => self.passes_on(PostStep::Post, write, then),
             _ => unreachable!(),
         }
     }

@@ -14,7 +14,7 @@ ghost use Rattle.moka_init.specs.Forms.{HasForm, IsFoundBy};
 use crate::computing::{removed_as, unchanged};
 use crate::flow::Flow;
 use crate::points::{
-    Chosen, Listening, Point, Posted, Posting, Removal, Removing, TakeOut, Uncopied,
+    Chosen, Listening, Point, PostStep, Posted, Posting, Removal, Removing, TakeOut, Uncopied,
 };
 use moka_hist::{Answer, Found, Got, Stored, TableAnswer, TableTurn, Turn, Visit, Write};
 
@@ -263,6 +263,10 @@ impl<K: Drop, V: Drop, E: Drop> Point<K, V, E> {
             Removal::Evict { .. } => Posted::Evicted,
             Removal::Compute => Posted::Compute(removed_as(out.key, value)),
         };
-        Point::Posting(Posting::Post { write, then })
+        Point::Posting(Posting::Held {
+            step: PostStep::Post,
+            write,
+            then,
+        })
     }
 }

@@ -16,8 +16,8 @@ use crate::copies::{
 };
 use crate::flow::Flow;
 use crate::points::{
-    Computing, KeyCompute, Listening, Loading, Looking, Point, Posted, Posting, Removing, Uncopied,
-    Writing,
+    Computing, KeyCompute, Listening, Loading, Looking, Point, PostStep, Posted, Posting, Removing,
+    Uncopied, Writing,
 };
 use moka_hist::{Settled, Stored, Visit, Want, Write};
 use std::alloc::AllocError;
@@ -284,13 +284,34 @@ impl<K: Clone + Drop, V: Clone + Drop, E: Clone + Drop> Flow<K, V, E> {
         let call = self.call;
         match posting {
             Posting::Drain(_) => Want::Desk(Visit::TakeOwed { call }),
-            Posting::Post { write, .. } => Want::Desk(Visit::PostWrite {
+            Posting::Held {
+                step: PostStep::Hear,
+                ..
+            } => Want::Desk(Visit::NoticeEnded { call, notice: call }),
+            Posting::Held {
+                step: PostStep::Unlock,
+                ..
+            } => Want::Desk(Visit::UnlockKey { call, wrote: true }),
+            Posting::Held {
+                step: PostStep::Post,
+                write,
+                ..
+            } => Want::Desk(Visit::PostWrite {
                 call,
                 write: *write,
             }),
-            Posting::Turn { .. } => Want::Desk(Visit::TakeTurn { call }),
-            Posting::Apply { .. } => Want::Desk(Visit::ApplyOne { call }),
-            Posting::End { .. } => Want::Desk(Visit::EndTurn { call }),
+            Posting::Held {
+                step: PostStep::Turn,
+                ..
+            } => Want::Desk(Visit::TakeTurn { call }),
+            Posting::Held {
+                step: PostStep::Apply,
+                ..
+            } => Want::Desk(Visit::ApplyOne { call }),
+            Posting::Held {
+                step: PostStep::End,
+                ..
+            } => Want::Desk(Visit::EndTurn { call }),
         }
     }
 
@@ -410,8 +431,6 @@ impl<K: Clone + Drop, V: Clone + Drop, E: Clone + Drop> Flow<K, V, E> {
             Listening::Uncopied { key, old, then, .. } => {
                 want_notice(call, key, old, None, then.is_upsert())
             }
-            Listening::Heard { .. } => Ok(Want::Desk(Visit::NoticeEnded { call, notice: call })),
-            Listening::Unlock { .. } => Ok(Want::Desk(Visit::UnlockKey { call, wrote: true })),
             Listening::Release(_) => Ok(Want::Desk(Visit::UnlockKey { call, wrote: false })),
         }
     }

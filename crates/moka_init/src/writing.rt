@@ -9,7 +9,7 @@ ghost use Rattle.moka_init.specs.Forms.{HasForm, IsFoundBy};
 
 use crate::computing::stored_as;
 use crate::flow::Flow;
-use crate::points::{Listening, Point, Posted, Posting, Put, Then, Uncopied, Writing};
+use crate::points::{Listening, Point, PostStep, Posted, Put, Then, Uncopied, Writing};
 use moka_hist::{Found, Got, Stored, TableAnswer, TableTurn, Turn, Visit, Write};
 
 impl<K: Drop, V: Drop, E: Drop> Flow<K, V, E> {
@@ -75,10 +75,7 @@ impl<K: Drop, V: Drop, E: Drop> Flow<K, V, E> {
         if self.rules.listener {
             self.tells(put, answer, write)
         } else {
-            self.goes(Point::Posting(Posting::Post {
-                write,
-                then: put.posted(),
-            }))
+            self.passes_on(PostStep::Post, write, put.posted())
         }
     }
 
@@ -89,10 +86,7 @@ impl<K: Drop, V: Drop, E: Drop> Flow<K, V, E> {
             result self.new }
     {
         match answer {
-            TableAnswer::None => self.goes(Point::Listening(Listening::Unlock {
-                write,
-                then: put.posted(),
-            })),
+            TableAnswer::None => self.passes_on(PostStep::Unlock, write, put.posted()),
             TableAnswer::Some { stored, .. } => self.opens(put, stored, write),
         }
     }

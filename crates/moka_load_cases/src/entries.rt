@@ -4,7 +4,7 @@ use moka_cache::{Cache, LoadError, PollError, RetriesExhausted};
 use moka_cache_runs::at::{Numbers, get};
 use moka_cache_runs::inits::After;
 use moka_cache_runs::numbers::numbers;
-use moka_cache_runs::pairs::both;
+use moka_cache_runs::pairs::{both, both_alike};
 use moka_cache_runs::run::run;
 use moka_hist::Entry;
 use std::alloc::AllocGlobal;
@@ -40,7 +40,7 @@ fn load_twice<'a, R: Wait + RandomSource + AllocGlobal>(
 ) -> io::Result<(Loaded, Loaded)> {
     let one = numbers(cache.entry(1).or_insert_with(one));
     let other = numbers(cache.entry_by_ref(&1).or_insert_with(other));
-    both(rt, one, other)
+    both_alike(rt, one, other)
 }
 
 // Loads the entry of key 1 by an initializer that may find nothing, and by one that may fail.

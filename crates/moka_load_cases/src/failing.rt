@@ -1,10 +1,10 @@
 //! Loads that fail, or find nothing.
 
 use moka_cache::{Cache, LoadError, PollError, RetriesExhausted};
-use moka_cache_runs::at::{Numbers, get, remove};
+use moka_cache_runs::at::{Loaded, Numbers, get, remove};
 use moka_cache_runs::inits::After;
 use moka_cache_runs::numbers::numbers;
-use moka_cache_runs::pairs::{both, first_dropped};
+use moka_cache_runs::pairs::{both, both_alike, first_dropped};
 use moka_cache_runs::run::run;
 use std::alloc::AllocGlobal;
 use std::io;
@@ -17,8 +17,6 @@ use std::test::Fail;
 type Tried = Result<Result<u32, LoadError<u32>>, PollError>;
 
 type Found = Result<Result<Option<u32>, RetriesExhausted>, PollError>;
-
-type Loaded = Result<Result<u32, RetriesExhausted>, PollError>;
 
 // Loads key 1 by an initializer that may fail.
 fn try_load<'a, R: Wait + RandomSource + AllocGlobal>(
@@ -37,7 +35,7 @@ fn try_load_twice<'a, R: Wait + RandomSource + AllocGlobal>(
     other: After<'a, Result<u32, u32>>,
 ) -> io::Result<(Tried, Tried)> {
     let other = numbers(cache.try_get_with_by_ref(&1, other));
-    both(rt, numbers(cache.try_get_with(1, one)), other)
+    both_alike(rt, numbers(cache.try_get_with(1, one)), other)
 }
 
 // The same twice, in one task, and drops the first load after so many polls of it.
@@ -70,7 +68,7 @@ fn load_twice<'a, R: Wait + RandomSource + AllocGlobal>(
     other: After<'a, Option<u32>>,
 ) -> io::Result<(Found, Found)> {
     let one = numbers(cache.optionally_get_with(1, one));
-    both(
+    both_alike(
         rt,
         one,
         numbers(cache.optionally_get_with_by_ref(&1, other)),

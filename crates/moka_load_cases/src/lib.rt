@@ -2,8 +2,14 @@
 #![tactic(auto)]
 
 #[cfg(test)]
+mod awaiting;
+#[cfg(test)]
 mod entries;
 #[cfg(test)]
 mod failing;
 #[cfg(test)]
 mod outlasting;
+#[cfg(test)]
+mod same_keys;
+#[cfg(test)]
+mod trying;

@@ -114,6 +114,31 @@ fn poll_after<R: Wait, S: State<R, Output: Drop>>(
     polled
 }
 
+// Runs a call to its end beside so many owners.
+fn outlast<R, S, O>(
+    rt: &R,
+    owners: u64,
+    owns: O,
+    waiter: S,
+) -> io::Result<Result<S::Output, PollError>>
+where
+    R: Wait + RandomSource + AllocGlobal,
+    S: State<R, Output: Drop>,
+    O: Owns<R, S> + Drop,
+    requires { S.can_poll waiter }
+{
+    let waiter = Some(waiter);
+    block_on(
+        rt,
+        Outlasts {
+            rt,
+            owners,
+            owns,
+            waiter,
+        },
+    )
+}
+
 // A load, and a compute.
 type Load<'a> = NumberCall<'a, ToLoad<'a, u32>, ByInit<After<'a>>>;
 
@@ -146,16 +171,8 @@ fn load_after<'a, R: Wait + RandomSource + AllocGlobal>(
         polled: dropped,
     };
     let init = After::polls(1, 5, polled);
-    let waiter = Some(numbers(cache.get_with(1, init)));
-    block_on(
-        rt,
-        Outlasts {
-            rt,
-            owners,
-            owns,
-            waiter,
-        },
-    )
+    let waiter = numbers(cache.get_with(1, init));
+    outlast(rt, owners, owns, waiter)
 }
 
 // Puts a value, after so many polls.
@@ -204,16 +221,8 @@ fn compute_after<'a, R: Wait + RandomSource + AllocGlobal>(
         polled: dropped,
     };
     let init = After::polls(1, 5, polled);
-    let waiter = Some(numbers(cache.entry(1).and_compute_with(Puts { init })));
-    block_on(
-        rt,
-        Outlasts {
-            rt,
-            owners,
-            owns,
-            waiter,
-        },
-    )
+    let waiter = numbers(cache.entry(1).and_compute_with(Puts { init }));
+    outlast(rt, owners, owns, waiter)
 }
 
 #[test]

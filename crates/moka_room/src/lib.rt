@@ -6,8 +6,6 @@ ghost use Rattle.std.specs.Prelude.{◌≡◌, ◌≤◌, ◌+◌, ◌*◌, IfSo
 pub mod deque_room;
 pub mod map_room;
 pub mod set_room;
-#[cfg(test)]
-mod tests;
 pub mod vec_room;
 
 /// A collection of no more places than this keeps them all.

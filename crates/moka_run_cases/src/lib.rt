@@ -8,6 +8,8 @@ mod counting;
 #[cfg(test)]
 mod drops;
 #[cfg(test)]
+mod equal_keys;
+#[cfg(test)]
 mod faults;
 #[cfg(test)]
 mod fresh;
@@ -27,3 +29,5 @@ mod removals;
 mod rows;
 #[cfg(test)]
 mod stepping;
+#[cfg(test)]
+mod uses;

@@ -59,7 +59,7 @@ self : (n : ℕ) → eqb n n ≡ true
 self n = (Decides-eqb n n).1 refl
 
 -- the first mark is the one after a front that has none
-cut_at : (front rest : List ℕ) (mark : ℕ) → AllByRecursion (λ b. eqb b mark ≡ false) front → (before_byte mark (front ++ mark ∷ rest) ≡ front) × (after_byte mark (front ++ mark ∷ rest) ≡ rest)
+pub cut_at : (front rest : List ℕ) (mark : ℕ) → AllByRecursion (λ b. eqb b mark ≡ false) front → (before_byte mark (front ++ mark ∷ rest) ≡ front) × (after_byte mark (front ++ mark ∷ rest) ≡ rest)
 cut_at [] rest mark h = (before_here mark mark rest (self mark), after_here mark mark rest (self mark))
 cut_at (b ∷ front) rest mark h =
     let later = cut_at front rest mark h.1 in
@@ -127,7 +127,7 @@ unfolding replace_of
 replace_read None h = refl
 replace_read (Some test) h = rw (call_some test h) refl
 
-load_read : (k : ℕ) (replace : Option ℕ) → k < 2 ^ 32 → IfSome replace (λ test. test < 2 ^ 64) → load_of (decimal k ++ replace_words replace) ≡ Some (k, replace)
+pub load_read : (k : ℕ) (replace : Option ℕ) → k < 2 ^ 32 → IfSome replace (λ test. test < 2 ^ 64) → load_of (decimal k ++ replace_words replace) ≡ Some (k, replace)
 unfolding load_of
 load_read k replace h j =
     let close = no_space (decimal k) (digits_decimal own k (omega arith)) in
@@ -151,7 +151,7 @@ start_read (start.Invalidate key) h = rw (key_some key h) refl
 start_read (start.Remove key) h = rw (key_some key h) refl
 start_read (start.Evict key stamp cause) h = rw (evict_read key stamp cause h.0 h.1) refl
 
-told_read : (t : Told ℕ ℕ) → ToldFits t → told_of (told_words t) ≡ Some t
+pub told_read : (t : Told ℕ ℕ) → ToldFits t → told_of (told_words t) ≡ Some t
 unfolding told_alone told_of
 told_read (told.Value value) h = rw (key_some value h) refl
 told_read told.Nothing h = refl
@@ -279,7 +279,7 @@ start_is bytes =
     (chosen P (bytes_eq word (codes "remove")) _ _ (number_after (2 ^ 32) P start.Remove (codes "remove") bytes (omega arith) (λ n e h. (e, h)))
     (chosen P (bytes_eq word (codes "evict")) _ _ (after_word (λ t. decimal t.0 ++ 32 ∷ chosen_words t.1.0 t.1.1) (λ t. (t.0 < 2 ^ 32) × (t.1.0 < 2 ^ 64)) P (λ t. start.Evict t.0 t.1.0 t.1.1) (codes "evict") bytes (evict_of (after_byte 32 bytes)) (λ t h. some_spaced (decimal t.0) (chosen_words t.1.0 t.1.1)) (evict_is (after_byte 32 bytes)) (λ t e h. (e, h))) tt))))))))))))
 
-alone_is : (bytes : List ℕ) → IfSome (told_alone bytes) (λ t. (bytes ≡ told_words t) × ToldFits t)
+pub alone_is : (bytes : List ℕ) → IfSome (told_alone bytes) (λ t. (bytes ≡ told_words t) × ToldFits t)
 unfolding told_alone
 alone_is bytes =
     let P : Told ℕ ℕ → Type 0 = λ t. (bytes ≡ told_words t) × ToldFits t in
@@ -289,7 +289,7 @@ alone_is bytes =
     (chosen P (bytes_eq bytes (codes "done")) _ _ (λ h. ((bytes_eq-Decides bytes (codes "done")).0 h, tt))
     (chosen P (bytes_eq bytes (codes "off")) _ _ (λ h. ((bytes_eq-Decides bytes (codes "off")).0 h, tt)) tt))))
 
-told_is : (bytes : List ℕ) → IfSome (told_of bytes) (λ t. (bytes ≡ told_words t) × ToldFits t)
+pub told_is : (bytes : List ℕ) → IfSome (told_of bytes) (λ t. (bytes ≡ told_words t) × ToldFits t)
 unfolding told_of
 told_is bytes =
     let P : Told ℕ ℕ → Type 0 = λ t. (bytes ≡ told_words t) × ToldFits t in

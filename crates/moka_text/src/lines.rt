@@ -13,7 +13,6 @@ ghost use Rattle.moka_text.specs.ScheduleReading.{
   told_alone,
   told_of,
   tell_of,
-  event_by,
   event_of,
 };
 
@@ -84,6 +83,10 @@ fn replace_of(bytes: &[u8]) -> Option<Option<u64>>
 fn load_of(bytes: &[u8]) -> Option<(u32, Option<u64>)>
     ensures { result ≡ load_of bytes.now }
 {
+    // Few loads have a replace test: without one the key is all.
+    if let Some(key) = key_in(bytes) {
+        return Some((key, None));
+    }
     let (key, _) = cut(bytes, b' ');
     let replace = &bytes[key.len()..];
     let key = key_in(key)?;
@@ -118,6 +121,16 @@ fn start_by(word: &[u8], rest: &[u8]) -> Option<Start<u32, u32>>
 fn start_of(bytes: &[u8]) -> Option<Start<u32, u32>>
     ensures { result ≡ start_of bytes.now }
 {
+    // What is started most is known by its front, which takes less than to look for the space.
+    if let Some(load) = after(bytes, b"get_with ") {
+        return load_of(load).map(|(key, replace)| Start::GetWith { key, replace });
+    }
+    if let Some(pair) = after(bytes, b"insert ") {
+        return pair_of(pair).map(|(key, value)| Start::Insert { key, value });
+    }
+    if let Some(key) = after(bytes, b"get ") {
+        return key_in(key).map(|key| Start::Get { key });
+    }
     let (word, rest) = cut(bytes, b' ');
     start_by(word, rest)
 }
@@ -142,13 +155,16 @@ fn told_alone(bytes: &[u8]) -> Option<Told<u32, u32>>
 fn told_of(bytes: &[u8]) -> Option<Told<u32, u32>>
     ensures { result ≡ told_of bytes.now }
 {
-    let (word, rest) = cut(bytes, b' ');
-    match word {
-        b"value" => key_in(rest).map(Told::Value),
-        b"error" => key_in(rest).map(Told::Err),
-        b"put" => key_in(rest).map(|value| Told::Op(Op::Put(value))),
-        _ => told_alone(bytes),
+    if let Some(value) = after(bytes, b"value ") {
+        return key_in(value).map(Told::Value);
     }
+    if let Some(error) = after(bytes, b"error ") {
+        return key_in(error).map(Told::Err);
+    }
+    if let Some(value) = after(bytes, b"put ") {
+        return key_in(value).map(|value| Told::Op(Op::Put(value)));
+    }
+    told_alone(bytes)
 }
 
 /// A call, and after a space what it is told.
@@ -162,26 +178,27 @@ fn tell_of(bytes: &[u8]) -> Option<(u64, Told<u32, u32>)>
     Some((call, answer))
 }
 
-/// The event of a line, by its first word and what stands after its space.
-#[tactic(auto, unfolding(crate::specs::ScheduleReading::event_by))]
-fn event_by(word: &[u8], rest: &[u8]) -> Option<Event<u32, u32, u32>>
-    ensures { result ≡ event_by word.now rest.now }
-{
-    match word {
-        b"at" => call_in(rest).map(|moment| Event::At { moment }),
-        b"start" => start_of(rest).map(|start| Event::Start { start }),
-        b"step" => call_in(rest).map(|call| Event::Step { call }),
-        b"poll" => call_in(rest).map(|call| Event::Poll { call }),
-        b"tell" => tell_of(rest).map(|(call, answer)| Event::Tell { call, answer }),
-        b"drop" => call_in(rest).map(|call| Event::Drop { call }),
-        _ => None,
-    }
-}
-
-/// The event that a line spells, if it spells one.
+/// The event that a line spells, if it spells one: by the first word and its space, at the front.
 pub(crate) fn event_of(line: &[u8]) -> Option<Event<u32, u32, u32>>
     ensures { result ≡ event_of line.now }
 {
-    let (word, rest) = cut(line, b' ');
-    event_by(word, rest)
+    if let Some(call) = after(line, b"poll ") {
+        return call_in(call).map(|call| Event::Poll { call });
+    }
+    if let Some(start) = after(line, b"start ") {
+        return start_of(start).map(|start| Event::Start { start });
+    }
+    if let Some(told) = after(line, b"tell ") {
+        return tell_of(told).map(|(call, answer)| Event::Tell { call, answer });
+    }
+    if let Some(call) = after(line, b"step ") {
+        return call_in(call).map(|call| Event::Step { call });
+    }
+    if let Some(call) = after(line, b"drop ") {
+        return call_in(call).map(|call| Event::Drop { call });
+    }
+    if let Some(moment) = after(line, b"at ") {
+        return call_in(moment).map(|moment| Event::At { moment });
+    }
+    None
 }

@@ -15,7 +15,7 @@ ghost use Rattle.moka_text.specs.declared.schedules.ScheduleError.TheVariants.{M
 
 use crate::lines::event_of;
 use crate::options::cache_of;
-use crate::words::cut;
+use crate::words::cut_line;
 use moka_hist::{Event, Rules};
 use std::alloc::{AllocError, AllocFailed, Global};
 use std::error::Error;
@@ -78,7 +78,7 @@ fn read_events(alloc: Global, text: &[u8]) -> Result<Vec<Event<u32, u32, u32>>, 
     let mut number: u64 = 2;
     let mut rest = text;
     while !rest.is_empty() {
-        let (line, later) = cut(rest, b'\n');
+        let (line, later) = cut_line(rest);
         let Some(event) = event_of(line) else {
             return Err(ScheduleError::BadLine { line: number });
         };
@@ -94,7 +94,7 @@ fn read_whole(alloc: Global, text: &[u8]) -> Result<Schedule, ScheduleError>
     ensures exact { Gives parts result (schedule text.now) }
     ensures memory { IsErrOf result ScheduleError.Memory → MayWantMemory (schedule text.now) }
 {
-    let (first, rest) = cut(text, b'\n');
+    let (first, rest) = cut_line(text);
     let Some((log, rules)) = cache_of(first) else {
         return Err(ScheduleError::BadLine { line: 1 });
     };

@@ -6,6 +6,8 @@ ghost use Rattle.std.specs.Str.Parse.{AllDigits, digits_value};
 ghost use Rattle.std.specs.Option.{option_copied};
 ghost use Rattle.moka_text.specs.Words.{call_in, key_in, after, before_byte, after_byte};
 
+use memchr::memchr;
+
 /// How many digits a number of 64 bits has room for, whichever they are.
 const SHORT: usize = 19;
 
@@ -67,11 +69,23 @@ pub(crate) fn key_in(digits: &[u8]) -> Option<u32>
     u32::try_from(call_in(digits)?).ok()
 }
 
-/// What the line has after these bytes at its front.
+/// What the line has after these bytes at its front. The first that differs ends it, which takes
+/// less than `strip_prefix` where most lines have another front.
+#[inline(always)]
 pub(crate) fn after<'a>(line: &'a [u8], front: &[u8]) -> Option<&'a [u8]>
     ensures { option_copied result ≡ after front.now line.now }
 {
-    line.strip_prefix(front)
+    if line.len() < front.len() {
+        return None;
+    }
+    let mut same = 0;
+    while same < front.len() {
+        if line[same] != front[same] {
+            return None;
+        }
+        same += 1;
+    }
+    Some(&line[same..])
 }
 
 /// How many bytes stand before the first such byte: all where there is none.
@@ -116,5 +130,18 @@ pub(crate) fn cut(bytes: &[u8], mark: u8) -> (&[u8], &[u8])
         (&bytes[..place], &bytes[place + 1..])
     } else {
         (bytes, &[])
+    }
+}
+
+/// The first line, without its end, and what stands after that. Where no line ends, all is one.
+#[inline(always)]
+pub(crate) fn cut_line(bytes: &[u8]) -> (&[u8], &[u8])
+    ensures front { result.0.now ≡ before_byte 10 bytes.now }
+    ensures rest { result.1.now ≡ after_byte 10 bytes.now }
+    ensures shorter { 0 < length bytes.now → length result.1.now < length bytes.now }
+{
+    match memchr(b'\n', bytes) {
+        Some(place) => (&bytes[..place], &bytes[place + 1..]),
+        None => (bytes, &[]),
     }
 }

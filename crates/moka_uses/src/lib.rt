@@ -3,12 +3,8 @@
 #![tactic(auto)]
 
 mod callers;
-#[cfg(test)]
-mod equal_keys;
 mod reading;
 mod shared;
-#[cfg(test)]
-mod tests;
 mod types;
 
 pub use callers::{read_back_shared, read_back_text};

@@ -14,7 +14,7 @@ use std::alloc::{AllocError, Global};
 use std::hash::Hash;
 
 /// No rule is set.
-pub(crate) const RULES: Rules = Rules {
+const RULES: Rules = Rules {
     max_capacity: None,
     time_to_live: None,
     time_to_idle: None,
@@ -23,7 +23,7 @@ pub(crate) const RULES: Rules = Rules {
 };
 
 /// How many writes the cache's log has room for.
-pub(crate) const LOG: usize = 8;
+const LOG: usize = 8;
 
 /// Tests of records, of which none holds.
 #[derive(Clone, Copy, PartialEq, Eq, Debug)]
@@ -40,7 +40,7 @@ impl<K, V> Tests<K, V> for NoTests {
 }
 
 /// Runs the events, and tells want of memory alone.
-pub(crate) fn run_all<K: Eq + Hash + Clone + Drop, V: Clone + Drop>(
+fn run_all<K: Eq + Hash + Clone + Drop, V: Clone + Drop>(
     alloc: Global,
     cache: &mut Machine<K, V, u16, NoTests>,
     events: &[Event<K, V, u16>],

@@ -1,0 +1,67 @@
+//! Calls of caches of numbers, as states.
+//!
+//! That such a call is a state is shown once here, and not where calls of each kind are made.
+ghost use Rattle.std.specs.Prelude.{◌≡◌, nat_eq};
+ghost use Rattle.moka_cache.specs.Settings.{rules_of};
+ghost use Rattle.moka_cache.specs.Stages.{MayPoll};
+ghost use Rattle.moka_cache.specs.Starts.{called};
+ghost use Rattle.moka_cache.specs.Suits.{Tells};
+ghost use Rattle.moka_cache.specs.declared.stage.Stage.TheVariants as Stage;
+
+use futures::task::{Context, Poll};
+use moka_cache::{Asked, Begin, Cache, CacheCall, Listener, NoListener, PollError, State};
+use std::sync::Wait;
+
+/// A cache of numbers, with this listener.
+pub type Numbers<L = NoListener> = Cache<u64, u64, u64, L>;
+
+/// A call of a cache of numbers.
+pub struct NumberCall<'a, A, Q, L = NoListener> {
+    call: CacheCall<'a, A, u64, u64, u64, Q, L>,
+}
+
+/// The call as a state, where it may be run.
+pub fn numbers<'a, A: Begin<u64, u64, u64>, Q: Asked<u64, u64, u64>, L>(
+    call: CacheCall<'a, A, u64, u64, u64, Q, L>,
+) -> NumberCall<'a, A, Q, L>
+    requires may { MayPoll call.stage }
+    requires asks { Q.can_poll call.asked }
+    requires tells { Tells nat_eq (Q.gives call.asked) (called (rules_of call.cache.now) A.start)
+        A.output call.stage }
+    ensures may { MayPoll result.call.stage }
+    ensures asks { Q.can_poll result.call.asked }
+    ensures tells { Tells nat_eq (Q.gives result.call.asked)
+        (called (rules_of result.call.cache.now) A.start) A.output result.call.stage }
+{
+    NumberCall { call }
+}
+
+impl<R, A, Q, L> State<R> for NumberCall<'_, A, Q, L>
+where
+    R: Wait,
+    A: Begin<u64, u64, u64>,
+    Q: Asked<u64, u64, u64>,
+    L: Listener<u64, u64>,
+{
+    type Output = A::Output;
+
+    ghost can_poll = { λ n. MayPoll n.call.stage × Q.can_poll n.call.asked
+        × Tells nat_eq (Q.gives n.call.asked) (called (rules_of n.call.cache.now) A.start)
+        A.output n.call.stage };
+
+    ghost is_spent = { λ n. n.call.stage ≡ Stage.Spent };
+
+    fn poll(
+        &mut self,
+        rt: &R,
+        cx: &mut Context<'_>,
+        moment: u64,
+    ) -> Poll<Result<A::Output, PollError>> {
+        self.call.poll(rt, cx, moment)
+    }
+
+    fn cancel(self, rt: &R) {
+        let NumberCall { call } = self;
+        call.cancel(rt);
+    }
+}

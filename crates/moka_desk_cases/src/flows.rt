@@ -1,0 +1,10 @@
+//! Worked cases of the calls as flows: what no clause of `moka_init` says.
+
+mod bare;
+mod computes;
+mod given;
+mod loads;
+mod names;
+mod removals;
+mod rows;
+mod writes;

@@ -1,0 +1,28 @@
+-- What a flow wants and needs is what the point wants and needs at which it stands.
+use Rattle.std.proofs.Common.{◌≡◌, sym, subst}
+use Rattle.std.specs.Prelude.{Option, Result, IfOk, OnErr}
+use Rattle.moka_hist.specs.declared.accesses.Want.{Want}
+use Rattle.moka_needs.specs.declared.needs.Need.{Need}
+use Rattle.moka_init.specs.declared.flow.Flow.{Flow}
+use Rattle.moka_init.specs.declared.points.Point.{Point}
+use Rattle.moka_init.specs.PointPlan.{plan_at}
+use Rattle.moka_init.specs.Grounds.{access_at, access_from, wish_of, wish_for, TakesCopies}
+use Rattle.moka_init.specs.Needs.{need_at}
+
+module _ {K V E F : Type 0} (flow : Flow K V E) (p : Point K V E) (stands : flow.point ≡ p) where
+  pub wants : (r : Result (Want K V E) F) → IfOk r (λ want. want ≡ wish_for flow (plan_at p))
+      → IfOk r (λ want. want ≡ wish_of flow)
+  wants r = subst (λ q. IfOk r (λ want. want ≡ wish_for flow (plan_at q))) (sym stands)
+
+  pub copies : (r : Result (Want K V E) F) → OnErr r (TakesCopies (access_from flow (plan_at p)))
+      → OnErr r (TakesCopies (access_at flow))
+  copies r = subst (λ q. OnErr r (TakesCopies (access_from flow (plan_at q)))) (sym stands)
+
+  pub may_need : (r : Result (Option (Need K)) F) → IfOk r (λ need. need ≡ need_at (access_from flow (plan_at p)))
+      → IfOk r (λ need. need ≡ need_at (access_at flow))
+  may_need r = subst (λ q. IfOk r (λ need. need ≡ need_at (access_from flow (plan_at q)))) (sym stands)
+
+module _ {K V E : Type 0} (flow : Flow K V E) (p : Point K V E) (stands : flow.point ≡ p) where
+  pub needs : (need : Option (Need K)) → need ≡ need_at (access_from flow (plan_at p))
+      → need ≡ need_at (access_at flow)
+  needs need = subst (λ q. need ≡ need_at (access_from flow (plan_at q))) (sym stands)

@@ -1,2 +1,0 @@
-pub mod EmptyCache
-pub mod Fitting
