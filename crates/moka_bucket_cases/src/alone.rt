@@ -8,6 +8,7 @@ use moka_buckets::BucketTable;
 use moka_hist::{Stored, TableAnswer, TableOp, TableTurn};
 use moka_table::Table;
 use std::alloc::{AllocError, Global};
+use std::process::Abort;
 use std::test::Fail;
 
 fn insert(key: u64, value: u64) -> TableOp<u64, u64> {
@@ -75,10 +76,12 @@ fn operation(act: Act) -> TableOp<u64, u64> {
     }
 }
 
-#[test]
-fn steps_of_operations_on_an_empty_table(rt: HostRuntime) -> Result<(), Fail> {
-    let mut table = lowest(rt.alloc())?;
-    assert_eq!(rt; table.words(), 0);
+// Runs what is done to key 7: how many steps each made, and the value that was there.
+fn run_act(table: &mut Lowest, act: Act) -> Result<(u32, Option<u64>), AllocError> {
+    run(table, operation(act))
+}
+
+fn act_each(rt: &impl Abort, table: &mut Lowest) -> Result<(), Fail> {
     let cases = [
         (Act::Look, 1, None),
         (Act::Put(70), 135, None),
@@ -88,10 +91,21 @@ fn steps_of_operations_on_an_empty_table(rt: HostRuntime) -> Result<(), Fail> {
         (Act::Look, 2, None),
         (Act::Put(72), 3, None),
     ];
-    for (act, steps, there) in cases {
-        assert_eq!(rt; run(&mut table, operation(act))?, (steps, there));
+    for (done, steps, there) in cases {
+        assert_eq!(rt; run_act(table, done)?, (steps, there));
     }
-    assert_eq!(rt; (table.words(), table.len(), table.segments()), (128, 1, 1));
+    Ok(())
+}
+
+#[test]
+fn steps_of_operations_on_an_empty_table(rt: HostRuntime) -> Result<(), Fail> {
+    let mut table = lowest(rt.alloc())?;
+    let before = table.words();
+    let acted = act_each(&rt, &mut table);
+    let sizes = (table.words(), table.len(), table.segments());
+    drop(table);
+    acted?;
+    assert_eq!(rt; (before, sizes), (0, (128, 1, 1)));
     Ok(())
 }
 
@@ -131,22 +145,38 @@ fn grow<C: Drop, T: Table<u64, u64, Call = C> + Drop>(
 #[test]
 fn the_ninety_first_key_grows_the_array(rt: HostRuntime) -> Result<(), Fail> {
     let mut one = zero(rt.alloc())?;
-    assert_eq!(rt; grow(&mut one)?, (609, None));
-    assert_eq!(rt; one.words(), 256);
-    let mut apart = lowest(rt.alloc())?;
-    assert_eq!(rt; grow(&mut apart)?, (519, None));
-    assert_eq!(rt; (apart.words(), apart.len()), (256, 91));
+    let grown = grow(&mut one);
+    let words = one.words();
+    drop(one);
+    assert_eq!(rt; (grown?, words), ((609, None), 256));
     Ok(())
+}
+
+#[test]
+fn the_ninety_first_key_apart_grows_the_array(rt: HostRuntime) -> Result<(), Fail> {
+    let mut apart = lowest(rt.alloc())?;
+    let grown = grow(&mut apart);
+    let (words, len) = (apart.words(), apart.len());
+    drop(apart);
+    assert_eq!(rt; (grown?, words, len), ((519, None), 256, 91));
+    Ok(())
+}
+
+// Removes 14 of 20 keys; tells whether the first 13 were there, how the last was removed, and how many
+// keys are left.
+fn remove_fourteen(table: &mut Zero) -> Result<(bool, (u32, Option<u64>), usize), AllocError> {
+    fill(table, 20)?;
+    let cleared = clear(table, 0, 13)?;
+    Ok((cleared, run(table, remove(13))?, table.len()))
 }
 
 // Of 20 keys with one hash, 14 removals: that many tombstones call for a new array.
 #[test]
 fn the_fourteenth_removal_grows_the_array(rt: HostRuntime) -> Result<(), Fail> {
     let mut table = zero(rt.alloc())?;
-    fill(&mut table, 20)?;
-    assert!(rt; clear(&mut table, 0, 13)?);
-    assert_eq!(rt; run(&mut table, remove(13))?, (391, Some(13)));
-    assert_eq!(rt; table.len(), 6);
+    let removed = remove_fourteen(&mut table);
+    drop(table);
+    assert_eq!(rt; removed?, (true, (391, Some(13)), 6));
     Ok(())
 }
 
@@ -180,19 +210,41 @@ fn first_arrays_are_as_long_as_the_capacity_asks(rt: HostRuntime) -> Result<(), 
     Ok(())
 }
 
+// The words of a table with 90 keys, those once it is compact, and what its last key has then.
+fn compact_full(table: &mut Zero) -> Result<(usize, usize, Option<u64>), AllocError> {
+    fill(table, 90)?;
+    let words = table.words();
+    table.compact()?;
+    Ok((
+        words,
+        table.words(),
+        run(table, TableOp::Get { key: 89 })?.1,
+    ))
+}
+
+// The words of that table once it is compact without its first key, and how many keys it has.
+fn compact_fewer(table: &mut Zero) -> Result<(usize, usize), AllocError> {
+    let _ = run(table, remove(0))?;
+    table.compact()?;
+    Ok((table.words(), table.len()))
+}
+
+// Whether the other keys were there, and the words once it is compact without them.
+fn compact_none(table: &mut Zero) -> Result<(bool, usize), AllocError> {
+    let cleared = clear(table, 1, 90)?;
+    table.compact()?;
+    Ok((cleared, table.words()))
+}
+
 #[test]
 fn compacting_leaves_as_few_words_as_the_keys_allow(rt: HostRuntime) -> Result<(), Fail> {
     let mut table = zero(rt.alloc())?;
-    fill(&mut table, 90)?;
-    assert_eq!(rt; table.words(), 128);
-    table.compact()?;
-    assert_eq!(rt; table.words(), 256);
-    assert_eq!(rt; run(&mut table, TableOp::Get { key: 89 })?.1, Some(89));
-    let _ = run(&mut table, remove(0))?;
-    table.compact()?;
-    assert_eq!(rt; (table.words(), table.len()), (128, 89));
-    assert!(rt; clear(&mut table, 1, 90)?);
-    table.compact()?;
-    assert_eq!(rt; table.words(), 0);
+    let full = compact_full(&mut table);
+    let fewer = compact_fewer(&mut table);
+    let none = compact_none(&mut table);
+    drop(table);
+    assert_eq!(rt; full?, (128, 256, Some(89)));
+    assert_eq!(rt; fewer?, (128, 89));
+    assert_eq!(rt; none?, (true, 0));
     Ok(())
 }

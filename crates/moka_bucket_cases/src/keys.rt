@@ -55,7 +55,9 @@ pub(crate) fn run<K: Eq + Hash + Clone + Drop, V: Clone + Drop, S: BuildHasher +
         table.new call.now }
 {
     let mut other = table.begin(operation);
-    match finish(table, call, &mut other)? {
+    let answer = finish(table, call, &mut other);
+    drop(other);
+    match answer? {
         Some(_) => Ok(()),
         None => Err(AllocError),
     }
@@ -110,20 +112,62 @@ fn list_on<K: Eq + Hash + Clone + Drop, V: Clone + Drop, S: BuildHasher + Drop>(
     }
 }
 
+// What a list of keys came to: whether there were keys before its steps, by how many it decided, and
+// the keys then.
+type Listed<K> = (bool, Option<u32>, Option<Vec<K>>);
+
+// Makes the steps of the call.
+fn listed<K: Eq + Hash + Clone + Drop, V: Clone + Drop, S: BuildHasher + Drop>(
+    table: &mut BucketTable<K, V, S>,
+    call: &mut KeysCall,
+) -> Result<Listed<K>, AllocError>
+    requires keys { IsExact K.is_clone }
+    requires fits { fits_keys_in S.BuildHasher S.Hasher.Hasher K.eq K.hash_input
+        table.old call.old }
+    requires going { IsGoing call.old.table }
+{
+    let early = table.keys(call)?.is_some();
+    let steps = list(table, call, 1_000)?;
+    Ok((early, steps, table.keys(call)?))
+}
+
+// Makes the steps of the call after those of the operation.
+fn listed_after<K: Eq + Hash + Clone + Drop, V: Clone + Drop, S: BuildHasher + Drop>(
+    table: &mut BucketTable<K, V, S>,
+    call: &mut KeysCall,
+    operation: TableOp<K, V>,
+) -> Result<Listed<K>, AllocError>
+    requires keys { IsExact K.is_clone }
+    requires values { IsExact V.is_clone }
+    requires fits { fits_keys_in S.BuildHasher S.Hasher.Hasher K.eq K.hash_input
+        table.old call.old }
+    requires going { IsGoing call.old.table }
+{
+    run(table, call, operation)?;
+    listed(table, call)
+}
+
+#[test]
+fn a_segment_without_an_array_is_listed_in_one_step(rt: HostRuntime) -> Result<(), Fail> {
+    let mut table: Zero = BucketTable::with_segments(rt.alloc(), 1, 0, BuildZero {})?;
+    let mut call = table.begin_keys(0);
+    let listed = listed(&mut table, &mut call);
+    drop(call);
+    let (early, steps, keys) = listed?;
+    assert_eq!(rt; (early, steps), (false, Some(1)));
+    assert_eq!(rt; keys.map(|keys| keys.len()), Some(0));
+    Ok(())
+}
+
 #[test]
 fn keys_are_listed_in_129_steps(rt: HostRuntime) -> Result<(), Fail> {
     let mut table: Zero = BucketTable::with_segments(rt.alloc(), 1, 0, BuildZero {})?;
-    let mut none = table.begin_keys(0);
-    assert!(rt; table.keys(&none)?.is_none());
-    assert_eq!(rt; list(&mut table, &mut none, 1_000)?, Some(1));
-    assert_eq!(rt; table.keys(&none)?.map(|keys| keys.len()), Some(0));
-    let mut one = table.begin_keys(0);
-    run(&mut table, &one, insert(7))?;
-    assert_eq!(rt; list(&mut table, &mut one, 1_000)?, Some(129));
-    assert_eq!(rt;
-        table.keys(&one)?.map(|keys| keys.as_slice().contains(&7)),
-        Some(true)
-    );
+    let mut call = table.begin_keys(0);
+    let listed = listed_after(&mut table, &mut call, insert(7));
+    drop(call);
+    let (early, steps, keys) = listed?;
+    assert_eq!(rt; (early, steps), (false, Some(129)));
+    assert_eq!(rt; keys.map(|keys| keys.as_slice().contains(&7)), Some(true));
     Ok(())
 }
 
@@ -132,16 +176,64 @@ fn a_segment_that_is_not_there_has_no_keys(rt: HostRuntime) -> Result<(), Fail> 
     let mut table: Zero = BucketTable::with_segments(rt.alloc(), 4, 1, BuildZero {})?;
     for segment in [4usize, 5, usize::MAX] {
         let mut call = table.begin_keys(segment);
-        run(&mut table, &call, insert(7))?;
-        assert!(rt; table.keys(&call)?.is_none());
-        assert_eq!(rt;
-            list(&mut table, &mut call, 1_000)?,
-            Some(1),
-            "segment {segment}"
-        );
-        assert_eq!(rt; table.keys(&call)?.map(|keys| keys.len()), Some(0));
+        let listed = listed_after(&mut table, &mut call, insert(7));
+        drop(call);
+        let (early, steps, keys) = listed?;
+        assert_eq!(rt; (early, steps), (false, Some(1)), "segment {segment}");
+        assert_eq!(rt; keys.map(|keys| keys.len()), Some(0));
     }
     Ok(())
+}
+
+// Stores these keys, each with itself, one after the other, beside the call.
+fn store_all<K: Eq + Hash + Clone + Drop, S: BuildHasher + Drop>(
+    table: &mut BucketTable<K, K, S>,
+    call: &KeysCall,
+    keys: &[K],
+) -> Result<(), AllocError>
+    requires keys { IsExact K.is_clone }
+    requires fits { fits_keys_in S.BuildHasher S.Hasher.Hasher K.eq K.hash_input
+        table.old call.now }
+    ensures { OnOk result (fits_keys_in S.BuildHasher S.Hasher.Hasher K.eq K.hash_input
+        table.new call.now) }
+{
+    for key in keys {
+        let stored = Stored {
+            value: key.clone()?,
+            stamp: 1,
+            modified: 2,
+        };
+        run(
+            table,
+            call,
+            TableOp::InsertOrModify {
+                key: key.clone()?,
+                stored,
+            },
+        )?;
+    }
+    Ok(())
+}
+
+// Makes so many steps of the call once the first keys are stored, and the steps that are left once
+// the others are. Gives the keys then; None where it doesn't end.
+fn listed_between<K: Eq + Hash + Clone + Drop, S: BuildHasher + Drop>(
+    table: &mut BucketTable<K, K, S>,
+    call: &mut KeysCall,
+    steps: u32,
+    first: &[K],
+    others: &[K],
+) -> Result<Option<Vec<K>>, AllocError>
+    requires keys { IsExact K.is_clone }
+    requires fits { fits_keys_in S.BuildHasher S.Hasher.Hasher K.eq K.hash_input
+        table.old call.old }
+    requires going { IsGoing call.old.table }
+{
+    store_all(table, call, first)?;
+    let early = list(table, call, steps)?;
+    store_all(table, call, others)?;
+    let _ = list_on(table, call, early)?;
+    table.keys(call)
 }
 
 // How often key 1 is listed by a call that made so many steps before the array grew; None where it
@@ -149,15 +241,9 @@ fn a_segment_that_is_not_there_has_no_keys(rt: HostRuntime) -> Result<(), Fail> 
 fn ones_listed(alloc: Global, steps: u32) -> Result<Option<usize>, AllocError> {
     let mut table: Zero = BucketTable::with_segments(alloc, 1, 1, BuildZero {})?;
     let mut call = table.begin_keys(0);
-    run(&mut table, &call, insert(1))?;
-    let early = list(&mut table, &mut call, steps)?;
-    run(&mut table, &call, insert(2))?;
-    run(&mut table, &call, insert(3))?;
-    run(&mut table, &call, insert(4))?;
-    run(&mut table, &call, insert(5))?;
-    let _ = list_on(&mut table, &mut call, early)?;
-    let keys = table.keys(&call)?;
-    Ok(keys.map(|keys| keys.iter().filter(|key| **key == 1).count()))
+    let keys = listed_between(&mut table, &mut call, steps, &[1], &[2, 3, 4, 5]);
+    drop(call);
+    Ok(keys?.map(|keys| keys.iter().filter(|key| **key == 1).count()))
 }
 
 // An array of two words grows while its keys are listed: the list begins again in the new one.

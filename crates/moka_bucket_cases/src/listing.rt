@@ -87,17 +87,36 @@ fn operation(inserts: bool) -> TableOp<u64, u64> {
     }
 }
 
+// Runs the first operation to its end, and then plays the order beside the second. Gives what
+// `play` gives, and the keys that are listed.
+fn play_after<K: Eq + Hash + Clone + Drop, V: Clone + Drop, S: BuildHasher + Drop>(
+    table: &mut BucketTable<K, V, S>,
+    call: &mut KeysCall,
+    first: TableOp<K, V>,
+    second: TableOp<K, V>,
+    order: u64,
+) -> Result<(Option<Played<K, V>>, Option<Vec<K>>), AllocError>
+    requires keys { IsExact K.is_clone }
+    requires values { IsExact V.is_clone }
+    requires fits { fits_keys_in S.BuildHasher S.Hasher.Hasher K.eq K.hash_input
+        table.old call.old }
+    requires going { IsGoing call.old.table }
+{
+    run(table, call, first)?;
+    let mut other = table.begin(second);
+    let played = play(table, call, &mut other, order);
+    drop(other);
+    Ok((played?, table.keys(call)?))
+}
+
 // Plays the order on a new table, whose first array has one word, with key 0 in it. Gives the last
 // bit that was read; None where the answer or the list isn't right.
 fn play_new(alloc: Global, inserts: bool, order: u64) -> Result<Option<u64>, AllocError> {
     let mut table: Zero = BucketTable::with_segments(alloc, 4, 1, BuildZero {})?;
     let mut call = table.begin_keys(0);
-    run(&mut table, &call, insert(0))?;
-    let mut other = table.begin(operation(inserts));
-    let Some(played) = play(&mut table, &mut call, &mut other, order)? else {
-        return Ok(None);
-    };
-    let Some(keys) = table.keys(&call)? else {
+    let ended = play_after(&mut table, &mut call, insert(0), operation(inserts), order);
+    drop(call);
+    let (Some(played), Some(keys)) = ended? else {
         return Ok(None);
     };
     let right = is_answered(&played.answer, inserts)

@@ -4,7 +4,7 @@ use crate::hashers::BuildZero;
 use crate::pace::{Pace, most_steps};
 use crate::together::{Map, answers};
 use moka_buckets::BucketTable;
-use moka_hist::{Stored, TableOp, TableTurn};
+use moka_hist::{Stored, TableAnswer, TableOp, TableTurn};
 use moka_table::Table;
 use std::alloc::{AllocError, Global};
 use std::collections::HashMap;
@@ -59,6 +59,24 @@ fn play<C: Drop, T: Table<u64, u64, Call = C> + Drop>(
 ) -> Result<Option<u64>, AllocError> {
     let mut first = table.begin(operation(numbers.0));
     let mut second = table.begin(operation(numbers.1));
+    let played = play_both(table, map, numbers, order, &mut first, &mut second);
+    drop(first);
+    drop(second);
+    played
+}
+
+// Plays the order with these two, which were begun.
+fn play_both<C: Drop, T: Table<u64, u64, Call = C> + Drop>(
+    table: &mut T,
+    map: &mut Map,
+    numbers: (u64, u64),
+    order: u64,
+    first: &mut C,
+    second: &mut C,
+) -> Result<Option<u64>, AllocError>
+    requires first { T.fits table.old first.old }
+    requires second { T.fits table.old second.old }
+{
     let mut pace = Pace::new(map.len());
     for turn in 0..64u32 {
         let bit = (1u64 << 63) >> turn;
@@ -66,22 +84,36 @@ fn play<C: Drop, T: Table<u64, u64, Call = C> + Drop>(
             return Ok(None);
         }
         if order & bit == 0 {
-            if let TableTurn::Decided(answer) = table.step(&mut first)? {
-                let right = answers(map, &operation(numbers.0), &answer)?
-                    && table.len() == map.len()
-                    && finish(table, map, &mut second, operation(numbers.1))?;
+            if let TableTurn::Decided(answer) = table.step(first)? {
+                let right = ends_right(table, map, second, numbers, &answer)?;
                 return Ok(if right { Some(bit) } else { None });
             }
         } else {
-            if let TableTurn::Decided(answer) = table.step(&mut second)? {
-                let right = answers(map, &operation(numbers.1), &answer)?
-                    && table.len() == map.len()
-                    && finish(table, map, &mut first, operation(numbers.0))?;
+            if let TableTurn::Decided(answer) = table.step(second)? {
+                let right = ends_right(table, map, first, (numbers.1, numbers.0), &answer)?;
                 return Ok(if right { Some(bit) } else { None });
             }
         }
     }
     Ok(None)
+}
+
+// Tells whether the answer of the first operation is the map's, and then the other's, which goes on
+// alone.
+fn ends_right<C: Drop, T: Table<u64, u64, Call = C> + Drop>(
+    table: &mut T,
+    map: &mut Map,
+    other: &mut C,
+    numbers: (u64, u64),
+    answer: &TableAnswer<u64, u64>,
+) -> Result<bool, AllocError>
+    requires { T.fits table.old other.old }
+{
+    Ok(
+        answers(map, &operation(numbers.0), answer)?
+            && table.len() == map.len()
+            && finish(table, map, other, operation(numbers.1))?,
+    )
 }
 
 // Makes the steps that are left, no more than an operation may make alone. Tells whether answer and
@@ -120,6 +152,16 @@ where
     Ok(table.pairs(alloc)?.len() == map.len())
 }
 
+// Stores the key, and tells whether the answer is the map's.
+fn is_stored<C: Drop, T: Table<u64, u64, Call = C> + Drop>(
+    table: &mut T,
+    map: &mut Map,
+    key: u64,
+) -> Result<bool, AllocError> {
+    let mut call = table.begin(operation(9 + key % 3));
+    finish(table, map, &mut call, operation(9 + key % 3))
+}
+
 // Plays the order on a new table. Gives what `play` gives, or None where the pairs at the end
 // aren't the map's.
 fn play_new(
@@ -138,8 +180,7 @@ fn play_new(
     )?;
     let mut map = HashMap::new(alloc);
     for key in 0..beginning.present {
-        let mut call = table.begin(operation(9 + key % 3));
-        if !finish(&mut table, &mut map, &mut call, operation(9 + key % 3))? {
+        if !is_stored(&mut table, &mut map, key)? {
             return Ok(None);
         }
     }

@@ -1,6 +1,8 @@
 //! Operations of `PlainTable`, which succeed with ample memory.
 
 use moka_table::{PlainTable, Stored, Table, TableAnswer, TableOp, TableTurn};
+use std::alloc::{AllocError, Global};
+use std::process::Abort;
 use std::test::Fail;
 
 fn insert(key: u32, stamp: u64) -> TableOp<u32, u32> {
@@ -38,9 +40,19 @@ fn stamp_in(turn: &TableTurn<u32, u32>) -> Option<u64> {
     }
 }
 
-#[test]
-fn each_operation_succeeds_with_ample_memory(rt: HostRuntime) -> Result<(), Fail> {
-    let mut table: PlainTable<u32, u32> = PlainTable::new(rt.alloc());
+// Runs the operation; tells whether it is undecided, the stamp that it found, and how many keys there
+// are then.
+fn run(
+    table: &mut PlainTable<u32, u32>,
+    operation: TableOp<u32, u32>,
+) -> Result<(bool, Option<u64>, usize), AllocError> {
+    let mut call = table.begin(operation);
+    let turn = table.step(&mut call)?;
+    Ok((turn.is_going(), stamp_in(&turn), table.len()))
+}
+
+// Runs operations of each kind on an empty table.
+fn run_each(rt: &impl Abort, table: &mut PlainTable<u32, u32>) -> Result<(), Fail> {
     let cases = [
         (TableOp::Get { key: 3 }, None, 0),
         (insert(3, 1), None, 1),
@@ -57,25 +69,41 @@ fn each_operation_succeeds_with_ample_memory(rt: HostRuntime) -> Result<(), Fail
         (insert_if_absent(4, 6), None, 2),
     ];
     for (operation, stamp, len) in cases {
-        let mut call = table.begin(operation);
-        let turn = table.step(&mut call)?;
-        assert!(rt; !turn.is_going());
-        assert_eq!(rt; stamp_in(&turn), stamp, "with {len} keys");
-        assert_eq!(rt; table.len(), len);
+        assert_eq!(rt;
+            run(table, operation)?,
+            (false, stamp, len),
+            "with {len} keys"
+        );
     }
     Ok(())
 }
 
 #[test]
+fn each_operation_succeeds_with_ample_memory(rt: HostRuntime) -> Result<(), Fail> {
+    let mut table: PlainTable<u32, u32> = PlainTable::new(rt.alloc());
+    let ran = run_each(&rt, &mut table);
+    drop(table);
+    ran
+}
+
+// Stores two keys, and gives the pairs then.
+fn pairs_of_two(
+    alloc: Global,
+    table: &mut PlainTable<u32, u32>,
+) -> Result<Vec<(u32, Stored<u32>)>, AllocError> {
+    let _ = run(table, insert(3, 1))?;
+    let _ = run(table, insert(4, 2))?;
+    Ok(table.pairs(alloc)?.into_vec())
+}
+
+#[test]
 fn the_pairs_of_two_keys_are_listed(rt: HostRuntime) -> Result<(), Fail> {
     let mut table: PlainTable<u32, u32> = PlainTable::new(rt.alloc());
-    for operation in [insert(3, 1), insert(4, 2)] {
-        let mut call = table.begin(operation);
-        let _ = table.step(&mut call)?;
-    }
-    let pairs = table.pairs(rt.alloc())?;
+    let pairs = pairs_of_two(rt.alloc(), &mut table);
+    drop(table);
+    let pairs = pairs?;
     assert_eq!(rt; pairs.len(), 2);
-    for (key, stored) in pairs.into_vec() {
+    for (key, stored) in pairs {
         assert_eq!(rt; key, if stored.stamp == 1 { 3 } else { 4 });
     }
     Ok(())

@@ -15,6 +15,8 @@ use moka_table::{EntryList, PlainCall, PlainTable, Table};
 use std::alloc::{AllocError, Global};
 use std::hash::Hash;
 #[cfg(test)]
+use std::process::Abort;
+#[cfg(test)]
 use std::test::Fail;
 
 // A plain table with work to be done before the next operation decides. Each step does one piece.
@@ -110,12 +112,19 @@ impl<K: Eq + Hash + Clone + Drop, V: Clone + Drop> Table<K, V> for Slow<K, V> {
     }
 }
 
-#[test]
-fn an_operation_decides_once_the_pieces_are_done(rt: HostRuntime) -> Result<(), Fail> {
-    let mut table: Slow<u32, u32> = Slow {
-        plain: PlainTable::new(rt.alloc()),
-        pieces: 2,
-    };
+// A table with so many pieces to be done.
+#[cfg(test)]
+fn with_pieces(alloc: Global, pieces: u64) -> Slow<u32, u32>
+    requires { pieces < most_steps plain_first 0 }
+{
+    Slow {
+        plain: PlainTable::new(alloc),
+        pieces,
+    }
+}
+
+#[cfg(test)]
+fn decide_both(rt: &impl Abort, table: &mut Slow<u32, u32>) -> Result<(), Fail> {
     let mut first = table.begin(TableOp::Get { key: 3 });
     let mut second = table.begin(TableOp::Get { key: 4 });
     assert!(rt; table.step(&mut first)?.is_going());
@@ -126,11 +135,15 @@ fn an_operation_decides_once_the_pieces_are_done(rt: HostRuntime) -> Result<(), 
 }
 
 #[test]
-fn a_removal_finds_what_is_there_when_it_decides(rt: HostRuntime) -> Result<(), Fail> {
-    let mut table: Slow<u32, u32> = Slow {
-        plain: PlainTable::new(rt.alloc()),
-        pieces: 1,
-    };
+fn an_operation_decides_once_the_pieces_are_done(rt: HostRuntime) -> Result<(), Fail> {
+    let mut table = with_pieces(rt.alloc(), 2);
+    let decided = decide_both(&rt, &mut table);
+    drop(table);
+    decided
+}
+
+#[cfg(test)]
+fn remove_late(rt: &impl Abort, table: &mut Slow<u32, u32>) -> Result<(), Fail> {
     let mut removal = table.begin(TableOp::RemoveIf {
         key: 3,
         stamp: Some(1),
@@ -147,4 +160,12 @@ fn a_removal_finds_what_is_there_when_it_decides(rt: HostRuntime) -> Result<(), 
     assert!(rt; !table.step(&mut removal)?.is_going());
     assert_eq!(rt; table.len(), 0);
     Ok(())
+}
+
+#[test]
+fn a_removal_finds_what_is_there_when_it_decides(rt: HostRuntime) -> Result<(), Fail> {
+    let mut table = with_pieces(rt.alloc(), 1);
+    let removed = remove_late(&rt, &mut table);
+    drop(table);
+    removed
 }

@@ -283,6 +283,21 @@ fn operation(seed: u64, keys: u64) -> TableOp<u64, u64> {
     }
 }
 
+// Runs so many operations at random on a new table. Gives the first turn that isn't right, and
+// whether there are as many pairs as in the map then.
+fn run_many<C: Drop, T: Table<u64, u64, Call = C> + Drop>(
+    alloc: Global,
+    table: &mut T,
+    count: u64,
+    keys: u64,
+    turns: u32,
+) -> Result<(Option<u32>, bool), AllocError> {
+    let mut calls = begin_all(alloc, table, count, keys)?;
+    let mut map = HashMap::new(alloc);
+    let turn = run_at_random(table, &mut calls, &mut map, keys, turns)?;
+    Ok((turn, table.pairs(alloc)?.len() == map.len()))
+}
+
 // Runs three operations at random on a new table, hashed as std does. Gives the first turn that
 // isn't right, and whether there are as many pairs as in the map then.
 fn run_hashed(
@@ -296,10 +311,9 @@ fn run_hashed(
 {
     let mut table: BucketTable<u64, u64, BuildHasherDefault<FoldHasher>> =
         BucketTable::with_segments(alloc, segments, capacity, BuildHasherDefault::new())?;
-    let mut calls = begin_all(alloc, &table, 3, keys)?;
-    let mut map = HashMap::new(alloc);
-    let turn = run_at_random(&mut table, &mut calls, &mut map, keys, 20_000)?;
-    Ok((turn, table.pairs(alloc)?.len() == map.len()))
+    let ended = run_many(alloc, &mut table, 3, keys, 20_000);
+    drop(table);
+    ended
 }
 
 #[test]
@@ -316,20 +330,20 @@ fn operations_at_random_answer_as_the_map_of_std(rt: HostRuntime) -> Result<(), 
 }
 
 // Runs ten operations at random on a new table, whose keys have one hash. Gives the first turn that
-// isn't right.
+// isn't right, and whether there are as many pairs as in the map then.
 fn run_colliding(
     alloc: Global,
     keys: u64,
     segments: usize,
     capacity: usize,
-) -> Result<Option<u32>, AllocError>
+) -> Result<(Option<u32>, bool), AllocError>
     requires some { 0 < segments }
     requires few { segments ≤ 65536 }
 {
     let mut table: Zero = BucketTable::with_segments(alloc, segments, capacity, BuildZero {})?;
-    let mut calls = begin_all(alloc, &table, 10, keys)?;
-    let mut map = HashMap::new(alloc);
-    run_at_random(&mut table, &mut calls, &mut map, keys, 4_000)
+    let ended = run_many(alloc, &mut table, 10, keys, 4_000);
+    drop(table);
+    ended
 }
 
 // Keys of one hash, all in the first segment, whose first array has 1 word to 16.
@@ -339,7 +353,7 @@ fn ten_operations_on_colliding_keys_answer_as_the_map_of_std(rt: HostRuntime) ->
         for keys in [1u64, 3, 40] {
             assert_eq!(rt;
                 run_colliding(rt.alloc(), keys, segments, capacity)?,
-                None,
+                (None, true),
                 "{keys} keys, {segments} segments, a capacity of {capacity}"
             );
         }
@@ -356,7 +370,9 @@ fn is_right(
 ) -> Result<bool, AllocError> {
     let mut table: Zero = BucketTable::with_segments(alloc, 1, capacity, BuildZero {})?;
     let mut map = HashMap::new(alloc);
-    run_in_order(&mut table, &mut map, seeds, order)
+    let right = run_in_order(&mut table, &mut map, seeds, order);
+    drop(table);
+    right
 }
 
 // The first of so many orders in which two operations of these kinds don't answer as the map.

@@ -19,5 +19,3 @@ mod naming;
 mod removing;
 #[cfg(test)]
 mod replacing;
-#[cfg(test)]
-mod threads;

@@ -1,13 +1,18 @@
 //! Calls of each kind.
+ghost use Rattle.std.specs.Prelude.{nat_eq};
+ghost use Rattle.moka_cache.specs.Settings.{rules_of};
+ghost use Rattle.moka_cache.specs.Stages.{MayPoll};
+ghost use Rattle.moka_cache.specs.Starts.{called};
+ghost use Rattle.moka_cache.specs.Suits.{Tells};
 
-use crate::numbers::numbers;
+use crate::numbers::{Call, numbers};
 use crate::rounds::{
     Computes, Entries, Gets, Inserts, Loads, LoneComputes, OptionalEntries, OptionalLoads,
     OrInserts, Removals, Rounds, TriedComputes, TriedEntries, TriedLoads, Upserts,
 };
 use crate::runs::{Span, finish_both, make_alone, run};
 use crate::ways::{Kind, Way};
-use moka_cache::Listener;
+use moka_cache::{Asked, Begin, Listener};
 use std::alloc::AllocGlobal;
 use std::io;
 use std::random::RandomSource;
@@ -126,20 +131,16 @@ fn load_if<R: Wait + RandomSource + AllocGlobal, L: Listener<u64, u64>>(
     round: u64,
 ) -> io::Result<bool> {
     let (key, holds) = (rounds.key(round), rounds.otherwise);
-    let one = numbers(
-        rounds
-            .cache
-            .get_with_if(key, rounds.value(key), move |_value: &u64| holds),
-    );
+    let one = rounds
+        .cache
+        .get_with_if(key, rounds.value(key), move |_value: &u64| holds);
     if !matches!(way, Way::Twice) {
-        return make_alone(rt, way, one);
+        return make_call(rt, way, one);
     }
-    let other = numbers(
-        rounds
-            .cache
-            .get_with_if(key, rounds.value(key), move |_value: &u64| holds),
-    );
-    finish_both(rt, one, other)
+    let other = rounds
+        .cache
+        .get_with_if(key, rounds.value(key), move |_value: &u64| holds);
+    make_both(rt, one, other)
 }
 
 fn load_entry_if<R: Wait + RandomSource + AllocGlobal, L: Listener<u64, u64>>(
@@ -149,20 +150,55 @@ fn load_entry_if<R: Wait + RandomSource + AllocGlobal, L: Listener<u64, u64>>(
     round: u64,
 ) -> io::Result<bool> {
     let (key, holds) = (rounds.key(round), rounds.otherwise);
-    let one = numbers(
-        rounds
-            .cache
-            .entry(key)
-            .or_insert_with_if(rounds.value(key), move |_value: &u64| holds),
-    );
+    let one = rounds
+        .cache
+        .entry(key)
+        .or_insert_with_if(rounds.value(key), move |_value: &u64| holds);
     if !matches!(way, Way::Twice) {
-        return make_alone(rt, way, one);
+        return make_call(rt, way, one);
     }
-    let other = numbers(
-        rounds
-            .cache
-            .entry(key)
-            .or_insert_with_if(rounds.value(key), move |_value: &u64| holds),
-    );
-    finish_both(rt, one, other)
+    let other = rounds
+        .cache
+        .entry(key)
+        .or_insert_with_if(rounds.value(key), move |_value: &u64| holds);
+    make_both(rt, one, other)
+}
+
+// Makes the one call of a round.
+fn make_call<R, A, Q, L>(rt: &R, way: Way, call: Call<'_, A, Q, L>) -> io::Result<bool>
+where
+    R: Wait + RandomSource + AllocGlobal,
+    A: Begin<u64, u64, u64, Output: Drop>,
+    Q: Asked<u64, u64, u64>,
+    L: Listener<u64, u64>,
+    requires may { MayPoll call.stage }
+    requires asks { Q.can_poll call.asked }
+    requires tells { Tells nat_eq (Q.gives call.asked) (called (rules_of call.cache.now) A.start)
+        A.output call.stage }
+{
+    make_alone(rt, way, numbers(call))
+}
+
+// Makes both calls of a round.
+fn make_both<R, A, Q, P, L>(
+    rt: &R,
+    one: Call<'_, A, Q, L>,
+    other: Call<'_, A, P, L>,
+) -> io::Result<bool>
+where
+    R: Wait + RandomSource + AllocGlobal,
+    A: Begin<u64, u64, u64, Output: Drop>,
+    Q: Asked<u64, u64, u64>,
+    P: Asked<u64, u64, u64>,
+    L: Listener<u64, u64>,
+    requires may { MayPoll one.stage }
+    requires asks { Q.can_poll one.asked }
+    requires tells { Tells nat_eq (Q.gives one.asked) (called (rules_of one.cache.now) A.start)
+        A.output one.stage }
+    requires other_may { MayPoll other.stage }
+    requires other_asks { P.can_poll other.asked }
+    requires other_tells { Tells nat_eq (P.gives other.asked) (called (rules_of other.cache.now)
+        A.start) A.output other.stage }
+{
+    finish_both(rt, numbers(one), numbers(other))
 }

@@ -1,4 +1,4 @@
-//! Calls of caches of numbers, as states.
+//! Calls of caches of numbers: where they come from, and as states.
 //!
 //! That such a call is a state is shown once here, and not where calls of each kind are made.
 ghost use Rattle.std.specs.Prelude.{◌≡◌, nat_eq};
@@ -15,19 +15,33 @@ use std::sync::Wait;
 /// A cache of numbers, with this listener.
 pub type Numbers<L = NoListener> = Cache<u64, u64, u64, L>;
 
-/// A call of a cache of numbers.
+/// A call of such a cache.
+pub type Call<'a, A, Q, L = NoListener> = CacheCall<'a, A, u64, u64, u64, Q, L>;
+
+/// Where calls of such a cache come from.
+pub trait Makes<'a, A: Begin<u64, u64, u64>, Q: Asked<u64, u64, u64>, L>: Drop {
+    /// The call of this round, which may be run.
+    fn make(&self, round: u64) -> Call<'a, A, Q, L>
+        ensures may { MayPoll result.stage }
+        ensures asks { Q.can_poll result.asked }
+        ensures tells { Tells nat_eq (Q.gives result.asked) (called (rules_of result.cache.now)
+            A.start) A.output result.stage };
+}
+
+/// A call of such a cache, as a state.
 pub struct NumberCall<'a, A, Q, L = NoListener> {
-    call: CacheCall<'a, A, u64, u64, u64, Q, L>,
+    call: Call<'a, A, Q, L>,
 }
 
 /// The call as a state, where it may be run.
 pub fn numbers<'a, A: Begin<u64, u64, u64>, Q: Asked<u64, u64, u64>, L>(
-    call: CacheCall<'a, A, u64, u64, u64, Q, L>,
+    call: Call<'a, A, Q, L>,
 ) -> NumberCall<'a, A, Q, L>
     requires may { MayPoll call.stage }
     requires asks { Q.can_poll call.asked }
     requires tells { Tells nat_eq (Q.gives call.asked) (called (rules_of call.cache.now) A.start)
         A.output call.stage }
+    ensures same { result.call ≡ call.entry }
     ensures may { MayPoll result.call.stage }
     ensures asks { Q.can_poll result.call.asked }
     ensures tells { Tells nat_eq (Q.gives result.call.asked)

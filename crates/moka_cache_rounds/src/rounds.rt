@@ -2,12 +2,13 @@
 
 use crate::calls::Begins;
 use crate::later::{Later, MayFail, Puts};
-use crate::numbers::{NumberCall, Numbers, numbers};
+use crate::numbers::{Call, Makes, NumberCall, Numbers, numbers};
 use crate::ways::Way;
 use moka_cache::{
-    ByCompute, ByInit, ByOptionalInit, ByTryInit, ByUpsert, Listener, Nobody, ToCompute,
-    ToComputeAlone, ToGet, ToInsert, ToInsertEntry, ToLoad, ToLoadEntry, ToLoadEntryOptionally,
-    ToLoadOptionally, ToRemove, ToTryCompute, ToTryLoad, ToTryLoadEntry, ToUpsert,
+    Asked, Begin, ByCompute, ByInit, ByOptionalInit, ByTryInit, ByUpsert, Listener, Nobody,
+    ToCompute, ToComputeAlone, ToGet, ToInsert, ToInsertEntry, ToLoad, ToLoadEntry,
+    ToLoadEntryOptionally, ToLoadOptionally, ToRemove, ToTryCompute, ToTryLoad, ToTryLoadEntry,
+    ToUpsert,
 };
 use std::sync::Wait;
 
@@ -164,113 +165,136 @@ impl<'a, L> Rounds<'a, L> {
     }
 }
 
-impl<'a, R: Wait, L: Listener<u64, u64>> Begins<R, Gets<'a, L>> for Rounds<'a, L> {
-    fn begin(&self, round: u64) -> Gets<'a, L> {
-        numbers(self.cache.get(self.lent(round)))
+/// Its calls as states.
+impl<'a, R, A, Q, L> Begins<R, NumberCall<'a, A, Q, L>> for Rounds<'a, L>
+where
+    R: Wait,
+    A: Begin<u64, u64, u64>,
+    Q: Asked<u64, u64, u64>,
+    L: Listener<u64, u64>,
+    Rounds<'a, L>: Makes<'a, A, Q, L>,
+{
+    fn begin(&self, round: u64) -> NumberCall<'a, A, Q, L> {
+        numbers(self.make(round))
     }
 }
 
-impl<'a, R: Wait, L: Listener<u64, u64>> Begins<R, Inserts<'a, L>> for Rounds<'a, L> {
-    fn begin(&self, round: u64) -> Inserts<'a, L> {
-        numbers(self.cache.insert(self.key(round), round))
+impl<'a, L: Listener<u64, u64>> Makes<'a, ToGet<'a, u64>, Nobody, L> for Rounds<'a, L> {
+    fn make(&self, round: u64) -> Call<'a, ToGet<'a, u64>, Nobody, L> {
+        self.cache.get(self.lent(round))
     }
 }
 
-impl<'a, R: Wait, L: Listener<u64, u64>> Begins<R, Removals<'a, L>> for Rounds<'a, L> {
-    fn begin(&self, round: u64) -> Removals<'a, L> {
-        numbers(self.cache.remove(self.lent(round)))
+impl<'a, L: Listener<u64, u64>> Makes<'a, ToInsert<u64, u64>, Nobody, L> for Rounds<'a, L> {
+    fn make(&self, round: u64) -> Call<'a, ToInsert<u64, u64>, Nobody, L> {
+        self.cache.insert(self.key(round), round)
     }
 }
 
-impl<'a, R: Wait, L: Listener<u64, u64>> Begins<R, Loads<'a, L>> for Rounds<'a, L> {
-    fn begin(&self, round: u64) -> Loads<'a, L> {
+impl<'a, L: Listener<u64, u64>> Makes<'a, ToRemove<'a, u64>, Nobody, L> for Rounds<'a, L> {
+    fn make(&self, round: u64) -> Call<'a, ToRemove<'a, u64>, Nobody, L> {
+        self.cache.remove(self.lent(round))
+    }
+}
+
+impl<'a, L: Listener<u64, u64>> Makes<'a, ToLoad<'a, u64>, ByInit<Later<u64>>, L>
+    for Rounds<'a, L> {
+    fn make(&self, round: u64) -> Call<'a, ToLoad<'a, u64>, ByInit<Later<u64>>, L> {
         let key = self.key(round);
-        numbers(self.cache.get_with(key, self.value(key)))
+        self.cache.get_with(key, self.value(key))
     }
 }
 
-impl<'a, R: Wait, L: Listener<u64, u64>> Begins<R, OptionalLoads<'a, L>> for Rounds<'a, L> {
-    fn begin(&self, round: u64) -> OptionalLoads<'a, L> {
+impl<'a, L: Listener<u64, u64>> Makes<'a, ToLoadOptionally<'a, u64>, ByOptionalInit<Optional>, L>
+    for Rounds<'a, L> {
+    fn make(&self, round: u64) -> Call<'a, ToLoadOptionally<'a, u64>, ByOptionalInit<Optional>, L> {
         let key = self.key(round);
-        numbers(self.cache.optionally_get_with(key, self.option(key)))
+        self.cache.optionally_get_with(key, self.option(key))
     }
 }
 
-impl<'a, R: Wait, L: Listener<u64, u64>> Begins<R, TriedLoads<'a, L>> for Rounds<'a, L> {
-    fn begin(&self, round: u64) -> TriedLoads<'a, L> {
+impl<'a, L: Listener<u64, u64>> Makes<'a, ToTryLoad<'a, u64>, ByTryInit<Tried>, L>
+    for Rounds<'a, L> {
+    fn make(&self, round: u64) -> Call<'a, ToTryLoad<'a, u64>, ByTryInit<Tried>, L> {
         let key = self.key(round);
-        numbers(self.cache.try_get_with(key, self.result(key)))
+        self.cache.try_get_with(key, self.result(key))
     }
 }
 
-impl<'a, R: Wait, L: Listener<u64, u64>> Begins<R, OrInserts<'a, L>> for Rounds<'a, L> {
-    fn begin(&self, round: u64) -> OrInserts<'a, L> {
+impl<'a, L: Listener<u64, u64>> Makes<'a, ToInsertEntry<'a, u64, u64>, Nobody, L>
+    for Rounds<'a, L> {
+    fn make(&self, round: u64) -> Call<'a, ToInsertEntry<'a, u64, u64>, Nobody, L> {
         let key = self.key(round);
-        numbers(self.cache.entry(key).or_insert(key))
+        self.cache.entry(key).or_insert(key)
     }
 }
 
-impl<'a, R: Wait, L: Listener<u64, u64>> Begins<R, Entries<'a, L>> for Rounds<'a, L> {
-    fn begin(&self, round: u64) -> Entries<'a, L> {
+impl<'a, L: Listener<u64, u64>> Makes<'a, ToLoadEntry<'a, u64>, ByInit<Later<u64>>, L>
+    for Rounds<'a, L> {
+    fn make(&self, round: u64) -> Call<'a, ToLoadEntry<'a, u64>, ByInit<Later<u64>>, L> {
         let key = self.key(round);
-        numbers(self.cache.entry(key).or_insert_with(self.value(key)))
+        self.cache.entry(key).or_insert_with(self.value(key))
     }
 }
 
-impl<'a, R: Wait, L: Listener<u64, u64>> Begins<R, OptionalEntries<'a, L>> for Rounds<'a, L> {
-    fn begin(&self, round: u64) -> OptionalEntries<'a, L> {
+impl<'a, L: Listener<u64, u64>> Makes<
+    'a,
+    ToLoadEntryOptionally<'a, u64>,
+    ByOptionalInit<Optional>,
+    L,
+> for Rounds<'a, L> {
+    fn make(
+        &self,
+        round: u64,
+    ) -> Call<'a, ToLoadEntryOptionally<'a, u64>, ByOptionalInit<Optional>, L> {
         let key = self.key(round);
-        numbers(
-            self.cache
-                .entry(key)
-                .or_optionally_insert_with(self.option(key)),
-        )
+        self.cache
+            .entry(key)
+            .or_optionally_insert_with(self.option(key))
     }
 }
 
-impl<'a, R: Wait, L: Listener<u64, u64>> Begins<R, TriedEntries<'a, L>> for Rounds<'a, L> {
-    fn begin(&self, round: u64) -> TriedEntries<'a, L> {
+impl<'a, L: Listener<u64, u64>> Makes<'a, ToTryLoadEntry<'a, u64>, ByTryInit<Tried>, L>
+    for Rounds<'a, L> {
+    fn make(&self, round: u64) -> Call<'a, ToTryLoadEntry<'a, u64>, ByTryInit<Tried>, L> {
         let key = self.key(round);
-        numbers(self.cache.entry(key).or_try_insert_with(self.result(key)))
+        self.cache.entry(key).or_try_insert_with(self.result(key))
     }
 }
 
-impl<'a, R: Wait, L: Listener<u64, u64>> Begins<R, Computes<'a, L>> for Rounds<'a, L> {
-    fn begin(&self, round: u64) -> Computes<'a, L> {
+impl<'a, L: Listener<u64, u64>> Makes<'a, ToCompute<'a, u64>, ByCompute<Puts>, L>
+    for Rounds<'a, L> {
+    fn make(&self, round: u64) -> Call<'a, ToCompute<'a, u64>, ByCompute<Puts>, L> {
         let key = self.key(round);
-        numbers(
-            self.cache
-                .entry(key)
-                .and_compute_with(Puts(self.value(key))),
-        )
+        self.cache
+            .entry(key)
+            .and_compute_with(Puts(self.value(key)))
     }
 }
 
-impl<'a, R: Wait, L: Listener<u64, u64>> Begins<R, TriedComputes<'a, L>> for Rounds<'a, L> {
-    fn begin(&self, round: u64) -> TriedComputes<'a, L> {
+impl<'a, L: Listener<u64, u64>> Makes<'a, ToTryCompute<'a, u64>, ByCompute<MayFail>, L>
+    for Rounds<'a, L> {
+    fn make(&self, round: u64) -> Call<'a, ToTryCompute<'a, u64>, ByCompute<MayFail>, L> {
         let key = self.key(round);
-        numbers(
-            self.cache
-                .entry(key)
-                .and_try_compute_with(MayFail(self.result(key))),
-        )
+        self.cache
+            .entry(key)
+            .and_try_compute_with(MayFail(self.result(key)))
     }
 }
 
-impl<'a, R: Wait, L: Listener<u64, u64>> Begins<R, LoneComputes<'a, L>> for Rounds<'a, L> {
-    fn begin(&self, round: u64) -> LoneComputes<'a, L> {
+impl<'a, L: Listener<u64, u64>> Makes<'a, ToComputeAlone<'a, u64>, ByCompute<MayFail>, L>
+    for Rounds<'a, L> {
+    fn make(&self, round: u64) -> Call<'a, ToComputeAlone<'a, u64>, ByCompute<MayFail>, L> {
         let key = self.key(round);
-        numbers(
-            self.cache
-                .entry(key)
-                .and_try_compute_if_nobody_else(MayFail(self.result(key))),
-        )
+        self.cache
+            .entry(key)
+            .and_try_compute_if_nobody_else(MayFail(self.result(key)))
     }
 }
 
-impl<'a, R: Wait, L: Listener<u64, u64>> Begins<R, Upserts<'a, L>> for Rounds<'a, L> {
-    fn begin(&self, round: u64) -> Upserts<'a, L> {
+impl<'a, L: Listener<u64, u64>> Makes<'a, ToUpsert<'a, u64>, ByUpsert<Puts>, L> for Rounds<'a, L> {
+    fn make(&self, round: u64) -> Call<'a, ToUpsert<'a, u64>, ByUpsert<Puts>, L> {
         let key = self.key(round);
-        numbers(self.cache.entry(key).and_upsert_with(Puts(self.value(key))))
+        self.cache.entry(key).and_upsert_with(Puts(self.value(key)))
     }
 }

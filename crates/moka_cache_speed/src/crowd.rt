@@ -33,7 +33,17 @@ where
     L: Listener<u64, u64>,
 {
     let rounds = Rounds::below(cache, keys).made(Way::Dropped);
-    let begun = begin_all::<R, Loads<'a, L>, Rounds<'a, L>>(rt, alloc, rounds, calls)??;
+    call_at_once::<R, Loads<'a, L>, Rounds<'a, L>>(rt, alloc, rounds, calls)
+}
+
+/// Makes so many calls that come from there, polls each once, and cancels them.
+fn call_at_once<'a, R, S, B>(rt: &'a R, alloc: Global, begins: B, calls: u64) -> anyhow::Result<()>
+where
+    R: Wait + RandomSource + AllocGlobal + Print,
+    S: State<R, Output: Drop>,
+    B: Begins<R, S>,
+{
+    let begun = begin_all::<R, S, B>(rt, alloc, begins, calls)??;
     let count = begun.len();
     println!(rt; "under way {count}")?;
     drop(begun);

@@ -95,6 +95,16 @@ fn causes_are_told_in_their_order(rt: HostRuntime) {
     }
 }
 
+/// Whether a chosen record leaves for its size, by a removal, since it expired, and as replaced.
+fn leaves(rules: &Rules, times: &Times, hit: bool) -> [bool; 4] {
+    [
+        chosen_holds(rules, times, hit, Cause::Size),
+        chosen_holds(rules, times, hit, Cause::Explicit),
+        chosen_holds(rules, times, hit, Cause::Expired),
+        chosen_holds(rules, times, hit, Cause::Replaced),
+    ]
+}
+
 #[test]
 fn a_chosen_record_leaves_only_for_what_still_holds(rt: HostRuntime) {
     let plain = (rules_of(None, None, None), times_of(None, 10, 10));
@@ -108,14 +118,7 @@ fn a_chosen_record_leaves_only_for_what_still_holds(rt: HostRuntime) {
         (&past, false, [true, true, true, false]),
     ];
     for (record, hit, want) in cases {
-        let causes = [
-            Cause::Size,
-            Cause::Explicit,
-            Cause::Expired,
-            Cause::Replaced,
-        ];
-        let got = causes.map(|cause| chosen_holds(&record.0, &record.1, hit, cause));
-        assert_eq!(rt; got, want);
+        assert_eq!(rt; leaves(&record.0, &record.1, hit), want);
     }
 }
 

@@ -10,7 +10,11 @@ mod ends;
 #[cfg(test)]
 mod engine;
 #[cfg(test)]
+mod numbers;
+#[cfg(test)]
 mod room;
+#[cfg(test)]
+mod streams;
 #[cfg(test)]
 mod sync;
 #[cfg(test)]

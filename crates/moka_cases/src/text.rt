@@ -70,9 +70,11 @@ fn are_read(rt: &impl Abort, alloc: Global, rows: &str) -> Result<(), Fail> {
     Ok(())
 }
 
-#[test]
-fn a_bad_first_line_is_line_1(rt: HostRuntime) {
-    let texts = "|\n|\ncache\n|at 1\n|cache \n| cache\n|Cache\n|cache\r\n|\
+/// Texts by their first bad line; bars stand between the texts.
+const BAD: [(u64, &str); 3] = [
+    (
+        1,
+        "|\n|\ncache\n|at 1\n|cache \n| cache\n|Cache\n|cache\r\n|\
         cache log\n|cache log=\n|cache log=0\n|cache log=08\n|cache log=65537\n|\
         cache  log=8\n|cache log=8 log=8\n|cache size=8\n|cachelog=8\n|\
         cache  listener\n|cache Listener\n|cache listener \n|cache listener=1\n|\
@@ -80,13 +82,11 @@ fn a_bad_first_line_is_line_1(rt: HostRuntime) {
         cache log=8 listener x\n|cache log= listener\n|cache log=8listener\n|\
         cache closures\n|cache listener closures\n|cache log=8 cap=1\n|\
         cache listener cap=1\n|cache cap=\n|cache cap=01\n|\
-        cache cap=18446744073709551616\n|cache cap=1 cap=1\n";
-    are_bad(&rt, rt.alloc(), 1, texts);
-}
-
-#[test]
-fn a_bad_second_line_is_line_2(rt: HostRuntime) {
-    let texts = "cache\n\n|cache\n\nat 1\n|cache\ncache\n|cache\nat 1 \n|cache\nat\t1\n|\
+        cache cap=18446744073709551616\n|cache cap=1 cap=1\n",
+    ),
+    (
+        2,
+        "cache\n\n|cache\n\nat 1\n|cache\ncache\n|cache\nat 1 \n|cache\nat\t1\n|\
         cache\nat 1\r\n|cache\nat 01\n|cache\nat +1\n|cache\nAT 1\n|\
         cache\nat 18446744073709551616\n|cache\nstep 18446744073709551616\n|\
         cache\nstart get 4294967296\n|cache\nstart insert 1 4294967296\n|\
@@ -96,23 +96,22 @@ fn a_bad_second_line_is_line_2(rt: HostRuntime) {
         cache\nstart invalidate_all\n|cache\nstart invalidate\n|\
         cache\nstart remove 4294967296\n|cache\nstart evict 1\n|cache\nstart evict 1 1\n|\
         cache\nstart evict 1 1 size\n|cache\nstart evict 1 1 Size \n|\
-        cache\nstart evict 1 18446744073709551616 Size\n";
-    are_bad(&rt, rt.alloc(), 2, texts);
-}
+        cache\nstart evict 1 18446744073709551616 Size\n",
+    ),
+    (3, "cache\nat 1\nstep  1\nnonsense\n|cache\nat 1\n at 2\n"),
+];
 
 #[test]
 fn the_first_bad_line_is_numbered(rt: HostRuntime) {
-    are_bad(
-        &rt,
-        rt.alloc(),
-        3,
-        "cache\nat 1\nstep  1\nnonsense\n|cache\nat 1\n at 2\n",
-    );
+    for (line, texts) in BAD {
+        are_bad(&rt, rt.alloc(), line, texts);
+    }
 }
 
-#[test]
-fn a_load_of_another_form_is_bad(rt: HostRuntime) -> Result<(), Fail> {
-    let lines = "start get_with 1 if\nstart get_with 1 if \nstart get_with 1 if 02\n\
+/// Lines of which each is bad.
+const BAD_LINES: [&str; 2] = [
+    // Loads of another form.
+    "start get_with 1 if\nstart get_with 1 if \nstart get_with 1 if 02\n\
         start get_with 1 if 2 \nstart get_with 1 if 2 3\nstart get_with 1 if -2\n\
         start get_with 1 if 18446744073709551616\nstart get_with 1 2\n\
         start get_with 1 when 2\nstart get_with 1  if 2\nstart get_with 1 \n\
@@ -121,17 +120,20 @@ fn a_load_of_another_form_is_bad(rt: HostRuntime) -> Result<(), Fail> {
         start optional 4294967296\nstart try\nstart try 1 if 2\nstart try 01\n\
         start or_insert 1\nstart or_insert 1 \nstart or_insert 1 2 3\n\
         start or_insert 1 4294967296\nstart or_insert 1 2 if 2\n\
-        start compute\nstart upsert 1 5\nstart compute 1 if 2\nstart compute_alone 01\n";
-    are_bad_lines(&rt, rt.alloc(), lines)
-}
-
-#[test]
-fn what_a_load_is_told_of_another_form_is_bad(rt: HostRuntime) -> Result<(), Fail> {
-    let lines = "tell 1 put\ntell 1 put 4294967296\ntell 1 nop 5\ntell 1 nothing \n\
+        start compute\nstart upsert 1 5\nstart compute 1 if 2\nstart compute_alone 01\n",
+    // What a load is told of another form.
+    "tell 1 put\ntell 1 put 4294967296\ntell 1 nop 5\ntell 1 nothing \n\
         tell 1 nothing 2\ntell 1 Nothing\ntell 1 error\ntell 1 error \ntell 1 error 03\n\
         tell 1 error 3 \ntell 1 error 4294967296\ntell 1 value \n\
-        tell 1 value 4294967296\ntell 1 err 3\ntell nothing\n";
-    are_bad_lines(&rt, rt.alloc(), lines)
+        tell 1 value 4294967296\ntell 1 err 3\ntell nothing\n",
+];
+
+#[test]
+fn lines_of_another_form_are_bad(rt: HostRuntime) -> Result<(), Fail> {
+    for lines in BAD_LINES {
+        are_bad_lines(&rt, rt.alloc(), lines)?;
+    }
+    Ok(())
 }
 
 #[test]
@@ -187,9 +189,10 @@ fn a_whole_text_is_read(rt: HostRuntime) -> Result<(), Fail> {
     Ok(())
 }
 
-#[test]
-fn every_form_of_removal_is_read(rt: HostRuntime) -> Result<(), Fail> {
-    let rows = "start invalidate 0 => Start { start: Invalidate { key: 0 } }\n\
+/// Lines, each with the event that it is read as.
+const FORMS: [&str; 4] = [
+    // Removals.
+    "start invalidate 0 => Start { start: Invalidate { key: 0 } }\n\
         start remove 4294967295 => Start { start: Remove { key: 4294967295 } }\n\
         start evict 3 18446744073709551615 Expired => \
         Start { start: Evict { key: 3, stamp: 18446744073709551615, cause: Expired } }\n\
@@ -197,13 +200,9 @@ fn every_form_of_removal_is_read(rt: HostRuntime) -> Result<(), Fail> {
         Start { start: Evict { key: 3, stamp: 0, cause: Explicit } }\n\
         start evict 3 1 Replaced => \
         Start { start: Evict { key: 3, stamp: 1, cause: Replaced } }\n\
-        start evict 3 2 Size => Start { start: Evict { key: 3, stamp: 2, cause: Size } }\n";
-    are_read(&rt, rt.alloc(), rows)
-}
-
-#[test]
-fn every_form_of_load_is_read(rt: HostRuntime) -> Result<(), Fail> {
-    let rows = "start get_with 0 => Start { start: GetWith { key: 0, replace: None } }\n\
+        start evict 3 2 Size => Start { start: Evict { key: 3, stamp: 2, cause: Size } }\n",
+    // Loads.
+    "start get_with 0 => Start { start: GetWith { key: 0, replace: None } }\n\
         start get_with 4294967295 if 0 => \
         Start { start: GetWith { key: 4294967295, replace: Some(0) } }\n\
         start get_with 7 if 18446744073709551615 => \
@@ -213,22 +212,14 @@ fn every_form_of_load_is_read(rt: HostRuntime) -> Result<(), Fail> {
         start or_insert 4294967295 0 => \
         Start { start: OrInsert { key: 4294967295, value: 0 } }\n\
         start or_insert 0 4294967295 => \
-        Start { start: OrInsert { key: 0, value: 4294967295 } }\n";
-    are_read(&rt, rt.alloc(), rows)
-}
-
-#[test]
-fn every_form_of_compute_is_read(rt: HostRuntime) -> Result<(), Fail> {
-    let rows = "start compute 0 => Start { start: Compute { key: 0 } }\n\
+        Start { start: OrInsert { key: 0, value: 4294967295 } }\n",
+    // Computes.
+    "start compute 0 => Start { start: Compute { key: 0 } }\n\
         start try_compute 4294967295 => Start { start: TryCompute { key: 4294967295 } }\n\
         start compute_alone 1 => Start { start: ComputeAlone { key: 1 } }\n\
-        start upsert 1 => Start { start: Upsert { key: 1 } }\n";
-    are_read(&rt, rt.alloc(), rows)
-}
-
-#[test]
-fn every_form_of_what_an_ask_is_told_is_read(rt: HostRuntime) -> Result<(), Fail> {
-    let rows = "tell 1 value 0 => Tell { call: 1, answer: Value(0) }\n\
+        start upsert 1 => Start { start: Upsert { key: 1 } }\n",
+    // What an ask is told.
+    "tell 1 value 0 => Tell { call: 1, answer: Value(0) }\n\
         tell 1 value 4294967295 => Tell { call: 1, answer: Value(4294967295) }\n\
         tell 1 nothing => Tell { call: 1, answer: Nothing }\n\
         tell 1 nop => Tell { call: 1, answer: Op(Nop) }\n\
@@ -237,6 +228,13 @@ fn every_form_of_what_an_ask_is_told_is_read(rt: HostRuntime) -> Result<(), Fail
         tell 1 error 0 => Tell { call: 1, answer: Err(0) }\n\
         tell 1 error 4294967295 => Tell { call: 1, answer: Err(4294967295) }\n\
         tell 1 done => Tell { call: 1, answer: Done }\n\
-        tell 1 off => Tell { call: 1, answer: Off }\n";
-    are_read(&rt, rt.alloc(), rows)
+        tell 1 off => Tell { call: 1, answer: Off }\n",
+];
+
+#[test]
+fn every_form_of_line_is_read(rt: HostRuntime) -> Result<(), Fail> {
+    for rows in FORMS {
+        are_read(&rt, rt.alloc(), rows)?;
+    }
+    Ok(())
 }

@@ -16,6 +16,7 @@ pub mod Woken
 pub mod Needing
 pub mod Tested
 pub mod Histories
+pub mod NeedTests
 pub mod Alike
 pub mod Forgetting
 pub mod Recalling

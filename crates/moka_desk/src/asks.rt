@@ -2,7 +2,7 @@
 
 ghost use Rattle.std.specs.Prelude.{◌≡◌, ℕ, ◌≤◌, ◌==◌, true, false, cond, [], ◌∷◌, Option, Some, None, is_some, IsSome, IfSome, MatchOption, nat_eq, OnOk, OnErr, if◌then◌else◌};
 ghost use Rattle.std.specs.Option.{option_map, option_map_or};
-ghost use Rattle.moka_hist.specs.Telling.{takes_value, takes_nothing, takes_error, takes_op, does_take as takes_answer};
+ghost use Rattle.moka_hist.specs.Telling.{does_take as takes_answer};
 ghost use Rattle.std.specs.HashMap.{get, spare, hash_map_len};
 
 use crate::maps::put;
@@ -67,11 +67,11 @@ impl<V: Drop, E: Drop> Asks<V, E> {
             is_told self.new n ≡ all_but call (is_told self.old) n) }
         ensures still { OnErr result ((n : ℕ) → is_told self.new n ≡ is_told self.old n) }
     {
-        let place = WaitPlace::new(self.alloc)?;
         map_room::reserve(&mut self.told, self.open_asks.len() + 1)?;
         map_room::reserve(&mut self.open_asks, 1)?;
+        let place = WaitPlace::new(self.alloc)?;
         put(&mut self.open_asks, call, OpenAsk { takes, place });
-        let _ = self.told.remove(&call);
+        drop(self.told.remove(&call));
         Ok(())
     }
 
@@ -91,11 +91,23 @@ impl<V: Drop, E: Drop> Asks<V, E> {
         ensures wakes { IfSome result (λ woken. (n : ℕ)
             → is_told self.new n ≡ and_calls woken (is_told self.old) n) }
     {
-        let ask = self.open_asks.get(&call)?;
-        if !does_take(ask.takes, &answer) {
-            return None;
+        if self.is_asked(call, &answer) {
+            Some(self.close(call, answer))
+        } else {
+            drop(answer);
+            None
         }
-        self.close(call, answer)
+    }
+
+    // Whether the call has an open ask that takes this answer.
+    fn is_asked(&self, call: u64, answer: &Told<V, E>) -> bool
+        ensures { result ≡ option_map_or
+            (λ a. takes_answer a.takes answer.now) (get nat_eq self.now.open_asks call) false }
+    {
+        match self.open_asks.get(&call) {
+            Some(ask) => does_take(ask.takes, answer),
+            None => false,
+        }
     }
 
     /// Takes what the call was told, if anything was. Where its ask is open, the call waits.
@@ -110,8 +122,10 @@ impl<V: Drop, E: Drop> Asks<V, E> {
         if let Some(ask) = self.open_asks.get_mut(&call) {
             ask.place.wait();
         }
-        let answer = self.told.remove(&call)?;
-        Some(answer.told)
+        match self.told.remove(&call) {
+            Some(answer) => Some(answer.told),
+            None => None,
+        }
     }
 
     /// The call asks nothing any more, and what it was told goes.
@@ -122,8 +136,8 @@ impl<V: Drop, E: Drop> Asks<V, E> {
         }) self.new }
         ensures back { (n : ℕ) → is_told self.new n ≡ all_but call (is_told self.old) n }
     {
-        let _ = self.open_asks.remove(&call);
-        let _ = self.told.remove(&call);
+        drop(self.open_asks.remove(&call));
+        drop(self.told.remove(&call));
     }
 
     /// Whether the call was handed out with an answer that it has not taken.
@@ -137,27 +151,27 @@ impl<V: Drop, E: Drop> Asks<V, E> {
     }
 
     // Closes an open ask by the answer, and hands its call out, if it waits.
-    fn close(&mut self, call: u64, answer: Told<V, E>) -> Option<CallList>
+    fn close(&mut self, call: u64, answer: Told<V, E>) -> CallList
         requires { IsSome (get nat_eq self.old.open_asks call) }
-        ensures woken { result ≡ Some (option_map_or
-            (λ a. cond a.place (call ∷ []) []) (get nat_eq self.old.open_asks call) []) }
+        ensures woken { result ≡ option_map_or
+            (λ a. cond a.place (call ∷ []) []) (get nat_eq self.old.open_asks call) [] }
         ensures makes { AsksBecome self.old (λ p. record {
           asks = put_at p.asks call None;
           told = put_at p.told call (Some answer);
         }) self.new }
         ensures waits { (n : ℕ)
             → asker_at self.new.open_asks n ≡ cond (call == n) [] (asker_at self.old.open_asks n) }
-        ensures wakes { IfSome result (λ woken. (n : ℕ)
-            → is_told self.new n ≡ and_calls woken (is_told self.old) n) }
+        ensures wakes { (n : ℕ) → is_told self.new n ≡ and_calls result (is_told self.old) n }
     {
-        let ask = self.open_asks.remove(&call)?;
-        let woken = ask.place.is_waiting();
-        let answer = Answer {
-            told: answer,
-            woken,
-        };
-        put(&mut self.told, call, answer);
-        Some(ask.place.take(call))
+        match self.open_asks.remove(&call) {
+            Some(ask) => {
+                let woken = ask.place.is_waiting();
+                let told = answer;
+                put(&mut self.told, call, Answer { told, woken });
+                ask.place.take(call)
+            }
+            None => unreachable!(),
+        }
     }
 }
 
@@ -166,63 +180,11 @@ fn does_take<V, E>(takes: Takes, answer: &Told<V, E>) -> bool
     ensures { result ≡ takes_answer takes answer.now }
 {
     match answer {
-        Told::Value(_) => does_take_value(takes),
-        Told::Nothing => does_take_nothing(takes),
-        Told::Err(_) => does_take_error(takes),
-        Told::Op(_) => does_take_op(takes),
+        Told::Value(_) => matches!(takes, Takes::Value | Takes::Optional | Takes::Try),
+        Told::Nothing => matches!(takes, Takes::Optional),
+        Told::Err(_) => matches!(takes, Takes::Try | Takes::TryOp),
+        Told::Op(_) => matches!(takes, Takes::Op | Takes::TryOp),
         Told::Done => false,
         Told::Off => false,
-    }
-}
-
-// Whether an ask takes a value.
-fn does_take_value(takes: Takes) -> bool
-    ensures { result ≡ takes_value takes }
-{
-    match takes {
-        Takes::Value => true,
-        Takes::Optional => true,
-        Takes::Try => true,
-        Takes::Op => false,
-        Takes::TryOp => false,
-    }
-}
-
-// Whether an ask takes that there is no value.
-fn does_take_nothing(takes: Takes) -> bool
-    ensures { result ≡ takes_nothing takes }
-{
-    match takes {
-        Takes::Value => false,
-        Takes::Optional => true,
-        Takes::Try => false,
-        Takes::Op => false,
-        Takes::TryOp => false,
-    }
-}
-
-// Whether an ask takes an error.
-fn does_take_error(takes: Takes) -> bool
-    ensures { result ≡ takes_error takes }
-{
-    match takes {
-        Takes::Value => false,
-        Takes::Optional => false,
-        Takes::Try => true,
-        Takes::Op => false,
-        Takes::TryOp => true,
-    }
-}
-
-// Whether an ask takes what is to be done.
-fn does_take_op(takes: Takes) -> bool
-    ensures { result ≡ takes_op takes }
-{
-    match takes {
-        Takes::Value => false,
-        Takes::Optional => false,
-        Takes::Try => false,
-        Takes::Op => true,
-        Takes::TryOp => true,
     }
 }

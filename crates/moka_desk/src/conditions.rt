@@ -31,32 +31,34 @@ impl<K: Eq + Hash + Clone + Drop, V: Drop, E: Drop> Desk<K, V, E> {
             → StandsFor K.eq self.now w → IsOfCall call visit → need_of visit ≡ need
             → AllowsAlike K.eq self.now w (λ v. MayVisit v visit) }
     {
-        self.meets(call, need)
+        let meets = self.meets(call, &need);
+        drop(need);
+        meets
     }
 
     // Whether the desk has what the call needs, as far as it can tell.
-    fn meets(&self, call: u64, need: Need<K>) -> bool
+    fn meets(&self, call: u64, need: &Need<K>) -> bool
         ensures { (w : DeskPart K V E) → StandsFor K.eq self.now w
-            → Tests (is_recalled need || keeps_history self.now) result (Meets w call need)
-            (AllowsAlike K.eq self.now w (λ v. Meets v call need)) }
+            → Tests (is_recalled need.now || keeps_history self.now) result
+            (Meets w call need.now) (AllowsAlike K.eq self.now w (λ v. Meets v call need.now)) }
     {
         match need {
             Need::Clock => self.holds_no_write(call),
             Need::TakeOwed => self.holds_nothing(call),
             Need::NoticeEnded => true,
             Need::LockKey => self.locked_nothing(call),
-            Need::UnlockKey { wrote } => self.may_unlock(call, wrote),
+            Need::UnlockKey { wrote } => self.may_unlock(call, *wrote),
             Need::StampMoment => self.may_stamp(call),
             Need::Judge => true,
             Need::Holds => true,
-            Need::WaitOrOwn { load } => self.may_claim(call, &load),
+            Need::WaitOrOwn { load } => self.may_claim(call, load),
             Need::OwnAlone => self.loads_nothing(call),
             Need::ReadSettled => self.loads.joined.contains_key(&call),
-            Need::Settle { with } => self.may_settle(call, with),
+            Need::Settle { with } => self.may_settle(call, *with),
             Need::OpenNotice => self.opened_none(call),
             Need::OpenAsk => self.asks_nothing(call),
             Need::TakeTold => !self.asks_nothing(call),
-            Need::PostWrite { write } => self.holds_write(call, write),
+            Need::PostWrite { write } => self.holds_write(call, *write),
             Need::TakeTurn => !self.has_turn(call),
             Need::ApplyOne => self.has_turn(call),
             Need::EndTurn => self.has_turn(call),

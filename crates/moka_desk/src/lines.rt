@@ -161,9 +161,9 @@ fn add_to(
     if let Some(list) = lists.get_mut(&number) {
         return list.add(call);
     }
+    map_room::reserve(lists, 1)?;
     let mut list = WaitList::new(alloc);
     list.add(call)?;
-    map_room::reserve(lists, 1)?;
     put(lists, number, list);
     Ok(())
 }

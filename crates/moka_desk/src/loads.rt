@@ -75,6 +75,7 @@ impl<K: Eq + Hash + Clone + Drop, V: Drop, E: Drop> Loads<K, V, E> {
     {
         match self.owners.get(&load).copied() {
             Some(owner) => {
+                drop(load);
                 self.join(call, owner)?;
                 Ok(Claim::Waits { owner })
             }
@@ -99,6 +100,7 @@ impl<K: Eq + Hash + Clone + Drop, V: Drop, E: Drop> Loads<K, V, E> {
         ensures err { OnErr result (LoadsStay K.eq self.old self.new) }
     {
         if self.owners.contains_key(&load) {
+            drop(load);
             return Ok(true);
         }
         self.own(call, load)?;
@@ -135,8 +137,8 @@ impl<K: Eq + Hash + Clone + Drop, V: Drop, E: Drop> Loads<K, V, E> {
             }) self.new) }
         ensures err { OnErr result (LoadsStay K.eq self.old self.new) }
     {
-        let own = copy_of(&load)?;
         self.make_room()?;
+        let own = copy_of(&load)?;
         put(&mut self.owners, own, call);
         put(&mut self.owning, call, load);
         Ok(())
@@ -272,6 +274,8 @@ impl<K: Eq + Hash + Clone + Drop, V: Drop, E: Drop> Loads<K, V, E> {
         let owned = self.disown(call);
         if owned && awaited {
             put(&mut self.settled, call, with);
+        } else {
+            drop(with);
         }
     }
 
@@ -322,7 +326,7 @@ fn release<V: Drop, E: Drop>(
         0 => {}
         1 => {
             let _ = readers.remove(&owner);
-            let _ = settled.remove(&owner);
+            drop(settled.remove(&owner));
         }
         waiting => replace(readers, owner, waiting - 1),
     }

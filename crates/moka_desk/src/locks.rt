@@ -51,10 +51,10 @@ impl<K: Eq + Hash + Clone + Drop> Locks<K> {
             })) }
         ensures err { OnErr result (LocksBecome K.eq self.old (λ p. p) self.new) }
     {
-        let held = copy_of(key)?;
-        let own = copy_of(key)?;
         map_room::reserve(&mut self.holders, 1)?;
         map_room::reserve(&mut self.locked, 1)?;
+        let held = copy_of(key)?;
+        let own = copy_of(key)?;
         put(&mut self.holders, held, call);
         put(&mut self.locked, call, own);
         Ok(())

@@ -9,6 +9,7 @@ mod plain;
 mod reads;
 mod sink;
 mod source;
+mod streams;
 mod writes;
 
 pub use failed::Failed;
@@ -17,4 +18,5 @@ pub use plain::{PlainSink, PlainSource};
 pub use reads::{ReadError, read_all};
 pub use sink::Sink;
 pub use source::Source;
+pub use streams::{ReadSource, WriteSink};
 pub use writes::write_all;

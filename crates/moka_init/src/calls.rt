@@ -1,5 +1,5 @@
 //! What a call tells of itself: how far it is, what it holds, and the notice that is due.
-ghost use Rattle.std.specs.Prelude.{◌≡◌, false, IfOk};
+ghost use Rattle.std.specs.Prelude.{◌≡◌, Some, false, IfOk};
 ghost use Rattle.moka_hist.specs.Finite.{IsExact};
 ghost use Rattle.moka_hist.specs.Step.{access_for, On_desk, replace_of};
 ghost use Rattle.moka_hist.specs.Plan as plan;
@@ -12,7 +12,9 @@ ghost use Rattle.moka_init.specs.FlowPlan.{opening, owed_in, tested_in};
 
 use crate::copies::replace_of;
 use crate::flow::Flow;
-use crate::points::{Computing, Listening, Loading, Look, Looking, Point, PostStep, Posting};
+use crate::points::{
+    Computing, Listening, Loading, Look, Looking, Point, PostStep, Posted, Posting,
+};
 use moka_hist::{Cause, Kind, Mode, Owed, Rules, Start, Stored, Visit, Write};
 use std::alloc::AllocError;
 
@@ -116,39 +118,9 @@ impl<K, V, E> Flow<K, V, E> {
     {
         match posting {
             Posting::Drain(_) => None,
-            Posting::Held {
-                step: PostStep::Hear,
-                write,
-                ..
-            } => Some(Owed {
-                write: *write,
-                notice: Some(self.call),
-            }),
-            Posting::Held {
-                step: PostStep::Unlock,
-                write,
-                ..
-            } => Some(unheard(*write)),
-            Posting::Held {
-                step: PostStep::Post,
-                write,
-                ..
-            } => Some(unheard(*write)),
-            Posting::Held {
-                step: PostStep::Turn,
-                write,
-                ..
-            } => Some(unheard(*write)),
-            Posting::Held {
-                step: PostStep::Apply,
-                write,
-                ..
-            } => Some(unheard(*write)),
-            Posting::Held {
-                step: PostStep::End,
-                write,
-                ..
-            } => Some(unheard(*write)),
+            Posting::Held { step, write, .. } => {
+                Some(held_at::<K, V, E>(self.call, *step, *write))
+            },
         }
     }
 
@@ -175,30 +147,7 @@ impl<K, V, E> Flow<K, V, E> {
     {
         match posting {
             Posting::Drain(_) => None,
-            Posting::Held {
-                step: PostStep::Hear,
-                ..
-            } => Some(self.call),
-            Posting::Held {
-                step: PostStep::Unlock,
-                ..
-            } => None,
-            Posting::Held {
-                step: PostStep::Post,
-                ..
-            } => None,
-            Posting::Held {
-                step: PostStep::Turn,
-                ..
-            } => None,
-            Posting::Held {
-                step: PostStep::Apply,
-                ..
-            } => None,
-            Posting::Held {
-                step: PostStep::End,
-                ..
-            } => None,
+            Posting::Held { step, .. } => notice_at::<K, V, E>(self.call, *step),
         }
     }
 
@@ -230,6 +179,40 @@ impl<K: Clone + Drop, V: Clone + Drop, E: Clone + Drop> Flow<K, V, E> {
             Point::Listening(listening) => due_in_listening(self.call, listening),
             _ => Ok(None),
         }
+    }
+}
+
+// The write that this call holds, with the notice that it hears, where this is its next step with
+// the write.
+fn held_at<K, V, E>(call: u64, step: PostStep, write: Write) -> Owed
+    ensures { (then : Posted K V) → Some result
+        ≡ owed_in {E = E} call (posting_plan (Posting.Held step write then)) }
+{
+    match step {
+        PostStep::Hear => Owed {
+            write,
+            notice: Some(call),
+        },
+        PostStep::Unlock => unheard(write),
+        PostStep::Post => unheard(write),
+        PostStep::Turn => unheard(write),
+        PostStep::Apply => unheard(write),
+        PostStep::End => unheard(write),
+    }
+}
+
+// The notice whose end this call awaits, where this is its next step with the write that it holds.
+fn notice_at<K, V, E>(call: u64, step: PostStep) -> Option<u64>
+    ensures { (write : Write) → (then : Posted K V) → result
+        ≡ hearing {E = E} call (posting_plan (Posting.Held step write then)) }
+{
+    match step {
+        PostStep::Hear => Some(call),
+        PostStep::Unlock => None,
+        PostStep::Post => None,
+        PostStep::Turn => None,
+        PostStep::Apply => None,
+        PostStep::End => None,
     }
 }
 

@@ -102,6 +102,7 @@ pub fn poll<K: Eq + Clone + Drop, V: Clone + Drop, E: Clone + Drop, G: Alone<K, 
         if !turn.is_going() {
             return Ok(turn);
         }
+        drop(turn);
         steps = steps.saturating_add(1);
     }
 }

@@ -10,10 +10,10 @@ ghost use Rattle.moka_needs.specs.Needs.{ending_of};
 
 use crate::flow::Flow;
 use crate::points::{
-    Computing, Ending as Ends, Listening, Loading, Looking, Point, PostStep, Posting, Removing,
-    Writing,
+    Computing, Ending as Ends, Listening, Loading, Looking, Point, PostStep, Posted, Posting,
+    Removing, Writing,
 };
-use moka_hist::{Kind, Load};
+use moka_hist::{Kind, Load, Write};
 use moka_needs::{Ending, Need};
 use std::alloc::AllocError;
 
@@ -42,31 +42,7 @@ impl<K: Clone + Drop, V, E> Flow<K, V, E> {
     {
         match posting {
             Posting::Drain(_) => Need::TakeOwed,
-            Posting::Held {
-                step: PostStep::Hear,
-                ..
-            } => Need::NoticeEnded,
-            Posting::Held {
-                step: PostStep::Unlock,
-                ..
-            } => Need::UnlockKey { wrote: true },
-            Posting::Held {
-                step: PostStep::Post,
-                write,
-                ..
-            } => Need::PostWrite { write: *write },
-            Posting::Held {
-                step: PostStep::Turn,
-                ..
-            } => Need::TakeTurn,
-            Posting::Held {
-                step: PostStep::Apply,
-                ..
-            } => Need::ApplyOne,
-            Posting::Held {
-                step: PostStep::End,
-                ..
-            } => Need::EndTurn,
+            Posting::Held { step, write, .. } => held_need::<K, V, E>(*step, *write),
         }
     }
 
@@ -141,6 +117,21 @@ impl<K: Clone + Drop, V, E> Flow<K, V, E> {
             Listening::Uncopied { .. } => Need::OpenNotice,
             Listening::Release(_) => Need::UnlockKey { wrote: false },
         }
+    }
+}
+
+// What this step with the write needs that a call holds.
+fn held_need<K, V, E>(step: PostStep, write: Write) -> Need<K>
+    ensures { (flow : Flow K V E) → (then : Posted K V) → Some result
+        ≡ need_at (access_from flow (posting_plan (Posting.Held step write then))) }
+{
+    match step {
+        PostStep::Hear => Need::NoticeEnded,
+        PostStep::Unlock => Need::UnlockKey { wrote: true },
+        PostStep::Post => Need::PostWrite { write },
+        PostStep::Turn => Need::TakeTurn,
+        PostStep::Apply => Need::ApplyOne,
+        PostStep::End => Need::EndTurn,
     }
 }
 

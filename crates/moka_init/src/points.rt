@@ -148,10 +148,13 @@ pub enum PostStep {
     Hear,
     /// Freeing its key's lock.
     Unlock,
+    /// Appending it to the log, where that has room.
     Post,
-    /// Taking the turn to apply the log, which is full; applying it, and ending that turn.
+    /// Taking the turn to apply the log, which is full.
     Turn,
+    /// Applying the oldest write of the log, until it is empty.
     Apply,
+    /// Ending that turn.
     End,
 }
 

@@ -1,6 +1,7 @@
 //! The next access of a flow.
 ghost use Rattle.std.specs.Prelude.{◌≡◌, [], ◌∷◌, true, false, None, IfOk, OnOk, OnErr};
 ghost use Rattle.moka_hist.specs.Plan as plan;
+ghost use Rattle.moka_hist.specs.Step.{access_of, want_for};
 ghost use Rattle.moka_hist.specs.Finite.{IsExact};
 ghost use Rattle.moka_init.specs.FlowPlan.{call_of, standing, IsLive, IsReady, StandsStill};
 ghost use Rattle.moka_init.specs.Grounds.{access_at, access_from, wish_for, wish_of, TakesCopies};
@@ -281,37 +282,9 @@ impl<K: Clone + Drop, V: Clone + Drop, E: Clone + Drop> Flow<K, V, E> {
     fn want_posting(&self, posting: &Posting<K, V>) -> Want<K, V, E>
         ensures { result ≡ wish_for self.now (posting_plan posting.now) }
     {
-        let call = self.call;
         match posting {
-            Posting::Drain(_) => Want::Desk(Visit::TakeOwed { call }),
-            Posting::Held {
-                step: PostStep::Hear,
-                ..
-            } => Want::Desk(Visit::NoticeEnded { call, notice: call }),
-            Posting::Held {
-                step: PostStep::Unlock,
-                ..
-            } => Want::Desk(Visit::UnlockKey { call, wrote: true }),
-            Posting::Held {
-                step: PostStep::Post,
-                write,
-                ..
-            } => Want::Desk(Visit::PostWrite {
-                call,
-                write: *write,
-            }),
-            Posting::Held {
-                step: PostStep::Turn,
-                ..
-            } => Want::Desk(Visit::TakeTurn { call }),
-            Posting::Held {
-                step: PostStep::Apply,
-                ..
-            } => Want::Desk(Visit::ApplyOne { call }),
-            Posting::Held {
-                step: PostStep::End,
-                ..
-            } => Want::Desk(Visit::EndTurn { call }),
+            Posting::Drain(_) => Want::Desk(Visit::TakeOwed { call: self.call }),
+            Posting::Held { step, write, .. } => want_held(self.call, *step, *write),
         }
     }
 
@@ -433,5 +406,20 @@ impl<K: Clone + Drop, V: Clone + Drop, E: Clone + Drop> Flow<K, V, E> {
             }
             Listening::Release(_) => Ok(Want::Desk(Visit::UnlockKey { call, wrote: false })),
         }
+    }
+}
+
+// The visit that is this step with the write that the call holds.
+fn want_held<K, V, E>(call: u64, step: PostStep, write: Write) -> Want<K, V, E>
+    ensures { (flow : Flow K V E) → (then : Posted K V) → result ≡ want_for flow.begun
+        (access_of call (standing flow (posting_plan (Posting.Held step write then)))) }
+{
+    match step {
+        PostStep::Hear => Want::Desk(Visit::NoticeEnded { call, notice: call }),
+        PostStep::Unlock => Want::Desk(Visit::UnlockKey { call, wrote: true }),
+        PostStep::Post => Want::Desk(Visit::PostWrite { call, write }),
+        PostStep::Turn => Want::Desk(Visit::TakeTurn { call }),
+        PostStep::Apply => Want::Desk(Visit::ApplyOne { call }),
+        PostStep::End => Want::Desk(Visit::EndTurn { call }),
     }
 }

@@ -1,2 +1,3 @@
 pub mod TableSteps
 pub mod Wanted
+pub mod Visited

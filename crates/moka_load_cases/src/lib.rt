@@ -2,14 +2,8 @@
 #![tactic(auto)]
 
 #[cfg(test)]
-mod awaiting;
-#[cfg(test)]
 mod entries;
 #[cfg(test)]
 mod failing;
 #[cfg(test)]
 mod outlasting;
-#[cfg(test)]
-mod same_keys;
-#[cfg(test)]
-mod trying;

@@ -80,7 +80,7 @@ module _ {K V E : Type 0} where
   tail_numbered : (k : ℕ) (p : Option (Running K V E)) (es : List (ℕ × Option (Running K V E))) → IsDistinct nat_eq (keys_of ((k, p) ∷ es)) → Numbered ((k, p) ∷ es) → Numbered es
   tail_numbered k p es h numbered n r e = by (nat_eq n k) refl
     where
-      by : (b : Bool) → nat_eq n k ≡ b → r.flow.call ≡ n
+      by : (b : Bool) → nat_eq n k ≡ b → r.flow.value.call ≡ n
       by true f =
           let none : None ≡ Some r = sym (ap (option_and_then (λ place. place)) (lookup-none (nat_eq n) es (none_past_head nat_eq_equiv n (k, p) es h f))) ∙ e in
           absurd (cc)
@@ -93,7 +93,7 @@ module _ {K V E : Type 0} where
   same_due ((k, None) ∷ es) h numbered = same_due es (tail (k, None) es h) (tail_numbered k None es h numbered)
   same_due ((k, Some r) ∷ es) h numbered =
       let itself : nat_eq k k ≡ true = nat_eq_equiv.refl k in
-      let own : r.flow.call ≡ k =
+      let own : r.flow.value.call ≡ k =
       numbered k r (subst (λ (b : Bool). option_and_then (λ place. place) (cond b (Some (Some r)) (lookup (nat_eq k) es)) ≡ Some r) (sym itself) refl) in
       ap (λ m. cons_option (opening m (call_in r).plan) (filter_map due_in (values_of es))) own
       ∙ ap (cons_option (opening_of (k, call_in r))) (same_due es (tail (k, Some r) es h) (tail_numbered k (Some r) es h numbered))

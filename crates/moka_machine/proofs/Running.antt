@@ -6,7 +6,6 @@ use Rattle.std.specs.declared.hash.Hash as Hash
 use Rattle.moka_hist.specs.Bound.{times_of}
 use Rattle.moka_hist.specs.State.{Call, Stay, TablePart, World}
 use Rattle.moka_hist.specs.Finite.{put_at}
-use Rattle.moka_init.specs.declared.flow.Flow.{Flow}
 use Rattle.moka_init.specs.FlowPlan.{call_of}
 use Rattle.moka_init.specs.Grounds.{HasBegun}
 use Rattle.moka_layers.specs.Layers.{BegunIs, TableIs, operation_in}
@@ -45,27 +44,26 @@ module _ {K V E : Type 0} (eq : K → K → Bool) where
 
 module _ {K V E T : Type 0} {same : PartialEq.Ghosts K} {hash : Hash.Ghosts K} (eq : K → K → Bool) (q : Tests.Ghosts T K V) where
   -- the call is back in its place
-  pub back_in : (m : Machine K V E T same hash) (n : ℕ) (flow : Flow K V E) (begun after : Option (TheCall K V)) (new : Calls K V E) (others : ℕ → Option (Call K V E)) (w : World K V E)
-      → begun ≡ m.layers.begun
-      → ((k : ℕ) → place_at new k ≡ put_at (place_at m.calls) n (Some (Some (record { flow = flow; begun = begun }))) k)
-      → Without eq q m n others w → IsOut eq m flow
-      → MachineIs eq q (record { layers = record m.layers { begun = after }; calls = new }) (record { world = w; calls = put_at others n (Some (call_of flow)) })
-  back_in m n flow begun after new others w same_begun puts h out =
-      let back : Running K V E = record { flow = flow; begun = begun } in
+  pub back_in : (m : Machine K V E T same hash) (n : ℕ) (back : Running K V E) (after : Option (TheCall K V)) (new : Calls K V E) (others : ℕ → Option (Call K V E)) (w : World K V E)
+      → back.begun ≡ m.layers.begun
+      → ((k : ℕ) → place_at new k ≡ put_at (place_at m.calls) n (Some (Some back)) k)
+      → Without eq q m n others w → IsOut eq m back.flow.value
+      → MachineIs eq q (record { layers = record m.layers { begun = after }; calls = new }) (record { world = w; calls = put_at others n (Some (call_of back.flow.value)) })
+  back_in m n back after new others w same_begun puts h out =
       let layers = h.reaches.layers in
       let runs = runs_at (place_at m.calls) (place_at new) n (Some (Some back)) puts in
       let is : IsOf eq m.layers.table w.table w.stay w.desk.last n back =
       record {
         number = sym out.on.call ∙ h.number;
         live = out.live;
-        on = subst (λ (b : Option (TheCall K V)). HasBegun (operation_in (the_table eq) b) flow) (sym same_begun) out.on.begun;
+        on = subst (λ (b : Option (TheCall K V)). HasBegun (operation_in (the_table eq) b) back.flow.value) (sym same_begun) out.on.begun;
         begun = subst (λ (b : Option (TheCall K V)). BegunIs (the_table eq) m.layers.table n b w.table w.stay) (sym same_begun)
             (subst (λ (k : ℕ). BegunIs (the_table eq) m.layers.table k m.layers.begun w.table w.stay) h.number layers.begun);
         given = subst (λ (k : ℕ). k ≤ w.desk.last) h.number layers.given;
       } in
       record {
         world = record { table = layers.world.table; desk = layers.world.desk; tests = layers.world.tests; stay = layers.world.stay };
-        calls = set_calls (running_at m.calls) (running_at new) others n (Some back) (Some (call_of flow)) refl runs h.calls;
+        calls = set_calls (running_at m.calls) (running_at new) others n (Some back) (Some (call_of back.flow.value)) refl runs h.calls;
         each = set_each (IsOf eq m.layers.table w.table w.stay w.desk.last) (running_at m.calls) (running_at new) n (Some back)
             (λ x e. let f : back ≡ x = cc in subst (λ (r : Running K V E). IsOf eq m.layers.table w.table w.stay w.desk.last n r) f is) runs h.reaches.each;
         used = set_used (place_at m.calls) (place_at new) n (Some (Some back)) puts (λ e. e) (λ k ne. h.reaches.used k (λ e. ne (sym h.number ∙ e)));

@@ -39,11 +39,11 @@ module _ {K V E : Type 0} where
 
   -- the number of the write that the call of this place holds, where one runs
   abbrev pub held_in : Option (Running K V E) → Option ℕ
-  held_in place = option_and_then (λ r. option_map number_of (held_by (call_of r.flow).plan)) place
+  held_in place = option_and_then (λ r. option_map number_of (held_by (call_of r.flow.value).plan)) place
 
   -- the visit that opens the notice of the call of this place, where one runs and its notice is due
   abbrev pub due_in : Option (Running K V E) → Option (Visit K V E)
-  due_in place = option_and_then (λ r. due_of r.flow) place
+  due_in place = option_and_then (λ r. due_of r.flow.value) place
 
   -- the visit that opens the notice of the call of this number, where it is due
   abbrev pub opening_of : ℕ × Call K V E → Option (Visit K V E)
@@ -51,7 +51,7 @@ module _ {K V E : Type 0} where
 
   -- each running call is of its number
   abbrev pub AreNumbered : (ℕ → Option (Running K V E)) → Type 0
-  AreNumbered running = (n : ℕ) (r : Running K V E) → running n ≡ Some r → r.flow.call ≡ n
+  AreNumbered running = (n : ℕ) (r : Running K V E) → running n ≡ Some r → r.flow.value.call ≡ n
 
   -- the visits are those that open the notices of the live calls that are due
   pub record AreDue (visits : List (Visit K V E)) (live : ℕ → Option (Call K V E)) : Type 0 where

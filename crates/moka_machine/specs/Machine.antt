@@ -27,7 +27,7 @@ use Rattle.moka_machine.specs.declared.machine.Machine.{Machine}
 module _ {K V E : Type 0} where
   -- the call that runs
   abbrev pub call_in : Running K V E → Call K V E
-  call_in r = call_of r.flow
+  call_in r = call_of r.flow.value
 
   -- so many steps were made of the event, which is a poll, each of which left its call going,
   -- through states that meet P; nothing of any other event, or where there is none
@@ -41,9 +41,9 @@ module _ {K V E : Type 0} where
 -- on with what it has begun on the table.
 pub record IsOf {K V E : Type 0} (eq : K → K → Bool) (table : TheTable K V) (part : TablePart K V)
     (stay : Stay) (last n : ℕ) (r : Running K V E) : Type 0 where
-  pub number : r.flow.call ≡ n
-  pub live : IsLive r.flow
-  pub on : HasBegun (operation_in (the_table eq) r.begun) r.flow
+  pub number : r.flow.value.call ≡ n
+  pub live : IsLive r.flow.value
+  pub on : HasBegun (operation_in (the_table eq) r.begun) r.flow.value
   pub begun : BegunIs (the_table eq) table n r.begun part stay
   pub given : n ≤ last
 

@@ -15,10 +15,11 @@ use moka_init::Flow;
 use std::alloc::{AllocError, Global};
 use std::collections::HashMap;
 
-/// A call that runs: its flow, and its table operation where one was begun.
+/// A call that runs: its flow, which stays where it is from step to step, and its table operation
+/// where one was begun.
 #[derive(Drop)]
 pub(crate) struct Running<K, V, E> {
-    pub(crate) flow: Flow<K, V, E>,
+    pub(crate) flow: Box<Flow<K, V, E>>,
     pub(crate) begun: Option<TheCall<K, V>>,
 }
 
@@ -27,6 +28,7 @@ pub(crate) struct Running<K, V, E> {
 #[derive(Drop)]
 pub(crate) struct Calls<K, V, E> {
     places: HashMap<u64, Option<Running<K, V, E>>>,
+    alloc: Global,
 }
 
 impl<K: Drop, V: Drop, E: Drop> Calls<K, V, E> {
@@ -36,7 +38,15 @@ impl<K: Drop, V: Drop, E: Drop> Calls<K, V, E> {
     {
         Calls {
             places: HashMap::new(alloc),
+            alloc,
         }
+    }
+
+    /// Puts the flow of a call where it stays while the call runs.
+    pub(crate) fn boxed(&self, flow: Flow<K, V, E>) -> Result<Box<Flow<K, V, E>>, AllocError>
+        ensures { IfOk result (λ boxed. boxed.value ≡ flow) }
+    {
+        Ok(Box::new(self.alloc, flow)?)
     }
 
     /// Makes room for one more call.

@@ -52,7 +52,7 @@ impl<K: Eq + Hash + Clone + Drop, V: Clone + Drop, E: Clone + Drop, T: Tests<K, 
     {
         let start = cloned_start(start)?;
         self.make_room()?;
-        Ok(self.enter(start))
+        self.enter(start)
     }
 
     // Makes room for one more call.
@@ -63,17 +63,26 @@ impl<K: Eq + Hash + Clone + Drop, V: Clone + Drop, E: Clone + Drop, T: Tests<K, 
         self.calls.reserve()
     }
 
-    // Starts a call. There is room for it, so it takes no memory.
-    fn enter(&mut self, start: Start<K, V>) -> Reply<K, V, E>
+    // Starts a call, for which there is room. Its flow is made before its number is given out.
+    fn enter(&mut self, start: Start<K, V>) -> Result<Reply<K, V, E>, AllocError>
         requires { 0 < spare self.old.calls.places }
-        ensures { Serves K.eq T.Tests self.old (Event.Start start) result self.new }
+        ensures serves { IfOk result (λ r.
+            Serves K.eq T.Tests self.old (Event.Start start) r self.new) }
+        ensures err { OnErr result (KeepsState K.eq T.Tests self.old self.new) }
     {
+        let last = self.layers.desk.last();
+        let next = last.saturating_add(1);
+        let flow = Flow::new(start, next, self.layers.desk.rules());
+        let boxed = self.calls.boxed(flow)?;
         match self.layers.desk.enter() {
-            None => Reply::Refused(Refusal::CallsSpent),
+            None => Ok(Reply::Refused(Refusal::CallsSpent)),
             Some(call) => {
-                let flow = Flow::new(start, call, self.layers.desk.rules());
-                self.calls.add(call, Running { flow, begun: None });
-                Reply::Call(call)
+                let running = Running {
+                    flow: boxed,
+                    begun: None,
+                };
+                self.calls.add(call, running);
+                Ok(Reply::Call(call))
             }
         }
     }
@@ -128,13 +137,13 @@ impl<K: Eq + Hash + Clone + Drop, V: Clone + Drop, E: Clone + Drop, T: Tests<K, 
 
     // Drops the call that was taken out, or puts it back.
     #[inline(always)]
-    fn drop_out(&mut self, call: u64, flow: Flow<K, V, E>) -> Reply<K, V, E>
+    fn drop_out(&mut self, call: u64, flow: Box<Flow<K, V, E>>) -> Reply<K, V, E>
         requires place { HasPlace self.old.calls call }
-        requires is { IsOut K.eq self.old flow }
-        requires taken { (s : State K V E) × TakenOut K.eq T.Tests self.old call flow s
+        requires is { IsOut K.eq self.old flow.value }
+        requires taken { (s : State K V E) × TakenOut K.eq T.Tests self.old call flow.value s
             × MayAllLeave s }
-        ensures { (s : State K V E) → TakenOut K.eq T.Tests self.old call flow s → MayAllLeave s
-            → (t : State K V E) × Drops s call (call_of flow) flow.mode result t
+        ensures { (s : State K V E) → TakenOut K.eq T.Tests self.old call flow.value s → MayAllLeave s
+            → (t : State K V E) × Drops s call (call_of flow.value) flow.value.mode result t
             × MachineIs K.eq T.Tests self.new t }
     {
         match flow.mode() {
@@ -148,14 +157,14 @@ impl<K: Eq + Hash + Clone + Drop, V: Clone + Drop, E: Clone + Drop, T: Tests<K, 
     }
 
     // Drops the call that was taken out: what it holds is left to others.
-    fn leave(&mut self, call: u64, flow: Flow<K, V, E>) -> Reply<K, V, E>
-        requires is { IsOut K.eq self.old flow }
-        requires taken { (s : State K V E) × TakenOut K.eq T.Tests self.old call flow s
+    fn leave(&mut self, call: u64, flow: Box<Flow<K, V, E>>) -> Reply<K, V, E>
+        requires is { IsOut K.eq self.old flow.value }
+        requires taken { (s : State K V E) × TakenOut K.eq T.Tests self.old call flow.value s
             × MayAllLeave s }
         ensures reply { result ≡ Reply.Dropped }
-        ensures leaves { (s : State K V E) → TakenOut K.eq T.Tests self.old call flow s
+        ensures leaves { (s : State K V E) → TakenOut K.eq T.Tests self.old call flow.value s
             → MayAllLeave s
-            → MachineIs K.eq T.Tests self.new (dropped s call (call_of flow)) }
+            → MachineIs K.eq T.Tests self.new (dropped s call (call_of flow.value)) }
     {
         let held = flow.held();
         drop(flow);

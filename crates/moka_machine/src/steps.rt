@@ -76,12 +76,13 @@ impl<K: Eq + Hash + Clone + Drop, V: Clone + Drop, E: Clone + Drop, T: Tests<K, 
     /// Takes a live call out, with the table operation that it has begun. Until it is put back, or
     /// its place given up, the machine is the ground of this call alone.
     #[inline(always)]
-    pub fn take_out(&mut self, call: u64) -> Option<Flow<K, V, E>>
+    pub fn take_out(&mut self, call: u64) -> Option<Box<Flow<K, V, E>>>
         ensures none { IfNone result ((s : State K V E) → MachineIs K.eq T.Tests self.old s
             → (s.calls call ≡ None)) }
         ensures same { IfNone result (KeepsState K.eq T.Tests self.old self.new) }
         ensures some { IfSome result (λ flow. (s : State K V E) → MachineIs K.eq T.Tests self.old s
-            → TakenOut K.eq T.Tests self.new call flow s × IsOut K.eq self.new flow) }
+            → TakenOut K.eq T.Tests self.new call flow.value s
+            × IsOut K.eq self.new flow.value) }
         ensures place { OnSome result (HasPlace self.new.calls call) }
     {
         match self.calls.take(call) {
@@ -91,8 +92,8 @@ impl<K: Eq + Hash + Clone + Drop, V: Clone + Drop, E: Clone + Drop, T: Tests<K, 
     }
 
     // The flow of a running call, whose table operation the layers take over.
-    fn lend(&mut self, call: u64, running: Running<K, V, E>) -> Flow<K, V, E>
-        ensures flow { result ≡ running.flow }
+    fn lend(&mut self, call: u64, running: Running<K, V, E>) -> Box<Flow<K, V, E>>
+        ensures flow { result.value ≡ running.flow.value }
         ensures machine { self.new ≡ record self.old {
           layers = record self.old.layers { call = call; begun = running.begun };
         } }
@@ -105,12 +106,12 @@ impl<K: Eq + Hash + Clone + Drop, V: Clone + Drop, E: Clone + Drop, T: Tests<K, 
 
     /// Puts the call back that was taken out.
     #[inline(always)]
-    pub fn put_in(&mut self, call: u64, flow: Flow<K, V, E>)
+    pub fn put_in(&mut self, call: u64, flow: Box<Flow<K, V, E>>)
         requires place { HasPlace self.old.calls call }
         ensures { (others : ℕ → Option (Call K V E)) (w : World K V E)
-            → Without K.eq T.Tests self.old call others w → IsOut K.eq self.old flow
+            → Without K.eq T.Tests self.old call others w → IsOut K.eq self.old flow.value
             → MachineIs K.eq T.Tests self.new
-            (record { world = w; calls = put_at others call (Some (call_of flow)) }) }
+            (record { world = w; calls = put_at others call (Some (call_of flow.value)) }) }
     {
         let begun = self.layers.begun.take();
         self.calls.put_back(call, Running { flow, begun });
@@ -134,16 +135,16 @@ impl<K: Eq + Hash + Clone + Drop, V: Clone + Drop, E: Clone + Drop, T: Tests<K, 
     pub fn after_step(
         &mut self,
         call: u64,
-        flow: Flow<K, V, E>,
+        flow: Box<Flow<K, V, E>>,
         turn: Turn<K, V, E>,
     ) -> Reply<K, V, E>
         requires place { HasPlace self.old.calls call }
         ensures reply { result ≡ reply_of turn }
         ensures stands { (others : ℕ → Option (Call K V E)) (w : World K V E)
             → Without K.eq T.Tests self.old call others w
-            → IsOn (account_of (the_table K.eq) self.old.layers) flow → Leaves turn flow
+            → IsOn (account_of (the_table K.eq) self.old.layers) flow.value → Leaves turn flow.value
             → MachineIs K.eq T.Tests self.new
-            (record { world = w; calls = put_at others call (left_in turn flow) }) }
+            (record { world = w; calls = put_at others call (left_in turn flow.value) }) }
     {
         match turn {
             Turn::Answer(answer) => self.end_with(call, flow, answer),
@@ -158,7 +159,7 @@ impl<K: Eq + Hash + Clone + Drop, V: Clone + Drop, E: Clone + Drop, T: Tests<K, 
     fn end_with(
         &mut self,
         call: u64,
-        flow: Flow<K, V, E>,
+        flow: Box<Flow<K, V, E>>,
         answer: Answer<K, V, E>,
     ) -> Reply<K, V, E>
         ensures reply { result ≡ Reply.Answer answer }
@@ -177,35 +178,39 @@ impl<K: Eq + Hash + Clone + Drop, V: Clone + Drop, E: Clone + Drop, T: Tests<K, 
     fn put_in_with(
         &mut self,
         call: u64,
-        flow: Flow<K, V, E>,
+        flow: Box<Flow<K, V, E>>,
         reply: Reply<K, V, E>,
     ) -> Reply<K, V, E>
         requires place { HasPlace self.old.calls call }
         ensures reply { result ≡ reply }
         ensures stands { (others : ℕ → Option (Call K V E)) (w : World K V E)
-            → Without K.eq T.Tests self.old call others w → IsOut K.eq self.old flow
+            → Without K.eq T.Tests self.old call others w → IsOut K.eq self.old flow.value
             → MachineIs K.eq T.Tests self.new
-            (record { world = w; calls = put_at others call (Some (call_of flow)) }) }
+            (record { world = w; calls = put_at others call (Some (call_of flow.value)) }) }
     {
         self.put_in(call, flow);
         reply
     }
 
     // Makes a step of the call that was taken out, and puts it back unless it has ended.
-    fn step_out(&mut self, call: u64, mut flow: Flow<K, V, E>) -> Result<Reply<K, V, E>, AllocError>
+    fn step_out(
+        &mut self,
+        call: u64,
+        mut flow: Box<Flow<K, V, E>>,
+    ) -> Result<Reply<K, V, E>, AllocError>
         requires keys { IsExact K.is_clone }
         requires values { IsExact V.is_clone }
         requires errors { IsExact E.is_clone }
         requires place { HasPlace self.old.calls call }
-        requires out { IsOut K.eq self.old flow }
+        requires out { IsOut K.eq self.old flow.value }
         requires may { (w : World K V E) × Reaches K.eq T.Tests self.old w
-            × May w (access_at flow) }
-        ensures steps { IfOk result (λ r. StepOut K.eq T.Tests self.old call flow r self.new) }
-        ensures err { OnErr result (KeepsOut K.eq T.Tests self.old call flow self.new) }
+            × May w (access_at flow.value) }
+        ensures steps { IfOk result (λ r. StepOut K.eq T.Tests self.old call flow.value r self.new) }
+        ensures err { OnErr result (KeepsOut K.eq T.Tests self.old call flow.value self.new) }
         ensures err_needs { OnErr result ((w : World K V E) → Reaches K.eq T.Tests self.old w
-            → May w (access_at flow) → NeedsMemory w (access_at flow)) }
+            → May w (access_at flow.value) → NeedsMemory w (access_at flow.value)) }
     {
-        match step(&mut flow, self) {
+        match step(&mut *flow, self) {
             Ok(turn) => Ok(self.after_step(call, flow, turn)),
             Err(e) => {
                 self.put_in(call, flow);
@@ -217,19 +222,23 @@ impl<K: Eq + Hash + Clone + Drop, V: Clone + Drop, E: Clone + Drop, T: Tests<K, 
     // Makes steps of the call that was taken out, up to the first that doesn't leave it going, and
     // puts it back unless it has ended.
     #[inline(always)]
-    fn poll_out(&mut self, call: u64, mut flow: Flow<K, V, E>) -> Result<Reply<K, V, E>, Unfinished>
+    fn poll_out(
+        &mut self,
+        call: u64,
+        mut flow: Box<Flow<K, V, E>>,
+    ) -> Result<Reply<K, V, E>, Unfinished>
         requires keys { IsExact K.is_clone }
         requires values { IsExact V.is_clone }
         requires errors { IsExact E.is_clone }
         requires place { HasPlace self.old.calls call }
-        requires out { IsOut K.eq self.old flow }
+        requires out { IsOut K.eq self.old flow.value }
         requires safe { (w : World K V E) × Reaches K.eq T.Tests self.old w
-            × IsSafe K.eq flow.call (call_of flow) w × (0 < w.desk.size) }
-        ensures polls { IfOk result (λ r. PollOut K.eq T.Tests self.old call flow r self.new) }
+            × IsSafe K.eq flow.value.call (call_of flow.value) w × (0 < w.desk.size) }
+        ensures polls { IfOk result (λ r. PollOut K.eq T.Tests self.old call flow.value r self.new) }
         ensures unfinished { IfErr result (λ u.
-            UnfinishedOut K.eq T.Tests self.old call flow u.steps self.new) }
+            UnfinishedOut K.eq T.Tests self.old call flow.value u.steps self.new) }
     {
-        match poll(&mut flow, self) {
+        match poll(&mut *flow, self) {
             Ok(turn) => Ok(self.after_step(call, flow, turn)),
             Err(stopped) => {
                 self.put_in(call, flow);

@@ -1,11 +1,10 @@
 //! The program: plays a schedule from standard input, and writes its report to standard output.
 #![tactic(auto)]
 
-mod ends;
 mod help;
 
-use ends::{ReadSource, WriteSink};
 use help::told_text;
+use moka_ends::{ReadSource, WriteSink};
 use moka_run::{Status, play};
 use std::process::ExitCode;
 use std::{env, io};

@@ -1,33 +1,23 @@
 //! Worked schedules of computes. ` / ` parts lines.
 
-use crate::in_memory::{are_reported, first_misreported};
+use crate::in_memory::are_reported;
 use std::alloc::{AllocError, Global};
 use std::process::Abort;
 use std::test::Fail;
 
-const COMPUTED: [(&str, &str); 1] = [(
-    "cache log=8 / start compute 1 / poll 1 / start compute_alone 1 / poll 2 / tell 1 put 5 / poll 1 / start upsert 1 / poll 3 / tell 3 value 8 / poll 3 / start compute 1 / poll 4 / tell 4 nop / poll 4",
-    "call 1 / ask compute none / call 2 / answer stillnone / told / answer inserted 5 / call 3 / ask compute 1 5 / told / answer replaced 8 / call 4 / ask compute 1 8 / told / answer unchanged 8 / entry 1 8 stamp 3 at 0 / write 1 logged / write 3 logged",
-)];
-
-#[test]
-fn a_compute_asks_with_what_the_key_has_and_does_what_it_is_told(
-    rt: HostRuntime,
-) -> Result<(), Fail> {
-    are_reported(&rt, &COMPUTED)
-}
-
-const ERRORS: [(&str, &str); 1] = [(
-    "cache log=8 / start try_compute 1 / start compute 1 / poll 1 / poll 2 / tell 1 error 4 / poll 1 / poll 2 / tell 2 error 4 / tell 2 put 5 / poll 2",
-    "call 1 / call 2 / ask compute none / wait / told / answer error 4 / ask compute none / refused NotAsked / told / answer inserted 5 / entry 1 5 stamp 2 at 0 / write 2 logged",
-)];
-
-#[test]
-fn an_error_ends_the_compute_and_one_that_waited_begins_anew(rt: HostRuntime) -> Result<(), Fail> {
-    are_reported(&rt, &ERRORS)
-}
-
-const LOOK_AND_TABLE: [(&str, &str); 4] = [
+/// Schedules, each with the report that it comes to.
+const ROWS: [(&str, &str); 22] = [
+    // A compute asks with what the key has, and does what it is told.
+    (
+        "cache log=8 / start compute 1 / poll 1 / start compute_alone 1 / poll 2 / tell 1 put 5 / poll 1 / start upsert 1 / poll 3 / tell 3 value 8 / poll 3 / start compute 1 / poll 4 / tell 4 nop / poll 4",
+        "call 1 / ask compute none / call 2 / answer stillnone / told / answer inserted 5 / call 3 / ask compute 1 5 / told / answer replaced 8 / call 4 / ask compute 1 8 / told / answer unchanged 8 / entry 1 8 stamp 3 at 0 / write 1 logged / write 3 logged",
+    ),
+    // An error ends the compute, and one that waited begins anew.
+    (
+        "cache log=8 / start try_compute 1 / start compute 1 / poll 1 / poll 2 / tell 1 error 4 / poll 1 / poll 2 / tell 2 error 4 / tell 2 put 5 / poll 2",
+        "call 1 / call 2 / ask compute none / wait / told / answer error 4 / ask compute none / refused NotAsked / told / answer inserted 5 / entry 1 5 stamp 2 at 0 / write 2 logged",
+    ),
+    // The look decides what was replaced, and the table what was removed.
     (
         "cache log=8 / start insert 1 5 / poll 1 / start compute 1 / poll 2 / start insert 1 6 / poll 3 / tell 2 nop / poll 2",
         "call 1 / answer done / call 2 / ask compute 1 5 / call 3 / answer done / told / answer unchanged 5 / entry 1 6 stamp 3 at 0 / write 1 logged / write 3 logged",
@@ -44,16 +34,7 @@ const LOOK_AND_TABLE: [(&str, &str); 4] = [
         "cache log=8 / start insert 1 5 / poll 1 / start compute 1 / poll 2 / start remove 1 / poll 3 / tell 2 remove / poll 2",
         "call 1 / answer done / call 2 / ask compute 1 5 / call 3 / answer some 5 / told / answer stillnone / write 1 logged / write 3 logged",
     ),
-];
-
-#[test]
-fn the_look_decides_what_was_replaced_and_the_table_what_was_removed(
-    rt: HostRuntime,
-) -> Result<(), Fail> {
-    are_reported(&rt, &LOOK_AND_TABLE)
-}
-
-const STEPS: [(&str, &str); 2] = [
+    // A compute goes step by step.
     (
         "cache log=8 / start compute 1 / step 1 / step 1 / step 1 / step 1 / tell 1 put 5 / step 1 / step 1 / step 1 / step 1 / step 1 / step 1",
         "call 1 / going / going / going / ask compute none / told / going / going / going / going / going / answer inserted 5 / entry 1 5 stamp 1 at 0 / write 1 logged",
@@ -62,34 +43,17 @@ const STEPS: [(&str, &str); 2] = [
         "cache log=8 / start compute 1 / step 1 / step 1 / step 1 / step 1 / tell 1 remove / step 1 / step 1 / step 1 / step 1 / step 1 / step 1",
         "call 1 / going / going / going / ask compute none / told / going / going / going / going / going / answer stillnone",
     ),
-];
-
-#[test]
-fn a_compute_goes_step_by_step(rt: HostRuntime) -> Result<(), Fail> {
-    are_reported(&rt, &STEPS)
-}
-
-const DROPPED: [(&str, &str); 1] = [(
-    "cache log=8 listener / start insert 1 5 / poll 1 / start compute 1 / poll 2 / tell 2 put 6 / poll 2 / start compute 1 / poll 3 / drop 2 / poll 3 / tell 2 done / poll 3",
-    "call 1 / answer done / call 2 / ask compute 1 5 / told / ask listener 1 5 Replaced / call 3 / wait / dropped / wait / told / ask compute 1 6 / entry 1 6 stamp 2 at 0 / write 1 logged / write 2 logged / notice 2 1 5 Replaced ended",
-)];
-
-#[test]
-fn the_next_owner_waits_for_the_notice_of_a_dropped_one(rt: HostRuntime) -> Result<(), Fail> {
-    are_reported(&rt, &DROPPED)
-}
-
-const DISABLED: [(&str, &str); 1] = [(
-    "cache cap=0 log=8 / start compute 1 / step 1 / step 1 / step 1 / tell 1 put 5 / step 1 / step 1 / start compute_alone 1 / poll 2 / tell 2 remove / poll 2",
-    "call 1 / going / going / ask compute none / told / going / answer inserted 5 / call 2 / ask compute none / told / answer stillnone",
-)];
-
-#[test]
-fn a_disabled_cache_asks_with_nothing_and_keeps_nothing(rt: HostRuntime) -> Result<(), Fail> {
-    are_reported(&rt, &DISABLED)
-}
-
-const TAKES: [(&str, &str); 5] = [
+    // The next owner waits for the notice of a dropped one.
+    (
+        "cache log=8 listener / start insert 1 5 / poll 1 / start compute 1 / poll 2 / tell 2 put 6 / poll 2 / start compute 1 / poll 3 / drop 2 / poll 3 / tell 2 done / poll 3",
+        "call 1 / answer done / call 2 / ask compute 1 5 / told / ask listener 1 5 Replaced / call 3 / wait / dropped / wait / told / ask compute 1 6 / entry 1 6 stamp 2 at 0 / write 1 logged / write 2 logged / notice 2 1 5 Replaced ended",
+    ),
+    // A disabled cache asks with nothing, and keeps nothing.
+    (
+        "cache cap=0 log=8 / start compute 1 / step 1 / step 1 / step 1 / tell 1 put 5 / step 1 / step 1 / start compute_alone 1 / poll 2 / tell 2 remove / poll 2",
+        "call 1 / going / going / ask compute none / told / going / answer inserted 5 / call 2 / ask compute none / told / answer stillnone",
+    ),
+    // An ask takes what its compute may be told.
     (
         "cache log=8 / start compute 1 / poll 1 / tell 1 value 3 / tell 1 nothing / tell 1 error 3 / tell 1 done / tell 1 off / tell 1 nop / poll 1",
         "call 1 / ask compute none / refused NotAsked / refused NotAsked / refused NotAsked / refused NotAsked / refused NotAsked / told / answer stillnone",
@@ -110,11 +74,42 @@ const TAKES: [(&str, &str); 5] = [
         "cache log=8 / start get_with 1 / poll 1 / tell 1 nop / tell 1 put 3 / tell 1 remove / tell 1 value 3 / poll 1",
         "call 1 / ask init / refused NotAsked / refused NotAsked / refused NotAsked / told / answer value 3 fresh / entry 1 3 stamp 1 at 0 / write 1 logged",
     ),
+    // Neither a compute nor a load waits for the other.
+    (
+        "cache log=8 / start compute 1 / poll 1 / start get_with 1 / poll 2 / tell 2 value 7 / poll 2 / tell 1 nop / poll 1",
+        "call 1 / ask compute none / call 2 / ask init / told / answer value 7 fresh / told / answer stillnone / entry 1 7 stamp 2 at 0 / write 2 logged",
+    ),
+    (
+        "cache log=8 / start get_with 1 / poll 1 / start upsert 1 / poll 2 / tell 2 value 7 / poll 2 / tell 1 value 8 / poll 1",
+        "call 1 / ask init / call 2 / ask compute none / told / answer inserted 7 / told / answer value 8 fresh / entry 1 8 stamp 1 at 0 / write 1 logged / write 2 logged",
+    ),
+    (
+        "cache log=8 / start compute 1 / start compute 2 / poll 1 / poll 2",
+        "call 1 / call 2 / ask compute none / ask compute none",
+    ),
+    // A listener hears of what a compute replaces or takes out.
+    (
+        "cache log=8 listener / start insert 1 5 / poll 1 / start compute 1 / poll 2 / tell 2 remove / poll 2 / start get 1 / poll 3 / tell 2 done / poll 2",
+        "call 1 / answer done / call 2 / ask compute 1 5 / told / ask listener 1 5 Explicit / call 3 / answer none / told / answer removed 5 / write 1 logged / write 2 logged / notice 2 1 5 Explicit ended",
+    ),
+    (
+        "cache log=8 listener / start insert 1 5 / poll 1 / start upsert 1 / poll 2 / tell 2 value 6 / poll 2 / tell 2 off / poll 2 / start upsert 1 / poll 3 / tell 3 value 7 / poll 3",
+        "call 1 / answer done / call 2 / ask compute 1 5 / told / ask listener 1 5 Replaced / told / answer replaced 6 / call 3 / ask compute 1 6 / told / answer replaced 7 / entry 1 7 stamp 3 at 0 / write 1 logged / write 2 logged / write 3 logged / notice 2 1 5 Replaced ended / notice 3 1 6 Replaced skipped",
+    ),
+    (
+        "cache log=8 listener / start compute 1 / poll 1 / tell 1 remove / poll 1",
+        "call 1 / ask compute none / told / answer stillnone",
+    ),
+    // In a disabled cache, one that computes alone reports nothing.
+    (
+        "cache cap=0 log=8 / start compute 1 / poll 1 / start compute_alone 1 / poll 2 / tell 1 put 5 / poll 1",
+        "call 1 / ask compute none / call 2 / answer stillnone / told / answer inserted 5",
+    ),
 ];
 
 #[test]
-fn an_ask_takes_what_its_compute_may_be_told(rt: HostRuntime) -> Result<(), Fail> {
-    are_reported(&rt, &TAKES)
+fn computes_are_reported(rt: HostRuntime) -> Result<(), Fail> {
+    are_reported(&rt, &ROWS)
 }
 
 /// An ask of call 2: what it is started for, how the ask reads, what it takes, and what is reported
@@ -177,9 +172,7 @@ fn is_told(
 ) -> Result<(), Fail> {
     let schedule = joined(rt.alloc(), &[START, asked.start, TELL, shape])?;
     let report = joined(rt.alloc(), &[CALLS, asked.ask, " / ", reply, " / ", rest])?;
-    let rows = [(schedule.as_str(), report.as_str())];
-    assert_eq!(rt; first_misreported(rt.alloc(), &rows)?, None, "{schedule}");
-    Ok(())
+    are_reported(rt, &[(&schedule, &report)])
 }
 
 /// Tells the ask each of the shapes.
@@ -229,56 +222,4 @@ fn each_ask_takes_its_shapes_and_no_other(rt: HostRuntime) -> Result<(), Fail> {
         },
     ];
     take_their_shapes(&rt, &asks)
-}
-
-const BESIDE: [(&str, &str); 3] = [
-    (
-        "cache log=8 / start compute 1 / poll 1 / start get_with 1 / poll 2 / tell 2 value 7 / poll 2 / tell 1 nop / poll 1",
-        "call 1 / ask compute none / call 2 / ask init / told / answer value 7 fresh / told / answer stillnone / entry 1 7 stamp 2 at 0 / write 2 logged",
-    ),
-    (
-        "cache log=8 / start get_with 1 / poll 1 / start upsert 1 / poll 2 / tell 2 value 7 / poll 2 / tell 1 value 8 / poll 1",
-        "call 1 / ask init / call 2 / ask compute none / told / answer inserted 7 / told / answer value 8 fresh / entry 1 8 stamp 1 at 0 / write 1 logged / write 2 logged",
-    ),
-    (
-        "cache log=8 / start compute 1 / start compute 2 / poll 1 / poll 2",
-        "call 1 / call 2 / ask compute none / ask compute none",
-    ),
-];
-
-#[test]
-fn neither_a_compute_nor_a_load_waits_for_the_other(rt: HostRuntime) -> Result<(), Fail> {
-    are_reported(&rt, &BESIDE)
-}
-
-const HEARD: [(&str, &str); 3] = [
-    (
-        "cache log=8 listener / start insert 1 5 / poll 1 / start compute 1 / poll 2 / tell 2 remove / poll 2 / start get 1 / poll 3 / tell 2 done / poll 2",
-        "call 1 / answer done / call 2 / ask compute 1 5 / told / ask listener 1 5 Explicit / call 3 / answer none / told / answer removed 5 / write 1 logged / write 2 logged / notice 2 1 5 Explicit ended",
-    ),
-    (
-        "cache log=8 listener / start insert 1 5 / poll 1 / start upsert 1 / poll 2 / tell 2 value 6 / poll 2 / tell 2 off / poll 2 / start upsert 1 / poll 3 / tell 3 value 7 / poll 3",
-        "call 1 / answer done / call 2 / ask compute 1 5 / told / ask listener 1 5 Replaced / told / answer replaced 6 / call 3 / ask compute 1 6 / told / answer replaced 7 / entry 1 7 stamp 3 at 0 / write 1 logged / write 2 logged / write 3 logged / notice 2 1 5 Replaced ended / notice 3 1 6 Replaced skipped",
-    ),
-    (
-        "cache log=8 listener / start compute 1 / poll 1 / tell 1 remove / poll 1",
-        "call 1 / ask compute none / told / answer stillnone",
-    ),
-];
-
-#[test]
-fn a_listener_hears_of_what_a_compute_replaces_or_takes_out(rt: HostRuntime) -> Result<(), Fail> {
-    are_reported(&rt, &HEARD)
-}
-
-const DISABLED_ALONE: [(&str, &str); 1] = [(
-    "cache cap=0 log=8 / start compute 1 / poll 1 / start compute_alone 1 / poll 2 / tell 1 put 5 / poll 1",
-    "call 1 / ask compute none / call 2 / answer stillnone / told / answer inserted 5",
-)];
-
-#[test]
-fn in_a_disabled_cache_one_that_computes_alone_reports_nothing(
-    rt: HostRuntime,
-) -> Result<(), Fail> {
-    are_reported(&rt, &DISABLED_ALONE)
 }

@@ -106,15 +106,15 @@ struct Counted<K: Eq + Hash, V, E, T> {
 fn step_out<K: Eq + Hash + Clone + Drop, V: Clone + Drop, E: Clone + Drop, T: Tests<K, V> + Drop>(
     machine: Machine<K, V, E, T>,
     call: u64,
-    mut flow: Flow<K, V, E>,
+    mut flow: Box<Flow<K, V, E>>,
 ) -> Counted<K, V, E, T>
     requires keys { IsExact K.is_clone }
     requires values { IsExact V.is_clone }
     requires errors { IsExact E.is_clone }
     requires place { HasPlace machine.calls call }
-    requires out { IsOut K.eq machine flow }
-    requires taken { (s : State K V E) × TakenOut K.eq T.Tests machine call flow s
-        × IsReached K.eq s × May s.world (access_at flow) }
+    requires out { IsOut K.eq machine flow.value }
+    requires taken { (s : State K V E) × TakenOut K.eq T.Tests machine call flow.value s
+        × IsReached K.eq s × May s.world (access_at flow.value) }
     ensures { IsValid K.eq T.Tests result.machine }
 {
     moka_laws::move_is_step::<K, V, E>();
@@ -123,7 +123,7 @@ fn step_out<K: Eq + Hash + Clone + Drop, V: Clone + Drop, E: Clone + Drop, T: Te
         machine,
         accesses: 0,
     };
-    let stepped = step(&mut flow, &mut counting);
+    let stepped = step(&mut *flow, &mut counting);
     let Counting {
         mut machine,
         accesses,

@@ -1,10 +1,13 @@
 //! Worked schedules in which calls are dropped. ` / ` parts lines.
 
-use crate::in_memory::{are_reported, first_misreported};
+use crate::in_memory::are_reported;
 use std::alloc::{AllocError, Global};
+use std::process::Abort;
 use std::test::Fail;
 
-const DROPPED_OWNERS: [(&str, &str); 3] = [
+/// Schedules, each with the report that it comes to.
+const ROWS: [(&str, &str); 7] = [
+    // A dropped owner leaves the load to one that waits.
     (
         "cache log=8 / start get_with 1 / start get_with 1 / poll 1 / poll 2 / drop 1 / poll 2 / tell 2 value 9 / poll 2",
         "call 1 / call 2 / ask init / wait / dropped / ask init / told / answer value 9 fresh / entry 1 9 stamp 2 at 0 / write 2 logged",
@@ -17,46 +20,29 @@ const DROPPED_OWNERS: [(&str, &str); 3] = [
         "cache log=8 / start get_with 1 / poll 1 / start get_with 1 / poll 2 / tell 1 value 7 / drop 1 / poll 2 / tell 2 value 8 / poll 2",
         "call 1 / ask init / call 2 / wait / told / dropped / ask init / told / answer value 8 fresh / entry 1 8 stamp 2 at 0 / write 2 logged",
     ),
+    // A dropped waiter leaves the owner.
+    (
+        "cache log=8 / start get_with 1 / poll 1 / start get_with 1 / poll 2 / drop 2 / poll 2 / tell 1 value 7 / poll 1",
+        "call 1 / ask init / call 2 / wait / dropped / refused UnknownCall / told / answer value 7 fresh / entry 1 7 stamp 1 at 0 / write 1 logged",
+    ),
+    // A dropped write is owed, and drained by the next call.
+    (
+        "cache log=8 / start insert 1 5 / step 1 / step 1 / step 1",
+        "call 1 / going / going / going / entry 1 5 stamp 1 at 0 / write 1 held",
+    ),
+    (
+        "cache log=1 / start insert 1 5 / poll 1 / start insert 2 6 / start insert 3 7 / step 2 / step 2 / step 2 / step 2 / step 3 / step 3 / step 3 / step 3 / step 3 / step 2 / drop 2 / poll 3",
+        "call 1 / answer done / call 2 / call 3 / going / going / going / going / going / going / going / going / going / wait / dropped / answer done / entry 1 5 stamp 1 at 0 / entry 2 6 stamp 2 at 0 / entry 3 7 stamp 3 at 0 / write 1 applied / write 2 owed / write 3 logged",
+    ),
+    (
+        "cache log=1 / start insert 1 5 / poll 1 / start insert 2 6 / start insert 3 7 / step 2 / step 2 / step 2 / step 2 / step 3 / step 3 / step 3 / step 3 / step 3 / step 2 / drop 2 / poll 3 / start get 2 / poll 4",
+        "call 1 / answer done / call 2 / call 3 / going / going / going / going / going / going / going / going / going / wait / dropped / answer done / call 4 / answer some 6 / entry 1 5 stamp 1 at 0 / entry 2 6 stamp 2 at 0 / entry 3 7 stamp 3 at 0 / write 1 applied / write 2 logged / write 3 applied",
+    ),
 ];
 
 #[test]
-fn a_dropped_owner_leaves_the_load_to_one_that_waits(rt: HostRuntime) -> Result<(), Fail> {
-    are_reported(&rt, &DROPPED_OWNERS)
-}
-
-const DROPPED_WAITER: [(&str, &str); 1] = [(
-    "cache log=8 / start get_with 1 / poll 1 / start get_with 1 / poll 2 / drop 2 / poll 2 / tell 1 value 7 / poll 1",
-    "call 1 / ask init / call 2 / wait / dropped / refused UnknownCall / told / answer value 7 fresh / entry 1 7 stamp 1 at 0 / write 1 logged",
-)];
-
-#[test]
-fn a_dropped_waiter_leaves_the_owner(rt: HostRuntime) -> Result<(), Fail> {
-    are_reported(&rt, &DROPPED_WAITER)
-}
-
-#[test]
-fn a_dropped_write_is_owed_and_drained_by_the_next_call(rt: HostRuntime) -> Result<(), Fail> {
-    let schedule =
-        "cache log=1 / start insert 1 5 / poll 1 / start insert 2 6 / start insert 3 7 / step 2 / step 2 / step 2 / step 2 / step 3 / step 3 / step 3 / step 3 / step 3 / step 2 / drop 2 / poll 3";
-    let replies =
-        "call 1 / answer done / call 2 / call 3 / going / going / going / going / going / going / going / going / going / wait / dropped / answer done";
-    let entries = "entry 1 5 stamp 1 at 0 / entry 2 6 stamp 2 at 0 / entry 3 7 stamp 3 at 0";
-    let owed = format!(in rt.alloc();
-        "{replies} / {entries} / write 1 applied / write 2 owed / write 3 logged"
-    )?;
-    let drains = format!(in rt.alloc(); "{schedule} / start get 2 / poll 4")?;
-    let drained = format!(in rt.alloc();
-        "{replies} / call 4 / answer some 6 / {entries} / write 1 applied / write 2 logged / write 3 applied"
-    )?;
-    let rows = [
-        (
-            "cache log=8 / start insert 1 5 / step 1 / step 1 / step 1",
-            "call 1 / going / going / going / entry 1 5 stamp 1 at 0 / write 1 held",
-        ),
-        (schedule, owed.as_str()),
-        (drains.as_str(), drained.as_str()),
-    ];
-    are_reported(&rt, &rows)
+fn schedules_with_dropped_calls_are_reported(rt: HostRuntime) -> Result<(), Fail> {
+    are_reported(&rt, &ROWS)
 }
 
 /// A schedule in which so many owners of one load are dropped, each before the call that waits for
@@ -112,8 +98,7 @@ fn dropped_computes(alloc: Global, owners: u64) -> Result<(String, String), Allo
 #[test]
 fn a_compute_never_gives_up(rt: HostRuntime) -> Result<(), Fail> {
     let (schedule, report) = dropped_computes(rt.alloc(), 300)?;
-    let rows = [(schedule.as_str(), report.as_str())];
-    are_reported(&rt, &rows)
+    are_reported(&rt, &[(&schedule, &report)])
 }
 
 /// What the owners of a load are started for, and what the call is that waits for them.
@@ -124,27 +109,38 @@ const LOADS: [(&str, &str); 4] = [
     ("try 1", "try 1"),
 ];
 
-#[test]
-fn a_load_gives_up_at_the_200th_dropped_owner(rt: HostRuntime) -> Result<(), Fail> {
+/// How many owners are dropped, what happens after that, and what is reported of it.
+const ENDS: [(u64, &str, &str); 2] = [
+    // A load gives up at the 200th dropped owner.
+    (200, " / poll 2", " / answer exhausted"),
+    // One that saw 199 goes on.
+    (
+        199,
+        " / poll 2 / tell 2 value 7 / poll 2",
+        " / ask init / told / answer value 7 fresh / entry 1 7 stamp 2 at 0 / write 2 logged",
+    ),
+];
+
+/// Plays the loads of each kind to the end of their owners, and compares what is reported.
+fn loads_end(
+    rt: &(impl AllocGlobal + Abort),
+    owners: u64,
+    after: &str,
+    told: &str,
+) -> Result<(), Fail> {
     for (start, waiting) in LOADS {
-        let (mut schedule, mut report) = dropped_owners(rt.alloc(), start, waiting, 200)?;
-        schedule.push_str(" / poll 2")?;
-        report.push_str(" / answer exhausted")?;
-        let rows = [(schedule.as_str(), report.as_str())];
-        assert_eq!(rt; first_misreported(rt.alloc(), &rows)?, None, "{waiting}");
+        let (mut schedule, mut report) = dropped_owners(rt.alloc(), start, waiting, owners)?;
+        schedule.push_str(after)?;
+        report.push_str(told)?;
+        are_reported(rt, &[(&schedule, &report)])?;
     }
     Ok(())
 }
 
 #[test]
-fn a_load_that_saw_199_dropped_owners_goes_on(rt: HostRuntime) -> Result<(), Fail> {
-    for (start, waiting) in LOADS {
-        let (mut schedule, mut report) = dropped_owners(rt.alloc(), start, waiting, 199)?;
-        schedule.push_str(" / poll 2 / tell 2 value 7 / poll 2")?;
-        report.push_str(" / ask init / told / answer value 7 fresh")?;
-        report.push_str(" / entry 1 7 stamp 2 at 0 / write 2 logged")?;
-        let rows = [(schedule.as_str(), report.as_str())];
-        assert_eq!(rt; first_misreported(rt.alloc(), &rows)?, None, "{waiting}");
+fn a_load_gives_up_at_the_200th_dropped_owner_and_not_before(rt: HostRuntime) -> Result<(), Fail> {
+    for (owners, after, told) in ENDS {
+        loads_end(&rt, owners, after, told)?;
     }
     Ok(())
 }

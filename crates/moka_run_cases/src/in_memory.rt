@@ -87,25 +87,19 @@ pub fn play_pieces(
     play_between(alloc, &["play"], source, sink)
 }
 
-/// The first of the schedules that isn't played to the report beside it, by its place among them.
-/// ` / ` parts lines.
-pub fn first_misreported(
-    alloc: Global,
-    rows: &[(&str, &str)],
-) -> Result<Option<usize>, AllocError> {
-    for (place, row) in rows.iter().enumerate() {
-        let bytes = text_of(alloc, row.0)?;
-        let want = text_of(alloc, row.1)?;
-        let ended = play_bytes(alloc, &["play"], bytes.as_bytes(), &[], &[])?;
-        if !ended.came_to(Status::Done, 0, &want) {
-            return Ok(Some(place));
-        }
-    }
-    Ok(None)
+/// Whether the schedule is played to the report. ` / ` parts lines.
+pub fn is_reported(alloc: Global, schedule: &str, report: &str) -> Result<bool, AllocError> {
+    let bytes = text_of(alloc, schedule)?;
+    let want = text_of(alloc, report)?;
+    let ended = play_bytes(alloc, &["play"], bytes.as_bytes(), &[], &[])?;
+    Ok(ended.came_to(Status::Done, 0, &want))
 }
 
 /// Plays the schedules, each of which comes to the report beside it. ` / ` parts lines.
 pub fn are_reported(rt: &(impl AllocGlobal + Abort), rows: &[(&str, &str)]) -> Result<(), Fail> {
-    assert_eq!(rt; first_misreported(rt.alloc(), rows)?, None);
+    for row in rows {
+        let schedule = row.0;
+        assert!(rt; is_reported(rt.alloc(), schedule, row.1)?, "{schedule}");
+    }
     Ok(())
 }

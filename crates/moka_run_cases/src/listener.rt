@@ -1,9 +1,11 @@
 //! Worked schedules under a listener that a play reports to the end. ` / ` parts lines.
 
-use crate::in_memory::{are_reported, first_misreported};
+use crate::in_memory::are_reported;
 use std::test::Fail;
 
-const DROPPED_WHILE_HEARD: [(&str, &str); 3] = [
+/// Schedules, each with the report that it comes to.
+const ROWS: [(&str, &str); 11] = [
+    // The drain of a dropped write waits for its notice.
     (
         "cache log=8 listener / start insert 1 5 / poll 1 / start insert 1 6 / poll 2 / drop 2 / start get 1 / poll 3 / tell 2 done / poll 3",
         "call 1 / answer done / call 2 / ask listener 1 5 Replaced / dropped / call 3 / wait / told / answer some 6 / entry 1 6 stamp 2 at 0 / write 1 logged / write 2 logged / notice 2 1 5 Replaced ended",
@@ -16,80 +18,37 @@ const DROPPED_WHILE_HEARD: [(&str, &str); 3] = [
         "cache log=8 listener / start insert 1 5 / poll 1 / start insert 1 6 / poll 2 / drop 2 / start get 1 / poll 3 / drop 3 / tell 2 done / start get 1 / step 4 / step 4 / step 4 / step 4 / step 4 / step 4",
         "call 1 / answer done / call 2 / ask listener 1 5 Replaced / dropped / call 3 / wait / dropped / told / call 4 / going / going / going / going / going / answer some 6 / entry 1 6 stamp 2 at 0 / write 1 logged / write 2 logged / notice 2 1 5 Replaced ended",
     ),
-];
-
-#[test]
-fn the_drain_of_a_dropped_write_waits_for_its_notice(rt: HostRuntime) -> Result<(), Fail> {
-    are_reported(&rt, &DROPPED_WHILE_HEARD)
-}
-
-const OFF: [(&str, &str); 1] = [(
-    "cache log=8 listener / start insert 1 5 / poll 1 / start insert 1 6 / poll 2 / tell 2 off / poll 2 / start insert 1 7 / poll 3",
-    "call 1 / answer done / call 2 / ask listener 1 5 Replaced / told / answer done / call 3 / answer done / entry 1 7 stamp 3 at 0 / write 1 logged / write 2 logged / write 3 logged / notice 2 1 5 Replaced ended / notice 3 1 6 Replaced skipped",
-)];
-
-#[test]
-fn a_listener_that_is_off_hears_of_no_further_record(rt: HostRuntime) -> Result<(), Fail> {
-    are_reported(&rt, &OFF)
-}
-
-const LOCK_BEFORE_MOMENT: [(&str, &str); 1] = [(
-    "cache log=8 listener / start insert 1 5 / poll 1 / start insert 1 6 / poll 2 / start insert 1 7 / poll 3 / at 9 / tell 2 done / poll 3 / poll 2 / poll 3",
-    "call 1 / answer done / call 2 / ask listener 1 5 Replaced / call 3 / wait / at / told / wait / answer done / ask listener 1 6 Replaced / entry 1 7 stamp 3 at 9 / write 1 logged / write 2 logged / write 3 held / notice 2 1 5 Replaced ended / notice 3 1 6 Replaced running",
-)];
-
-#[test]
-fn a_writer_takes_its_moment_once_it_has_the_keys_lock(rt: HostRuntime) -> Result<(), Fail> {
-    are_reported(&rt, &LOCK_BEFORE_MOMENT)
-}
-
-const BESIDE_A_DROPPED_ONE: [(&str, &str); 1] = [(
-    "cache log=8 listener / start insert 1 5 / poll 1 / start insert 1 6 / poll 2 / start insert 1 7 / poll 3 / drop 2 / poll 3",
-    "call 1 / answer done / call 2 / ask listener 1 5 Replaced / call 3 / wait / dropped / ask listener 1 6 Replaced / entry 1 7 stamp 3 at 0 / write 1 logged / write 2 owed / write 3 held / notice 2 1 5 Replaced running / notice 3 1 6 Replaced running",
-)];
-
-#[test]
-fn a_drop_frees_the_lock_while_its_notice_runs(rt: HostRuntime) -> Result<(), Fail> {
-    are_reported(&rt, &BESIDE_A_DROPPED_ONE)
-}
-
-const DUE: [(&str, &str); 1] = [(
-    "cache log=8 listener / start insert 1 5 / poll 1 / start insert 1 6 / step 2 / step 2 / step 2 / step 2 / drop 2 / tell 2 done",
-    "call 1 / answer done / call 2 / going / going / going / going / refused NotParked / refused NotAsked / entry 1 6 stamp 2 at 0 / write 1 logged / write 2 held / notice 2 1 5 Replaced waiting",
-)];
-
-#[test]
-fn a_notice_that_is_due_waits_and_its_call_cannot_be_dropped(rt: HostRuntime) -> Result<(), Fail> {
-    are_reported(&rt, &DUE)
-}
-
-const OWNER_DROPPED_WHILE_HEARD: [(&str, &str); 1] = [(
-    "cache log=8 listener / start get_with 1 / start get_with 1 / poll 1 / poll 2 / start insert 1 5 / poll 3 / tell 1 value 7 / poll 1 / drop 1 / poll 2",
-    "call 1 / call 2 / ask init / wait / call 3 / answer done / told / ask listener 1 5 Replaced / dropped / answer value 7 / entry 1 7 stamp 1 at 0 / write 1 owed / write 3 logged / notice 1 1 5 Replaced running",
-)];
-
-#[test]
-fn a_waiter_of_an_owner_that_was_dropped_while_heard_answers_what_it_stored(
-    rt: HostRuntime,
-) -> Result<(), Fail> {
-    assert_eq!(rt;
-        first_misreported(rt.alloc(), &OWNER_DROPPED_WHILE_HEARD)?,
-        None
-    );
-    Ok(())
-}
-
-const NOT_ASKED: [(&str, &str); 1] = [(
-    "cache log=8 listener / start insert 1 5 / poll 1 / start insert 1 6 / poll 2 / tell 2 value 9 / tell 2 done / tell 2 done / start get_with 2 / poll 3 / tell 3 done / tell 3 off",
-    "call 1 / answer done / call 2 / ask listener 1 5 Replaced / refused NotAsked / told / refused NotAsked / call 3 / ask init / refused NotAsked / refused NotAsked / entry 1 6 stamp 2 at 0 / write 1 logged / write 2 held / notice 2 1 5 Replaced ended",
-)];
-
-#[test]
-fn an_answer_that_no_open_ask_takes_is_refused(rt: HostRuntime) -> Result<(), Fail> {
-    are_reported(&rt, &NOT_ASKED)
-}
-
-const STEPPED: [(&str, &str); 2] = [
+    // A listener that is off hears of no further record.
+    (
+        "cache log=8 listener / start insert 1 5 / poll 1 / start insert 1 6 / poll 2 / tell 2 off / poll 2 / start insert 1 7 / poll 3",
+        "call 1 / answer done / call 2 / ask listener 1 5 Replaced / told / answer done / call 3 / answer done / entry 1 7 stamp 3 at 0 / write 1 logged / write 2 logged / write 3 logged / notice 2 1 5 Replaced ended / notice 3 1 6 Replaced skipped",
+    ),
+    // A writer takes its moment once it has the key's lock.
+    (
+        "cache log=8 listener / start insert 1 5 / poll 1 / start insert 1 6 / poll 2 / start insert 1 7 / poll 3 / at 9 / tell 2 done / poll 3 / poll 2 / poll 3",
+        "call 1 / answer done / call 2 / ask listener 1 5 Replaced / call 3 / wait / at / told / wait / answer done / ask listener 1 6 Replaced / entry 1 7 stamp 3 at 9 / write 1 logged / write 2 logged / write 3 held / notice 2 1 5 Replaced ended / notice 3 1 6 Replaced running",
+    ),
+    // A drop frees the lock while its notice runs.
+    (
+        "cache log=8 listener / start insert 1 5 / poll 1 / start insert 1 6 / poll 2 / start insert 1 7 / poll 3 / drop 2 / poll 3",
+        "call 1 / answer done / call 2 / ask listener 1 5 Replaced / call 3 / wait / dropped / ask listener 1 6 Replaced / entry 1 7 stamp 3 at 0 / write 1 logged / write 2 owed / write 3 held / notice 2 1 5 Replaced running / notice 3 1 6 Replaced running",
+    ),
+    // A notice that is due waits, and its call cannot be dropped.
+    (
+        "cache log=8 listener / start insert 1 5 / poll 1 / start insert 1 6 / step 2 / step 2 / step 2 / step 2 / drop 2 / tell 2 done",
+        "call 1 / answer done / call 2 / going / going / going / going / refused NotParked / refused NotAsked / entry 1 6 stamp 2 at 0 / write 1 logged / write 2 held / notice 2 1 5 Replaced waiting",
+    ),
+    // A waiter of an owner that was dropped while heard answers what it stored.
+    (
+        "cache log=8 listener / start get_with 1 / start get_with 1 / poll 1 / poll 2 / start insert 1 5 / poll 3 / tell 1 value 7 / poll 1 / drop 1 / poll 2",
+        "call 1 / call 2 / ask init / wait / call 3 / answer done / told / ask listener 1 5 Replaced / dropped / answer value 7 / entry 1 7 stamp 1 at 0 / write 1 owed / write 3 logged / notice 1 1 5 Replaced running",
+    ),
+    // An answer that no open ask takes is refused.
+    (
+        "cache log=8 listener / start insert 1 5 / poll 1 / start insert 1 6 / poll 2 / tell 2 value 9 / tell 2 done / tell 2 done / start get_with 2 / poll 3 / tell 3 done / tell 3 off",
+        "call 1 / answer done / call 2 / ask listener 1 5 Replaced / refused NotAsked / told / refused NotAsked / call 3 / ask init / refused NotAsked / refused NotAsked / entry 1 6 stamp 2 at 0 / write 1 logged / write 2 held / notice 2 1 5 Replaced ended",
+    ),
+    // Single steps under a listener come to what polls do.
     (
         "cache log=8 listener / start insert 1 5 / step 1 / step 1 / step 1 / step 1 / step 1 / step 1 / start insert 1 6 / step 2 / step 2 / step 2 / step 2 / step 2 / tell 2 done / step 2 / step 2 / step 2",
         "call 1 / going / going / going / going / going / answer done / call 2 / going / going / going / going / ask listener 1 5 Replaced / told / going / going / answer done / entry 1 6 stamp 2 at 0 / write 1 logged / write 2 logged / notice 2 1 5 Replaced ended",
@@ -101,6 +60,6 @@ const STEPPED: [(&str, &str); 2] = [
 ];
 
 #[test]
-fn single_steps_under_a_listener_come_to_what_polls_do(rt: HostRuntime) -> Result<(), Fail> {
-    are_reported(&rt, &STEPPED)
+fn schedules_under_a_listener_are_reported(rt: HostRuntime) -> Result<(), Fail> {
+    are_reported(&rt, &ROWS)
 }

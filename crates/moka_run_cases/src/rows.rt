@@ -3,7 +3,9 @@
 use crate::in_memory::are_reported;
 use std::test::Fail;
 
-const STORED: [(&str, &str); 5] = [
+/// Schedules, each with the report that it comes to.
+const ROWS: [(&str, &str); 11] = [
+    // Calls answer what was stored.
     ("cache", ""),
     (
         "cache log=8 / start get 1 / poll 1 / poll 1 / poll 9",
@@ -21,14 +23,7 @@ const STORED: [(&str, &str); 5] = [
         "cache log=8 / start insert 4294967295 0 / poll 1 / start insert 0 4294967295 / poll 2",
         "call 1 / answer done / call 2 / answer done / entry 0 4294967295 stamp 2 at 0 / entry 4294967295 0 stamp 1 at 0 / write 1 logged / write 2 logged",
     ),
-];
-
-#[test]
-fn calls_answer_what_was_stored(rt: HostRuntime) -> Result<(), Fail> {
-    are_reported(&rt, &STORED)
-}
-
-const FULL_LOG: [(&str, &str); 2] = [
+    // A full log is applied first.
     (
         "cache log=1 / start insert 1 5 / poll 1 / start insert 2 6 / poll 2",
         "call 1 / answer done / call 2 / answer done / entry 1 5 stamp 1 at 0 / entry 2 6 stamp 2 at 0 / write 1 applied / write 2 logged",
@@ -37,52 +32,28 @@ const FULL_LOG: [(&str, &str); 2] = [
         "cache log=2 / start insert 1 5 / poll 1 / start insert 2 6 / poll 2 / start insert 3 7 / poll 3 / start insert 4 8 / poll 4 / start insert 5 9 / poll 5",
         "call 1 / answer done / call 2 / answer done / call 3 / answer done / call 4 / answer done / call 5 / answer done / entry 1 5 stamp 1 at 0 / entry 2 6 stamp 2 at 0 / entry 3 7 stamp 3 at 0 / entry 4 8 stamp 4 at 0 / entry 5 9 stamp 5 at 0 / write 1 applied / write 2 applied / write 3 applied / write 4 applied / write 5 logged",
     ),
+    // One initializer serves all that load.
+    (
+        "cache log=8 / start get_with 1 / start get_with 1 / poll 1 / poll 2 / tell 1 value 7 / poll 1 / poll 2",
+        "call 1 / call 2 / ask init / wait / told / answer value 7 fresh / answer value 7 / entry 1 7 stamp 1 at 0 / write 1 logged",
+    ),
+    // Refused events change nothing.
+    (
+        "cache log=8 / start get 1 / poll 1 / drop 1 / start get_with 1 / poll 2 / tell 2 done / tell 9 value 1 / at 5 / at 4 / start get 1 / step 3 / drop 3 / poll 3",
+        "call 1 / answer none / refused UnknownCall / call 2 / ask init / refused NotAsked / refused NotAsked / at / refused ClockBack / call 3 / going / refused NotParked / answer none",
+    ),
+    // Single steps come to what polls do.
+    (
+        "cache log=1 / start insert 1 5 / poll 1 / start insert 2 6 / poll 2 / start get 2 / poll 3",
+        "call 1 / answer done / call 2 / answer done / call 3 / answer some 6 / entry 1 5 stamp 1 at 0 / entry 2 6 stamp 2 at 0 / write 1 applied / write 2 logged",
+    ),
+    (
+        "cache log=1 / start insert 1 5 / step 1 / step 1 / step 1 / step 1 / start insert 2 6 / step 2 / step 2 / step 2 / step 2 / step 2 / step 2 / step 2 / step 2 / step 2 / start get 2 / step 3 / step 3 / step 3",
+        "call 1 / going / going / going / answer done / call 2 / going / going / going / going / going / going / going / going / answer done / call 3 / going / going / answer some 6 / entry 1 5 stamp 1 at 0 / entry 2 6 stamp 2 at 0 / write 1 applied / write 2 logged",
+    ),
 ];
 
 #[test]
-fn a_full_log_is_applied_first(rt: HostRuntime) -> Result<(), Fail> {
-    are_reported(&rt, &FULL_LOG)
-}
-
-#[test]
-fn single_steps_come_to_what_polls_do(rt: HostRuntime) -> Result<(), Fail> {
-    let after =
-        "entry 1 5 stamp 1 at 0 / entry 2 6 stamp 2 at 0 / write 1 applied / write 2 logged";
-    let polled = format!(in rt.alloc();
-        "call 1 / answer done / call 2 / answer done / call 3 / answer some 6 / {after}"
-    )?;
-    let stepped = format!(in rt.alloc();
-        "call 1 / going / going / going / answer done / call 2 / going / going / going / going / going / going / going / going / answer done / call 3 / going / going / answer some 6 / {after}"
-    )?;
-    let rows = [
-        (
-            "cache log=1 / start insert 1 5 / poll 1 / start insert 2 6 / poll 2 / start get 2 / poll 3",
-            polled.as_str(),
-        ),
-        (
-            "cache log=1 / start insert 1 5 / step 1 / step 1 / step 1 / step 1 / start insert 2 6 / step 2 / step 2 / step 2 / step 2 / step 2 / step 2 / step 2 / step 2 / step 2 / start get 2 / step 3 / step 3 / step 3",
-            stepped.as_str(),
-        ),
-    ];
-    are_reported(&rt, &rows)
-}
-
-const ONE_LOAD: [(&str, &str); 1] = [(
-    "cache log=8 / start get_with 1 / start get_with 1 / poll 1 / poll 2 / tell 1 value 7 / poll 1 / poll 2",
-    "call 1 / call 2 / ask init / wait / told / answer value 7 fresh / answer value 7 / entry 1 7 stamp 1 at 0 / write 1 logged",
-)];
-
-#[test]
-fn one_initializer_serves_all_that_load(rt: HostRuntime) -> Result<(), Fail> {
-    are_reported(&rt, &ONE_LOAD)
-}
-
-const REFUSED: [(&str, &str); 1] = [(
-    "cache log=8 / start get 1 / poll 1 / drop 1 / start get_with 1 / poll 2 / tell 2 done / tell 9 value 1 / at 5 / at 4 / start get 1 / step 3 / drop 3 / poll 3",
-    "call 1 / answer none / refused UnknownCall / call 2 / ask init / refused NotAsked / refused NotAsked / at / refused ClockBack / call 3 / going / refused NotParked / answer none",
-)];
-
-#[test]
-fn refused_events_change_nothing(rt: HostRuntime) -> Result<(), Fail> {
-    are_reported(&rt, &REFUSED)
+fn gets_inserts_and_loads_are_reported(rt: HostRuntime) -> Result<(), Fail> {
+    are_reported(&rt, &ROWS)
 }

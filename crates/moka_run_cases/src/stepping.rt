@@ -20,8 +20,9 @@ struct Outcome {
     notices: Vec<Notice<u32, u32>>,
 }
 
-/// Ten schedules without single steps. ` / ` parts lines.
-const SCHEDULES: [&str; 10] = [
+/// Schedules, ten of each kind. ` / ` parts lines.
+const SCHEDULES: [&str; 50] = [
+    // Of gets, inserts and loads.
     "cache / start get 1 / poll 1",
     "cache log=8 / start insert 1 5 / poll 1 / start get 1 / poll 2",
     "cache log=8 / start insert 1 5 / poll 1 / start insert 1 6 / poll 2 / start get 1 / poll 3",
@@ -32,10 +33,7 @@ const SCHEDULES: [&str; 10] = [
     "cache log=8 / start get_with 1 / start get_with 1 / poll 1 / poll 2 / drop 1 / poll 2 / tell 2 value 9 / poll 2",
     "cache log=1 / start get_with 1 / start get_with 2 / poll 1 / poll 2 / tell 2 value 4 / tell 1 value 3 / poll 1 / poll 2",
     "cache log=8 / start get_with 1 / poll 1 / start insert 1 5 / poll 2 / tell 1 done / tell 1 value 6 / drop 2 / poll 1",
-];
-
-/// Schedules under a listener.
-const HEARD: [&str; 10] = [
+    // Under a listener.
     "cache log=8 listener / start insert 1 5 / poll 1 / start insert 1 6 / poll 2 / tell 2 done / poll 2 / start get 1 / poll 3",
     "cache log=8 listener / start insert 1 5 / poll 1 / start insert 1 6 / poll 2 / drop 2 / start get 1 / poll 3 / tell 2 done / poll 3",
     "cache log=8 listener / start insert 1 5 / poll 1 / start insert 1 6 / poll 2 / drop 2 / start get 1 / poll 3 / tell 2 done / drop 3 / start get 1 / poll 4",
@@ -46,10 +44,7 @@ const HEARD: [&str; 10] = [
     "cache log=8 listener / start get_with 1 / start get_with 1 / poll 1 / poll 2 / start insert 1 5 / poll 3 / tell 1 value 7 / poll 1 / drop 1 / poll 2",
     "cache log=8 listener / start insert 1 5 / poll 1 / start insert 1 6 / poll 2 / tell 2 value 9 / tell 2 done / tell 2 done / start get_with 2 / poll 3 / tell 3 done / tell 3 off",
     "cache log=1 listener / start insert 1 5 / poll 1 / start insert 1 6 / poll 2 / tell 2 done / poll 2 / start insert 1 7 / poll 3 / tell 3 done / poll 3",
-];
-
-/// Schedules in which records are taken out, or which store nothing.
-const REMOVALS: [&str; 10] = [
+    // Records are taken out, or none is stored.
     "cache log=8 / start insert 1 5 / poll 1 / start remove 1 / poll 2 / start remove 1 / poll 3 / start get 1 / poll 4",
     "cache log=8 / start insert 1 5 / poll 1 / start invalidate 1 / poll 2 / start invalidate 1 / poll 3",
     "cache log=1 / start insert 1 5 / poll 1 / start remove 1 / poll 2 / start insert 2 6 / poll 3",
@@ -60,10 +55,7 @@ const REMOVALS: [&str; 10] = [
     "cache cap=1 log=8 listener / start insert 1 5 / poll 1 / start evict 1 1 Size / poll 2 / drop 2 / tell 2 done / start evict 1 1 Size / poll 3 / start get 1 / poll 4",
     "cache log=8 listener / start insert 1 5 / poll 1 / start insert 1 6 / poll 2 / tell 2 off / poll 2 / start invalidate 1 / poll 3",
     "cache cap=0 log=8 listener / start remove 1 / poll 1 / start invalidate 1 / poll 2 / start evict 1 1 Size / poll 3",
-];
-
-/// Schedules of loads that fail, find nothing, load again or insert.
-const LOADS: [&str; 10] = [
+    // Loads that fail, find nothing, load again or insert.
     "cache log=8 / start get_with 1 / start optional 1 / start try 1 / poll 1 / poll 2 / poll 3 / tell 3 error 1 / tell 2 nothing / tell 1 value 1 / poll 3 / poll 2 / poll 1",
     "cache log=8 / start try 1 / start try 1 / poll 1 / poll 2 / tell 1 error 3 / poll 1 / poll 2",
     "cache log=8 / start try 1 / start try 1 / poll 1 / poll 2 / tell 1 error 3 / poll 2 / drop 1 / poll 2",
@@ -74,10 +66,7 @@ const LOADS: [&str; 10] = [
     "cache log=1 / start or_insert 1 6 / poll 1 / start or_insert 2 7 / poll 2 / start or_insert 1 8 / poll 3",
     "cache cap=0 log=8 / start or_insert 1 6 / poll 1 / start optional 1 / start optional 1 / poll 2 / poll 3 / tell 2 nothing / poll 2 / poll 3",
     "cache cap=0 log=8 / start try 1 / start try 1 / poll 1 / poll 2 / drop 1 / poll 2 / tell 2 value 8 / poll 2",
-];
-
-/// Schedules of computes.
-const COMPUTES: [&str; 10] = [
+    // Of computes.
     "cache log=8 / start compute 1 / poll 1 / start compute_alone 1 / poll 2 / tell 1 put 5 / poll 1 / start upsert 1 / poll 3 / tell 3 value 8 / poll 3 / start compute 1 / poll 4 / tell 4 nop / poll 4",
     "cache log=8 / start try_compute 1 / start compute 1 / poll 1 / poll 2 / tell 1 error 4 / poll 1 / poll 2 / tell 2 put 5 / poll 2",
     "cache log=8 / start insert 1 5 / poll 1 / start compute 1 / poll 2 / start insert 1 6 / poll 3 / tell 2 remove / poll 2",
@@ -192,33 +181,7 @@ fn first_other(
 }
 
 #[test]
-fn single_steps_come_to_what_polls_do_in_ten_schedules(rt: HostRuntime) -> Result<(), Fail> {
+fn single_steps_come_to_what_polls_do_in_50_schedules(rt: HostRuntime) -> Result<(), Fail> {
     assert_eq!(rt; first_other(rt.alloc(), &SCHEDULES)?, None);
-    Ok(())
-}
-
-#[test]
-fn single_steps_come_to_what_polls_do_under_a_listener(rt: HostRuntime) -> Result<(), Fail> {
-    assert_eq!(rt; first_other(rt.alloc(), &HEARD)?, None);
-    Ok(())
-}
-
-#[test]
-fn single_steps_come_to_what_polls_do_in_loads_of_each_kind(rt: HostRuntime) -> Result<(), Fail> {
-    assert_eq!(rt; first_other(rt.alloc(), &LOADS)?, None);
-    Ok(())
-}
-
-#[test]
-fn single_steps_come_to_what_polls_do_in_computes(rt: HostRuntime) -> Result<(), Fail> {
-    assert_eq!(rt; first_other(rt.alloc(), &COMPUTES)?, None);
-    Ok(())
-}
-
-#[test]
-fn single_steps_come_to_what_polls_do_where_records_are_taken_out(
-    rt: HostRuntime,
-) -> Result<(), Fail> {
-    assert_eq!(rt; first_other(rt.alloc(), &REMOVALS)?, None);
     Ok(())
 }

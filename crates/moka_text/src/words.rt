@@ -6,7 +6,7 @@ ghost use Rattle.std.specs.Str.Parse.{AllDigits, digits_value};
 ghost use Rattle.std.specs.Option.{option_copied};
 ghost use Rattle.moka_text.specs.Words.{call_in, key_in, after, before_byte, after_byte};
 
-use memchr::memchr;
+use memchr::memchr_iter;
 
 /// How many digits a number of 64 bits has room for, whichever they are.
 const SHORT: usize = 19;
@@ -133,14 +133,15 @@ pub(crate) fn cut(bytes: &[u8], mark: u8) -> (&[u8], &[u8])
     }
 }
 
-/// The first line, without its end, and what stands after that. Where no line ends, all is one.
+/// The first line, without its end, and what stands after that. Where no line ends, all is one. The
+/// end is near, where the iterator looks first.
 #[inline(always)]
 pub(crate) fn cut_line(bytes: &[u8]) -> (&[u8], &[u8])
     ensures front { result.0.now ≡ before_byte 10 bytes.now }
     ensures rest { result.1.now ≡ after_byte 10 bytes.now }
     ensures shorter { 0 < length bytes.now → length result.1.now < length bytes.now }
 {
-    match memchr(b'\n', bytes) {
+    match memchr_iter(b'\n', bytes).next() {
         Some(place) => (&bytes[..place], &bytes[place + 1..]),
         None => (bytes, &[]),
     }

@@ -1,16 +1,16 @@
-//! An array beside std's map, and a set of the keys that have buckets.
+//! An array beside std's map, and the keys that have buckets, each under itself.
 
 ghost use Rattle.std.specs.Prelude.{◌<◌};
 
 use crate::buckets::table::{Table, told};
+use crate::numbers::Numbers;
 use std::alloc::{AllocError, Global};
-use std::collections::{HashMap, HashSet};
 
 #[derive(Drop)]
 pub struct Mirror {
     table: Table,
-    map: HashMap<u64, u64>,
-    filled: HashSet<u64>,
+    map: Numbers,
+    filled: Numbers,
     length: usize,
 }
 
@@ -20,8 +20,8 @@ impl Mirror {
     {
         Ok(Mirror {
             table: Table::with_power(alloc, power)?,
-            map: HashMap::new(alloc),
-            filled: HashSet::new(alloc),
+            map: Numbers::new(alloc),
+            filled: Numbers::new(alloc),
             length: 1usize << power,
         })
     }
@@ -39,18 +39,17 @@ impl Mirror {
 
     // What an insert is to answer: the present value, or what the buckets foretell.
     fn expected(&self, key: u64, value: u64) -> (&'static str, u64) {
-        match self.map.get(&key) {
-            Some(present) => ("present", *present),
-            None if self.filled.contains(&key) => ("replaced", 0),
+        match self.map.get(key) {
+            Some(present) => ("present", present),
+            None if self.filled.has(key) => ("replaced", 0),
             None if self.filled.len() < self.length => ("inserted", 0),
             None => ("no free", value),
         }
     }
 
     fn store(&mut self, key: u64, value: u64) -> Result<(), AllocError> {
-        let _ = self.filled.insert(key)?;
-        let _ = self.map.insert(key, value)?;
-        Ok(())
+        self.filled.insert(key, key)?;
+        self.map.insert(key, value)
     }
 
     fn insert(&mut self, key: u64, value: u64) -> Result<bool, AllocError> {
@@ -74,16 +73,18 @@ impl Mirror {
     }
 
     fn remove(&mut self, key: u64) -> Result<bool, AllocError> {
-        let expected = self.map.get(&key).copied().filter(|value| *value >= 100);
+        let expected = match self.map.get(key) {
+            Some(value) if value >= 100 => Some(value),
+            _ => None,
+        };
         let answer = self.table.remove(key, 100)?;
         if expected.is_some() {
-            let _ = self.map.remove(&key);
+            self.map.remove(key);
         }
         Ok(answer == expected)
     }
 
     fn get(&self, key: u64) -> Result<bool, AllocError> {
-        let expected = self.map.get(&key).copied();
-        Ok(self.table.get(key) == expected)
+        Ok(self.table.get(key) == self.map.get(key))
     }
 }

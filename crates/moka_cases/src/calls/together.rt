@@ -1,11 +1,11 @@
 //! Many calls at once, and the map that they are to agree with.
 
 use crate::calls::memory::{Made, Memory};
+use crate::numbers::Numbers;
 use moka_calls::{Decision, TableCall};
 use moka_growth::CallKind;
 use moka_words::{Access, Choice, Word};
 use std::alloc::{AllocError, Global};
-use std::collections::{HashMap, HashSet};
 
 /// No more calls than these are under way.
 const MOST_CALLS: usize = 10;
@@ -29,7 +29,7 @@ struct Running {
 pub struct Crowd {
     alloc: Global,
     memory: Memory,
-    map: HashMap<u64, u64>,
+    map: Numbers,
     running: Vec<Running>,
     spread: u64,
 }
@@ -40,7 +40,7 @@ impl Crowd {
         Ok(Crowd {
             alloc,
             memory: Memory::with_root(alloc, size)?,
-            map: HashMap::new(alloc),
+            map: Numbers::new(alloc),
             running: Vec::new(alloc),
             spread,
         })
@@ -120,7 +120,7 @@ impl Crowd {
         for word in self.memory.root_words() {
             if let Word::Live(node) | Word::SealedLive(node) = *word {
                 let key = self.memory.key_of(node).unwrap_or(u64::MAX);
-                if self.map.get(&key).copied() != Some(node) {
+                if self.map.get(key) != Some(node) {
                     return false;
                 }
                 count = count.wrapping_add(1);
@@ -139,12 +139,12 @@ fn is_asking(call: &TableCall) -> bool {
 
 // Whether the call ended as one of the map does at this moment.
 fn answers(
-    map: &mut HashMap<u64, u64>,
+    map: &mut Numbers,
     memory: &Memory,
     one: &Running,
     decision: &Decision,
 ) -> Result<bool, AllocError> {
-    let before = map.get(&one.key).copied();
+    let before = map.get(one.key);
     match decision {
         Decision::Kept { present } => {
             Ok(one.kind != CallKind::Insert && *present == before && kept(one.kind, before))
@@ -162,26 +162,42 @@ fn kept(kind: CallKind, before: Option<u64>) -> bool {
     kind == CallKind::Get || before.is_none()
 }
 
-fn change(map: &mut HashMap<u64, u64>, one: &Running) -> Result<(), AllocError> {
+fn change(map: &mut Numbers, one: &Running) -> Result<(), AllocError> {
     match one.choice {
-        Choice::Put { node } => {
-            let _ = map.insert(one.key, node)?;
-        }
+        Choice::Put { node } => map.insert(one.key, node),
         _ => {
-            let _ = map.remove(&one.key);
+            map.remove(one.key);
+            Ok(())
         }
     }
-    Ok(())
 }
 
 // Whether no key is listed twice, and each that stays is listed.
 fn lists(memory: &Memory, nodes: &[u64]) -> Result<bool, AllocError> {
-    let mut keys = HashSet::new(memory.alloc());
+    let mut keys = Numbers::new(memory.alloc());
+    let listed = list_once(&mut keys, memory, nodes);
+    let all_listed = has_steady(&keys);
+    drop(keys);
+    Ok(listed? && all_listed)
+}
+
+// Lists the keys of the nodes, up to one that is listed by then. Whether there was none.
+fn list_once(keys: &mut Numbers, memory: &Memory, nodes: &[u64]) -> Result<bool, AllocError> {
     for node in nodes {
         let key = memory.key_of(*node).unwrap_or(u64::MAX);
-        if !keys.insert(key)? {
+        if keys.has(key) {
             return Ok(false);
         }
+        keys.insert(key, *node)?;
     }
-    Ok((0..STEADY).all(|key| keys.contains(&(FIRST_STEADY + key))))
+    Ok(true)
+}
+
+fn has_steady(keys: &Numbers) -> bool {
+    for key in 0..STEADY {
+        if !keys.has(FIRST_STEADY + key) {
+            return false;
+        }
+    }
+    true
 }

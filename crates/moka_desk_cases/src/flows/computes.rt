@@ -1,21 +1,14 @@
 //! How whole computes read, access by access.
 
-use crate::flows::given::{DISABLED, HEARD, KEY, RULES};
-use crate::flows::rows::{plays, runs};
-use moka_hist::Start;
-use moka_init::Flow;
+use crate::flows::rows::{fresh, plays, run_all};
 use std::test::Fail;
 
-const COMPUTE: Start<u32, u32> = Start::Compute { key: KEY };
-
-const ALONE: Start<u32, u32> = Start::ComputeAlone { key: KEY };
-
-#[test]
-fn a_compute_owns_looks_asks_stores_and_settles(rt: HostRuntime) -> Result<(), Fail> {
-    runs(
-        &rt,
-        COMPUTE,
-        RULES,
+/// Flows: what is started, the rules, and the rows.
+const FLOWS: [(&str, &str, &str); 9] = [
+    // A compute owns, looks, asks, stores and settles.
+    (
+        "compute",
+        "no rule",
         "wait or own / owns / going\n\
             take owed / none / going\n\
             get / absent / going\n\
@@ -27,15 +20,11 @@ fn a_compute_owns_looks_asks_stores_and_settles(rt: HostRuntime) -> Result<(), F
             insert / absent / going\n\
             post write / posted / going\n\
             settle nothing / settled / inserted\n",
-    )
-}
-
-#[test]
-fn a_waiting_compute_begins_anew_however_its_owner_ended(rt: HostRuntime) -> Result<(), Fail> {
-    runs(
-        &rt,
-        COMPUTE,
-        RULES,
+    ),
+    // A waiting compute begins anew, however its owner ended.
+    (
+        "compute",
+        "no rule",
         "wait or own / waits / going\n\
             read settled / not yet / wait\n\
             read settled / nothing / going\n\
@@ -48,16 +37,11 @@ fn a_waiting_compute_begins_anew_however_its_owner_ended(rt: HostRuntime) -> Res
             ask op / opened / ask found\n\
             take told / nop / going\n\
             settle nothing / settled / unchanged\n",
-    )
-}
-
-// A compute is told to take the record out, and answers what the table has when it does.
-#[test]
-fn a_remove_answers_what_the_table_had(rt: HostRuntime) -> Result<(), Fail> {
-    runs(
-        &rt,
-        COMPUTE,
-        RULES,
+    ),
+    // A compute is told to take the record out, and answers what the table has when it does.
+    (
+        "compute",
+        "no rule",
         "wait or own / owns / going\n\
             take owed / none / going\n\
             get / found / going\n\
@@ -69,11 +53,10 @@ fn a_remove_answers_what_the_table_had(rt: HostRuntime) -> Result<(), Fail> {
             remove / found / going\n\
             post write / posted / going\n\
             settle nothing / settled / removed\n",
-    )?;
-    runs(
-        &rt,
-        COMPUTE,
-        RULES,
+    ),
+    (
+        "compute",
+        "no rule",
         "wait or own / owns / going\n\
             take owed / none / going\n\
             get / found / going\n\
@@ -85,46 +68,36 @@ fn a_remove_answers_what_the_table_had(rt: HostRuntime) -> Result<(), Fail> {
             remove / absent / going\n\
             clock / told / going\n\
             settle nothing / settled / still none\n",
-    )
-}
-
-#[test]
-fn one_that_computes_alone_reports_beside_an_owner(rt: HostRuntime) -> Result<(), Fail> {
-    runs(
-        &rt,
-        ALONE,
-        RULES,
+    ),
+    // One that computes alone reports beside an owner.
+    (
+        "compute alone",
+        "no rule",
         "own alone / owned by another / going\n\
             take owed / none / going\n\
             get / found / going\n\
             judge / seen / unchanged\n",
-    )?;
-    runs(
-        &rt,
-        ALONE,
-        RULES,
+    ),
+    (
+        "compute alone",
+        "no rule",
         "own alone / owned by nobody / going\n\
             take owed / none / going\n\
             get / absent / going\n\
             ask try op / opened / ask none\n\
             take told / error 4 / going\n\
             settle nothing / settled / compute error\n",
-    )?;
-    runs(
-        &rt,
-        ALONE,
-        DISABLED,
+    ),
+    (
+        "compute alone",
+        "disabled",
         "own alone / owned by another / going\n\
             take owed / none / still none\n",
-    )
-}
-
-#[test]
-fn an_upserts_value_is_told_to_the_listener_before_its_end(rt: HostRuntime) -> Result<(), Fail> {
-    runs(
-        &rt,
-        Start::Upsert { key: KEY },
-        HEARD,
+    ),
+    // An upsert's value is told to the listener before its end.
+    (
+        "upsert",
+        "a listener",
         "wait or own / owns / going\n\
             take owed / none / going\n\
             get / found / going\n\
@@ -140,26 +113,27 @@ fn an_upserts_value_is_told_to_the_listener_before_its_end(rt: HostRuntime) -> R
             unlock key / unlocked / going\n\
             post write / posted / going\n\
             settle nothing / settled / replaced\n",
-    )
-}
-
-#[test]
-fn a_disabled_cache_is_asked_with_nothing_and_stores_nothing(rt: HostRuntime) -> Result<(), Fail> {
-    runs(
-        &rt,
-        COMPUTE,
-        DISABLED,
+    ),
+    // A disabled cache is asked with nothing, and stores nothing.
+    (
+        "compute",
+        "disabled",
         "wait or own / owns / going\n\
             take owed / none / going\n\
             ask op / opened / ask none\n\
             take told / put 5 / going\n\
             settle nothing / settled / inserted\n",
-    )
+    ),
+];
+
+#[test]
+fn computes_run_access_by_access(rt: HostRuntime) -> Result<(), Fail> {
+    run_all(&rt, &FLOWS)
 }
 
 #[test]
 fn a_compute_waits_on_after_an_answer_that_it_does_not_take(rt: HostRuntime) -> Result<(), Fail> {
-    let mut flow = Flow::new(COMPUTE, 7, DISABLED);
+    let mut flow = fresh(&rt, "compute", "disabled");
     let played = plays(
         &rt,
         &mut flow,

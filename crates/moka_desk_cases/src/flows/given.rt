@@ -1,10 +1,11 @@
-//! The rules of the caches, and what accesses give, by their names, of the key 3.
+//! The rules of the caches, what is started, and what accesses give, by their names, of the key 3.
 
 use moka_hist::{
-    Cause, Claim, Found, Got, Op, Owed, Rules, Settled, Stored, TableAnswer, TableTurn, Told, Write,
+    Cause, Claim, Found, Got, Op, Owed, Rules, Settled, Start, Stored, TableAnswer, TableTurn,
+    Told, Write,
 };
 
-pub(crate) const KEY: u32 = 3;
+const KEY: u32 = 3;
 
 // No rule is set.
 pub(crate) const RULES: Rules = Rules {
@@ -16,16 +17,66 @@ pub(crate) const RULES: Rules = Rules {
 };
 
 // A listener is set.
-pub(crate) const HEARD: Rules = Rules {
+const HEARD: Rules = Rules {
     listener: true,
     ..RULES
 };
 
 // The cache is disabled.
-pub(crate) const DISABLED: Rules = Rules {
+const DISABLED: Rules = Rules {
     max_capacity: Some(0),
     ..RULES
 };
+
+/// The rules of this name; None where there are none.
+pub(crate) fn rules_named(name: &str) -> Option<Rules> {
+    match name {
+        "no rule" => Some(RULES),
+        "a listener" => Some(HEARD),
+        "disabled" => Some(DISABLED),
+        _ => None,
+    }
+}
+
+// The record of the call 2 is chosen to leave, or that of another call, since it expired.
+fn evict(stamp: u64) -> Option<Start<u32, u32>> {
+    Some(Start::Evict {
+        key: KEY,
+        stamp,
+        cause: Cause::Expired,
+    })
+}
+
+/// What is started, by its name; None where there is no such name.
+pub(crate) fn start_named(name: &str) -> Option<Start<u32, u32>> {
+    match name {
+        "get" => Some(Start::Get { key: KEY }),
+        "insert" => Some(Start::Insert { key: KEY, value: 5 }),
+        "remove" => Some(Start::Remove { key: KEY }),
+        "invalidate" => Some(Start::Invalidate { key: KEY }),
+        "evict" => evict(2),
+        "evict another" => evict(1),
+        _ => load_named(name),
+    }
+}
+
+fn load_with(replace: Option<u64>) -> Option<Start<u32, u32>> {
+    Some(Start::GetWith { key: KEY, replace })
+}
+
+fn load_named(name: &str) -> Option<Start<u32, u32>> {
+    match name {
+        "get with" => load_with(None),
+        "get with a test" => load_with(Some(2)),
+        "optional" => Some(Start::Optional { key: KEY }),
+        "try" => Some(Start::Try { key: KEY }),
+        "or insert" => Some(Start::OrInsert { key: KEY, value: 5 }),
+        "compute" => Some(Start::Compute { key: KEY }),
+        "compute alone" => Some(Start::ComputeAlone { key: KEY }),
+        "upsert" => Some(Start::Upsert { key: KEY }),
+        _ => None,
+    }
+}
 
 /// What the access gives, by a word of its own kind; None where there is no such word.
 pub(crate) fn given(access: &str, word: &str) -> Option<Got<u32, u32, u32>> {

@@ -1,36 +1,16 @@
 //! How whole loads read, access by access, and those that store where nothing is found.
 
-use crate::flows::given::{DISABLED, HEARD, KEY, RULES};
-use crate::flows::rows::{plays, runs};
-use moka_hist::Start;
+use crate::flows::rows::{fresh, plays, run_all};
 use moka_init::Flow;
 use std::process::Abort;
 use std::test::Fail;
 
-// A load without a test.
-const GET_WITH: Start<u32, u32> = Start::GetWith {
-    key: KEY,
-    replace: None,
-};
-
-// The same with one.
-const REPLACING: Start<u32, u32> = Start::GetWith {
-    key: KEY,
-    replace: Some(2),
-};
-
-const OPTIONAL: Start<u32, u32> = Start::Optional { key: KEY };
-
-const TRY: Start<u32, u32> = Start::Try { key: KEY };
-
-const OR_INSERT: Start<u32, u32> = Start::OrInsert { key: KEY, value: 5 };
-
-#[test]
-fn an_owner_looks_again_then_asks_stores_and_settles(rt: HostRuntime) -> Result<(), Fail> {
-    runs(
-        &rt,
-        GET_WITH,
-        RULES,
+/// Flows: what is started, the rules, and the rows.
+const FLOWS: [(&str, &str, &str); 14] = [
+    // An owner looks again, then asks, stores and settles.
+    (
+        "get with",
+        "no rule",
         "take owed / none / going\n\
             get / absent / going\n\
             wait or own / owns / going\n\
@@ -44,15 +24,11 @@ fn an_owner_looks_again_then_asks_stores_and_settles(rt: HostRuntime) -> Result<
             insert / absent / going\n\
             post write / posted / going\n\
             settle / settled / fresh\n",
-    )
-}
-
-#[test]
-fn a_waiter_owns_after_an_abort_and_settles_what_it_finds(rt: HostRuntime) -> Result<(), Fail> {
-    runs(
-        &rt,
-        GET_WITH,
-        RULES,
+    ),
+    // A waiter owns after an abort, and settles what it finds.
+    (
+        "get with",
+        "no rule",
         "take owed / none / going\n\
             get / absent / going\n\
             wait or own / waits / going\n\
@@ -62,7 +38,130 @@ fn a_waiter_owns_after_an_abort_and_settles_what_it_finds(rt: HostRuntime) -> Re
             get / found / going\n\
             judge / seen / going\n\
             settle / settled / loaded\n",
-    )
+    ),
+    // An error is settled and answered, and stores nothing.
+    (
+        "try",
+        "no rule",
+        "take owed / none / going\n\
+            get / absent / going\n\
+            wait or own / owns / going\n\
+            get / absent / going\n\
+            ask try / opened / ask\n\
+            take told / error 3 / going\n\
+            settle error / settled / error\n",
+    ),
+    (
+        "try",
+        "no rule",
+        "take owed / none / going\n\
+            get / absent / going\n\
+            wait or own / waits / going\n\
+            read settled / not yet / wait\n\
+            read settled / error 3 / error\n",
+    ),
+    // Nothing is settled and answered, and nothing stored.
+    (
+        "optional",
+        "no rule",
+        "take owed / none / going\n\
+            get / absent / going\n\
+            wait or own / owns / going\n\
+            get / absent / going\n\
+            ask optional / opened / ask\n\
+            take told / nothing / going\n\
+            settle nothing / settled / neither\n",
+    ),
+    (
+        "optional",
+        "no rule",
+        "take owed / none / going\n\
+            get / absent / going\n\
+            wait or own / waits / going\n\
+            read settled / nothing / neither\n",
+    ),
+    // Both looks of an owner judge by its test.
+    (
+        "get with a test",
+        "no rule",
+        "take owed / none / going\n\
+            get / found / going\n\
+            judge by test / not seen / going\n\
+            wait or own / owns / going\n\
+            get / found / going\n\
+            judge by test / seen / going\n\
+            settle / settled / loaded\n",
+    ),
+    // A waiter answers what its owner settled, whatever its own test says.
+    (
+        "get with a test",
+        "no rule",
+        "take owed / none / going\n\
+            get / found / going\n\
+            judge by test / not seen / going\n\
+            wait or own / waits / going\n\
+            read settled / aborted / going\n\
+            wait or own / waits / going\n\
+            read settled / ready 6 / loaded\n",
+    ),
+    // An `or_insert` answers what it finds, or else stores.
+    (
+        "or insert",
+        "no rule",
+        "take owed / none / going\n\
+            get / found / going\n\
+            judge / seen / loaded\n",
+    ),
+    (
+        "or insert",
+        "no rule",
+        "take owed / none / going\n\
+            get / absent / going\n\
+            take owed / none / going\n\
+            stamp moment / stamped / going\n\
+            insert / absent / going\n\
+            post write / posted / fresh\n",
+    ),
+    // An `or_insert` replaces what came between.
+    (
+        "or insert",
+        "a listener",
+        "take owed / none / going\n\
+            get / absent / going\n\
+            take owed / none / going\n\
+            lock key / locked / going\n\
+            stamp moment / stamped / going\n\
+            insert / found / going\n\
+            open notice / replaced / ask listener\n\
+            notice ended / heard / going\n\
+            unlock key / unlocked / going\n\
+            post write / posted / fresh\n",
+    ),
+    // A disabled cache neither looks nor stores what is loaded.
+    ("or insert", "disabled", "take owed / none / fresh\n"),
+    (
+        "get with a test",
+        "disabled",
+        "take owed / none / going\n\
+            wait or own / owns / going\n\
+            ask value / opened / ask\n\
+            take told / value 9 / going\n\
+            settle / settled / fresh\n",
+    ),
+    (
+        "optional",
+        "disabled",
+        "take owed / none / going\n\
+            wait or own / owns / going\n\
+            ask optional / opened / ask\n\
+            take told / nothing / going\n\
+            settle nothing / settled / neither\n",
+    ),
+];
+
+#[test]
+fn loads_run_access_by_access(rt: HostRuntime) -> Result<(), Fail> {
+    run_all(&rt, &FLOWS)
 }
 
 // Reads 200 dropped owners.
@@ -85,8 +184,8 @@ fn reads_200(rt: &impl Abort, flow: &mut Flow<u32, u32, u32>) -> Result<(), Fail
     Ok(())
 }
 
-fn gives_up(rt: &impl Abort, start: Start<u32, u32>) -> Result<(), Fail> {
-    let mut flow = Flow::new(start, 7, RULES);
+fn gives_up(rt: &impl Abort, start: &str) -> Result<(), Fail> {
+    let mut flow = fresh(rt, start, "no rule");
     let read = reads_200(rt, &mut flow);
     drop(flow);
     read
@@ -94,154 +193,8 @@ fn gives_up(rt: &impl Abort, start: Start<u32, u32>) -> Result<(), Fail> {
 
 #[test]
 fn a_load_of_each_kind_gives_up_at_the_200th_dropped_owner(rt: HostRuntime) -> Result<(), Fail> {
-    gives_up(&rt, GET_WITH)?;
-    gives_up(&rt, OPTIONAL)?;
-    gives_up(&rt, TRY)
-}
-
-#[test]
-fn an_error_is_settled_and_answered_and_stores_nothing(rt: HostRuntime) -> Result<(), Fail> {
-    runs(
-        &rt,
-        TRY,
-        RULES,
-        "take owed / none / going\n\
-            get / absent / going\n\
-            wait or own / owns / going\n\
-            get / absent / going\n\
-            ask try / opened / ask\n\
-            take told / error 3 / going\n\
-            settle error / settled / error\n",
-    )?;
-    runs(
-        &rt,
-        TRY,
-        RULES,
-        "take owed / none / going\n\
-            get / absent / going\n\
-            wait or own / waits / going\n\
-            read settled / not yet / wait\n\
-            read settled / error 3 / error\n",
-    )
-}
-
-#[test]
-fn nothing_is_settled_and_answered_and_stores_nothing(rt: HostRuntime) -> Result<(), Fail> {
-    runs(
-        &rt,
-        OPTIONAL,
-        RULES,
-        "take owed / none / going\n\
-            get / absent / going\n\
-            wait or own / owns / going\n\
-            get / absent / going\n\
-            ask optional / opened / ask\n\
-            take told / nothing / going\n\
-            settle nothing / settled / neither\n",
-    )?;
-    runs(
-        &rt,
-        OPTIONAL,
-        RULES,
-        "take owed / none / going\n\
-            get / absent / going\n\
-            wait or own / waits / going\n\
-            read settled / nothing / neither\n",
-    )
-}
-
-#[test]
-fn both_looks_of_an_owner_judge_by_its_test(rt: HostRuntime) -> Result<(), Fail> {
-    runs(
-        &rt,
-        REPLACING,
-        RULES,
-        "take owed / none / going\n\
-            get / found / going\n\
-            judge by test / not seen / going\n\
-            wait or own / owns / going\n\
-            get / found / going\n\
-            judge by test / seen / going\n\
-            settle / settled / loaded\n",
-    )?;
-    // A waiter answers what its owner settled, whatever its own test says.
-    runs(
-        &rt,
-        REPLACING,
-        RULES,
-        "take owed / none / going\n\
-            get / found / going\n\
-            judge by test / not seen / going\n\
-            wait or own / waits / going\n\
-            read settled / aborted / going\n\
-            wait or own / waits / going\n\
-            read settled / ready 6 / loaded\n",
-    )
-}
-
-#[test]
-fn an_or_insert_answers_what_it_finds_or_else_stores(rt: HostRuntime) -> Result<(), Fail> {
-    runs(
-        &rt,
-        OR_INSERT,
-        RULES,
-        "take owed / none / going\n\
-            get / found / going\n\
-            judge / seen / loaded\n",
-    )?;
-    runs(
-        &rt,
-        OR_INSERT,
-        RULES,
-        "take owed / none / going\n\
-            get / absent / going\n\
-            take owed / none / going\n\
-            stamp moment / stamped / going\n\
-            insert / absent / going\n\
-            post write / posted / fresh\n",
-    )
-}
-
-#[test]
-fn an_or_insert_replaces_what_came_between(rt: HostRuntime) -> Result<(), Fail> {
-    runs(
-        &rt,
-        OR_INSERT,
-        HEARD,
-        "take owed / none / going\n\
-            get / absent / going\n\
-            take owed / none / going\n\
-            lock key / locked / going\n\
-            stamp moment / stamped / going\n\
-            insert / found / going\n\
-            open notice / replaced / ask listener\n\
-            notice ended / heard / going\n\
-            unlock key / unlocked / going\n\
-            post write / posted / fresh\n",
-    )
-}
-
-#[test]
-fn a_disabled_cache_neither_looks_nor_stores_what_is_loaded(rt: HostRuntime) -> Result<(), Fail> {
-    runs(&rt, OR_INSERT, DISABLED, "take owed / none / fresh\n")?;
-    runs(
-        &rt,
-        REPLACING,
-        DISABLED,
-        "take owed / none / going\n\
-            wait or own / owns / going\n\
-            ask value / opened / ask\n\
-            take told / value 9 / going\n\
-            settle / settled / fresh\n",
-    )?;
-    runs(
-        &rt,
-        OPTIONAL,
-        DISABLED,
-        "take owed / none / going\n\
-            wait or own / owns / going\n\
-            ask optional / opened / ask\n\
-            take told / nothing / going\n\
-            settle nothing / settled / neither\n",
-    )
+    for start in ["get with", "optional", "try"] {
+        gives_up(&rt, start)?;
+    }
+    Ok(())
 }

@@ -1,56 +1,98 @@
 //! How whole removals read, access by access, and the calls of a disabled cache.
 
-use crate::flows::given::{DISABLED, HEARD, KEY, RULES};
-use crate::flows::rows::{plays, runs, turn_after};
-use moka_hist::{Answer, Ask, Cause, Owed, Start, Turn, Visit, Write};
+use crate::flows::rows::{fresh, plays, run_all, turn_after};
+use moka_hist::{Answer, Ask, Cause, Owed, Turn, Visit, Write};
 use moka_init::Flow;
 use std::alloc::AllocError;
 use std::process::Abort;
 use std::test::Fail;
 
-// The removal of the record of the call 2 by the call 7.
-const REMOVAL: Write = Write::Remove { number: 7, old: 2 };
-
-// The record of the call 2 was chosen to leave, since it expired.
-const EXPIRED: Start<u32, u32> = Start::Evict {
-    key: KEY,
-    stamp: 2,
-    cause: Cause::Expired,
-};
-
-#[test]
-fn a_removal_that_finds_nothing_posts_no_write(rt: HostRuntime) -> Result<(), Fail> {
-    runs(
-        &rt,
-        Start::Remove { key: KEY },
-        RULES,
+/// Flows: what is started, the rules, and the rows.
+const FLOWS: [(&str, &str, &str); 12] = [
+    // A removal that finds nothing posts no write.
+    (
+        "remove",
+        "no rule",
         "take owed / none / going\n\
             stamp moment / stamped / going\n\
             remove / absent / going\n\
             clock / told / nothing\n",
-    )?;
-    runs(
-        &rt,
-        Start::Remove { key: KEY },
-        HEARD,
+    ),
+    (
+        "remove",
+        "a listener",
         "take owed / none / going\n\
             lock key / locked / going\n\
             stamp moment / stamped / going\n\
             remove / absent / going\n\
             unlock key / unlocked / nothing\n",
-    )?;
-    runs(
-        &rt,
-        Start::Invalidate { key: KEY },
-        RULES,
+    ),
+    (
+        "invalidate",
+        "no rule",
         "take owed / none / going\n\
             stamp moment / stamped / going\n\
             remove / undecided / going\n\
             table / absent / going\n\
             clock / told / done\n",
-    )?;
-    Ok(())
+    ),
+    // A chosen record that is another by now stays.
+    ("evict another", "no rule", "get / found / kept\n"),
+    ("evict", "no rule", "get / absent / kept\n"),
+    (
+        "evict",
+        "a listener",
+        "lock key / locked / going\n\
+            get / absent / going\n\
+            unlock key / unlocked / kept\n",
+    ),
+    // It leaves before it is taken out.
+    (
+        "evict",
+        "no rule",
+        "get / found / going\n\
+            holds / it does / going\n\
+            stamp moment / stamped / going\n\
+            remove / absent / going\n\
+            clock / told / kept\n",
+    ),
+    // A chosen record leaves where the cause holds.
+    (
+        "evict",
+        "no rule",
+        "get / found / going\n\
+            holds / no more / kept\n",
+    ),
+    (
+        "evict",
+        "no rule",
+        "get / undecided / going\n\
+            table / found / going\n\
+            holds / it does / going\n\
+            stamp moment / stamped / going\n\
+            remove / found / going\n\
+            post write / posted / evicted\n",
+    ),
+    // A disabled cache neither looks nor stores.
+    ("get", "disabled", "clock / told / nothing\n"),
+    ("insert", "disabled", "clock / told / done\n"),
+    (
+        "remove",
+        "disabled",
+        "take owed / none / going\n\
+            stamp moment / stamped / going\n\
+            remove / absent / going\n\
+            clock / told / nothing\n",
+    ),
+];
+
+#[test]
+fn removals_run_access_by_access(rt: HostRuntime) -> Result<(), Fail> {
+    run_all(&rt, &FLOWS)
 }
+
+// The removal of the record of the call 2 by the call 7.
+const REMOVAL: Write = Write::Remove { number: 7, old: 2 };
 
 // Whether the turn answers the value 9, as found.
 fn answers_9(turn: Turn<u32, u32, u32>) -> bool {
@@ -104,7 +146,7 @@ fn answers_what_it_took(rt: &impl Abort, flow: &mut Flow<u32, u32, u32>) -> Resu
 
 #[test]
 fn a_remove_answers_the_value_that_it_took_out(rt: HostRuntime) -> Result<(), Fail> {
-    let mut flow = Flow::new(Start::Remove { key: KEY }, 7, RULES);
+    let mut flow = fresh(&rt, "remove", "no rule");
     let answered = answers_what_it_took(&rt, &mut flow);
     drop(flow);
     answered
@@ -135,64 +177,10 @@ fn tells_and_answers(rt: &impl Abort, flow: &mut Flow<u32, u32, u32>) -> Result<
 
 #[test]
 fn a_remove_tells_the_listener_its_value_and_answers_it(rt: HostRuntime) -> Result<(), Fail> {
-    let mut flow = Flow::new(Start::Remove { key: KEY }, 7, HEARD);
+    let mut flow = fresh(&rt, "remove", "a listener");
     let answered = tells_and_answers(&rt, &mut flow);
     drop(flow);
     answered
-}
-
-#[test]
-fn a_chosen_record_that_is_another_by_now_stays(rt: HostRuntime) -> Result<(), Fail> {
-    let other = Start::Evict {
-        key: KEY,
-        stamp: 1,
-        cause: Cause::Expired,
-    };
-    runs(&rt, other, RULES, "get / found / kept\n")?;
-    runs(&rt, EXPIRED, RULES, "get / absent / kept\n")?;
-    runs(
-        &rt,
-        EXPIRED,
-        HEARD,
-        "lock key / locked / going\n\
-            get / absent / going\n\
-            unlock key / unlocked / kept\n",
-    )?;
-    // It leaves before it is taken out.
-    runs(
-        &rt,
-        EXPIRED,
-        RULES,
-        "get / found / going\n\
-            holds / it does / going\n\
-            stamp moment / stamped / going\n\
-            remove / absent / going\n\
-            clock / told / kept\n",
-    )?;
-    Ok(())
-}
-
-#[test]
-fn a_chosen_record_leaves_where_the_cause_holds(rt: HostRuntime) -> Result<(), Fail> {
-    runs(
-        &rt,
-        EXPIRED,
-        RULES,
-        "get / found / going\n\
-            holds / no more / kept\n",
-    )?;
-    runs(
-        &rt,
-        EXPIRED,
-        RULES,
-        "get / undecided / going\n\
-            table / found / going\n\
-            holds / it does / going\n\
-            stamp moment / stamped / going\n\
-            remove / found / going\n\
-            post write / posted / evicted\n",
-    )?;
-    Ok(())
 }
 
 fn hands_its_cause_on(rt: &impl Abort, flow: &mut Flow<u32, u32, u32>) -> Result<(), Fail> {
@@ -217,34 +205,8 @@ fn hands_its_cause_on(rt: &impl Abort, flow: &mut Flow<u32, u32, u32>) -> Result
 
 #[test]
 fn the_cause_of_a_chosen_record_is_handed_on(rt: HostRuntime) -> Result<(), Fail> {
-    let mut flow = Flow::new(EXPIRED, 7, HEARD);
+    let mut flow = fresh(&rt, "evict", "a listener");
     let evicted = hands_its_cause_on(&rt, &mut flow);
     drop(flow);
     evicted
-}
-
-#[test]
-fn a_disabled_cache_neither_looks_nor_stores(rt: HostRuntime) -> Result<(), Fail> {
-    runs(
-        &rt,
-        Start::Get { key: KEY },
-        DISABLED,
-        "clock / told / nothing\n",
-    )?;
-    runs(
-        &rt,
-        Start::Insert { key: KEY, value: 5 },
-        DISABLED,
-        "clock / told / done\n",
-    )?;
-    runs(
-        &rt,
-        Start::Remove { key: KEY },
-        DISABLED,
-        "take owed / none / going\n\
-            stamp moment / stamped / going\n\
-            remove / absent / going\n\
-            clock / told / nothing\n",
-    )?;
-    Ok(())
 }

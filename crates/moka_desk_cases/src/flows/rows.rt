@@ -4,9 +4,9 @@ ghost use Rattle.std.specs.Bool.{OnTrue};
 ghost use Rattle.moka_init.specs.Forms.{IsFoundBy};
 ghost use Rattle.moka_desk_cases.specs.Fitting.{FitsWant};
 
-use crate::flows::given::given;
+use crate::flows::given::{given, rules_named, start_named};
 use crate::flows::names::{turn_name, want_name};
-use moka_hist::{Found, Got, Rules, Start, Turn, Visit, Want};
+use moka_hist::{Found, Got, Turn, Visit, Want};
 use moka_init::Flow;
 use std::process::Abort;
 use std::test::Fail;
@@ -104,15 +104,25 @@ pub(crate) fn plays(
     Ok(())
 }
 
-// The rows of a fresh call, of the number 7.
-pub(crate) fn runs(
-    rt: &impl Abort,
-    start: Start<u32, u32>,
-    rules: Rules,
-    rows: &str,
-) -> Result<(), Fail> {
-    let mut flow = Flow::new(start, 7, rules);
+// A fresh call, of the number 7: what is started, and the rules.
+pub(crate) fn fresh(rt: &impl Abort, start: &str, rules: &str) -> Flow<u32, u32, u32> {
+    let start = start_named(start).expect(rt, "a start has a name");
+    let rules = rules_named(rules).expect(rt, "rules have a name");
+    Flow::new(start, 7, rules)
+}
+
+// The rows of such a call.
+fn runs(rt: &impl Abort, start: &str, rules: &str, rows: &str) -> Result<(), Fail> {
+    let mut flow = fresh(rt, start, rules);
     let played = plays(rt, &mut flow, rows);
     drop(flow);
     played
+}
+
+// One call after the other: what is started, the rules, and the rows.
+pub(crate) fn run_all(rt: &impl Abort, flows: &[(&str, &str, &str)]) -> Result<(), Fail> {
+    for flow in flows {
+        runs(rt, flow.0, flow.1, flow.2)?;
+    }
+    Ok(())
 }

@@ -1,42 +1,35 @@
 //! How whole gets and inserts read, and how owed writes are taken up.
 
-use crate::flows::given::{HEARD, KEY, RULES};
-use crate::flows::rows::{plays, runs};
-use moka_hist::{Owed, Start, Write};
+use crate::flows::rows::{fresh, plays, run_all};
+use moka_hist::{Owed, Write};
 use moka_init::Flow;
 use std::alloc::AllocError;
 use std::process::Abort;
 use std::test::Fail;
 
-#[test]
-fn a_get_posts_what_is_owed_and_answers_what_is_found(rt: HostRuntime) -> Result<(), Fail> {
-    runs(
-        &rt,
-        Start::Get { key: KEY },
-        RULES,
+/// Flows: what is started, the rules, and the rows.
+const FLOWS: [(&str, &str, &str); 4] = [
+    // A get posts what is owed, and answers what is found.
+    (
+        "get",
+        "no rule",
         "take owed / a write / going\n\
             post write / posted / going\n\
             take owed / none / going\n\
             get / undecided / going\n\
             table / found / going\n\
             judge / seen / found\n",
-    )?;
-    runs(
-        &rt,
-        Start::Get { key: KEY },
-        RULES,
+    ),
+    (
+        "get",
+        "no rule",
         "take owed / none / going\n\
             get / absent / nothing\n",
-    )?;
-    Ok(())
-}
-
-#[test]
-fn an_insert_waits_for_the_turn_and_empties_a_full_log(rt: HostRuntime) -> Result<(), Fail> {
-    runs(
-        &rt,
-        Start::Insert { key: KEY, value: 5 },
-        RULES,
+    ),
+    // An insert waits for the turn, and empties a full log.
+    (
+        "insert",
+        "no rule",
         "take owed / none / going\n\
             stamp moment / stamped / going\n\
             insert / undecided / going\n\
@@ -48,11 +41,23 @@ fn an_insert_waits_for_the_turn_and_empties_a_full_log(rt: HostRuntime) -> Resul
             apply one / none is left / going\n\
             end turn / ended / going\n\
             post write / posted / done\n",
-    )?;
-    Ok(())
-}
+    ),
+    // An owed write is posted once its notice has ended.
+    (
+        "get",
+        "no rule",
+        "take owed / a write with a notice / going\n\
+            notice ended / not yet / wait\n\
+            notice ended / heard / going\n\
+            post write / posted / going\n\
+            take owed / none / going\n",
+    ),
+];
 
-const INSERT: Start<u32, u32> = Start::Insert { key: KEY, value: 5 };
+#[test]
+fn gets_and_inserts_run_access_by_access(rt: HostRuntime) -> Result<(), Fail> {
+    run_all(&rt, &FLOWS)
+}
 
 // An insert under a listener commits its write, which replaces a record.
 const COMMITTED: &str = "take owed / none / going\n\
@@ -95,7 +100,7 @@ fn tells_and_hears(rt: &impl Abort, flow: &mut Flow<u32, u32, u32>) -> Result<()
 
 #[test]
 fn a_writer_tells_the_listener_and_hears_it_before_it_posts(rt: HostRuntime) -> Result<(), Fail> {
-    let mut flow = Flow::new(INSERT, 7, HEARD);
+    let mut flow = fresh(&rt, "insert", "a listener");
     let told = tells_and_hears(&rt, &mut flow);
     drop(flow);
     told
@@ -114,23 +119,8 @@ fn tells_nobody(rt: &impl Abort, flow: &mut Flow<u32, u32, u32>) -> Result<(), F
 
 #[test]
 fn a_listener_that_is_off_is_not_asked(rt: HostRuntime) -> Result<(), Fail> {
-    let mut flow = Flow::new(INSERT, 7, HEARD);
+    let mut flow = fresh(&rt, "insert", "a listener");
     let told = tells_nobody(&rt, &mut flow);
     drop(flow);
     told
-}
-
-#[test]
-fn an_owed_write_is_posted_once_its_notice_has_ended(rt: HostRuntime) -> Result<(), Fail> {
-    runs(
-        &rt,
-        Start::Get { key: KEY },
-        RULES,
-        "take owed / a write with a notice / going\n\
-            notice ended / not yet / wait\n\
-            notice ended / heard / going\n\
-            post write / posted / going\n\
-            take owed / none / going\n",
-    )?;
-    Ok(())
 }

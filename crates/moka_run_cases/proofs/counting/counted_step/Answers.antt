@@ -13,9 +13,9 @@ step_out-requires-clause-out g c =
 pub step_out-requires-clause-taken : goal.step_out-requires-clause-taken
 step_out-requires-clause-taken g c =
     let v = c.requires.valid in
-    let d = call_of c.in-Some.flow in
+    let d = call_of c.in-Some.flow.value in
     let t = c.in-Some.ensures.some v.state v.stands in
-    let number : c.in-Some.flow.call ≡ c.args.call = sym t.1.on.call ∙ t.0.rest.number in
+    let number : c.in-Some.flow.value.call ≡ c.args.call = sym t.1.on.call ∙ t.0.rest.number in
     let safe = c.calls_are_safe.ensures.safe v.state c.args.call d v.reached t.0.live in (
       v.state,
       t.0,

@@ -1,9 +1,13 @@
 -- What a begun state came to, it came to from where it was; so it still fits what it was started for.
-use Rattle.std.proofs.Common.{sym, ap, ◌∙◌, subst}
+use Rattle.std.proofs.Common.{◌≡◌, ◌↔◌, sym, ap, ◌∙◌, subst}
 use Rattle.moka_cache.specs.Asked.{Accords, ToldSuch}
 use Rattle.moka_cache.specs.Settings.{rules_of}
 use Rattle.moka_cache.specs.Starts.{called}
 use Rattle.moka_cache.specs.Suits.{Suits}
+use Rattle.moka_cache.specs.declared.errors.PollError.{PollError}
+use Rattle.moka_cache.specs.declared.errors.PollError.TheVariants as error
+use Rattle.moka_cache.specs.declared.stage.Stage.TheVariants as stage
+use Rattle.moka_cache.proofs.Advancing.{if_err, when_err}
 use Rattle.moka_cache.proofs.Staging.{answered_since, came_since, failed_since, named_answered, named_failed, named_since}
 use Rattle.moka_cache.proofs.Suiting.{accords_told, answers_weaker, suits_answer, suits_on, tells_on, tells_over, when_ok}
 use Rattle.moka_cache.proofs.call.CacheCall.poll.Goals as goal
@@ -94,3 +98,61 @@ output-requires g c =
     c.requires.tells c.take.result c.in-Ready-Ok.answer
     (answers_weaker g.K.PartialEq.eq such (ToldSuch (g.Q.Asked.gives c.args.self.now.asked)) (accords_told (g.Q.Asked.gives c.args.self.now.asked) (g.Q.Asked.tests c.args.self.now.asked)) begins c.args.self.now.stage c.in-Ready-Ok.answer
     (answered_since g.K.PartialEq.eq such begins c.args.self.now.stage c.begin.new.stage c.in-Ready-Ok.field-0 c.in-Ready-Ok.answer c.in-Ready-Ok.field-0-is c.begin.ensures.begins c.in-Ready-Ok.ensures.answers))
+
+pub advance-requires-clause-may : goal.advance-requires-clause-may
+advance-requires-clause-may g c = c.begin.ensures.may
+
+pub returns-in-Ready-Ok-clause-over : goal.returns-in-Ready-Ok-clause-over
+returns-in-Ready-Ok-clause-over g c = when_ok _ c.in-Ready-Ok.field-0 c.in-Ready-Ok.answer c.in-Ready-Ok.field-0-is c.in-Ready-Ok.ensures.over
+
+pub returns-in-Ready-Err-clause-spent : goal.returns-in-Ready-Err-clause-spent
+returns-in-Ready-Err-clause-spent g c =
+    if_err (λ (e : PollError). (e ≡ error.CallsSpent) ↔ (c.advance.new.stage ≡ stage.Spent)) c.in-Ready-Err.field-0 c.in-Ready-Err.e c.in-Ready-Err.field-0-is c.in-Ready-Err.ensures.spent
+
+pub returns-in-Ready-Err-clause-again : goal.returns-in-Ready-Err-clause-again
+returns-in-Ready-Err-clause-again g c = when_err _ c.in-Ready-Err.field-0 c.in-Ready-Err.e c.in-Ready-Err.field-0-is c.in-Ready-Err.ensures.again
+
+pub returns-in-Pending-clause-cause : goal.returns-in-Pending-clause-cause
+returns-in-Pending-clause-cause g c = c.in-Pending.ensures.cause
+
+pub returns-in-Pending-clause-pending : goal.returns-in-Pending-clause-pending
+returns-in-Pending-clause-pending g c = c.in-Pending.ensures.pending
+
+pub returns-in-Pending-clause-armed : goal.returns-in-Pending-clause-armed
+returns-in-Pending-clause-armed g c = c.in-Pending.ensures.armed
+
+pub returns-in-Ready-Ok-clause-asks : goal.returns-in-Ready-Ok-clause-asks
+returns-in-Ready-Ok-clause-asks g c = c.advance.ensures.asks
+
+pub returns-in-Ready-Ok-clause-same : goal.returns-in-Ready-Ok-clause-same
+returns-in-Ready-Ok-clause-same g c = c.advance.ensures.same
+
+pub returns-in-Ready-Ok-clause-tested : goal.returns-in-Ready-Ok-clause-tested
+returns-in-Ready-Ok-clause-tested g c = c.advance.ensures.tested
+
+pub returns-in-Ready-Ok-clause-kept : goal.returns-in-Ready-Ok-clause-kept
+returns-in-Ready-Ok-clause-kept g c = c.advance.ensures.kept
+
+pub returns-in-Ready-Err-clause-asks : goal.returns-in-Ready-Err-clause-asks
+returns-in-Ready-Err-clause-asks g c = c.advance.ensures.asks
+
+pub returns-in-Ready-Err-clause-same : goal.returns-in-Ready-Err-clause-same
+returns-in-Ready-Err-clause-same g c = c.advance.ensures.same
+
+pub returns-in-Ready-Err-clause-tested : goal.returns-in-Ready-Err-clause-tested
+returns-in-Ready-Err-clause-tested g c = c.advance.ensures.tested
+
+pub returns-in-Ready-Err-clause-kept : goal.returns-in-Ready-Err-clause-kept
+returns-in-Ready-Err-clause-kept g c = c.advance.ensures.kept
+
+pub returns-in-Pending-clause-asks : goal.returns-in-Pending-clause-asks
+returns-in-Pending-clause-asks g c = c.advance.ensures.asks
+
+pub returns-in-Pending-clause-same : goal.returns-in-Pending-clause-same
+returns-in-Pending-clause-same g c = c.advance.ensures.same
+
+pub returns-in-Pending-clause-tested : goal.returns-in-Pending-clause-tested
+returns-in-Pending-clause-tested g c = c.advance.ensures.tested
+
+pub returns-in-Pending-clause-kept : goal.returns-in-Pending-clause-kept
+returns-in-Pending-clause-kept g c = c.advance.ensures.kept

@@ -18,7 +18,7 @@ pub returns-in-Some : goal.returns-in-Some
 returns-in-Some g c = λ s h reached.
     let t = c.in-Some.ensures.some s h in
     let d = c.drop_out.ensures s t.0 (c.calls_may_leave.ensures.leaves s reached) in
-    (d.0, happens_drop g.K.PartialEq.eq s c.args.call (call_of c.in-Some.flow) c.drop_out.result d.0 t.0.live d.1, d.2)
+    (d.0, happens_drop g.K.PartialEq.eq s c.args.call (call_of c.in-Some.flow.value) c.drop_out.result d.0 t.0.live d.1, d.2)
 
 pub returns-in-None : goal.returns-in-None
 returns-in-None g c = λ s h reached.

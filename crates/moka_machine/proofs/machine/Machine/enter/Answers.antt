@@ -5,6 +5,8 @@ use Rattle.moka_hist.specs.State.{State}
 use Rattle.moka_hist.specs.Run.{fresh_call, started}
 use Rattle.moka_hist.specs.Step.{want_for}
 use Rattle.moka_hist.specs.declared.replies.Reply.TheVariants as reply
+use Rattle.moka_init.specs.declared.flow.Flow.{Flow}
+use Rattle.moka_init.specs.FlowPlan.{IsLive, call_of}
 use Rattle.moka_init.specs.Grounds.{HasBegun, wanted, access_at}
 use Rattle.moka_init.proofs.Begun.{not_begun}
 use Rattle.moka_machine.specs.declared.calls.Running.{Running}
@@ -15,25 +17,28 @@ use Rattle.moka_machine.proofs.Places.{runs_at, set_calls, set_each, set_used}
 use Rattle.moka_machine.proofs.Running.{starts, given_before}
 use Rattle.moka_machine.proofs.machine.Machine.enter.Goals as goal
 
-pub returns-in-Some : goal.returns-in-Some
-returns-in-Some g c = λ s h reached.
+pub returns-in-Some-clause-serves : goal.returns-in-Some-clause-serves
+returns-in-Some-clause-serves g c = λ s h reached.
     let eq = g.K.PartialEq.eq in
     let w = s.world.desk in
     let n = c.in-Some.call in
-    let flow = c.new-flow.result in
+    let made = c.new-flow.result in
+    let same : c.in_ok-boxed.boxed.value ≡ made = c.in_ok-boxed.ensures in
     let next = given_out _ n (w.last + 1) (c.in-Some.ensures.finds w h.world.desk) in
     let called = h.world.stay in
-    let ruled : c.rules.result ≡ w.rules = c.rules.ensures (record w { last = n }) (c.in-Some.ensures.makes w h.world.desk) in
+    let ruled : c.rules.result ≡ w.rules = c.rules.ensures w h.world.desk in
     let later : w.last < n = omega (arith, next.1) in
     let before : w.last ≤ n = omega (arith, later) in
-    let on : HasBegun None flow =
-    subst (λ (b : Bool). wanted None (want_for b (access_at flow)) ≡ Some (access_at flow)) (sym c.new-flow.ensures.begun) (not_begun (access_at flow)) in
-    let runs : Running g.row.K.Denot g.row.V.Denot g.row.E.Denot = record { flow = flow; begun = None } in
+    let last = c.last-last.ensures w h.world.desk in
+    let counts : c.saturating_add-next.result ≡ n = omega (arith, last, next.1, c.saturating_add-next.ensures) in
+    let on : HasBegun None made =
+    subst (λ (b : Bool). wanted None (want_for b (access_at made)) ≡ Some (access_at made)) (sym c.new-flow.ensures.begun) (not_begun (access_at made)) in
+    let runs : Running g.row.K.Denot g.row.V.Denot g.row.E.Denot = record { flow = c.in_ok-boxed.boxed; begun = None } in
     let is : IsOf eq c.args.self.now.layers.table s.world.table s.world.stay n n runs =
     record {
-      number = c.new-flow.ensures.number;
-      live = c.new-flow.ensures.live;
-      on = on;
+      number = ap (λ (f : Flow g.row.K.Denot g.row.V.Denot g.row.E.Denot). f.call) same ∙ c.new-flow.ensures.number ∙ counts;
+      live = subst (λ (f : Flow g.row.K.Denot g.row.V.Denot g.row.E.Denot). IsLive f) (sym same) c.new-flow.ensures.live;
+      on = subst (λ (f : Flow g.row.K.Denot g.row.V.Denot g.row.E.Denot). HasBegun None f) (sym same) on;
       begun = starts eq c.args.self.now.layers.table s.world.table s.world.stay w.last n h.world.table called later;
       given = omega arith;
     } in
@@ -45,7 +50,7 @@ returns-in-Some g c = λ s h reached.
           (record {
             world = record { table = h.world.table; desk = c.in-Some.ensures.makes w h.world.desk; tests = h.world.tests; stay = omega (arith, called, before) };
             calls = set_calls (running_at c.args.self.now.calls) (running_at c.add.new.self) s.calls n (Some runs) (Some (fresh_call w.rules c.args.start))
-                (ap Some (c.new-flow.ensures.call ∙ ap (λ r. fresh_call r c.args.start) ruled)) puts (λ k ne. h.calls k);
+                (ap Some (ap call_of same ∙ c.new-flow.ensures.call ∙ ap (λ r. fresh_call r c.args.start) ruled)) puts (λ k ne. h.calls k);
             each = set_each (IsOf eq c.args.self.now.layers.table s.world.table s.world.stay n) (running_at c.args.self.now.calls) (running_at c.add.new.self) n (Some runs)
                 (λ x e. let f : runs ≡ x = cc in subst (λ (r : Running g.row.K.Denot g.row.V.Denot g.row.E.Denot). IsOf eq c.args.self.now.layers.table s.world.table s.world.stay n n r) f is) puts
                 (λ k x e. given_before eq c.args.self.now.layers.table s.world.table s.world.stay w.last n k x before (h.each k x e));

@@ -22,19 +22,19 @@ step_out-requires-clause-may g c =
     let v = c.requires.valid in
     let t = c.in-Some.ensures.some v.state v.stands in
     let n = c.args.call in
-    let d = call_of c.in-Some.flow in
-    let number : c.in-Some.flow.call ≡ n = sym t.1.on.call ∙ t.0.rest.number in
+    let d = call_of c.in-Some.flow.value in
+    let number : c.in-Some.flow.value.call ≡ n = sym t.1.on.call ∙ t.0.rest.number in
     let safe = c.calls_are_safe.ensures.safe v.state n d v.reached t.0.live in
     (v.state.world, t.0.rest.reaches, subst (λ (k : ℕ). May v.state.world (access_of k d)) (sym number) (safe 0 d v.state.world (moves_none g.K.PartialEq.eq n d v.state.world)))
 
 pub returns-in-Some-clause-serves : goal.returns-in-Some-clause-serves
 returns-in-Some-clause-serves g c = IfOk-weaker c.step_out.result _ _ (λ r steps s stands reached.
     let n = c.args.call in
-    let d = call_of c.in-Some.flow in
+    let d = call_of c.in-Some.flow.value in
     let t = c.in-Some.ensures.some s stands in
-    let number : c.in-Some.flow.call ≡ n = sym t.1.on.call ∙ t.0.rest.number in
+    let number : c.in-Some.flow.value.call ≡ n = sym t.1.on.call ∙ t.0.rest.number in
     let safe = c.calls_are_safe.ensures.safe s n d reached t.0.live in
-    let may : May s.world (access_at c.in-Some.flow) =
+    let may : May s.world (access_at c.in-Some.flow.value) =
     subst (λ (m : ℕ). May s.world (access_of m d)) (sym number) (safe 0 d s.world (moves_none g.K.PartialEq.eq n d s.world)) in
     let m = steps s.calls s.world t.0.rest may in
     let after = state_after s n m.1 m.0 in
@@ -45,7 +45,7 @@ pub returns-in-Some-clause-err : goal.returns-in-Some-clause-err
 returns-in-Some-clause-err g c = on_err_weaker c.step_out.result (λ keeps s stands.
     let t = c.in-Some.ensures.some s stands in
     subst (λ (u : State g.row.K.Denot g.row.V.Denot g.row.E.Denot). MachineIs g.K.PartialEq.eq g.T.Tests c.step_out.new.self u)
-    (ap (λ f. record s { calls = f }) (put_same s.calls c.args.call (Some (call_of c.in-Some.flow)) t.0.live))
+    (ap (λ f. record s { calls = f }) (put_same s.calls c.args.call (Some (call_of c.in-Some.flow.value)) t.0.live))
     (keeps s.calls s.world t.0.rest))
     c.step_out.ensures.err
 
@@ -53,11 +53,11 @@ pub returns-in-Some-clause-err_needs : goal.returns-in-Some-clause-err_needs
 returns-in-Some-clause-err_needs g c =
     let v = c.requires.valid in
     let n = c.args.call in
-    let d = call_of c.in-Some.flow in
+    let d = call_of c.in-Some.flow.value in
     let t = c.in-Some.ensures.some v.state v.stands in
-    let number : c.in-Some.flow.call ≡ n = sym t.1.on.call ∙ t.0.rest.number in
+    let number : c.in-Some.flow.value.call ≡ n = sym t.1.on.call ∙ t.0.rest.number in
     let safe = c.calls_are_safe.ensures.safe v.state n d v.reached t.0.live in
-    let may : May v.state.world (access_at c.in-Some.flow) =
+    let may : May v.state.world (access_at c.in-Some.flow.value) =
     subst (λ (m : ℕ). May v.state.world (access_of m d)) (sym number) (safe 0 d v.state.world (moves_none g.K.PartialEq.eq n d v.state.world)) in
     on_err_weaker c.step_out.result (λ both s stands.
     call_needs g.K.PartialEq.eq g.T.Tests c.step_out.new.self n d v.state.calls v.state.world s

@@ -23,7 +23,7 @@ returns-in-Some-clause-some g c = λ s h.
     let is = h.each n r there in
     let m : Machine g.row.K.Denot g.row.V.Denot g.row.E.Denot g.row.T.Denot g.K.PartialEq g.K.Hash =
     record { layers = record c.args.self.now.layers { call = n; begun = r.begun }; calls = c.take.new.self } in
-    let out : TakenOut eq g.T.Tests m n r.flow s × IsOut eq m r.flow = (
+    let out : TakenOut eq g.T.Tests m n r.flow.value s × IsOut eq m r.flow.value = (
       record {
         live = sym (h.calls n) ∙ ap (option_map call_in) there;
         rest = record {
@@ -45,7 +45,7 @@ returns-in-Some-clause-some g c = λ s h.
       },
       record { on = record { call = sym is.number; begun = is.on }; live = is.live },
     ) in
-    subst (λ (v : Machine g.row.K.Denot g.row.V.Denot g.row.E.Denot g.row.T.Denot g.K.PartialEq g.K.Hash). TakenOut eq g.T.Tests v n c.lend.result s × IsOut eq v c.lend.result) (sym c.lend.ensures.machine)
+    subst (λ (v : Machine g.row.K.Denot g.row.V.Denot g.row.E.Denot g.row.T.Denot g.K.PartialEq g.K.Hash). TakenOut eq g.T.Tests v n c.lend.result.value s × IsOut eq v c.lend.result.value) (sym c.lend.ensures.machine)
     (subst (λ (f : Flow g.row.K.Denot g.row.V.Denot g.row.E.Denot). TakenOut eq g.T.Tests m n f s × IsOut eq m f) (sym c.lend.ensures.flow) out)
 
 pub returns-in-None-clause-same : goal.returns-in-None-clause-same

@@ -1,5 +1,0 @@
--- The operation fits the table, until it has decided.
-use Rattle.moka_bucket_speed.proofs.run.Given as goal
-
-abbrev pub invariant-loop : goal.invariant-loop
-invariant-loop g l = g.T.Table.fits l.table l.call
