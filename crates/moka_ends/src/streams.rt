@@ -20,7 +20,8 @@ pub struct ReadSource<R> {
 impl<R> ReadSource<R> {
     /// A source over the reader, with no fault yet.
     pub fn new(input: R) -> Self
-        ensures { result.faults ≡ 0 }
+        ensures input { result.input ≡ input }
+        ensures faults { result.faults ≡ 0 }
     {
         ReadSource { input, faults: 0 }
     }
@@ -70,7 +71,8 @@ pub struct WriteSink<W> {
 impl<W> WriteSink<W> {
     /// A sink over the writer, with no fault yet.
     pub fn new(output: W) -> Self
-        ensures { result.faults ≡ 0 }
+        ensures output { result.output ≡ output }
+        ensures faults { result.faults ≡ 0 }
     {
         WriteSink { output, faults: 0 }
     }

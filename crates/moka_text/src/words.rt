@@ -1,12 +1,25 @@
 //! The parts of a line: numbers, and the two sides of a mark.
 
-ghost use Rattle.std.specs.Prelude.{◌≡◌, ◌==◌, ◌<◌, ◌≤◌, ◌^◌, length, IsSome, IfSome, IfNone};
+ghost use Rattle.std.specs.Prelude.{
+  ◌≡◌,
+  ◌==◌,
+  ◌<◌,
+  ◌≤◌,
+  ◌^◌,
+  length,
+  map,
+  take,
+  IsSome,
+  IfSome,
+  IfNone,
+};
 ghost use Rattle.std.specs.List.{position_or_len};
+ghost use Rattle.std.specs.Simd.Lanes.{mask_l};
 ghost use Rattle.std.specs.Str.Parse.{AllDigits, digits_value};
 ghost use Rattle.std.specs.Option.{option_copied};
 ghost use Rattle.moka_text.specs.Words.{call_in, key_in, after, before_byte, after_byte};
 
-use memchr::memchr_iter;
+use std::simd::prelude::*;
 
 /// How many digits a number of 64 bits has room for, whichever they are.
 const SHORT: usize = 19;
@@ -118,14 +131,44 @@ fn place_of(bytes: &[u8], mark: u8) -> usize
     first
 }
 
-/// What stands before the first such byte, and what stands after it. Where there is none, all
-/// stands before it.
-pub(crate) fn cut(bytes: &[u8], mark: u8) -> (&[u8], &[u8])
+/// How many bytes are compared with a mark at once.
+const WIDE: usize = 32;
+
+/// Which of so many first bytes are the mark, a bit each: the lowest is the first byte's.
+#[inline(always)]
+fn marks_of(bytes: &[u8], mark: u8) -> u64
+    requires { WIDE ≤ length bytes.now }
+    ensures { result ≡ mask_l (map (λ b. b == mark) (take WIDE bytes.now)) }
+{
+    u8x32::from_slice(bytes)
+        .simd_eq(u8x32::splat(mark))
+        .to_bitmask()
+}
+
+/// How many bytes stand before the first such byte: all where there is none. It takes least where
+/// the byte is near and others follow it.
+#[inline(always)]
+fn near_place_of(bytes: &[u8], mark: u8) -> usize
+    ensures { result ≡ position_or_len (λ b. b == mark) bytes.now }
+{
+    if bytes.len() >= WIDE {
+        let marks = marks_of(bytes, mark);
+        if marks != 0 {
+            return marks.trailing_zeros() as usize;
+        }
+    }
+    place_of(bytes, mark)
+}
+
+/// What stands before the first such byte, whose place is given, and what stands after it. Where
+/// there is none, all stands before it.
+#[inline(always)]
+fn cut_at(bytes: &[u8], mark: u8, place: usize) -> (&[u8], &[u8])
+    requires { place ≡ position_or_len (λ b. b == mark) bytes.now }
     ensures front { result.0.now ≡ before_byte mark bytes.now }
     ensures rest { result.1.now ≡ after_byte mark bytes.now }
     ensures shorter { 0 < length bytes.now → length result.1.now < length bytes.now }
 {
-    let place = place_of(bytes, mark);
     if place < bytes.len() {
         (&bytes[..place], &bytes[place + 1..])
     } else {
@@ -133,16 +176,22 @@ pub(crate) fn cut(bytes: &[u8], mark: u8) -> (&[u8], &[u8])
     }
 }
 
-/// The first line, without its end, and what stands after that. Where no line ends, all is one. The
-/// end is near, where the iterator looks first.
+/// What stands before the first such byte, and what stands after it. Where there is none, all
+/// stands before it.
+pub(crate) fn cut(bytes: &[u8], mark: u8) -> (&[u8], &[u8])
+    ensures front { result.0.now ≡ before_byte mark bytes.now }
+    ensures rest { result.1.now ≡ after_byte mark bytes.now }
+    ensures shorter { 0 < length bytes.now → length result.1.now < length bytes.now }
+{
+    cut_at(bytes, mark, place_of(bytes, mark))
+}
+
+/// The first line, without its end, and what stands after that. Where no line ends, all is one.
 #[inline(always)]
 pub(crate) fn cut_line(bytes: &[u8]) -> (&[u8], &[u8])
     ensures front { result.0.now ≡ before_byte 10 bytes.now }
     ensures rest { result.1.now ≡ after_byte 10 bytes.now }
     ensures shorter { 0 < length bytes.now → length result.1.now < length bytes.now }
 {
-    match memchr_iter(b'\n', bytes).next() {
-        Some(place) => (&bytes[..place], &bytes[place + 1..]),
-        None => (bytes, &[]),
-    }
+    cut_at(bytes, b'\n', near_place_of(bytes, b'\n'))
 }
