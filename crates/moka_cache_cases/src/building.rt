@@ -1,7 +1,15 @@
 //! Caches that are built.
 
 use moka_cache::{Cache, CacheBuilder};
-use moka_cache_runs::at::{Numbers, get, insert};
+use moka_cache_runs::asks::Asked::Never;
+use moka_cache_runs::asks::{NOBODY, Told};
+use moka_cache_runs::at::Numbers;
+use moka_cache_runs::calls::Call::{Lent, Own};
+use moka_cache_runs::calls::Kind::OfKey;
+use moka_cache_runs::calls::OfKey::{Get, Insert};
+use moka_cache_runs::replies::Reply::{Done, Value};
+use moka_cache_runs::rows::Event::Run;
+use moka_cache_runs::rows::{Row, wrong_row_on};
 use std::test::Fail;
 
 #[test]
@@ -13,8 +21,11 @@ fn a_built_cache_tells_its_policy(rt: HostRuntime) -> Result<(), Fail> {
     assert_eq!(rt; policy.time_to_live(), None);
     assert_eq!(rt; policy.time_to_idle(), None);
     assert_eq!(rt; cache.name(), None);
-    assert_eq!(rt; insert(&rt, &cache, 1, 5)?, Ok(()));
-    assert_eq!(rt; get(&rt, &cache, 1)?, Ok(Some(5)));
+    let rows = [
+        Row(Run(Own(1, OfKey(Insert(5)))), Told(Done, 0, Never), NOBODY),
+        Row(Run(Lent(1, OfKey(Get))), Told(Value(5), 0, Never), NOBODY),
+    ];
+    assert_eq!(rt; wrong_row_on(&rt, &cache, &rows)?, None);
     Ok(())
 }
 
@@ -26,15 +37,5 @@ fn a_default_cache_has_no_bound(rt: HostRuntime) -> Result<(), Fail> {
         .build(rt.alloc())?;
     assert_eq!(rt; cache.policy().max_capacity(), None);
     assert_eq!(rt; cache.name(), Some("numbers"));
-    Ok(())
-}
-
-#[test]
-fn a_cache_of_capacity_zero_stores_nothing(rt: HostRuntime) -> Result<(), Fail> {
-    let cache: Numbers = Cache::new(rt.alloc(), 0)?;
-    assert_eq!(rt; insert(&rt, &cache, 1, 5)?, Ok(()));
-    assert_eq!(rt; get(&rt, &cache, 1)?, Ok(None));
-    assert_eq!(rt; cache.contains_key(&rt, &1, 0)?, false);
-    assert_eq!(rt; cache.entry_count(&rt), 0);
     Ok(())
 }

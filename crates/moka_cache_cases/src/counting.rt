@@ -1,18 +1,29 @@
 //! How many records a cache has.
 
-use moka_cache::Cache;
-use moka_cache_runs::at::{Numbers, insert};
+use moka_cache_runs::asks::Asked::Never;
+use moka_cache_runs::asks::{NOBODY, Told};
+use moka_cache_runs::calls::Call::Own;
+use moka_cache_runs::calls::Kind::OfKey;
+use moka_cache_runs::calls::OfKey::Insert;
+use moka_cache_runs::replies::Reply::{Counts, Done};
+use moka_cache_runs::rows::Event::{Count, Run};
+use moka_cache_runs::rows::{Row, wrong_row};
 use std::test::Fail;
 
 #[test]
 fn writes_are_counted_once_the_log_was_full(rt: HostRuntime) -> Result<(), Fail> {
-    let cache: Numbers = Cache::new(rt.alloc(), 1000)?;
+    let mut rows = Vec::new(rt.alloc());
     for key in 0..384 {
-        assert_eq!(rt; insert(&rt, &cache, key, key)?, Ok(()));
+        let insert = Run(Own(key, OfKey(Insert(key))));
+        rows.push(Row(insert, Told(Done, 0, Never), NOBODY))?;
     }
-    assert_eq!(rt; cache.entry_count(&rt), 0);
-    assert_eq!(rt; insert(&rt, &cache, 384, 384)?, Ok(()));
-    assert_eq!(rt; cache.entry_count(&rt), 384);
-    assert_eq!(rt; cache.weighted_size(&rt), 384);
+    rows.push(Row(Count, Told(Counts(0, 0), 0, Never), NOBODY))?;
+    rows.push(Row(
+        Run(Own(384, OfKey(Insert(384)))),
+        Told(Done, 0, Never),
+        NOBODY,
+    ))?;
+    rows.push(Row(Count, Told(Counts(384, 384), 0, Never), NOBODY))?;
+    assert_eq!(rt; wrong_row(&rt, 1000, &rows)?, None);
     Ok(())
 }

@@ -1,22 +1,27 @@
 //! Calls that are dropped.
 
-use moka_cache::Cache;
-use moka_cache_runs::at::{Numbers, get, insert};
-use moka_cache_runs::numbers::numbers;
-use moka_cache_runs::once::{drop_unpolled, poll_once};
+use moka_cache_runs::asks::Asked::Never;
+use moka_cache_runs::asks::{NOBODY, Told};
+use moka_cache_runs::calls::Call::{Lent, Own};
+use moka_cache_runs::calls::Kind::OfKey;
+use moka_cache_runs::calls::OfKey::{Get, Insert};
+use moka_cache_runs::replies::Reply::{Done, Nothing, Value};
+use moka_cache_runs::rows::Event::{Cancelled, Once, Run, Unpolled};
+use moka_cache_runs::rows::{Row, wrong_row};
 use std::test::Fail;
 
 #[test]
 fn a_dropped_call_is_cancelled(rt: HostRuntime) -> Result<(), Fail> {
-    let cache: Numbers = Cache::new(rt.alloc(), 100)?;
-    drop_unpolled(&rt, numbers(cache.insert(1, 5)));
-    assert_eq!(rt; get(&rt, &cache, 1)?, Ok(None));
-    let polled = poll_once(&rt, numbers(cache.insert(1, 6)))?;
-    assert_eq!(rt; polled, Some(Ok(())));
-    assert_eq!(rt; get(&rt, &cache, 1)?, Ok(Some(6)));
-    cache.insert(1, 7).cancel(&rt);
-    assert_eq!(rt; get(&rt, &cache, 1)?, Ok(Some(6)));
-    assert_eq!(rt; insert(&rt, &cache, 1, 8)?, Ok(()));
-    assert_eq!(rt; get(&rt, &cache, 1)?, Ok(Some(8)));
+    let rows = [
+        Row(Unpolled(Own(1, OfKey(Insert(5)))), NOBODY, NOBODY),
+        Row(Run(Lent(1, OfKey(Get))), Told(Nothing, 0, Never), NOBODY),
+        Row(Once(Own(1, OfKey(Insert(6)))), Told(Done, 0, Never), NOBODY),
+        Row(Run(Lent(1, OfKey(Get))), Told(Value(6), 0, Never), NOBODY),
+        Row(Cancelled(Own(1, OfKey(Insert(7)))), NOBODY, NOBODY),
+        Row(Run(Lent(1, OfKey(Get))), Told(Value(6), 0, Never), NOBODY),
+        Row(Run(Own(1, OfKey(Insert(8)))), Told(Done, 0, Never), NOBODY),
+        Row(Run(Lent(1, OfKey(Get))), Told(Value(8), 0, Never), NOBODY),
+    ];
+    assert_eq!(rt; wrong_row(&rt, 100, &rows)?, None);
     Ok(())
 }

@@ -1,7 +1,7 @@
 //! What was inserted, and what is found.
 
 use moka_cache::{Cache, Listener};
-use moka_cache_runs::at::{At, Numbers, get, insert};
+use moka_cache_runs::at::At;
 use std::hash::Hash;
 use std::test::Fail;
 
@@ -18,15 +18,6 @@ where
     S: Drop + Send + Sync,
 {
     is_shared(cache);
-}
-
-#[test]
-fn what_was_inserted_is_found(rt: HostRuntime) -> Result<(), Fail> {
-    let cache: Numbers = Cache::new(rt.alloc(), 100)?;
-    assert_eq!(rt; insert(&rt, &cache, 1, 5)?, Ok(()));
-    assert_eq!(rt; get(&rt, &cache, 1)?, Ok(Some(5)));
-    assert_eq!(rt; get(&rt, &cache, 2)?, Ok(None));
-    Ok(())
 }
 
 #[test]

@@ -4,11 +4,15 @@
 #[cfg(test)]
 mod building;
 #[cfg(test)]
+mod computing;
+#[cfg(test)]
 mod counting;
 #[cfg(test)]
 mod dropping;
 #[cfg(test)]
-mod ending;
+mod entries;
+#[cfg(test)]
+mod failing;
 #[cfg(test)]
 mod finding;
 #[cfg(test)]

@@ -1,9 +1,13 @@
-//! Calls of `Cache` that are run to their end, for the crates of its cases.
+//! Calls of caches of numbers that are run and compared with what is said of them, for the crates
+//! of the cases of `Cache`.
 #![tactic(auto)]
 
+pub mod asks;
 pub mod at;
+pub mod calls;
 pub mod inits;
 pub mod numbers;
-pub mod once;
-pub mod pairs;
+pub mod replies;
+pub mod rows;
 pub mod run;
+pub mod tasks;

@@ -7,15 +7,12 @@ ghost use Rattle.moka_cache.specs.Settings.{rules_of};
 ghost use Rattle.moka_cache_runs.specs.Runs.{CanRun};
 
 use crate::at::At;
-use crate::inits::Sets;
-use futures::executor::block_on;
-use moka_cache::{Asked, Begin, CacheCall, Listener, PollError, Polled, State};
+use moka_cache::{Asked, Begin, CacheCall, Listener, PollError};
 use std::alloc::AllocGlobal;
 use std::hash::Hash;
 use std::io;
 use std::random::RandomSource;
 use std::sync::Wait;
-use std::sync::atomic::AtomicBool;
 
 /// Runs the call to its end, at moment 0.
 pub fn run<R, A, K, V, E, Q, L, S>(
@@ -38,16 +35,4 @@ where
         call.stage call.asked }
 {
     call.block_on(rt, At(0))
-}
-
-/// Runs a call of any kind to its end, and sets the flag after each poll.
-pub fn run_setting<R: Wait + RandomSource + AllocGlobal, S: State<R, Output: Drop>>(
-    rt: &R,
-    flag: &AtomicBool,
-    state: S,
-) -> io::Result<Result<S::Output, PollError>>
-    requires { S.can_poll state }
-{
-    let future = Polled::new(rt, state, At(0));
-    block_on(rt, Sets { future, flag })
 }

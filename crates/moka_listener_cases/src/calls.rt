@@ -1,52 +1,65 @@
-//! Calls of caches with a listener, at moment 0.
+//! Calls of key 1 of caches with a listener, at moment 0.
 
 use crate::keeping::{Board, Opens};
 use futures::executor::block_on;
-use moka_cache::{Cache, Listener, PollError, Polled, State};
-use moka_cache_runs::at::At;
-use moka_cache_runs::numbers::numbers;
-use moka_cache_runs::once::poll_once;
-use std::alloc::{AllocGlobal, Global};
+use moka_cache::{Listener, Polled, State};
+use moka_cache_runs::asks::{Asks, Told};
+use moka_cache_runs::at::{At, Heard};
+use moka_cache_runs::calls::Call::Own;
+use moka_cache_runs::calls::Kind::OfKey;
+use moka_cache_runs::calls::OfKey::Insert;
+use moka_cache_runs::calls::{Call, Caller};
+use moka_cache_runs::replies::{Replies, Reply, reply_of};
+use moka_cache_runs::tasks::Task;
+use std::alloc::AllocGlobal;
 use std::io;
 use std::random::RandomSource;
-use std::sync::{Arc, Wait};
+use std::sync::Wait;
 
-/// A cache of numbers with this listener.
-pub(crate) type Heard<L> = Cache<u32, u32, u32, L>;
+// The call is run to its end, and the listener let go after each poll.
+#[derive(Drop)]
+struct Opening<'a>(&'a Board);
 
-/// Polls a call until it has answered, and lets the listener go after each poll.
-pub(crate) fn opening<R: Wait + RandomSource + AllocGlobal, S: State<R>>(
+impl<R: Wait + RandomSource + AllocGlobal> Task<R> for Opening<'_> {
+    fn run<S: State<R, Output: Replies>>(self, rt: &R, call: S) -> io::Result<(Reply, Reply)> {
+        let future = Polled::new(rt, call, At(0));
+        let board = self.0;
+        let answer = block_on(rt, Opens { future, board })?;
+        Ok((reply_of(Some(answer)), Reply::Dropped))
+    }
+}
+
+/// Runs the call to its end, lets the listener go after each poll, and tells what it replied.
+pub(crate) fn run_opening<R: Wait + RandomSource + AllocGlobal, L: Listener<u32, u32>>(
     rt: &R,
-    call: S,
-    board: Arc<Board, Global>,
-) -> io::Result<Result<S::Output, PollError>>
-    requires { S.can_poll call }
-{
-    let future = Polled::new(rt, call, At(0));
-    block_on(rt, Opens { future, board })
+    cache: &Heard<L>,
+    call: &Call,
+    board: &Board,
+) -> io::Result<Told> {
+    let asks = &Asks::new();
+    let caller = Caller { rt, cache, asks };
+    let (reply, _) = caller.make(call, Opening(board))?;
+    Ok(asks.told(reply))
 }
 
-/// Polls an insert under key 1 once.
-pub(crate) fn insert_once<'a, R: Wait + RandomSource + AllocGlobal, L: Listener<u32, u32>>(
-    rt: &'a R,
-    cache: &'a Heard<L>,
+/// Polls the call once, drops it where that is pending, and tells what it replied.
+pub(crate) fn once<R: Wait + RandomSource + AllocGlobal, L: Listener<u32, u32>>(
+    rt: &R,
+    cache: &Heard<L>,
+    call: &Call,
+) -> io::Result<Told> {
+    let asks = &Asks::new();
+    let caller = Caller { rt, cache, asks };
+    let reply = caller.poll_once(call)?;
+    Ok(asks.told(reply))
+}
+
+/// The same of an insert of the value under key 1.
+pub(crate) fn insert_once<R: Wait + RandomSource + AllocGlobal, L: Listener<u32, u32>>(
+    rt: &R,
+    cache: &Heard<L>,
     value: u32,
-) -> io::Result<Option<Result<(), PollError>>> {
-    poll_once(rt, numbers(cache.insert(1, value)))
-}
-
-/// Polls a get of key 1 once.
-pub(crate) fn get_once<'a, R: Wait + RandomSource + AllocGlobal, L: Listener<u32, u32>>(
-    rt: &'a R,
-    cache: &'a Heard<L>,
-) -> io::Result<Option<Result<Option<u32>, PollError>>> {
-    poll_once(rt, numbers(cache.get(&1)))
-}
-
-/// Polls a removal of key 1 once.
-pub(crate) fn remove_once<'a, R: Wait + RandomSource + AllocGlobal, L: Listener<u32, u32>>(
-    rt: &'a R,
-    cache: &'a Heard<L>,
-) -> io::Result<Option<Result<Option<u32>, PollError>>> {
-    poll_once(rt, numbers(cache.remove(&1)))
+) -> io::Result<Reply> {
+    let told = once(rt, cache, &Own(1, OfKey(Insert(value))))?;
+    Ok(told.0)
 }

@@ -1,9 +1,9 @@
 //! A listener that keeps its notices pending until it is let go.
 
-use crate::calls::Heard;
 use futures::Future;
 use futures::task::{Context, Poll};
 use moka_cache::{BuildError, CacheBuilder, Listener, ListenerEnd};
+use moka_cache_runs::at::Heard;
 use moka_hist::Cause;
 use std::alloc::{AllocError, Global};
 use std::cell::Cell;
@@ -110,21 +110,22 @@ pub(crate) fn cache_of(
 
 /// Lets the listener go after each poll of the future, and counts these.
 #[derive(Drop)]
-pub(crate) struct Opens<F> {
+pub(crate) struct Opens<'a, F> {
     pub(crate) future: F,
-    pub(crate) board: Arc<Board, Global>,
+    pub(crate) board: &'a Board,
 }
 
-impl<F: Future> Future for Opens<F> {
+impl<F: Future> Future for Opens<'_, F> {
     type Output = F::Output;
 
     ghost can_poll = { λ opens. F.can_poll opens.future };
 
     fn poll(&mut self, cx: &mut Context<'_>) -> Poll<F::Output> {
         let polled = self.future.poll(cx);
-        let board: &Board = &self.board;
-        board.is_open.set(true);
-        board.polls.set(board.polls.get().saturating_add(1));
+        self.board.is_open.set(true);
+        self.board
+            .polls
+            .set(self.board.polls.get().saturating_add(1));
         polled
     }
 }

@@ -1,7 +1,7 @@
 //! Listeners.
 
-use crate::calls::{Heard, get_once, insert_once, opening, remove_once};
-use crate::keeping::{Board, KeepListener, cache_of, left};
+use crate::calls::{insert_once, once, run_opening};
+use crate::keeping::{Board, cache_of, left};
 use futures::executor::block_on;
 use futures::future::join;
 use futures::task::{Context, Poll};
@@ -9,11 +9,16 @@ use moka_cache::{
     Cache, CacheBuilder, Listener, ListenerEnd, NoListener, PollError, Polled, RetriesExhausted,
     State,
 };
-use moka_cache_runs::at::At;
+use moka_cache_runs::asks::Asks;
+use moka_cache_runs::at::{At, Heard};
+use moka_cache_runs::calls::Call::{Lent, Own};
+use moka_cache_runs::calls::Caller;
+use moka_cache_runs::calls::Kind::OfKey;
+use moka_cache_runs::calls::OfKey::{Get, Insert, Remove};
 use moka_cache_runs::inits::{After, DropsAfter};
 use moka_cache_runs::numbers::numbers;
-use moka_cache_runs::once::poll_once;
-use moka_cache_runs::run::run;
+use moka_cache_runs::replies::Reply;
+use moka_cache_runs::tasks::{Once, Task};
 use moka_hist::Cause;
 use std::alloc::{AllocError, AllocGlobal, Global};
 use std::random::RandomSource;
@@ -102,17 +107,8 @@ where
     };
     let other = Polled::new(rt, other, At(0));
     let third = Polled::new(rt, third, At(0));
-    let ((), both) = block_on(rt, join(dropped, join(other, third)))?;
+    let (_, both) = block_on(rt, join(dropped, join(other, third)))?;
     Ok(both)
-}
-
-// Gets key 1, and lets the listener go after each poll.
-fn get_opening<'a, R: Wait + RandomSource + AllocGlobal>(
-    rt: &'a R,
-    cache: &'a Heard<KeepListener>,
-    board: Arc<Board, Global>,
-) -> io::Result<Result<Option<u32>, PollError>> {
-    opening(rt, numbers(cache.get(&1)), board)
 }
 
 // Loads key 1 twice, and stores 5 under it, in one task. The first load is dropped after two polls.
@@ -128,13 +124,14 @@ fn load_beside_insert<'a, R: Wait + RandomSource + AllocGlobal>(
 }
 
 // Inserts under key 1, as long as it takes, and tells whether it did.
-fn has_inserted<'a, R: Wait + RandomSource + AllocGlobal>(
-    rt: &'a R,
-    cache: &'a Heard<PendsOnce>,
+fn has_inserted<R: Wait + RandomSource + AllocGlobal>(
+    rt: &R,
+    cache: &Heard<PendsOnce>,
     value: u32,
 ) -> io::Result<bool> {
-    let inserted = run(rt, cache.insert(1, value))?;
-    Ok(inserted == Ok(()))
+    let asks = &Asks::new();
+    let caller = Caller { rt, cache, asks };
+    Ok(caller.run(&Own(1, OfKey(Insert(value))))? == Reply::Done)
 }
 
 #[test]
@@ -142,16 +139,17 @@ fn a_get_goes_on_with_the_notice_of_a_dropped_insert(rt: HostRuntime) -> Result<
     let board = Board::new(rt.alloc())?;
     let told: &Board = &board;
     let cache = cache_of(rt.alloc(), Arc::try_clone(&board)?)?;
-    assert_eq!(rt; insert_once(&rt, &cache, 5)?, Some(Ok(())));
-    assert_eq!(rt; insert_once(&rt, &cache, 6)?, None);
+    assert_eq!(rt; insert_once(&rt, &cache, 5)?, Reply::Done);
+    assert_eq!(rt; insert_once(&rt, &cache, 6)?, Reply::Dropped);
     let first = left(2, 5, Cause::Replaced);
     assert_eq!(rt; told.told(), (1, first, first));
-    let found = get_opening(&rt, &cache, Arc::try_clone(&board)?)?;
-    assert_eq!(rt; found, Ok(Some(6)));
+    let found = run_opening(&rt, &cache, &Lent(1, OfKey(Get)), told)?;
+    assert_eq!(rt; found.0, Reply::Value(6));
     assert_eq!(rt; told.polls(), 2, "the first poll of the get is pending");
-    assert_eq!(rt; insert_once(&rt, &cache, 7)?, Some(Ok(())));
+    assert_eq!(rt; insert_once(&rt, &cache, 7)?, Reply::Done);
     assert_eq!(rt; told.told(), (2, first, left(4, 6, Cause::Replaced)));
-    assert_eq!(rt; remove_once(&rt, &cache)?, Some(Ok(Some(7))));
+    let removed = once(&rt, &cache, &Lent(1, OfKey(Remove)))?;
+    assert_eq!(rt; removed.0, Reply::Value(7));
     assert_eq!(rt; told.told(), (3, first, left(5, 7, Cause::Explicit)));
     Ok(())
 }
@@ -176,8 +174,8 @@ fn threads_insert_one_key_and_each_is_heard(rt: HostRuntime) -> Result<(), Fail>
         assert!(rt; done);
     }
     assert_eq!(rt; started.load(Ordering::SeqCst), 15);
-    let found = get_once(&rt, &cache)?;
-    assert!(rt; matches!(&found, Some(Ok(Some(value))) if *value < THREADS));
+    let found = once(&rt, &cache, &Lent(1, OfKey(Get)))?;
+    assert!(rt; matches!(found.0, Reply::Value(value) if value < THREADS));
     Ok(())
 }
 
@@ -190,16 +188,16 @@ fn a_waiter_answers_what_its_owner_stored_before_it_was_dropped(
     let cache: Heard<PendsOnce> = CacheBuilder::new(100)
         .eviction_listener(listener)
         .build(rt.alloc())?;
-    let (first, second) = (AtomicU64::new(0), AtomicU64::new(0));
+    let (first, second) = (Asks::new(), Asks::new());
     let owner = After::polls(1, 7, &first);
     let waiter = After::polls(0, 6, &second);
     let (loaded, inserted) = load_beside_insert(&rt, &cache, owner, waiter)?;
     assert_eq!(rt; inserted, Ok(()));
     assert_eq!(rt; loaded, Ok(Ok(7)));
-    assert_eq!(rt; first.load(Ordering::SeqCst), 2);
-    assert_eq!(rt; second.load(Ordering::SeqCst), 0);
+    assert_eq!(rt; (first.polls(), second.polls()), (2, 0));
     assert_eq!(rt; started.load(Ordering::SeqCst), 1);
-    assert_eq!(rt; get_once(&rt, &cache)?, Some(Ok(Some(7))));
+    let found = once(&rt, &cache, &Lent(1, OfKey(Get)))?;
+    assert_eq!(rt; found.0, Reply::Value(7));
     Ok(())
 }
 
@@ -216,9 +214,10 @@ fn a_listener_that_is_off_is_not_started_again(rt: HostRuntime) -> Result<(), Fa
         })
         .build(rt.alloc())?;
     for value in 5..8 {
-        assert_eq!(rt; insert_once(&rt, &cache, value)?, Some(Ok(())));
+        assert_eq!(rt; insert_once(&rt, &cache, value)?, Reply::Done);
     }
-    assert_eq!(rt; get_once(&rt, &cache)?, Some(Ok(Some(7))));
+    let found = once(&rt, &cache, &Lent(1, OfKey(Get)))?;
+    assert_eq!(rt; found.0, Reply::Value(7));
     assert_eq!(rt;
         first.load(Ordering::SeqCst),
         0,
@@ -234,8 +233,8 @@ fn a_hasher_is_kept(rt: HostRuntime) -> Result<(), Fail> {
         rt.alloc(),
         3,
     )?;
-    let inserted = poll_once(&rt, numbers(cache.insert(1, 5)))?;
-    assert_eq!(rt; inserted, Some(Ok(())));
+    let (inserted, _) = Once.run(&rt, numbers(cache.insert(1, 5)))?;
+    assert_eq!(rt; inserted, Reply::Done);
     assert!(rt; cache.contains_key(&rt, &1, 0)?);
     Ok(())
 }

@@ -1,7 +1,13 @@
 //! A cache that threads share.
 
 use moka_cache::Cache;
-use moka_cache_runs::at::{Numbers, get, insert, invalidate};
+use moka_cache_runs::asks::Asks;
+use moka_cache_runs::at::Numbers;
+use moka_cache_runs::calls::Call::{Lent, Own};
+use moka_cache_runs::calls::Caller;
+use moka_cache_runs::calls::Kind::OfKey;
+use moka_cache_runs::calls::OfKey::{Get, Insert, Invalidate};
+use moka_cache_runs::replies::Reply;
 use std::alloc::AllocGlobal;
 use std::random::RandomSource;
 use std::sync::Wait;
@@ -12,19 +18,21 @@ const THREADS: u32 = 16;
 
 const KEYS: u32 = 64;
 
-/// Inserts the keys of a thread, each its own value, and invalidates every fourth.
+// Inserts the keys of a thread, each its own value, and invalidates every fourth.
 fn fill<R: Wait + RandomSource + AllocGlobal>(
     rt: &R,
     cache: &Numbers,
     thread: u32,
 ) -> io::Result<bool> {
+    let asks = &Asks::new();
+    let caller = Caller { rt, cache, asks };
     let mut all_done = true;
     let first = thread.wrapping_mul(KEYS);
     for at in 0..KEYS {
         let key = first.wrapping_add(at);
-        all_done &= insert(rt, cache, key, key)? == Ok(());
+        all_done &= caller.run(&Own(key, OfKey(Insert(key))))? == Reply::Done;
         if key % 4 == 0 {
-            all_done &= invalidate(rt, cache, key)? == Ok(());
+            all_done &= caller.run(&Lent(key, OfKey(Invalidate)))? == Reply::Done;
         }
     }
     Ok(all_done)
@@ -45,14 +53,19 @@ fn threads_fill_a_cache_by_its_clones(rt: HostRuntime) -> Result<(), Fail> {
     for done in filled {
         assert!(rt; done);
     }
+    let asks = &Asks::new();
+    let caller = Caller {
+        rt: &rt,
+        cache: &cache,
+        asks,
+    };
     for key in 0..THREADS * KEYS {
-        let want = if key % 4 == 0 { None } else { Some(key) };
-        assert_eq!(rt; get(&rt, &cache, key)?, Ok(want), "key {key}");
-        assert_eq!(rt;
-            cache.contains_key(&rt, &key, 0)?,
-            want.is_some(),
-            "key {key}"
-        );
+        let want = match key % 4 {
+            0 => Reply::Nothing,
+            _ => Reply::Value(key),
+        };
+        assert_eq!(rt; caller.run(&Lent(key, OfKey(Get)))?, want, "key {key}");
+        assert_eq!(rt; cache.contains_key(&rt, &key, 0)?, key % 4 > 0, "key {key}");
     }
     Ok(())
 }

@@ -5,10 +5,10 @@ ghost use Rattle.std.specs.Ordering.{on};
 ghost use Rattle.std.specs.Cmp.Rules.{comparing, hashing};
 ghost use Rattle.std.proofs.Common.{rules};
 
-use crate::acts::{Act, op_of};
 use futures::task::{Context, Poll};
 use moka_cache::{Cache, Compute, PollError};
-use moka_cache_runs::inits::After;
+use moka_cache_runs::asks::Asks;
+use moka_cache_runs::inits::{Act, After, op_of};
 use moka_cache_runs::run::run;
 use moka_hist::{CompResult, Entry, Op};
 use std::alloc::AllocGlobal;
@@ -17,7 +17,6 @@ use std::hash::{Hash, Hasher};
 use std::io;
 use std::random::RandomSource;
 use std::sync::Wait;
-use std::sync::atomic::AtomicU64;
 use std::test::Fail;
 
 // A letter. Those of one number are equal, capital or not.
@@ -145,9 +144,9 @@ fn does<'a, R: Wait + RandomSource + AllocGlobal>(
 #[test]
 fn an_entry_has_the_selectors_key(rt: HostRuntime) -> Result<(), Fail> {
     let cache: Letters = Cache::new(rt.alloc(), 100)?;
-    let polled = AtomicU64::new(0);
+    let asks = Asks::new();
     for (key, spelled) in [(SMALL, 'a'), (CAPITAL, 'A')] {
-        let init = After::polls(1, 6, &polled);
+        let init = After::polls(1, 6, &asks);
         assert_eq!(rt; or_insert(&rt, &cache, key, 5)?, Some((spelled, 5)));
         assert_eq!(rt; or_load(&rt, &cache, &key, init)?, Some((spelled, 5)));
     }

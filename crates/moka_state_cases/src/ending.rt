@@ -8,8 +8,14 @@ use futures::Future;
 use futures::executor::block_on;
 use futures::task::{Context, Poll};
 use moka_cache::{Cache, PollError, State};
-use moka_cache_runs::at::{Numbers, insert};
+use moka_cache_runs::asks::Asks;
+use moka_cache_runs::at::Numbers;
+use moka_cache_runs::calls::Call::Own;
+use moka_cache_runs::calls::Caller;
+use moka_cache_runs::calls::Kind::OfKey;
+use moka_cache_runs::calls::OfKey::Insert;
 use moka_cache_runs::numbers::numbers;
+use moka_cache_runs::replies::Reply;
 use std::alloc::AllocGlobal;
 use std::io;
 use std::random::RandomSource;
@@ -96,7 +102,12 @@ fn run_twice<R: Wait + RandomSource + AllocGlobal, S: State<R, Output: Drop>>(
 #[test]
 fn no_call_begins_after_the_last_number(rt: HostRuntime) -> Result<(), Fail> {
     let cache: Numbers = Cache::starting_after(rt.alloc(), None, Some(100), u64::MAX - 1)?;
-    assert_eq!(rt; insert(&rt, &cache, 1, 5)?, Ok(()));
+    let caller = Caller {
+        rt: &rt,
+        cache: &cache,
+        asks: &Asks::new(),
+    };
+    assert_eq!(rt; caller.run(&Own(1, OfKey(Insert(5))))?, Reply::Done);
     let twice = run_twice(&rt, numbers(cache.get(&1)))?;
     assert_eq!(rt; twice, (true, true));
     assert!(rt; cache.contains_key(&rt, &1, 0)?);

@@ -1,23 +1,21 @@
 //! Calls that wait for owners which are dropped, one after the other.
-ghost use Rattle.std.specs.Prelude.{IsOk, IsSome, IfSome};
+ghost use Rattle.std.specs.Prelude.{IsSome, IfSome};
 ghost use Rattle.futures.specs.Poll.{OnPending};
 ghost use Rattle.futures.specs.Task.{IsArmed, Keeps};
 
 use futures::Future;
 use futures::executor::block_on;
 use futures::task::{Context, Poll};
-use moka_cache::{
-    ByCompute, ByInit, Cache, Compute, Init, PollError, RetriesExhausted, State, ToCompute, ToLoad,
-};
+use moka_cache::{ByCompute, ByInit, Cache, PollError, RetriesExhausted, State, ToCompute, ToLoad};
+use moka_cache_runs::asks::Asks;
 use moka_cache_runs::at::Numbers;
-use moka_cache_runs::inits::After;
+use moka_cache_runs::inits::{Act, After, Tells};
 use moka_cache_runs::numbers::{NumberCall, numbers};
-use moka_hist::{CompResult, Entry, Op};
+use moka_hist::{CompResult, Entry};
 use std::alloc::AllocGlobal;
 use std::io;
 use std::random::RandomSource;
 use std::sync::Wait;
-use std::sync::atomic::{AtomicU64, Ordering};
 use std::test::Fail;
 
 // Makes the owners of a key.
@@ -142,18 +140,18 @@ where
 // A load, and a compute.
 type Load<'a> = NumberCall<'a, ToLoad<'a, u32>, ByInit<After<'a>>>;
 
-type Computing<'a> = NumberCall<'a, ToCompute<'a, u32>, ByCompute<Puts<'a>>>;
+type Computing<'a> = NumberCall<'a, ToCompute<'a, u32>, ByCompute<Tells<'a>>>;
 
 // Loads of key 1 that never end.
 #[derive(Drop)]
 struct Loads<'a> {
     cache: &'a Numbers,
-    polled: &'a AtomicU64,
+    asks: &'a Asks,
 }
 
 impl<'a, R: Wait> Owns<R, Load<'a>> for Loads<'a> {
     fn owner(&self) -> Load<'a> {
-        let init = After::polls(u64::MAX, 0, self.polled);
+        let init = After::polls(u64::MAX, 0, self.asks);
         numbers(self.cache.get_with(1, init))
     }
 }
@@ -163,48 +161,28 @@ fn load_after<'a, R: Wait + RandomSource + AllocGlobal>(
     rt: &'a R,
     cache: &'a Numbers,
     owners: u64,
-    dropped: &'a AtomicU64,
-    polled: &'a AtomicU64,
+    dropped: &'a Asks,
+    asks: &'a Asks,
 ) -> io::Result<Result<Result<u32, RetriesExhausted>, PollError>> {
     let owns = Loads {
         cache,
-        polled: dropped,
+        asks: dropped,
     };
-    let init = After::polls(1, 5, polled);
-    let waiter = numbers(cache.get_with(1, init));
+    let waiter = numbers(cache.get_with(1, After::polls(1, 5, asks)));
     outlast(rt, owners, owns, waiter)
-}
-
-// Puts a value, after so many polls.
-#[derive(Drop)]
-struct Puts<'a> {
-    init: After<'a>,
-}
-
-impl Compute<u32, u32, u32> for Puts<'_> {
-    ghost gives = { λ puts r. IsOk r };
-
-    fn start(&mut self, _found: Option<&Entry<u32, u32>>) {}
-
-    fn poll(&mut self, cx: &mut Context<'_>) -> Poll<Result<Op<u32>, u32>> {
-        match self.init.poll(cx) {
-            Poll::Ready(value) => Poll::Ready(Ok(Op::Put(value))),
-            Poll::Pending => Poll::Pending,
-        }
-    }
 }
 
 // Computes on key 1 that never end.
 #[derive(Drop)]
 struct Computes<'a> {
     cache: &'a Numbers,
-    polled: &'a AtomicU64,
+    asks: &'a Asks,
 }
 
 impl<'a, R: Wait> Owns<R, Computing<'a>> for Computes<'a> {
     fn owner(&self) -> Computing<'a> {
-        let init = After::polls(u64::MAX, 0, self.polled);
-        numbers(self.cache.entry(1).and_compute_with(Puts { init }))
+        let compute = Tells::after(u64::MAX, Act::Put(0), self.asks);
+        numbers(self.cache.entry(1).and_compute_with(compute))
     }
 }
 
@@ -213,15 +191,15 @@ fn compute_after<'a, R: Wait + RandomSource + AllocGlobal>(
     rt: &'a R,
     cache: &'a Numbers,
     owners: u64,
-    dropped: &'a AtomicU64,
-    polled: &'a AtomicU64,
+    dropped: &'a Asks,
+    asks: &'a Asks,
 ) -> io::Result<Result<CompResult<u32, u32>, PollError>> {
     let owns = Computes {
         cache,
-        polled: dropped,
+        asks: dropped,
     };
-    let init = After::polls(1, 5, polled);
-    let waiter = numbers(cache.entry(1).and_compute_with(Puts { init }));
+    let compute = Tells::after(1, Act::Put(5), asks);
+    let waiter = numbers(cache.entry(1).and_compute_with(compute));
     outlast(rt, owners, owns, waiter)
 }
 
@@ -230,13 +208,10 @@ fn a_waiting_load_gives_up_after_200_owners(rt: HostRuntime) -> Result<(), Fail>
     let cases = [(200, Err(RetriesExhausted), 0), (199, Ok(5), 2)];
     for (owners, want, polls) in cases {
         let cache: Numbers = Cache::new(rt.alloc(), 100)?;
-        let (dropped, polled) = (AtomicU64::new(0), AtomicU64::new(0));
-        let loaded = load_after(&rt, &cache, owners, &dropped, &polled)?;
+        let (dropped, asks) = (Asks::new(), Asks::new());
+        let loaded = load_after(&rt, &cache, owners, &dropped, &asks)?;
         assert_eq!(rt; loaded, Ok(want), "after {owners} owners");
-        let told = (
-            dropped.load(Ordering::SeqCst),
-            polled.load(Ordering::SeqCst),
-        );
+        let told = (dropped.polls(), asks.polls());
         assert_eq!(rt; told, (owners, polls), "polls, after {owners} owners");
     }
     Ok(())
@@ -245,19 +220,16 @@ fn a_waiting_load_gives_up_after_200_owners(rt: HostRuntime) -> Result<(), Fail>
 #[test]
 fn a_waiting_compute_is_asked_after_300_owners(rt: HostRuntime) -> Result<(), Fail> {
     let cache: Numbers = Cache::new(rt.alloc(), 100)?;
-    let (dropped, polled) = (AtomicU64::new(0), AtomicU64::new(0));
+    let (dropped, asks) = (Asks::new(), Asks::new());
     let entry = Entry {
         key: Some(1),
         value: 5,
         fresh: true,
         replaced: false,
     };
-    let computed = compute_after(&rt, &cache, 300, &dropped, &polled)?;
+    let computed = compute_after(&rt, &cache, 300, &dropped, &asks)?;
     assert_eq!(rt; computed, Ok(CompResult::Inserted(entry)));
-    let told = (
-        dropped.load(Ordering::SeqCst),
-        polled.load(Ordering::SeqCst),
-    );
+    let told = (dropped.polls(), asks.polls());
     assert_eq!(rt; told, (300, 2));
     Ok(())
 }

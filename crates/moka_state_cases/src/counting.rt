@@ -1,12 +1,14 @@
 //! Upserts of the same keys, by threads that share a cache.
 
-use crate::acts::Counts;
-use moka_cache::{Cache, PollError};
-use moka_cache_runs::at::{Numbers, get};
-use moka_cache_runs::numbers::numbers;
-use moka_cache_runs::once::poll_once;
-use moka_cache_runs::run::run;
-use moka_hist::Entry;
+use moka_cache::Cache;
+use moka_cache_runs::asks::Asks;
+use moka_cache_runs::at::Numbers;
+use moka_cache_runs::calls::Call::{Lent, Own};
+use moka_cache_runs::calls::Caller;
+use moka_cache_runs::calls::Compute::UpsertWith;
+use moka_cache_runs::calls::Kind::{Compute, OfKey};
+use moka_cache_runs::calls::OfKey::Get;
+use moka_cache_runs::replies::Reply;
 use std::alloc::{AllocError, AllocGlobal, Global};
 use std::random::RandomSource;
 use std::sync::Wait;
@@ -26,8 +28,10 @@ fn count_up<R: Wait + RandomSource + AllocGlobal>(
     cache: &Numbers,
     key: u32,
 ) -> io::Result<bool> {
-    let state = cache.entry(key).and_upsert_with(Counts::new());
-    Ok(run(rt, state)?.is_ok())
+    let asks = &Asks::new();
+    let caller = Caller { rt, cache, asks };
+    let reply = caller.run(&Own(key, Compute(UpsertWith(1))))?;
+    Ok(matches!(reply, Reply::Entry(_)))
 }
 
 // Counts the key up by one poll, and tells whether it did: where it is pending it is dropped.
@@ -35,11 +39,12 @@ fn count_dropped<R: Wait + RandomSource + AllocGlobal>(
     rt: &R,
     cache: &Numbers,
     key: u32,
-    counts: Counts,
+    polls: u64,
 ) -> io::Result<bool> {
-    let state = numbers(cache.entry(key).and_upsert_with(counts));
-    let stored: Option<Result<Entry<u32, u32>, PollError>> = poll_once(rt, state)?;
-    Ok(matches!(stored, Some(Ok(_))))
+    let asks = &Asks::new();
+    let caller = Caller { rt, cache, asks };
+    let reply = caller.poll_once(&Own(key, Compute(UpsertWith(polls))))?;
+    Ok(matches!(reply, Reply::Entry(_)))
 }
 
 // Counts each key up so often. Each thread begins at a key of its own.
@@ -66,8 +71,8 @@ fn count_or_drop<R: Wait + RandomSource + AllocGlobal>(
     time: u32,
 ) -> io::Result<bool> {
     match time.wrapping_add(key) % 6 {
-        0 => count_dropped(rt, cache, key, Counts::new()),
-        3 => count_dropped(rt, cache, key, Counts::at_once()),
+        0 => count_dropped(rt, cache, key, 1),
+        3 => count_dropped(rt, cache, key, 0),
         _ => count_up(rt, cache, key),
     }
 }
@@ -109,10 +114,21 @@ fn key_counts(alloc: Global) -> Result<Vec<AtomicU64>, AllocError> {
     Ok(counts)
 }
 
+// What a get of the key replies.
+fn count_of<R: Wait + RandomSource + AllocGlobal>(
+    rt: &R,
+    cache: &Numbers,
+    key: u32,
+) -> io::Result<Reply> {
+    let asks = &Asks::new();
+    let caller = Caller { rt, cache, asks };
+    caller.run(&Lent(key, OfKey(Get)))
+}
+
 // Whether a key has a count from the one to the other.
-fn is_within(found: Result<Option<u32>, PollError>, least: u64, most: u64) -> bool {
+fn is_within(found: Reply, least: u64, most: u64) -> bool {
     match found {
-        Ok(Some(count)) => least <= u64::from(count) && u64::from(count) <= most,
+        Reply::Value(count) => least <= u64::from(count) && u64::from(count) <= most,
         _ => false,
     }
 }
@@ -129,7 +145,11 @@ fn threads_count_each_key(rt: HostRuntime) -> Result<(), Fail> {
         assert!(rt; all);
     }
     for key in 0..KEYS {
-        assert_eq!(rt; get(&rt, &cache, key)?, Ok(Some(6400)), "of key {key}");
+        assert_eq!(rt;
+            count_of(&rt, &cache, key)?,
+            Reply::Value(6400),
+            "of key {key}"
+        );
     }
     Ok(())
 }
@@ -148,7 +168,7 @@ fn threads_that_drop_upserts_count_those_that_answered(rt: HostRuntime) -> Resul
     }
     for (key, times) in (0..KEYS).zip(&answered) {
         let least = times.load(Ordering::SeqCst);
-        let found = get(&rt, &cache, key)?;
+        let found = count_of(&rt, &cache, key)?;
         assert!(rt;
             is_within(found, least, 6400),
             "key {key}, at least {least}"
