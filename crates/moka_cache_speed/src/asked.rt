@@ -1,9 +1,7 @@
 //! What the command line asks for.
 
-use crate::cached::Share;
-use crate::works::{PEERS, Peer, WORKS, Work};
-use moka_cache_rounds::ways::{WAYS, Way};
-use std::env;
+use crate::works::{Job, Work};
+use std::{env, io};
 
 /// The keys of a burst's end, and of most works.
 const FEW_KEYS: u64 = 1000;
@@ -11,118 +9,72 @@ const FEW_KEYS: u64 = 1000;
 /// The keys that are looked up.
 const MANY_KEYS: u64 = 100_000;
 
-/// What the command line asks for. Of what it has no known word for it asks for each.
-#[derive(Clone, Copy)]
+/// The words of the command line: a peer, a work, how many calls, how many threads, how many keys,
+/// and a way.
+#[derive(Drop)]
 pub(crate) struct Asked {
-    peer: Option<&'static str>,
-    work: Option<&'static str>,
-    pub(crate) calls: u64,
-    pub(crate) threads: u64,
-    keys: Option<u64>,
-    way: Option<&'static str>,
+    words: Vec<String>,
 }
 
 impl Asked {
-    /// Reads the command line: a peer, a work, how many calls, how many threads, how many keys, and
-    /// a way.
-    pub(crate) fn read(rt: &HostRuntime) -> anyhow::Result<Asked> {
-        Ok(Asked {
-            peer: read_peer(rt)?,
-            work: read_work(rt)?,
-            calls: read_number(rt, 3)?.unwrap_or(1000),
-            threads: read_number(rt, 4)?.unwrap_or(1).max(1),
-            keys: read_number(rt, 5)?,
-            way: read_way(rt)?,
-        })
+    /// Reads the command line.
+    pub(crate) fn read(rt: &HostRuntime) -> io::Result<Asked> {
+        let mut words = Vec::new(rt.alloc());
+        for word in env::args(rt)?.skip(1) {
+            words.push(word)?;
+        }
+        Ok(Asked { words })
     }
 
-    /// Whether this peer is asked for.
-    pub(crate) fn is_peer(self, peer: Peer) -> bool {
-        is_asked(self.peer, peer.name())
+    /// Whether there is such a job, and it is asked for.
+    pub(crate) fn is_job(&self, job: Job) -> bool {
+        job.is_made()
+            && self.is_asked(0, job.peer.name())
+            && self.is_asked(1, job.work.name())
+            && (!job.work.has_ways() || self.is_asked(5, job.way.name()))
     }
 
-    /// Whether this work is to be made.
-    pub(crate) fn is_work(self, work: Work) -> bool {
-        is_asked(self.work, work.name())
+    /// How many calls are made.
+    pub(crate) fn calls(&self) -> u64 {
+        self.number(2).unwrap_or(1000)
     }
 
-    /// Whether calls are to be made in this way.
-    pub(crate) fn is_way(self, way: Way) -> bool {
-        is_asked(self.way, way.name())
+    /// How many threads share them.
+    pub(crate) fn threads(&self) -> u64 {
+        self.number(3).unwrap_or(1).max(1)
+    }
+
+    /// How many of them each thread makes.
+    pub(crate) fn share(&self) -> u64 {
+        self.calls().checked_div(self.threads()).unwrap_or(0)
     }
 
     /// How many keys the work is made on.
-    pub(crate) fn keys_of(self, work: Work) -> u64 {
+    pub(crate) fn keys_of(&self, work: Work) -> u64 {
         if work.is_get() {
-            return self.keys.unwrap_or(MANY_KEYS);
+            return self.number(4).unwrap_or(MANY_KEYS);
         }
         self.few_keys()
     }
 
     /// How many keys are stored once a burst is over.
-    pub(crate) fn few_keys(self) -> u64 {
-        self.keys.unwrap_or(FEW_KEYS)
+    pub(crate) fn few_keys(&self) -> u64 {
+        self.number(4).unwrap_or(FEW_KEYS)
     }
 
-    /// How the calls are shared.
-    pub(crate) fn share(self) -> Share {
-        Share {
-            threads: self.threads,
-            calls: self.calls.checked_div(self.threads).unwrap_or(0),
+    /// Whether the word that stands there is this one, or asks for each.
+    fn is_asked(&self, place: usize, word: &str) -> bool {
+        match self.words.get(place) {
+            Some(asked) => asked.as_str() == "all" || asked.as_str() == word,
+            None => true,
         }
     }
-}
 
-/// Whether the word is the one that is asked for, or each is.
-fn is_asked(asked: Option<&'static str>, word: &str) -> bool {
-    match asked {
-        Some(asked) => asked == word,
-        None => true,
-    }
-}
-
-/// Whether this word stands there on the command line.
-fn is_word(rt: &HostRuntime, place: usize, word: &str) -> anyhow::Result<bool> {
-    match env::args(rt)?.nth(place) {
-        None => Ok(false),
-        Some(read) => Ok(read.as_str() == word),
-    }
-}
-
-/// The peer on the command line, if it is one.
-fn read_peer(rt: &HostRuntime) -> anyhow::Result<Option<&'static str>> {
-    for peer in PEERS {
-        if is_word(rt, 1, peer.name())? {
-            return Ok(Some(peer.name()));
+    /// The number that stands there, if one does.
+    fn number(&self, place: usize) -> Option<u64> {
+        match self.words.get(place) {
+            Some(word) => word.as_str().parse::<u64>().ok(),
+            None => None,
         }
-    }
-    Ok(None)
-}
-
-/// The work on the command line, if it is one.
-fn read_work(rt: &HostRuntime) -> anyhow::Result<Option<&'static str>> {
-    for work in WORKS {
-        if is_word(rt, 2, work.name())? {
-            return Ok(Some(work.name()));
-        }
-    }
-    Ok(None)
-}
-
-/// The way on the command line, if it is one.
-fn read_way(rt: &HostRuntime) -> anyhow::Result<Option<&'static str>> {
-    for way in WAYS {
-        if is_word(rt, 6, way.name())? {
-            return Ok(Some(way.name()));
-        }
-    }
-    Ok(None)
-}
-
-/// The number that stands there on the command line, if one does.
-fn read_number(rt: &HostRuntime, place: usize) -> anyhow::Result<Option<u64>> {
-    match env::args(rt)?.nth(place) {
-        None => Ok(None),
-        Some(word) => Ok(word.as_str().parse::<u64>().ok()),
     }
 }

@@ -1,15 +1,12 @@
-//! Loads of a cache that are all under way at once.
+//! Calls of a cache that are all under way at once.
 ghost use Rattle.futures.specs.Task.{Keeps};
 
+use crate::calls::Begins;
+use crate::runs::Still;
 use futures::Future;
 use futures::executor::block_on;
 use futures::task::{Context, Poll};
-use moka_cache::{Listener, Polled, State};
-use moka_cache_rounds::calls::Begins;
-use moka_cache_rounds::numbers::Numbers;
-use moka_cache_rounds::rounds::{Loads, Rounds};
-use moka_cache_rounds::runs::Still;
-use moka_cache_rounds::ways::Way;
+use moka_cache::{Polled, State};
 use std::alloc::{AllocError, AllocGlobal, Global};
 use std::io;
 use std::marker::PhantomData;
@@ -19,47 +16,11 @@ use std::sync::Wait;
 /// Calls that were polled once.
 type UnderWay<'a, R, S> = Vec<Polled<'a, R, S, Still>>;
 
-/// Makes so many loads over so many keys, polls each once, and cancels them. Prints how many there
-/// are while they are under way, and once they are cancelled.
-pub(crate) fn load_at_once<'a, R, L>(
-    rt: &'a R,
-    alloc: Global,
-    cache: &'a Numbers<L>,
-    keys: u64,
-    calls: u64,
-) -> anyhow::Result<()>
+/// Makes so many calls that come from there, polls each once, and cancels them. Prints how many
+/// there are while they are under way, and once they are cancelled.
+pub(crate) fn call_at_once<R, S, B>(rt: &R, alloc: Global, begins: &B, calls: u64) -> io::Result<()>
 where
     R: Wait + RandomSource + AllocGlobal + Print,
-    L: Listener<u64, u64>,
-{
-    let rounds = Rounds::below(cache, keys).made(Way::Dropped);
-    call_at_once::<R, Loads<'a, L>, Rounds<'a, L>>(rt, alloc, rounds, calls)
-}
-
-/// Makes so many calls that come from there, polls each once, and cancels them.
-fn call_at_once<'a, R, S, B>(rt: &'a R, alloc: Global, begins: B, calls: u64) -> anyhow::Result<()>
-where
-    R: Wait + RandomSource + AllocGlobal + Print,
-    S: State<R, Output: Drop>,
-    B: Begins<R, S>,
-{
-    let begun = begin_all::<R, S, B>(rt, alloc, begins, calls)??;
-    let count = begun.len();
-    println!(rt; "under way {count}")?;
-    drop(begun);
-    println!(rt; "cancelled {count}")?;
-    Ok(())
-}
-
-/// Makes so many calls that come from there, and polls each once.
-fn begin_all<'a, R, S, B>(
-    rt: &'a R,
-    alloc: Global,
-    begins: B,
-    calls: u64,
-) -> io::Result<Result<UnderWay<'a, R, S>, AllocError>>
-where
-    R: Wait + RandomSource + AllocGlobal,
     S: State<R, Output: Drop>,
     B: Begins<R, S>,
 {
@@ -70,31 +31,29 @@ where
         calls,
         state: PhantomData,
     };
-    block_on(rt, crowd)
+    let begun: UnderWay<'_, R, S> = block_on(rt, crowd)??;
+    let count = begun.len();
+    println!(rt; "under way {count}")?;
+    drop(begun);
+    println!(rt; "cancelled {count}")
 }
 
 /// A future that makes calls, polls each once, and gives them.
-struct Crowd<'a, R: Wait, S: State<R>, B: Begins<R, S>> {
+#[derive(Drop)]
+struct Crowd<'a, R, S, B> {
     rt: &'a R,
     alloc: Global,
-    begins: B,
+    begins: &'a B,
     calls: u64,
     state: PhantomData<S>,
 }
 
-impl<R: Wait, S: State<R>, B: Begins<R, S>> Drop for Crowd<'_, R, S, B> {
-    fn drop(self) {
-        let Self {
-            rt: _,
-            alloc: _,
-            begins: _,
-            calls: _,
-            state: _,
-        } = self;
-    }
-}
-
-impl<'a, R: Wait, S: State<R, Output: Drop>, B: Begins<R, S>> Future for Crowd<'a, R, S, B> {
+impl<'a, R, S, B> Future for Crowd<'a, R, S, B>
+where
+    R: Wait,
+    S: State<R, Output: Drop>,
+    B: Begins<R, S>,
+{
     type Output = Result<UnderWay<'a, R, S>, AllocError>;
 
     fn poll(&mut self, cx: &mut Context<'_>) -> Poll<Self::Output> {

@@ -1,8 +1,9 @@
-//! The cache with a listener.
+//! The caches, and the listener that one of them has.
 
+use crate::numbers::Numbers;
+use crate::works::Peer;
 use futures::task::{Context, Poll};
-use moka_cache::{BuildError, CacheBuilder, Listener, ListenerEnd};
-use moka_cache_rounds::numbers::Numbers;
+use moka_cache::{BuildError, Cache, CacheBuilder, Listener, ListenerEnd};
 use moka_hist::Cause;
 use std::alloc::{AllocError, Global};
 use std::sync::atomic::{AtomicU64, Ordering};
@@ -23,8 +24,17 @@ impl Listener<u64, u64> for Counts {
     }
 }
 
-/// Makes an empty cache with a listener, of a capacity that it never reaches.
-pub(crate) fn empty(alloc: Global) -> Result<Numbers<Counts>, AllocError> {
+/// Makes an empty cache for this peer.
+pub(crate) fn empty(alloc: Global, peer: Peer) -> Result<Numbers, AllocError> {
+    match peer {
+        Peer::Heard => empty_heard(alloc),
+        Peer::Unbounded => Cache::starting_after(alloc, None, None, 0),
+        Peer::Cache | Peer::Map => Cache::starting_after(alloc, None, Some(u64::MAX), 0),
+    }
+}
+
+/// Makes one with a listener, of a capacity that it never reaches.
+fn empty_heard(alloc: Global) -> Result<Numbers, AllocError> {
     let heard = AtomicU64::new(0);
     match CacheBuilder::new(u64::MAX)
         .eviction_listener(Counts { heard })

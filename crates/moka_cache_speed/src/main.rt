@@ -2,208 +2,110 @@
 //! map under a lock, and makes the calls whose memory is measured.
 //!
 //! `moka_cache_speed PEER WORK CALLS THREADS KEYS WAY` shares the calls among the threads. Standard
-//! output has how many calls answered, standard error how long they took.
+//! output has how many calls are over, standard error how long they took.
 #![tactic(auto)]
 
 mod asked;
 mod cached;
+mod calls;
 mod crowd;
 mod heard;
+mod kinds;
+mod later;
 mod mapped;
+mod numbers;
+mod rounds;
+mod runs;
+mod timed;
+mod ways;
 mod works;
 
 use asked::Asked;
-use cached::{come_and_store, keys_below};
-use moka_cache::{Cache, Listener};
-use moka_cache_rounds::numbers::Numbers;
-use moka_cache_rounds::ways::{WAYS, Way};
-use std::alloc::{AllocError, AllocGlobal, Global};
+use cached::come_and_store;
+use std::alloc::{AllocGlobal, Global};
 use std::collections::HashMap;
+use std::io;
 use std::process::ExitCode;
 use std::random::RandomSource;
 use std::rt::Clock;
 use std::sync::{Mutex, Wait};
 use std::thread::Threads;
-use std::time::Instant;
+use timed::time;
+use ways::WAYS;
 use works::{Job, PEERS, Peer, WORKS, Work};
 
 fn main(rt: HostRuntime) -> ExitCode {
     let Ok(asked) = Asked::read(&rt) else {
         return ExitCode::FAILURE;
     };
-    match measure(&rt, rt.alloc(), asked) {
-        Ok(()) => ExitCode::SUCCESS,
-        Err(_) => ExitCode::FAILURE,
+    match measure(&rt, rt.alloc(), &asked) {
+        Ok(true) => ExitCode::SUCCESS,
+        _ => ExitCode::FAILURE,
     }
 }
 
-/// Makes each work that is asked for with each peer.
+/// Does each job that is asked for, and tells whether there is one.
 fn measure<R: Threads + Wait + RandomSource + AllocGlobal + Clock + Print + Eprint + Sync>(
     rt: &R,
     alloc: Global,
-    asked: Asked,
-) -> anyhow::Result<()> {
+    asked: &Asked,
+) -> io::Result<bool> {
+    let mut done = false;
     for peer in PEERS {
-        if asked.is_peer(peer) {
-            measure_peer(rt, alloc, asked, peer)?;
+        for work in WORKS {
+            done |= measure_work(rt, alloc, asked, peer, work)?;
         }
     }
-    Ok(())
-}
-
-fn measure_peer<R: Threads + Wait + RandomSource + AllocGlobal + Clock + Print + Eprint + Sync>(
-    rt: &R,
-    alloc: Global,
-    asked: Asked,
-    peer: Peer,
-) -> anyhow::Result<()> {
-    for work in WORKS {
-        if asked.is_work(work) {
-            measure_work(rt, alloc, asked, peer, work)?;
-        }
+    if !done {
+        eprintln!(rt; "moka_cache_speed: no such peer, work and way; its README has the words")?;
     }
-    Ok(())
+    Ok(done)
 }
 
-/// Makes the work: calls of a kind in each way that is asked for.
+/// Does the work with the peer in each way that is asked for, and tells whether one is.
 fn measure_work<R: Threads + Wait + RandomSource + AllocGlobal + Clock + Print + Eprint + Sync>(
     rt: &R,
     alloc: Global,
-    asked: Asked,
+    asked: &Asked,
     peer: Peer,
     work: Work,
-) -> anyhow::Result<()> {
+) -> io::Result<bool> {
+    let mut done = false;
     for way in WAYS {
-        let is_made = match work {
-            Work::Calls(_) => asked.is_way(way),
-            _ => matches!(way, Way::Once),
-        };
-        if is_made {
-            measure_job(rt, alloc, asked, peer, Job { work, way })?;
+        let job = Job { peer, work, way };
+        if asked.is_job(job) {
+            measure_job(rt, alloc, asked, job)?;
+            done = true;
         }
     }
-    Ok(())
+    Ok(done)
 }
 
-/// Does the job with a peer of its own. A map has no kinds of calls, and no bursts.
+/// Does the job with a peer of its own.
 fn measure_job<R: Threads + Wait + RandomSource + AllocGlobal + Clock + Print + Eprint + Sync>(
     rt: &R,
     alloc: Global,
-    asked: Asked,
-    peer: Peer,
+    asked: &Asked,
     job: Job,
-) -> anyhow::Result<()> {
-    match (peer, job.work) {
-        (Peer::Map, Work::Calls(_) | Work::Burst(_)) => Ok(()),
-        (Peer::Map, _) => time_map(rt, alloc, asked, job),
-        (Peer::Heard, _) => with_heard(rt, alloc, asked, peer, job),
-        (Peer::Cache, _) => with_cache(rt, alloc, asked, peer, job, Some(u64::MAX)),
-        (Peer::Unbounded, _) => with_cache(rt, alloc, asked, peer, job, None),
+) -> io::Result<()> {
+    match job.peer {
+        Peer::Map => time(rt, alloc, &Mutex::new(HashMap::new(alloc)), asked, job),
+        _ => use_cache(rt, alloc, asked, job),
     }
 }
 
-/// Does the job with a cache that no listener hears, of this capacity.
-fn with_cache<R: Threads + Wait + RandomSource + AllocGlobal + Clock + Print + Eprint + Sync>(
+/// Does it with a cache.
+fn use_cache<R: Threads + Wait + RandomSource + AllocGlobal + Clock + Print + Eprint + Sync>(
     rt: &R,
     alloc: Global,
-    asked: Asked,
-    peer: Peer,
+    asked: &Asked,
     job: Job,
-    max_capacity: Option<u64>,
-) -> anyhow::Result<()> {
-    let cache: Numbers = Cache::starting_after(alloc, None, max_capacity, 0)?;
-    use_cache(rt, alloc, &cache, asked, peer, job)
-}
-
-/// Does it with a cache that a listener hears.
-fn with_heard<R: Threads + Wait + RandomSource + AllocGlobal + Clock + Print + Eprint + Sync>(
-    rt: &R,
-    alloc: Global,
-    asked: Asked,
-    peer: Peer,
-    job: Job,
-) -> anyhow::Result<()> {
-    let cache = heard::empty(alloc)?;
-    use_cache(rt, alloc, &cache, asked, peer, job)
-}
-
-/// Does it with this cache, which is empty.
-fn use_cache<R, L>(
-    rt: &R,
-    alloc: Global,
-    cache: &Numbers<L>,
-    asked: Asked,
-    peer: Peer,
-    job: Job,
-) -> anyhow::Result<()>
-where
-    R: Threads + Wait + RandomSource + AllocGlobal + Clock + Print + Eprint + Sync,
-    L: Listener<u64, u64> + Send + Sync,
-{
+) -> io::Result<()> {
+    let cache = heard::empty(alloc, job.peer)?;
     match job.work {
         Work::Burst(burst) => {
-            come_and_store(rt, alloc, cache, burst, asked.calls, asked.few_keys())
+            come_and_store(rt, alloc, &cache, burst, asked.calls(), asked.few_keys())
         }
-        _ => time_cache(rt, alloc, cache, asked, peer, job),
+        _ => time(rt, alloc, &cache, asked, job),
     }
-}
-
-/// Times the work on an empty cache, of which a get finds each key.
-fn time_cache<R, L>(
-    rt: &R,
-    alloc: Global,
-    cache: &Numbers<L>,
-    asked: Asked,
-    peer: Peer,
-    job: Job,
-) -> anyhow::Result<()>
-where
-    R: Threads + Wait + RandomSource + AllocGlobal + Clock + Print + Eprint + Sync,
-    L: Listener<u64, u64> + Send + Sync,
-{
-    let keys = keys_below(alloc, asked.keys_of(job.work))?;
-    if job.work.is_get() {
-        cached::fill(rt, cache, keys.len() as u64)?;
-    }
-    let start = Instant::now(rt)?;
-    let answered = cached::work(rt, alloc, cache, keys.as_slice(), job, asked.share())?;
-    told(rt, peer, job, answered, asked, start)
-}
-
-/// Times the work on a map under a lock.
-fn time_map<R: Threads + Wait + Clock + Print + Eprint + Sync>(
-    rt: &R,
-    alloc: Global,
-    asked: Asked,
-    job: Job,
-) -> anyhow::Result<()> {
-    let keys = keys_below(alloc, asked.keys_of(job.work))?;
-    let map = Mutex::new(HashMap::new(alloc));
-    if job.work.is_get() {
-        mapped::fill(rt, &map, keys.as_slice());
-    }
-    let start = Instant::now(rt)?;
-    let answered = mapped::work(rt, alloc, &map, keys.as_slice(), job.work, asked.share())?;
-    told(rt, Peer::Map, job, answered, asked, start)
-}
-
-/// Prints how many of the calls answered, and how long they took.
-fn told<R: Clock + Print + Eprint>(
-    rt: &R,
-    peer: Peer,
-    job: Job,
-    answered: u64,
-    asked: Asked,
-    start: Instant,
-) -> anyhow::Result<()> {
-    let nanos = start.elapsed(rt)?.as_nanos();
-    let (peer, name, (space, way)) = (peer.name(), job.work.name(), job.way());
-    println!(rt; "{peer} {name}{space}{way} {answered}")?;
-    let each = nanos / u128::from(asked.share().calls.max(1));
-    let rate = 1_000_000_000 * u128::from(asked.calls) / nanos.max(1);
-    let threads = asked.threads;
-    eprintln!(rt;
-        "{peer} {name}{space}{way}: {threads} threads, {each} ns a call, {rate} calls a second"
-    )?;
-    Ok(())
 }

@@ -1,6 +1,6 @@
 //! The words of the command line, and what they stand for.
 
-use moka_cache_rounds::ways::{Kind, Way};
+use crate::ways::{Kind, Way};
 
 /// What the calls are made of.
 #[derive(Clone, Copy)]
@@ -63,7 +63,7 @@ pub(crate) enum Work {
 }
 
 /// Each of them.
-pub(crate) const WORKS: [Work; 26] = [
+pub(crate) const WORKS: [Work; 21] = [
     Work::Get,
     Work::Insert,
     Work::Load,
@@ -78,14 +78,9 @@ pub(crate) const WORKS: [Work; 26] = [
     Work::Calls(Kind::TryGetWith),
     Work::Calls(Kind::Failing),
     Work::Calls(Kind::OrInsert),
-    Work::Calls(Kind::OrInsertWith),
-    Work::Calls(Kind::OrInsertWithIf),
-    Work::Calls(Kind::OrOptionallyInsertWith),
-    Work::Calls(Kind::OrTryInsertWith),
     Work::Calls(Kind::Compute),
     Work::Calls(Kind::TryCompute),
     Work::Calls(Kind::ComputeFailing),
-    Work::Calls(Kind::ComputeAlone),
     Work::Calls(Kind::Upsert),
     Work::Burst(Burst::Records),
     Work::Burst(Burst::Owners),
@@ -113,16 +108,33 @@ impl Work {
     pub(crate) fn is_get(self) -> bool {
         matches!(self, Work::Get)
     }
+
+    /// Whether its calls are made in several ways.
+    pub(crate) fn has_ways(self) -> bool {
+        matches!(self, Work::Calls(_))
+    }
 }
 
-/// A work, and the way in which its calls are made where it is made in several.
+/// A work with a peer, and the way in which its calls are made where it is made in several.
 #[derive(Clone, Copy)]
 pub(crate) struct Job {
+    pub(crate) peer: Peer,
     pub(crate) work: Work,
     pub(crate) way: Way,
 }
 
 impl Job {
+    /// Whether there is such a job: a map has the first three works, and a work that has no ways is
+    /// made once.
+    pub(crate) fn is_made(self) -> bool {
+        match (self.peer, self.work, self.way) {
+            (Peer::Map, Work::Get | Work::Insert | Work::Load, Way::Once) => true,
+            (Peer::Map, _, _) => false,
+            (_, Work::Calls(_), _) => true,
+            (_, _, way) => matches!(way, Way::Once),
+        }
+    }
+
     /// The word of its way, and what stands before it.
     pub(crate) fn way(self) -> (&'static str, &'static str) {
         match self.work {

@@ -8,9 +8,9 @@ use moka_hist::{Entry, Op};
 
 /// Gives this output: at once, or at its second poll.
 #[derive(Drop)]
-pub struct Later<T> {
-    pub output: T,
-    pub pends: bool,
+pub(crate) struct Later<T> {
+    pub(crate) output: T,
+    pub(crate) pends: bool,
 }
 
 impl<T: Copy + Drop> Init<T> for Later<T> {
@@ -25,7 +25,7 @@ impl<T: Copy + Drop> Init<T> for Later<T> {
 
 /// Stores a value.
 #[derive(Drop)]
-pub struct Puts(pub Later<u64>);
+pub(crate) struct Puts(pub(crate) Later<u64>);
 
 impl Compute<u64, u64, u64> for Puts {
     ghost gives = { λ puts r. IsOk r × IsPut r };
@@ -42,7 +42,7 @@ impl Compute<u64, u64, u64> for Puts {
 
 /// Stores a value, or fails.
 #[derive(Drop)]
-pub struct MayFail(pub Later<Result<u64, u64>>);
+pub(crate) struct MayFail(pub(crate) Later<Result<u64, u64>>);
 
 impl Compute<u64, u64, u64> for MayFail {
     fn start(&mut self, _found: Option<&Entry<u64, u64>>) {}

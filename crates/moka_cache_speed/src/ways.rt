@@ -2,7 +2,7 @@
 
 /// A kind of call of a key, and what who is asked gives.
 #[derive(Clone, Copy)]
-pub enum Kind {
+pub(crate) enum Kind {
     Get,
     Insert,
     Remove,
@@ -18,21 +18,16 @@ pub enum Kind {
     /// The same, by an initializer that fails.
     Failing,
     OrInsert,
-    OrInsertWith,
-    OrInsertWithIf,
-    OrOptionallyInsertWith,
-    OrTryInsertWith,
     Compute,
     TryCompute,
     /// The same, which fails.
     ComputeFailing,
-    ComputeAlone,
     Upsert,
 }
 
 impl Kind {
     /// Its word.
-    pub fn name(self) -> &'static str {
+    pub(crate) fn name(self) -> &'static str {
         match self {
             Kind::Get => "get",
             Kind::Insert => "insert",
@@ -45,22 +40,25 @@ impl Kind {
             Kind::TryGetWith => "try_get_with",
             Kind::Failing => "failing",
             Kind::OrInsert => "or_insert",
-            Kind::OrInsertWith => "or_insert_with",
-            Kind::OrInsertWithIf => "or_insert_with_if",
-            Kind::OrOptionallyInsertWith => "or_optionally_insert_with",
-            Kind::OrTryInsertWith => "or_try_insert_with",
             Kind::Compute => "compute",
             Kind::TryCompute => "try_compute",
             Kind::ComputeFailing => "compute_failing",
-            Kind::ComputeAlone => "compute_alone",
             Kind::Upsert => "upsert",
         }
+    }
+
+    /// Whether who is asked fails or finds nothing, or a replace test holds.
+    pub(crate) fn is_otherwise(self) -> bool {
+        matches!(
+            self,
+            Kind::Replacing | Kind::Nothing | Kind::Failing | Kind::ComputeFailing
+        )
     }
 }
 
 /// How a call is made.
 #[derive(Clone, Copy)]
-pub enum Way {
+pub(crate) enum Way {
     /// To its end, all by one task, but for loads by a test.
     Once,
     /// To its end, as a task of its own.
@@ -74,11 +72,11 @@ pub enum Way {
 }
 
 /// Each of them.
-pub const WAYS: [Way; 5] = [Way::Once, Way::Apart, Way::Twice, Way::Taken, Way::Dropped];
+pub(crate) const WAYS: [Way; 5] = [Way::Once, Way::Apart, Way::Twice, Way::Taken, Way::Dropped];
 
 impl Way {
     /// Its word.
-    pub fn name(self) -> &'static str {
+    pub(crate) fn name(self) -> &'static str {
         match self {
             Way::Once => "once",
             Way::Apart => "apart",
@@ -89,7 +87,7 @@ impl Way {
     }
 
     /// Whether who is asked pends first.
-    pub fn pends(self) -> bool {
+    pub(crate) fn pends(self) -> bool {
         matches!(self, Way::Twice | Way::Dropped)
     }
 }

@@ -13,14 +13,14 @@ use std::random::RandomSource;
 use std::sync::Wait;
 
 /// Where the calls of a task come from.
-pub trait Begins<R: Wait, S: State<R>>: Drop {
+pub(crate) trait Begins<R: Wait, S: State<R>> {
     /// The state of the call of this number.
     fn begin(&self, call: u64) -> S
         ensures { S.can_poll result };
 }
 
 /// Makes the calls from one number up to another, and tells how many answered.
-pub fn make_calls<R, S, B>(rt: &R, begins: B, first: u64, end: u64) -> io::Result<u64>
+pub(crate) fn make_calls<R, S, B>(rt: &R, begins: &B, first: u64, end: u64) -> io::Result<u64>
 where
     R: Wait + RandomSource + AllocGlobal,
     S: State<R, Output: Drop>,
@@ -32,7 +32,7 @@ where
 /// A future that makes calls one after the other. It gives how many answered.
 struct Calls<'a, R: Wait, S: State<R>, B: Begins<R, S>> {
     rt: &'a R,
-    begins: B,
+    begins: &'a B,
     waits: Option<S>,
     next: u64,
     end: u64,
@@ -41,7 +41,7 @@ struct Calls<'a, R: Wait, S: State<R>, B: Begins<R, S>> {
 
 impl<'a, R: Wait, S: State<R>, B: Begins<R, S>> Calls<'a, R, S, B> {
     /// Makes the calls from one number up to another.
-    fn new(rt: &'a R, begins: B, first: u64, end: u64) -> Self
+    fn new(rt: &'a R, begins: &'a B, first: u64, end: u64) -> Self
         ensures { result.waits ≡ None }
     {
         Calls {

@@ -13,7 +13,7 @@ use std::sync::Wait;
 
 /// Each poll is at moment 0.
 #[derive(Drop)]
-pub struct Still;
+pub(crate) struct Still;
 
 impl Moments for Still {
     fn moment(&mut self) -> u64 {
@@ -23,19 +23,19 @@ impl Moments for Still {
 
 /// The rounds from one up to another, without that.
 #[derive(Clone, Copy)]
-pub struct Span {
-    pub first: u64,
-    pub end: u64,
+pub(crate) struct Span {
+    pub(crate) first: u64,
+    pub(crate) end: u64,
 }
 
 impl Span {
     /// So many rounds.
-    pub fn below(end: u64) -> Span {
+    pub(crate) fn below(end: u64) -> Span {
         Span { first: 0, end }
     }
 
     /// This round alone.
-    pub fn of(round: u64) -> Span {
+    pub(crate) fn of(round: u64) -> Span {
         Span {
             first: round,
             end: round.saturating_add(1),
@@ -45,7 +45,7 @@ impl Span {
 
 /// Makes the rounds by calls that come from there: those that are made once as one task. Tells how
 /// many are over.
-pub fn run<R, S, B>(rt: &R, begins: B, way: Way, span: Span) -> io::Result<u64>
+pub(crate) fn run<R, S, B>(rt: &R, begins: &B, way: Way, span: Span) -> io::Result<u64>
 where
     R: Wait + RandomSource + AllocGlobal,
     S: State<R, Output: Drop>,
@@ -53,7 +53,7 @@ where
 {
     match way {
         Way::Once => make_calls(rt, begins, span.first, span.end),
-        _ => make_each(rt, &begins, way, span),
+        _ => make_each(rt, begins, way, span),
     }
 }
 
@@ -66,29 +66,18 @@ where
 {
     let mut over = 0u64;
     for round in span.first..span.end {
-        let done = make_round(rt, begins, way, round)?;
+        let done = match way {
+            Way::Twice => finish_both(rt, begins.begin(round), begins.begin(round))?,
+            _ => make_alone(rt, way, begins.begin(round))?,
+        };
         over = over.wrapping_add(u64::from(done));
     }
     Ok(over)
 }
 
-/// Makes one round, and tells whether all its calls are over.
-fn make_round<R, S, B>(rt: &R, begins: &B, way: Way, round: u64) -> io::Result<bool>
-where
-    R: Wait + RandomSource + AllocGlobal,
-    S: State<R, Output: Drop>,
-    B: Begins<R, S>,
-{
-    let state = begins.begin(round);
-    match way {
-        Way::Twice => finish_both(rt, state, begins.begin(round)),
-        _ => make_alone(rt, way, state),
-    }
-}
-
 /// Makes the one call of a round, and tells whether it is over: to its end, or polled once and
 /// dropped where it waits.
-pub fn make_alone<R, S>(rt: &R, way: Way, state: S) -> io::Result<bool>
+pub(crate) fn make_alone<R, S>(rt: &R, way: Way, state: S) -> io::Result<bool>
 where
     R: Wait + RandomSource + AllocGlobal,
     S: State<R, Output: Drop>,
@@ -122,13 +111,12 @@ fn poll_once<R: Wait + RandomSource + AllocGlobal, S: State<R, Output: Drop>>(
 }
 
 /// Runs both calls to their end as one task, and tells whether they answered.
-pub fn finish_both<R, S, T>(rt: &R, one: S, other: T) -> io::Result<bool>
+pub(crate) fn finish_both<R, S>(rt: &R, one: S, other: S) -> io::Result<bool>
 where
     R: Wait + RandomSource + AllocGlobal,
     S: State<R, Output: Drop>,
-    T: State<R, Output: Drop>,
     requires one { S.can_poll one }
-    requires other { T.can_poll other }
+    requires other { S.can_poll other }
 {
     let one = Polled::new(rt, one, Still);
     let other = Polled::new(rt, other, Still);

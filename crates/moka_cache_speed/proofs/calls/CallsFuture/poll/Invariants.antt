@@ -1,7 +1,7 @@
 -- A call that waits can be polled, and the context is the poll's own.
 use Rattle.std.specs.Prelude.{IfSome}
 use Rattle.futures.specs.Task.{Keeps}
-use Rattle.moka_cache_rounds.proofs.calls.CallsFuture.poll.Given as goal
+use Rattle.moka_cache_speed.proofs.calls.CallsFuture.poll.Given as goal
 
 abbrev pub invariant-loop : goal.invariant-loop
 invariant-loop g l = record {

@@ -8,20 +8,21 @@ ghost use Rattle.moka_cache.specs.Starts.{called};
 ghost use Rattle.moka_cache.specs.Suits.{Tells};
 ghost use Rattle.moka_cache.specs.declared.stage.Stage.TheVariants as Stage;
 
+use crate::heard::Counts;
 use futures::task::{Context, Poll};
-use moka_cache::{Asked, Begin, Cache, CacheCall, Listener, NoListener, PollError, State};
+use moka_cache::{Asked, Begin, Cache, CacheCall, PollError, State};
 use std::sync::Wait;
 
-/// A cache of numbers, with this listener.
-pub type Numbers<L = NoListener> = Cache<u64, u64, u64, L>;
+/// A cache of numbers, with a listener or without one.
+pub(crate) type Numbers = Cache<u64, u64, u64, Counts>;
 
 /// A call of such a cache.
-pub type Call<'a, A, Q, L = NoListener> = CacheCall<'a, A, u64, u64, u64, Q, L>;
+pub(crate) type Call<'a, A, Q> = CacheCall<'a, A, u64, u64, u64, Q, Counts>;
 
 /// Where calls of such a cache come from.
-pub trait Makes<'a, A: Begin<u64, u64, u64>, Q: Asked<u64, u64, u64>, L>: Drop {
+pub(crate) trait Makes<'a, A: Begin<u64, u64, u64>, Q: Asked<u64, u64, u64>> {
     /// The call of this round, which may be run.
-    fn make(&self, round: u64) -> Call<'a, A, Q, L>
+    fn make(&self, round: u64) -> Call<'a, A, Q>
         ensures may { MayPoll result.stage }
         ensures asks { Q.can_poll result.asked }
         ensures tells { Tells nat_eq (Q.gives result.asked) (called (rules_of result.cache.now)
@@ -29,19 +30,18 @@ pub trait Makes<'a, A: Begin<u64, u64, u64>, Q: Asked<u64, u64, u64>, L>: Drop {
 }
 
 /// A call of such a cache, as a state.
-pub struct NumberCall<'a, A, Q, L = NoListener> {
-    call: Call<'a, A, Q, L>,
+pub(crate) struct NumberCall<'a, A, Q> {
+    call: Call<'a, A, Q>,
 }
 
 /// The call as a state, where it may be run.
-pub fn numbers<'a, A: Begin<u64, u64, u64>, Q: Asked<u64, u64, u64>, L>(
-    call: Call<'a, A, Q, L>,
-) -> NumberCall<'a, A, Q, L>
+pub(crate) fn numbers<'a, A: Begin<u64, u64, u64>, Q: Asked<u64, u64, u64>>(
+    call: Call<'a, A, Q>,
+) -> NumberCall<'a, A, Q>
     requires may { MayPoll call.stage }
     requires asks { Q.can_poll call.asked }
     requires tells { Tells nat_eq (Q.gives call.asked) (called (rules_of call.cache.now) A.start)
         A.output call.stage }
-    ensures same { result.call ≡ call.entry }
     ensures may { MayPoll result.call.stage }
     ensures asks { Q.can_poll result.call.asked }
     ensures tells { Tells nat_eq (Q.gives result.call.asked)
@@ -50,12 +50,11 @@ pub fn numbers<'a, A: Begin<u64, u64, u64>, Q: Asked<u64, u64, u64>, L>(
     NumberCall { call }
 }
 
-impl<R, A, Q, L> State<R> for NumberCall<'_, A, Q, L>
+impl<R, A, Q> State<R> for NumberCall<'_, A, Q>
 where
     R: Wait,
     A: Begin<u64, u64, u64>,
     Q: Asked<u64, u64, u64>,
-    L: Listener<u64, u64>,
 {
     type Output = A::Output;
 
