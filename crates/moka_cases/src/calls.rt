@@ -7,9 +7,9 @@ mod together;
 use crate::calls::alone::{Told, run};
 use crate::calls::memory::Memory;
 use crate::calls::together::Crowd;
+use crate::rows::{Wrong, all_right};
 use moka_growth::CallKind;
 use std::alloc::{AllocError, Global};
-use std::process::Abort;
 use std::test::Fail;
 
 // Found its node, or none, and changed nothing.
@@ -41,7 +41,8 @@ fn listed(steps: u32, nodes: usize) -> Told {
     }
 }
 
-fn play_cases(rt: &(impl AllocGlobal + Abort), memory: &mut Memory) -> Result<(), Fail> {
+// Calls, one after the other, each with its key, which is its hash, and what it tells.
+fn first_mistold(alloc: Global, memory: &mut Memory) -> Wrong {
     let cases = [
         (CallKind::Get, 1, kept(1, None)),
         (CallKind::Remove, 1, kept(1, None)),
@@ -53,19 +54,21 @@ fn play_cases(rt: &(impl AllocGlobal + Abort), memory: &mut Memory) -> Result<()
         (CallKind::Remove, 1, changed(3, Some(1))),
         (CallKind::Get, 1, kept(2, None)),
     ];
-    for (kind, key, want) in cases {
-        let told = run(rt.alloc(), memory, kind, key, key)?;
-        assert_eq!(rt; told, want, "{kind:?}");
+    for place in 0..cases.len() {
+        let (kind, key, want) = cases[place];
+        if run(alloc, memory, kind, key, key)? != want {
+            return Ok(Some(place as u64));
+        }
     }
-    Ok(())
+    Ok(None)
 }
 
 #[test]
-fn steps_of_calls_to_an_empty_segment(rt: HostRuntime) -> Result<(), Fail> {
+fn steps_of_calls_to_an_empty_segment(rt: HostRuntime) {
     let mut memory = Memory::new(rt.alloc());
-    let played = play_cases(&rt, &mut memory);
+    let mistold = first_mistold(rt.alloc(), &mut memory);
     drop(memory);
-    played
+    all_right(&rt, mistold);
 }
 
 // Calls of this kind under the keys from one to below another, one after the other. The hash of a
@@ -83,48 +86,46 @@ fn run_all(
     Ok(())
 }
 
-// The hash of a key is the key so many times; the 91st makes so many steps.
-fn grow(
-    rt: &(impl AllocGlobal + Abort),
-    memory: &mut Memory,
-    spread: u64,
-    steps: u32,
-) -> Result<(), Fail> {
-    run_all(rt.alloc(), memory, CallKind::Insert, (0, 90), spread)?;
-    assert_eq!(rt; memory.root_words().len(), 128);
+// Whether the 91st key makes so many steps, and then there are 256 words in place of 128. The hash of
+// a key is the key so many times.
+fn grows(alloc: Global, memory: &mut Memory, spread: u64, steps: u32) -> Result<bool, AllocError> {
+    run_all(alloc, memory, CallKind::Insert, (0, 90), spread)?;
+    let before = memory.root_words().len();
     let hash = 90u64.wrapping_mul(spread);
-    let told = run(rt.alloc(), memory, CallKind::Insert, 90, hash)?;
-    assert_eq!(rt; told, changed(steps, None));
-    assert_eq!(rt; (memory.root_words().len(), memory.len()), (256, 91));
-    Ok(())
+    let told = run(alloc, memory, CallKind::Insert, 90, hash)?;
+    let after = memory.root_words().len();
+    Ok(told == changed(steps, None) && before == 128 && after == 256 && memory.len() == 91)
+}
+
+// The same in a new memory.
+fn grows_anew(alloc: Global, spread: u64, steps: u32) -> Result<bool, AllocError> {
+    let mut memory = Memory::new(alloc);
+    let grown = grows(alloc, &mut memory, spread, steps);
+    drop(memory);
+    grown
 }
 
 #[test]
 fn the_ninety_first_key_grows_the_array(rt: HostRuntime) -> Result<(), Fail> {
-    for (spread, steps) in [(1, 519), (0, 609)] {
-        let mut memory = Memory::new(rt.alloc());
-        let grown = grow(&rt, &mut memory, spread, steps);
-        drop(memory);
-        grown?;
-    }
+    assert!(rt; grows_anew(rt.alloc(), 1, 519)?);
+    assert!(rt; grows_anew(rt.alloc(), 0, 609)?);
     Ok(())
 }
 
-fn clear(rt: &(impl AllocGlobal + Abort), memory: &mut Memory) -> Result<(), Fail> {
-    run_all(rt.alloc(), memory, CallKind::Insert, (0, 20), 0)?;
-    run_all(rt.alloc(), memory, CallKind::Remove, (0, 13), 0)?;
-    let told = run(rt.alloc(), memory, CallKind::Remove, 13, 0)?;
-    assert_eq!(rt; told, changed(391, Some(13)));
-    assert!(rt; memory.is_sound());
-    Ok(())
+// Whether of 20 keys of one hash the 14th removal makes so many steps.
+fn clears(alloc: Global, memory: &mut Memory, steps: u32) -> Result<bool, AllocError> {
+    run_all(alloc, memory, CallKind::Insert, (0, 20), 0)?;
+    run_all(alloc, memory, CallKind::Remove, (0, 13), 0)?;
+    let told = run(alloc, memory, CallKind::Remove, 13, 0)?;
+    Ok(told == changed(steps, Some(13)) && memory.is_sound())
 }
 
 #[test]
-fn the_fourteenth_removal_clears_the_tombstones(rt: HostRuntime) -> Result<(), Fail> {
+fn the_fourteenth_removal_clears_the_tombstones(rt: HostRuntime) {
     let mut memory = Memory::new(rt.alloc());
-    let cleared = clear(&rt, &mut memory);
+    let cleared = clears(rt.alloc(), &mut memory, 391);
     drop(memory);
-    cleared
+    assert!(rt; matches!(cleared, Ok(true)));
 }
 
 // Pseudo-random numbers, by a linear congruence.
@@ -168,17 +169,36 @@ fn first_wrong_at_the_end(crowd: &mut Crowd) -> Result<Option<u64>, AllocError> 
     Ok(None)
 }
 
-#[test]
-fn many_calls_at_once_answer_as_the_standard_map(rt: HostRuntime) -> Result<(), Fail> {
+// Plays with a root of so many words, from this seed on; the hash of a key is the key so many times.
+// Gives the seed after the last, and whether each turn was right and each call ended.
+fn play_anew(
+    alloc: Global,
+    size: usize,
+    spread: u64,
+    first: u64,
+) -> Result<(u64, bool), AllocError> {
+    let mut crowd = Crowd::new(alloc, size, spread)?;
+    let played = play(&mut crowd, first);
+    let running = crowd.running();
+    drop(crowd);
+    let (next, wrong) = played?;
+    Ok((next, wrong.is_none() && running == 0))
+}
+
+// The first of 15 plays that isn't right.
+fn misplayed(alloc: Global) -> Wrong {
     let mut seed = 1;
     for case in 0..15u64 {
-        let mut crowd = Crowd::new(rt.alloc(), 1 << (case % 5), case / 5)?;
-        let played = play(&mut crowd, seed);
-        let running = crowd.running();
-        drop(crowd);
-        let (next, wrong) = played?;
-        assert_eq!(rt; (wrong, running), (None, 0), "case {case}");
+        let (next, right) = play_anew(alloc, 1 << (case % 5), case / 5, seed)?;
+        if !right {
+            return Ok(Some(case));
+        }
         seed = next;
     }
-    Ok(())
+    Ok(None)
+}
+
+#[test]
+fn many_calls_at_once_answer_as_the_standard_map(rt: HostRuntime) {
+    all_right(&rt, misplayed(rt.alloc()));
 }

@@ -14,6 +14,8 @@ mod numbers;
 #[cfg(test)]
 mod room;
 #[cfg(test)]
+mod rows;
+#[cfg(test)]
 mod streams;
 #[cfg(test)]
 mod sync;

@@ -1,17 +1,17 @@
 //! Places come back, which no clause says.
 
 use moka_room::{deque_room, map_room, set_room, vec_room};
-use std::alloc::AllocError;
+use std::alloc::{AllocError, Global};
 use std::collections::{HashMap, HashSet, VecDeque};
-use std::test::Fail;
 
 /// How many entries a burst has, and how many stay.
 const MANY: u64 = 5000;
 
 const STAY: u64 = 10;
 
-/// Fills the map, and takes most out of it. Tells how many places it had when it was full.
-fn burst_map(map: &mut HashMap<u64, u64>) -> Result<usize, AllocError> {
+/// Fills the map, which has places for all then, and takes most out of it. Tells whether few places
+/// are left, with the entries that stay.
+fn map_gives_back(map: &mut HashMap<u64, u64>) -> Result<bool, AllocError> {
     for number in 0..MANY {
         map_room::reserve(map, 1)?;
         map.insert(number, number)?;
@@ -21,23 +21,20 @@ fn burst_map(map: &mut HashMap<u64, u64>) -> Result<usize, AllocError> {
         let _ = map.remove(&number);
     }
     map_room::reserve(map, 5)?;
-    Ok(places)
+    let few = places >= 5000 && map.capacity() < 200;
+    Ok(few && map.len() == 10 && map.get(&9).copied() == Some(9))
 }
 
 #[test]
-fn a_map_gives_places_back(rt: HostRuntime) -> Result<(), Fail> {
+fn a_map_gives_places_back(rt: HostRuntime) {
     let mut map = HashMap::new(rt.alloc());
-    let burst = burst_map(&mut map);
-    let (places, len, ninth) = (map.capacity(), map.len(), map.get(&9).copied());
+    let gives = map_gives_back(&mut map);
     drop(map);
-    assert!(rt; burst? >= 5000, "room for all");
-    assert!(rt; places < 200, "room for {places}");
-    assert_eq!(rt; (len, ninth), (10, Some(9)));
-    Ok(())
+    assert!(rt; matches!(gives, Ok(true)));
 }
 
 /// The same of a set.
-fn burst_set(set: &mut HashSet<u64>) -> Result<(), AllocError> {
+fn set_gives_back(set: &mut HashSet<u64>) -> Result<bool, AllocError> {
     for number in 0..MANY {
         set_room::reserve(set, 1)?;
         set.insert(number)?;
@@ -45,68 +42,62 @@ fn burst_set(set: &mut HashSet<u64>) -> Result<(), AllocError> {
     for number in STAY..MANY {
         let _ = set.remove(&number);
     }
-    set_room::reserve(set, 5)
+    set_room::reserve(set, 5)?;
+    Ok(set.capacity() < 200 && set.len() == 10)
 }
 
 #[test]
-fn a_set_gives_places_back(rt: HostRuntime) -> Result<(), Fail> {
+fn a_set_gives_places_back(rt: HostRuntime) {
     let mut set = HashSet::new(rt.alloc());
-    let burst = burst_set(&mut set);
-    let (places, len) = (set.capacity(), set.len());
+    let gives = set_gives_back(&mut set);
     drop(set);
-    burst?;
-    assert!(rt; places < 200, "room for {places}");
-    assert_eq!(rt; len, 10);
-    Ok(())
+    assert!(rt; matches!(gives, Ok(true)));
 }
 
 /// The same of a queue.
-fn burst_queue(queue: &mut VecDeque<u64>) -> Result<(), AllocError> {
+fn queue_gives_back(queue: &mut VecDeque<u64>) -> Result<bool, AllocError> {
     for number in 0..MANY {
         queue.push_back(number)?;
     }
     queue.truncate(10);
-    deque_room::reserve(queue, 5)
+    deque_room::reserve(queue, 5)?;
+    Ok(queue.capacity() == 30 && queue.back().copied() == Some(9))
 }
 
 #[test]
-fn a_queue_gives_places_back(rt: HostRuntime) -> Result<(), Fail> {
+fn a_queue_gives_places_back(rt: HostRuntime) {
     let mut queue = VecDeque::new(rt.alloc());
-    let burst = burst_queue(&mut queue);
-    let left = (queue.capacity(), queue.back().copied());
+    let gives = queue_gives_back(&mut queue);
     drop(queue);
-    burst?;
-    assert_eq!(rt; left, (30, Some(9)));
-    Ok(())
+    assert!(rt; matches!(gives, Ok(true)));
 }
 
 /// The same of a vector.
-fn burst_list(list: &mut Vec<u64>) -> Result<(), AllocError> {
+fn list_gives_back(list: &mut Vec<u64>) -> Result<bool, AllocError> {
     for number in 0..MANY {
         list.push(number)?;
     }
     list.truncate(10);
-    vec_room::reserve(list, 5)
+    vec_room::reserve(list, 5)?;
+    Ok(list.capacity() == 30 && list.last().copied() == Some(9))
 }
 
 #[test]
-fn a_vector_gives_places_back(rt: HostRuntime) -> Result<(), Fail> {
+fn a_vector_gives_places_back(rt: HostRuntime) {
     let mut list = Vec::new(rt.alloc());
-    let burst = burst_list(&mut list);
-    let left = (list.capacity(), list.last().copied());
+    let gives = list_gives_back(&mut list);
     drop(list);
-    burst?;
-    assert_eq!(rt; left, (30, Some(9)));
-    Ok(())
+    assert!(rt; matches!(gives, Ok(true)));
+}
+
+/// How many places a vector with room for so many has, once it has reserved one.
+fn places_of(alloc: Global, places: usize) -> Result<usize, AllocError> {
+    let mut list: Vec<u64> = Vec::with_capacity(alloc, places)?;
+    vec_room::reserve(&mut list, 1)?;
+    Ok(list.capacity())
 }
 
 #[test]
-fn few_places_stay(rt: HostRuntime) -> Result<(), Fail> {
-    let mut list: Vec<u64> = Vec::with_capacity(rt.alloc(), 1024)?;
-    let reserved = vec_room::reserve(&mut list, 1);
-    let places = list.capacity();
-    drop(list);
-    reserved?;
-    assert_eq!(rt; places, 1024);
-    Ok(())
+fn few_places_stay(rt: HostRuntime) {
+    assert!(rt; matches!(places_of(rt.alloc(), 1024), Ok(1024)));
 }

@@ -1,8 +1,7 @@
 //! What no clause says: that calls over a reader and a writer succeed, or count a fault.
 
-use moka_ends::{Failed, ReadSource, Sink, Source, WriteSink, write_all};
+use moka_ends::{ReadSource, Sink, Source, WriteSink, write_all};
 use std::io::{self, Read, Write};
-use std::test::Fail;
 
 /// Fails each time.
 #[derive(Drop)]
@@ -46,30 +45,36 @@ impl Write for Narrow {
     }
 }
 
+/// Whether the whole is written without a fault.
+fn writes_all(sink: &mut WriteSink<Narrow>) -> bool {
+    let ended = write_all(sink, b"answer none\n");
+    let bytes = sink.output.bytes.as_slice();
+    ended.is_ok() && bytes == b"answer none\n".as_slice() && sink.faults == 0
+}
+
 #[test]
-fn short_writes_come_to_the_whole(rt: HostRuntime) -> Result<(), Fail> {
+fn short_writes_come_to_the_whole(rt: HostRuntime) {
     let bytes = Vec::new(rt.alloc());
     let mut sink = WriteSink::new(Narrow { bytes });
-    assert_eq!(rt; write_all(&mut sink, b"answer none\n"), Ok(()));
-    assert_eq!(rt; sink.output.bytes.as_slice(), b"answer none\n".as_slice());
-    assert_eq!(rt; sink.faults, 0);
-    Ok(())
+    let is_so = writes_all(&mut sink);
+    drop(sink);
+    assert!(rt; is_so);
 }
 
 #[test]
 fn each_failing_read_is_a_fault(rt: HostRuntime) {
     let mut source = ReadSource::new(Broken);
     for faults in 1..4 {
-        assert_eq!(rt; source.read(&mut [0; 4]), Err(Failed));
-        assert_eq!(rt; source.faults, faults);
+        assert!(rt; source.read(&mut [0; 4]).is_err());
+        assert!(rt; source.faults == faults);
     }
 }
 
 #[test]
 fn a_writer_that_takes_nothing_is_a_fault(rt: HostRuntime) {
     let mut sink = WriteSink::new(Full);
-    assert_eq!(rt; sink.write(b"moka"), Err(Failed));
-    assert_eq!(rt; sink.faults, 1);
-    assert_eq!(rt; sink.write(b""), Ok(0));
-    assert_eq!(rt; sink.faults, 1);
+    assert!(rt; sink.write(b"moka").is_err());
+    assert!(rt; sink.faults == 1);
+    assert!(rt; matches!(sink.write(b""), Ok(0)));
+    assert!(rt; sink.faults == 1);
 }

@@ -2,7 +2,6 @@
 
 use moka_sync::{CallList, Event, PolledMutex, PolledRwLock, WaitList};
 use std::alloc::{AllocError, Global};
-use std::process::Abort;
 use std::test::Fail;
 
 /// Whether the calls of the list are these, in this order.
@@ -15,28 +14,31 @@ fn has(list: &CallList, calls: &[u64]) -> bool {
     list.len() == calls.len()
 }
 
-#[test]
-fn a_call_that_leaves_and_comes_again_is_last(rt: HostRuntime) -> Result<(), Fail> {
-    let alloc = rt.alloc();
-    let mut list = WaitList::new(alloc);
+/// Whether a call that is listed twice stands once, and one that left and came again is last.
+fn lists_in_order(list: &mut WaitList) -> Result<bool, AllocError> {
     for call in [5, 6, 5, 7] {
         list.add(call)?;
     }
-    assert_eq!(rt; list.len(), 3, "listed only once");
+    let listed = list.len();
     list.remove(5);
-    assert!(rt; !list.contains(5));
+    let left = !list.contains(5);
     list.add(5)?;
     let calls = list.take_all();
-    assert!(rt; has(&calls, &[6, 7, 5]));
-    assert_eq!(rt; calls.get(3), None);
-    assert!(rt; list.is_empty());
-    Ok(())
+    let handed_out = has(&calls, &[6, 7, 5]) && calls.get(3).is_none();
+    Ok(listed == 3 && left && handed_out && list.is_empty())
 }
 
 #[test]
-fn a_list_that_most_calls_left_keeps_its_order(rt: HostRuntime) -> Result<(), Fail> {
-    let alloc = rt.alloc();
-    let mut event = Event::new(alloc);
+fn a_call_that_leaves_and_comes_again_is_last(rt: HostRuntime) {
+    let mut list = WaitList::new(rt.alloc());
+    let listed = lists_in_order(&mut list);
+    drop(list);
+    assert!(rt; matches!(listed, Ok(true)));
+}
+
+/// Whether the last three of 200 calls are handed out in their order, once the others left; and
+/// nobody after them.
+fn notifies_three(event: &mut Event) -> Result<bool, AllocError> {
     event.reserve(200)?;
     for call in 0..200 {
         event.listen(call)?;
@@ -44,29 +46,41 @@ fn a_list_that_most_calls_left_keeps_its_order(rt: HostRuntime) -> Result<(), Fa
     for call in 0..197 {
         event.leave(call);
     }
-    assert!(rt; has(&event.notify(), &[197, 198, 199]));
-    assert!(rt; event.notify().is_empty());
-    Ok(())
-}
-
-fn wait_for_a_mutex(rt: &impl Abort, mutex: &mut PolledMutex) -> Result<(), Fail> {
-    mutex.reserve(1)?;
-    for (call, taken) in [(1, true), (2, false), (1, true), (3, false), (2, false)] {
-        assert_eq!(rt; mutex.try_take(call)?, taken, "call {call}");
-    }
-    mutex.leave(3);
-    assert!(rt; mutex.holder() == Some(1));
-    assert!(rt; has(&mutex.release(1), &[2]));
-    assert_eq!(rt; mutex.holder(), None);
-    Ok(())
+    let last = event.notify();
+    Ok(has(&last, &[197, 198, 199]) && event.notify().is_empty())
 }
 
 #[test]
-fn a_mutex_hands_out_all_that_waited(rt: HostRuntime) -> Result<(), Fail> {
+fn a_list_that_most_calls_left_keeps_its_order(rt: HostRuntime) {
+    let mut event = Event::new(rt.alloc());
+    let notified = notifies_three(&mut event);
+    drop(event);
+    assert!(rt; matches!(notified, Ok(true)));
+}
+
+/// Whether of these calls just those take the mutex that are told; call 1 has it then, and hands out
+/// call 2, as call 3 left.
+fn waits_for_a_mutex(mutex: &mut PolledMutex) -> Result<bool, AllocError> {
+    mutex.reserve(1)?;
+    for (call, taken) in [(1, true), (2, false), (1, true), (3, false), (2, false)] {
+        if mutex.try_take(call)? != taken {
+            return Ok(false);
+        }
+    }
+    mutex.leave(3);
+    if mutex.holder() != Some(1) {
+        return Ok(false);
+    }
+    let handed_out = has(&mutex.release(1), &[2]);
+    Ok(handed_out && mutex.holder().is_none())
+}
+
+#[test]
+fn a_mutex_hands_out_all_that_waited(rt: HostRuntime) {
     let mut mutex = PolledMutex::new(rt.alloc());
-    let waited = wait_for_a_mutex(&rt, &mut mutex);
+    let waited = waits_for_a_mutex(&mut mutex);
     drop(mutex);
-    waited
+    assert!(rt; matches!(waited, Ok(true)));
 }
 
 /// What a call asks of a lock: whether to write, and whether it is to get it.
@@ -80,25 +94,36 @@ fn takes(lock: &mut PolledRwLock, call: u64, writes: bool) -> Result<bool, Alloc
     }
 }
 
-/// The calls that call 1 hands out, once each of the steps came out as it says.
-fn handed_out(rt: &impl Abort, alloc: Global, steps: [Step; 3]) -> Result<CallList, Fail> {
-    let mut lock = PolledRwLock::new(alloc);
+/// Whether each of the steps comes out as it says, and call 1 has the lock then and hands out these.
+fn hands_out(lock: &mut PolledRwLock, steps: [Step; 3], calls: &[u64]) -> Result<bool, AllocError> {
     lock.reserve(1)?;
     for (call, writes, want) in steps {
-        assert_eq!(rt; takes(&mut lock, call, writes)?, want, "call {call}");
+        if takes(lock, call, writes)? != want {
+            return Ok(false);
+        }
     }
-    assert!(rt; lock.holds(1));
-    Ok(lock.release(1))
+    if !lock.holds(1) {
+        return Ok(false);
+    }
+    Ok(has(&lock.release(1), calls))
+}
+
+/// The same of a new lock.
+fn is_handed_out(alloc: Global, steps: [Step; 3], calls: &[u64]) -> Result<bool, AllocError> {
+    let mut lock = PolledRwLock::new(alloc);
+    let handed_out = hands_out(&mut lock, steps, calls);
+    drop(lock);
+    handed_out
 }
 
 #[test]
 fn a_lock_hands_out_all_that_waited(rt: HostRuntime) -> Result<(), Fail> {
     let alloc = rt.alloc();
     let beside_a_fellow = [(1, false, true), (2, false, true), (3, true, false)];
-    assert!(rt; has(&handed_out(&rt, alloc, beside_a_fellow)?, &[3]));
+    assert!(rt; is_handed_out(alloc, beside_a_fellow, &[3])?);
     let a_writer_again = [(1, false, true), (1, true, true), (1, true, true)];
-    assert!(rt; has(&handed_out(&rt, alloc, a_writer_again)?, &[]));
+    assert!(rt; is_handed_out(alloc, a_writer_again, &[])?);
     let a_writer_to_read = [(1, true, true), (1, false, false), (2, false, false)];
-    assert!(rt; has(&handed_out(&rt, alloc, a_writer_to_read)?, &[1, 2]));
+    assert!(rt; is_handed_out(alloc, a_writer_to_read, &[1, 2])?);
     Ok(())
 }

@@ -1,9 +1,9 @@
 //! What no clause says: tables of texts and what they are read as.
 
+use crate::rows::{Wrong, all_right};
 use moka_hist::Rules;
 use moka_text::{Schedule, ScheduleError, read_schedule};
-use std::alloc::Global;
-use std::process::Abort;
+use std::alloc::{AllocError, Global};
 use std::test::Fail;
 
 mod written;
@@ -17,57 +17,79 @@ fn bad_line(alloc: Global, text: &[u8]) -> Option<u64> {
     }
 }
 
-/// Each of the texts, between which bars stand, has this bad line.
-fn are_bad(rt: &impl Abort, alloc: Global, line: u64, texts: &str) {
+/// The first of the texts, between which bars stand, that hasn't this bad line.
+fn good_text(alloc: Global, line: u64, texts: &str) -> Wrong {
+    let mut place: u64 = 0;
     for text in texts.split('|') {
-        assert_eq!(rt; bad_line(alloc, text.as_bytes()), Some(line), "at {text}");
+        if bad_line(alloc, text.as_bytes()) != Some(line) {
+            return Ok(Some(place));
+        }
+        place = place.wrapping_add(1);
     }
+    Ok(None)
 }
 
-/// Each of the lines is bad, as the third of a text.
-fn are_bad_lines(rt: &impl Abort, alloc: Global, lines: &str) -> Result<(), Fail> {
+/// The first of the lines that isn't bad, as the third of a text.
+fn good_line(alloc: Global, lines: &str) -> Wrong {
+    let mut place: u64 = 0;
     for line in lines.lines() {
         let text = format!(in alloc; "cache\nat 1\n{line}\nat 2\n")?;
-        assert_eq!(rt; bad_line(alloc, text.as_bytes()), Some(3), "at {line}");
+        if bad_line(alloc, text.as_bytes()) != Some(3) {
+            return Ok(Some(place));
+        }
+        place = place.wrapping_add(1);
     }
-    Ok(())
+    Ok(None)
+}
+
+/// The schedule of a text; one that is bad is refused as want of memory.
+fn schedule_of(alloc: Global, text: &str) -> Result<Schedule, AllocError> {
+    read_schedule(alloc, text.as_bytes()).map_err(|_| AllocError)
 }
 
 /// The events of a text, as they are told.
-fn events_of(alloc: Global, text: &str) -> Result<String, Fail> {
-    let Schedule { events, .. } = read_schedule(alloc, text.as_bytes())?;
-    Ok(format!(in alloc; "{:?}", events.as_slice())?)
+fn events_of(alloc: Global, text: &str) -> Result<String, AllocError> {
+    let schedule = schedule_of(alloc, text)?;
+    format!(in alloc; "{:?}", schedule.events.as_slice())
 }
 
 /// The options of a text, as they are told: its log, its capacity, how long a record is kept after
 /// a write and after an access, and whether it has a listener and tests.
-fn options_of(alloc: Global, text: &str) -> Result<String, Fail> {
-    let Schedule { log, rules, .. } = read_schedule(alloc, text.as_bytes())?;
+fn options_of(alloc: Global, text: &str) -> Result<String, AllocError> {
+    let schedule = schedule_of(alloc, text)?;
+    let log = schedule.log;
     let Rules {
         max_capacity,
         time_to_live,
         time_to_idle,
         listener,
         closures,
-    } = rules;
-    Ok(format!(in alloc;
+    } = schedule.rules;
+    format!(in alloc;
         "{log} {max_capacity:?} {time_to_live:?} {time_to_idle:?} {listener} {closures}"
-    )?)
+    )
 }
 
-/// Each row is a line, and the event that it is read as.
-fn are_read(rt: &impl Abort, alloc: Global, rows: &str) -> Result<(), Fail> {
+/// Whether the row is a line, and the event that it is read as.
+fn is_read(alloc: Global, row: &str) -> Result<bool, AllocError> {
+    let Some((line, event)) = row.split_once(" => ") else {
+        return Ok(false);
+    };
+    let text = format!(in alloc; "cache\n{line}")?;
+    let want = format!(in alloc; "[{event}]")?;
+    Ok(events_of(alloc, text.as_str())?.as_str() == want.as_str())
+}
+
+/// The first of the rows that isn't read so.
+fn misread(alloc: Global, rows: &str) -> Wrong {
+    let mut place: u64 = 0;
     for row in rows.lines() {
-        let (line, event) = row.split_once(" => ").expect(rt, "a row has two parts");
-        let text = format!(in alloc; "cache\n{line}")?;
-        let want = format!(in alloc; "[{event}]")?;
-        assert_eq!(rt;
-            events_of(alloc, text.as_str())?.as_str(),
-            want.as_str(),
-            "at {line}"
-        );
+        if !is_read(alloc, row)? {
+            return Ok(Some(place));
+        }
+        place = place.wrapping_add(1);
     }
-    Ok(())
+    Ok(None)
 }
 
 /// Texts by their first bad line; bars stand between the texts.
@@ -104,7 +126,7 @@ const BAD: [(u64, &str); 3] = [
 #[test]
 fn the_first_bad_line_is_numbered(rt: HostRuntime) {
     for (line, texts) in BAD {
-        are_bad(&rt, rt.alloc(), line, texts);
+        all_right(&rt, good_text(rt.alloc(), line, texts));
     }
 }
 
@@ -129,45 +151,60 @@ const BAD_LINES: [&str; 2] = [
 ];
 
 #[test]
-fn lines_of_another_form_are_bad(rt: HostRuntime) -> Result<(), Fail> {
+fn lines_of_another_form_are_bad(rt: HostRuntime) {
     for lines in BAD_LINES {
-        are_bad_lines(&rt, rt.alloc(), lines)?;
+        all_right(&rt, good_line(rt.alloc(), lines));
     }
-    Ok(())
 }
 
 #[test]
 fn bytes_that_are_no_text_are_bad(rt: HostRuntime) {
-    assert_eq!(rt; bad_line(rt.alloc(), b"cache\nat 1\nat \xff\n"), Some(3));
+    assert!(rt; bad_line(rt.alloc(), b"cache\nat 1\nat \xff\n") == Some(3));
+}
+
+/// Whether the text has these events and these options, as they are told.
+fn has(alloc: Global, text: &str, events: &str, options: &str) -> Result<bool, AllocError> {
+    let is_so = events_of(alloc, text)?.as_str() == events;
+    Ok(is_so && options_of(alloc, text)?.as_str() == options)
 }
 
 #[test]
 fn the_last_line_may_lack_its_end(rt: HostRuntime) -> Result<(), Fail> {
-    for text in "cache log=1\nstep 1\n|cache log=1\nstep 1".split('|') {
-        let events = events_of(rt.alloc(), text)?;
-        let options = options_of(rt.alloc(), text)?;
-        assert_eq!(rt; events.as_str(), "[Step { call: 1 }]");
-        assert_eq!(rt; options.as_str(), "1 None None None false false");
-    }
+    let (events, options) = ("[Step { call: 1 }]", "1 None None None false false");
+    assert!(rt; has(rt.alloc(), "cache log=1\nstep 1\n", events, options)?);
+    assert!(rt; has(rt.alloc(), "cache log=1\nstep 1", events, options)?);
     Ok(())
 }
 
-#[test]
-fn each_option_stands_or_not(rt: HostRuntime) -> Result<(), Fail> {
-    let rows = "cache => 384 None None None false false\n\
-        cache log=65536 => 65536 None None None false false\n\
-        cache listener => 384 None None None true false\n\
-        cache log=1 listener => 1 None None None true false\n\
-        cache cap=0 => 384 Some(0) None None false false\n\
-        cache cap=18446744073709551615 log=8 => \
-        8 Some(18446744073709551615) None None false false\n\
-        cache cap=1 listener => 384 Some(1) None None true false\n\
-        cache cap=1 log=8 listener => 8 Some(1) None None true false\n";
-    for row in rows.lines() {
-        let (text, want) = row.split_once(" => ").expect(&rt, "a row has two parts");
-        assert_eq!(rt; options_of(rt.alloc(), text)?.as_str(), want, "at {text}");
+/// First lines, each with the options that it is read as.
+const OPTIONS: &str = "cache => 384 None None None false false\n\
+    cache log=65536 => 65536 None None None false false\n\
+    cache listener => 384 None None None true false\n\
+    cache log=1 listener => 1 None None None true false\n\
+    cache cap=0 => 384 Some(0) None None false false\n\
+    cache cap=18446744073709551615 log=8 => \
+    8 Some(18446744073709551615) None None false false\n\
+    cache cap=1 listener => 384 Some(1) None None true false\n\
+    cache cap=1 log=8 listener => 8 Some(1) None None true false\n";
+
+/// The first of these lines that has others.
+fn unlike_options(alloc: Global) -> Wrong {
+    let mut place: u64 = 0;
+    for row in OPTIONS.lines() {
+        let Some((text, want)) = row.split_once(" => ") else {
+            return Ok(Some(place));
+        };
+        if options_of(alloc, text)?.as_str() != want {
+            return Ok(Some(place));
+        }
+        place = place.wrapping_add(1);
     }
-    Ok(())
+    Ok(None)
+}
+
+#[test]
+fn each_option_stands_or_not(rt: HostRuntime) {
+    all_right(&rt, unlike_options(rt.alloc()));
 }
 
 #[test]
@@ -181,11 +218,7 @@ fn a_whole_text_is_read(rt: HostRuntime) -> Result<(), Fail> {
         Step { call: 1 }, Poll { call: 2 }, Tell { call: 3, answer: Value(9) }, \
         Tell { call: 3, answer: Done }, Tell { call: 4, answer: Off }, \
         Drop { call: 18446744073709551615 }]";
-    assert_eq!(rt; events_of(rt.alloc(), text)?.as_str(), want);
-    assert_eq!(rt;
-        options_of(rt.alloc(), text)?.as_str(),
-        "384 None None None false false"
-    );
+    assert!(rt; has(rt.alloc(), text, want, "384 None None None false false")?);
     Ok(())
 }
 
@@ -232,9 +265,8 @@ const FORMS: [&str; 4] = [
 ];
 
 #[test]
-fn every_form_of_line_is_read(rt: HostRuntime) -> Result<(), Fail> {
+fn every_form_of_line_is_read(rt: HostRuntime) {
     for rows in FORMS {
-        are_read(&rt, rt.alloc(), rows)?;
+        all_right(&rt, misread(rt.alloc(), rows));
     }
-    Ok(())
 }
