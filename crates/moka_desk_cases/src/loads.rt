@@ -25,8 +25,8 @@ fn read_on(
     desk.read_settled(2)
 }
 
-/// The same on a new desk, as it is printed.
-fn read_after(alloc: Global, kind: Kind, with: Settled<u32, u32>) -> Result<String, AllocError>
+/// Whether the same on a new desk is printed so.
+fn reads(alloc: Global, kind: Kind, with: Settled<u32, u32>, want: &str) -> Result<bool, AllocError>
     requires { may_end kind with ≡ true }
 {
     let mut desk = new_desk(alloc, rules_with(None))?;
@@ -35,7 +35,7 @@ fn read_after(alloc: Global, kind: Kind, with: Settled<u32, u32>) -> Result<Stri
     let settled = read?;
     let text = format!(in alloc; "{settled:?}");
     drop(settled);
-    text
+    Ok(text?.as_str() == want)
 }
 
 #[test]
@@ -47,43 +47,38 @@ fn a_load_is_owned(rt: HostRuntime) -> Result<(), Fail> {
     };
     let claim = desk.wait_or_own(1, load);
     drop(desk);
-    assert_eq!(rt; claim?, Claim::Owner);
+    assert!(rt; claim? == Claim::Owner);
     Ok(())
 }
 
 #[test]
 fn a_call_that_waited_reads_what_its_owner_settled(rt: HostRuntime) -> Result<(), Fail> {
     let alloc = rt.alloc();
-    let ready = read_after(alloc, Kind::Try, Settled::Ready(7))?;
-    assert_eq!(rt; ready.as_str(), "Ready(7)");
-    let error = read_after(alloc, Kind::Try, Settled::Err(4))?;
-    assert_eq!(rt; error.as_str(), "Err(4)");
-    let nothing = read_after(alloc, Kind::Optional, Settled::Nothing)?;
-    assert_eq!(rt; nothing.as_str(), "Nothing");
-    let removed = read_after(alloc, Kind::Compute, Settled::Nothing)?;
-    assert_eq!(rt; removed.as_str(), "Nothing");
-    let aborted = read_after(alloc, Kind::Compute, Settled::Aborted)?;
-    assert_eq!(rt; aborted.as_str(), "Aborted");
+    assert!(rt; reads(alloc, Kind::Try, Settled::Ready(7), "Ready(7)")?);
+    assert!(rt; reads(alloc, Kind::Try, Settled::Err(4), "Err(4)")?);
+    assert!(rt; reads(alloc, Kind::Optional, Settled::Nothing, "Nothing")?);
+    assert!(rt; reads(alloc, Kind::Compute, Settled::Nothing, "Nothing")?);
+    assert!(rt; reads(alloc, Kind::Compute, Settled::Aborted, "Aborted")?);
     Ok(())
 }
 
-/// Whether call 1, which computes alone, finds an owner; call 2 beside it; whether nobody waits for
-/// call 1 when it ends; and whether call 2 finds an owner then.
-fn owned_on(desk: &mut Desk<u32, u32, u32>) -> Result<[bool; 4], AllocError>
+/// Whether call 1, which computes alone, finds no owner; call 2 beside it one; whether nobody waits
+/// for call 1 when it ends; and whether call 2 finds no owner then.
+fn owns_alone(desk: &mut Desk<u32, u32, u32>) -> Result<bool, AllocError>
     requires { IsNew desk.old }
 {
     let alone = desk.owned(1, 5)?;
     let beside = desk.owned(2, 5)?;
     let nobody = desk.settle(1, Settled::Nothing).is_empty();
     let then = desk.owned(2, 5)?;
-    Ok([alone, beside, nobody, then])
+    Ok(!alone && beside && nobody && !then)
 }
 
 #[test]
 fn one_that_computes_alone_owns_where_nobody_does(rt: HostRuntime) -> Result<(), Fail> {
     let mut desk = new_desk(rt.alloc(), rules_with(None))?;
-    let owned = owned_on(&mut desk);
+    let owned = owns_alone(&mut desk);
     drop(desk);
-    assert_eq!(rt; owned?, [false, true, true, false]);
+    assert!(rt; owned?);
     Ok(())
 }

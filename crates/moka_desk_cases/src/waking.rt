@@ -12,42 +12,42 @@ use std::alloc::AllocError;
 use std::process::Abort;
 use std::test::Fail;
 
-/// Whether calls 2 and 3 are woken.
-fn woken(desk: &Desk<u32, u32, u32>) -> [bool; 2] {
-    [desk.is_woken(2), desk.is_woken(3)]
+/// Whether of calls 2 and 3 just those are woken that are told.
+fn are_woken(desk: &Desk<u32, u32, u32>, second: bool, third: bool) -> bool {
+    desk.is_woken(2) == second && desk.is_woken(3) == third
 }
 
-/// Whether calls 1, 2 and 3 take the turn, one after the other, which nobody has.
-fn taken(desk: &mut Desk<u32, u32, u32>) -> Result<[bool; 3], AllocError>
+/// Whether of calls 1, 2 and 3, one after the other, just the first takes the turn, which nobody
+/// has.
+fn taken(desk: &mut Desk<u32, u32, u32>) -> Result<bool, AllocError>
     requires { HasTurn desk.old None }
     ensures { OnOk result (HasTurn desk.new (Some 1)) }
 {
     let first = desk.take_turn(1)?;
     let second = desk.take_turn(2)?;
     let third = desk.take_turn(3)?;
-    Ok([first, second, third])
+    Ok(first && !second && !third)
 }
 
-/// Whether calls 2 and 3 take the turn, which nobody has, each with who is woken then.
-fn taken_again(desk: &mut Desk<u32, u32, u32>) -> Result<[(bool, [bool; 2]); 2], AllocError>
+/// Whether call 2 takes the turn, which nobody has, and only call 3 is woken then; and call 3 waits
+/// again.
+fn taken_again(desk: &mut Desk<u32, u32, u32>) -> Result<bool, AllocError>
     requires { HasTurn desk.old None }
 {
     let second = desk.take_turn(2)?;
-    let then = woken(desk);
+    let then = are_woken(desk, false, true);
     let third = desk.take_turn(3)?;
-    Ok([(second, then), (third, woken(desk))])
+    Ok(second && then && !third && are_woken(desk, false, false))
 }
 
 fn wait_for_the_turn(rt: &impl Abort, desk: &mut Desk<u32, u32, u32>) -> Result<(), Fail>
     requires { IsNew desk.old }
 {
-    assert_eq!(rt; taken(desk)?, [true, false, false]);
-    assert_eq!(rt; woken(desk), [false, false]);
-    assert_eq!(rt; desk.end_turn(1).len(), 2);
-    assert_eq!(rt; woken(desk), [true, true]);
-    // Call 2 has the turn, and call 3 waits again.
-    let want = [(true, [false, true]), (false, [false, false])];
-    assert_eq!(rt; taken_again(desk)?, want);
+    assert!(rt; taken(desk)?);
+    assert!(rt; are_woken(desk, false, false));
+    assert!(rt; desk.end_turn(1).len() == 2);
+    assert!(rt; are_woken(desk, true, true));
+    assert!(rt; taken_again(desk)?);
     Ok(())
 }
 
@@ -59,16 +59,16 @@ fn a_call_is_woken_until_it_comes_back(rt: HostRuntime) -> Result<(), Fail> {
     waited
 }
 
-/// Whether the notice of call 1 has ended, as call 2 asks, and whether that is woken then.
-fn ended(desk: &mut Desk<u32, u32, u32>) -> Result<(bool, bool), AllocError> {
+/// Whether the notice of call 1 has ended, as call 2 asks, which isn't woken then.
+fn has_ended(desk: &mut Desk<u32, u32, u32>) -> Result<Option<bool>, AllocError> {
     let ended = desk.notice_ended(2, 1)?;
-    Ok((ended, desk.is_woken(2)))
+    Ok(if desk.is_woken(2) { None } else { Some(ended) })
 }
 
 /// Whether the notice of call 1 is told its end, and call 2 is woken then.
-fn heard(desk: &mut Desk<u32, u32, u32>) -> (bool, bool) {
+fn is_heard(desk: &mut Desk<u32, u32, u32>) -> bool {
     let told = desk.tell(1, Told::Done).is_some();
-    (told, desk.is_woken(2))
+    told && desk.is_woken(2)
 }
 
 fn wait_for_a_notice(rt: &impl Abort, desk: &mut Desk<u32, u32, u32>) -> Result<(), Fail>
@@ -76,9 +76,9 @@ fn wait_for_a_notice(rt: &impl Abort, desk: &mut Desk<u32, u32, u32>) -> Result<
 {
     let cause = desk.open_notice(1, 5, 50, 0, 0, None, true)?;
     assert!(rt; cause.is_some());
-    assert_eq!(rt; ended(desk)?, (false, false));
-    assert_eq!(rt; heard(desk), (true, true));
-    assert_eq!(rt; ended(desk)?, (true, false));
+    assert!(rt; has_ended(desk)? == Some(false));
+    assert!(rt; is_heard(desk));
+    assert!(rt; has_ended(desk)? == Some(true));
     Ok(())
 }
 
@@ -90,32 +90,32 @@ fn a_call_is_woken_for_a_notice(rt: HostRuntime) -> Result<(), Fail> {
     waited
 }
 
-/// Whether call 3 is woken with its answer, before it takes that up and after.
-fn woken_with_its_answer(desk: &mut Desk<u32, u32, u32>) -> (bool, bool)
+/// Whether call 3 is woken with its answer, before it takes that up; and not after.
+fn woken_with_its_answer(desk: &mut Desk<u32, u32, u32>) -> Option<bool>
     requires { Can nat_eq desk.old (visit.TakeTold 3) }
 {
     let _ = desk.tell(3, Told::Value(9));
     let before = desk.is_woken(3);
     let _ = desk.take_told(3);
-    (before, desk.is_woken(3))
+    if desk.is_woken(3) { None } else { Some(before) }
 }
 
 /// The same of a call that asks, and doesn't wait.
-fn woken_while_it_does_not_wait(desk: &mut Desk<u32, u32, u32>) -> Result<(bool, bool), AllocError>
+fn woken_while_it_does_not_wait(desk: &mut Desk<u32, u32, u32>) -> Result<Option<bool>, AllocError>
     requires { IsNew desk.old }
 {
     desk.open_ask(3, Takes::Value)?;
     Ok(woken_with_its_answer(desk))
 }
 
-/// The same of a call that asks, and then finds no answer yet.
-fn woken_while_it_waits(desk: &mut Desk<u32, u32, u32>) -> Result<(bool, bool, bool), AllocError>
+/// The same of a call that asks, and then finds no answer yet; None where it finds one.
+fn woken_while_it_waits(desk: &mut Desk<u32, u32, u32>) -> Result<Option<bool>, AllocError>
     requires { IsNew desk.old }
 {
     desk.open_ask(3, Takes::Value)?;
     let waits = desk.take_told(3).is_none();
-    let (before, after) = woken_with_its_answer(desk);
-    Ok((waits, before, after))
+    let woken = woken_with_its_answer(desk);
+    Ok(if waits { woken } else { None })
 }
 
 #[test]
@@ -123,11 +123,11 @@ fn only_a_call_that_waits_is_woken_with_its_answer(rt: HostRuntime) -> Result<()
     let mut desk = new_desk(rt.alloc(), rules_with(None))?;
     let woken = woken_while_it_does_not_wait(&mut desk);
     drop(desk);
-    assert_eq!(rt; woken?, (false, false));
+    assert!(rt; woken? == Some(false));
     let mut desk = new_desk(rt.alloc(), rules_with(None))?;
     let woken = woken_while_it_waits(&mut desk);
     drop(desk);
-    assert_eq!(rt; woken?, (true, true, false));
+    assert!(rt; woken? == Some(true));
     Ok(())
 }
 
@@ -149,11 +149,11 @@ fn leave_all(rt: &impl Abort, desk: &mut Desk<u32, u32, u32>) -> Result<(), Fail
     requires { IsNew desk.old }
 {
     wait_for_call_1(desk)?;
-    assert_eq!(rt; desk.leave(1, None).len(), 2);
-    assert_eq!(rt; woken(desk), [true, true]);
+    assert!(rt; desk.leave(1, None).len() == 2);
+    assert!(rt; are_woken(desk, true, true));
     assert!(rt; desk.leave(2, None).is_empty());
     assert!(rt; desk.leave(3, None).is_empty());
-    assert_eq!(rt; woken(desk), [false, false]);
+    assert!(rt; are_woken(desk, false, false));
     Ok(())
 }
 

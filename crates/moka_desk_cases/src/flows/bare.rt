@@ -11,7 +11,6 @@ use crate::flows::given::RULES;
 use moka_hist::{Answer, Found, Got, Start, TableAnswer, TableOp, TableTurn, Turn, Visit, Want};
 use moka_init::{Alone, Flow, Ground, Unfinished, poll, step};
 use std::alloc::{AllocError, Global};
-use std::test::Fail;
 
 // An empty cache, for the looks of one call alone. Any other access is refused.
 #[derive(Drop)]
@@ -122,7 +121,10 @@ impl<K: Eq + Clone + Drop, V: Clone + Drop, E: Clone + Drop> Bare<K, V, E> {
             Want::Begin(TableOp::Get { key }) => self.begin(key),
             Want::Table => self.resume(),
             Want::Desk(Visit::TakeOwed { call }) => self.take_owed(call),
-            _ => Err(AllocError),
+            other => {
+                drop(other);
+                Err(AllocError)
+            }
         }
     }
 
@@ -143,6 +145,7 @@ impl<K: Eq + Clone + Drop, V: Clone + Drop, E: Clone + Drop> Bare<K, V, E> {
         ensures err_left { OnErr result (self.new.undecided ≡ self.old.undecided) }
     {
         if self.memory == 0 {
+            drop(want);
             return Err(AllocError);
         }
         self.memory -= 1;
@@ -299,8 +302,29 @@ fn poll_get<K: Eq + Clone + Drop, V: Clone + Drop, E: Clone + Drop>(
     polled
 }
 
+// Whether a poll on such a cache found nothing, or ended so far before want of memory; and whether
+// so many accesses were noted.
+fn is_polled(
+    alloc: Global,
+    undecided: u8,
+    memory: u64,
+    noted: usize,
+    wanting: Option<u64>,
+) -> bool {
+    let mut ground = empty(alloc, undecided, memory);
+    let polled = poll_get(3, &mut ground);
+    let is_noted = ground.notes.len() == noted;
+    drop(ground);
+    let ended = match &polled {
+        Ok(turn) => wanting.is_none() && matches!(turn, Turn::Answer(Answer::Found(None))),
+        Err(unfinished) => wanting == Some(unfinished.steps),
+    };
+    drop(polled);
+    is_noted && ended
+}
+
 #[test]
-fn a_poll_makes_one_access_a_step_and_ends_with_the_answer(rt: HostRuntime) -> Result<(), Fail> {
+fn a_poll_makes_one_access_a_step_and_ends_with_the_answer(rt: HostRuntime) {
     // Undecided steps, accesses that find memory, how many are noted, and the steps of a poll that
     // found none.
     let cases = [
@@ -309,34 +333,26 @@ fn a_poll_makes_one_access_a_step_and_ends_with_the_answer(rt: HostRuntime) -> R
         (3, 2, 2, Some(2)),
         (0, 0, 0, Some(0)),
     ];
-    for (undecided, memory, noted, unfinished) in cases {
-        let mut ground = empty(rt.alloc(), undecided, memory);
-        let steps = match poll_get(3, &mut ground) {
-            Ok(turn) => {
-                assert!(rt; matches!(&turn, Turn::Answer(Answer::Found(None))));
-                None
-            }
-            Err(Unfinished { steps }) => Some(steps),
-        };
-        assert_eq!(rt;
-            ground.notes.len(),
-            noted,
-            "with {undecided} undecided steps"
+    for (undecided, memory, noted, wanting) in cases {
+        let is_so = is_polled(rt.alloc(), undecided, memory, noted, wanting);
+        assert!(rt;
+            is_so,
+            "with {undecided} undecided steps, memory for {memory}"
         );
-        assert_eq!(rt; steps, unfinished);
     }
-    Ok(())
 }
 
 #[test]
-fn a_step_makes_one_access_where_no_world_is_at_hand(rt: HostRuntime) -> Result<(), Fail> {
+fn a_step_makes_one_access_where_no_world_is_at_hand(rt: HostRuntime) {
     let mut ground = Shared {
         bare: empty(rt.alloc(), 3, 9),
     };
-    let turn = step_get(3, &mut ground)?;
-    assert!(rt; turn.is_going());
-    assert_eq!(rt; ground.bare.notes.len(), 1);
-    Ok(())
+    let stepped = step_get(3, &mut ground);
+    let noted = ground.bare.notes.len();
+    drop(ground);
+    let goes = matches!(&stepped, Ok(Turn::Going));
+    drop(stepped);
+    assert!(rt; goes && noted == 1);
 }
 
 // An empty cache for the call 1.

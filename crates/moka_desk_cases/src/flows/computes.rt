@@ -1,7 +1,8 @@
 //! How whole computes read, access by access.
 
 use crate::flows::rows::{fresh, plays, run_all};
-use std::test::Fail;
+use moka_init::Flow;
+use std::alloc::AllocError;
 
 /// Flows: what is started, the rules, and the rows.
 const FLOWS: [(&str, &str, &str); 9] = [
@@ -127,25 +128,28 @@ const FLOWS: [(&str, &str, &str); 9] = [
 ];
 
 #[test]
-fn computes_run_access_by_access(rt: HostRuntime) -> Result<(), Fail> {
-    run_all(&rt, &FLOWS)
+fn computes_run_access_by_access(rt: HostRuntime) {
+    run_all(&rt, &FLOWS);
 }
 
-#[test]
-fn a_compute_waits_on_after_an_answer_that_it_does_not_take(rt: HostRuntime) -> Result<(), Fail> {
-    let mut flow = fresh(&rt, "compute", "disabled");
+// Whether it waits on, and holds no write once it was told to take out what isn't there.
+fn waits_on(flow: &mut Flow<u32, u32, u32>) -> Result<bool, AllocError> {
     let played = plays(
-        &rt,
-        &mut flow,
+        flow,
         "wait or own / owns / going\n\
             take owed / none / going\n\
             ask op / opened / ask none\n\
             take told / nothing / wait\n\
             take told / remove / going\n\
             take owed / none / going\n",
-    );
-    let holds = flow.held().is_some();
+    )?;
+    Ok(played && flow.held().is_none())
+}
+
+#[test]
+fn a_compute_waits_on_after_an_answer_that_it_does_not_take(rt: HostRuntime) {
+    let mut flow = fresh("compute", "disabled").expect(&rt, "such a call");
+    let waited = waits_on(&mut flow);
     drop(flow);
-    assert!(rt; !holds);
-    played
+    assert!(rt; matches!(waited, Ok(true)));
 }

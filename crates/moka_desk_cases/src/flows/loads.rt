@@ -2,8 +2,7 @@
 
 use crate::flows::rows::{fresh, plays, run_all};
 use moka_init::Flow;
-use std::process::Abort;
-use std::test::Fail;
+use std::alloc::AllocError;
 
 /// Flows: what is started, the rules, and the rows.
 const FLOWS: [(&str, &str, &str); 14] = [
@@ -160,41 +159,41 @@ const FLOWS: [(&str, &str, &str); 14] = [
 ];
 
 #[test]
-fn loads_run_access_by_access(rt: HostRuntime) -> Result<(), Fail> {
-    run_all(&rt, &FLOWS)
+fn loads_run_access_by_access(rt: HostRuntime) {
+    run_all(&rt, &FLOWS);
 }
 
-// Reads 200 dropped owners.
-fn reads_200(rt: &impl Abort, flow: &mut Flow<u32, u32, u32>) -> Result<(), Fail> {
-    plays(rt, flow, "take owed / none / going\nget / absent / going\n")?;
+// Whether it reads 200 dropped owners, and has answered then, and holds no write.
+fn reads_200(flow: &mut Flow<u32, u32, u32>) -> Result<bool, AllocError> {
+    let mut right = plays(flow, "take owed / none / going\nget / absent / going\n")?;
     for _ in 1..200 {
-        plays(
-            rt,
-            flow,
-            "wait or own / waits / going\nread settled / aborted / going\n",
-        )?;
+        right = right
+            && plays(
+                flow,
+                "wait or own / waits / going\nread settled / aborted / going\n",
+            )?;
     }
-    plays(
-        rt,
+    let last = plays(
         flow,
         "wait or own / waits / going\nread settled / aborted / exhausted\n",
     )?;
-    assert!(rt; flow.has_answered());
-    assert!(rt; flow.held().is_none());
-    Ok(())
+    Ok(right && last && flow.has_answered() && flow.held().is_none())
 }
 
-fn gives_up(rt: &impl Abort, start: &str) -> Result<(), Fail> {
-    let mut flow = fresh(rt, start, "no rule");
-    let read = reads_200(rt, &mut flow);
-    drop(flow);
-    read
+fn gives_up(start: &str) -> Result<bool, AllocError> {
+    match fresh(start, "no rule") {
+        None => Ok(false),
+        Some(mut flow) => {
+            let read = reads_200(&mut flow);
+            drop(flow);
+            read
+        }
+    }
 }
 
 #[test]
-fn a_load_of_each_kind_gives_up_at_the_200th_dropped_owner(rt: HostRuntime) -> Result<(), Fail> {
-    for start in ["get with", "optional", "try"] {
-        gives_up(&rt, start)?;
-    }
-    Ok(())
+fn a_load_of_each_kind_gives_up_at_the_200th_dropped_owner(rt: HostRuntime) {
+    assert!(rt; matches!(gives_up("get with"), Ok(true)));
+    assert!(rt; matches!(gives_up("optional"), Ok(true)));
+    assert!(rt; matches!(gives_up("try"), Ok(true)));
 }

@@ -4,8 +4,6 @@ use crate::flows::rows::{fresh, plays, run_all, turn_after};
 use moka_hist::{Answer, Ask, Cause, Owed, Turn, Visit, Write};
 use moka_init::Flow;
 use std::alloc::AllocError;
-use std::process::Abort;
-use std::test::Fail;
 
 /// Flows: what is started, the rules, and the rows.
 const FLOWS: [(&str, &str, &str); 12] = [
@@ -87,32 +85,34 @@ const FLOWS: [(&str, &str, &str); 12] = [
 ];
 
 #[test]
-fn removals_run_access_by_access(rt: HostRuntime) -> Result<(), Fail> {
-    run_all(&rt, &FLOWS)
+fn removals_run_access_by_access(rt: HostRuntime) {
+    run_all(&rt, &FLOWS);
 }
 
 // The removal of the record of the call 2 by the call 7.
 const REMOVAL: Write = Write::Remove { number: 7, old: 2 };
 
-// Whether the turn answers the value 9, as found.
-fn answers_9(turn: Turn<u32, u32, u32>) -> bool {
-    let answers = matches!(&turn, Turn::Answer(Answer::Found(Some(9))));
+// Whether the write is posted, and the value 9 answered, as found.
+fn answers_9(flow: &mut Flow<u32, u32, u32>) -> Result<bool, AllocError> {
+    let turn = turn_after(flow, "post write", "posted")?;
+    let answers = matches!(&turn, Some(Turn::Answer(Answer::Found(Some(9)))));
     drop(turn);
-    answers
+    Ok(answers)
 }
 
-// Whether the turn asks the listener of the value 9, which was removed.
-fn asks_of_9(turn: Turn<u32, u32, u32>) -> bool {
+// Whether the notice is opened, and the listener asked of the value 9, which was removed.
+fn asks_of_9(flow: &mut Flow<u32, u32, u32>) -> Result<bool, AllocError> {
+    let turn = turn_after(flow, "open notice", "explicit")?;
     let asks = matches!(
         &turn,
-        Turn::Ask(Ask::Listener {
+        Some(Turn::Ask(Ask::Listener {
             value: 9,
             cause: Cause::Explicit,
             ..
-        })
+        }))
     );
     drop(turn);
-    asks
+    Ok(asks)
 }
 
 // Whether a notice of a removal of the value 9 is due, with this cause.
@@ -126,9 +126,8 @@ fn is_due(flow: &Flow<u32, u32, u32>, handed: Option<Cause>) -> Result<bool, All
     Ok(is_due)
 }
 
-fn answers_what_it_took(rt: &impl Abort, flow: &mut Flow<u32, u32, u32>) -> Result<(), Fail> {
-    plays(
-        rt,
+fn answers_what_it_took(flow: &mut Flow<u32, u32, u32>) -> Result<bool, AllocError> {
+    let took = plays(
         flow,
         "take owed / none / going\n\
             stamp moment / stamped / going\n\
@@ -138,54 +137,46 @@ fn answers_what_it_took(rt: &impl Abort, flow: &mut Flow<u32, u32, u32>) -> Resu
         write: REMOVAL,
         notice: None,
     };
-    assert!(rt; flow.held() == Some(owed));
-    let turn = turn_after(rt, flow, "post write", "posted")?;
-    assert!(rt; answers_9(turn));
-    Ok(())
+    let holds = flow.held() == Some(owed);
+    Ok(took && holds && answers_9(flow)?)
 }
 
 #[test]
-fn a_remove_answers_the_value_that_it_took_out(rt: HostRuntime) -> Result<(), Fail> {
-    let mut flow = fresh(&rt, "remove", "no rule");
-    let answered = answers_what_it_took(&rt, &mut flow);
+fn a_remove_answers_the_value_that_it_took_out(rt: HostRuntime) {
+    let mut flow = fresh("remove", "no rule").expect(&rt, "such a call");
+    let answered = answers_what_it_took(&mut flow);
     drop(flow);
-    answered
+    assert!(rt; matches!(answered, Ok(true)));
 }
 
-fn tells_and_answers(rt: &impl Abort, flow: &mut Flow<u32, u32, u32>) -> Result<(), Fail> {
-    plays(
-        rt,
+fn tells_and_answers(flow: &mut Flow<u32, u32, u32>) -> Result<bool, AllocError> {
+    let took = plays(
         flow,
         "take owed / none / going\n\
             lock key / locked / going\n\
             stamp moment / stamped / going\n\
             remove / found / going\n",
     )?;
-    assert!(rt; is_due(flow, None)?);
-    let turn = turn_after(rt, flow, "open notice", "explicit")?;
-    assert!(rt; asks_of_9(turn));
-    plays(
-        rt,
+    let due = is_due(flow, None)?;
+    let asks = asks_of_9(flow)?;
+    let heard = plays(
         flow,
         "notice ended / heard / going\n\
             unlock key / unlocked / going\n",
     )?;
-    let turn = turn_after(rt, flow, "post write", "posted")?;
-    assert!(rt; answers_9(turn));
-    Ok(())
+    Ok(took && due && asks && heard && answers_9(flow)?)
 }
 
 #[test]
-fn a_remove_tells_the_listener_its_value_and_answers_it(rt: HostRuntime) -> Result<(), Fail> {
-    let mut flow = fresh(&rt, "remove", "a listener");
-    let answered = tells_and_answers(&rt, &mut flow);
+fn a_remove_tells_the_listener_its_value_and_answers_it(rt: HostRuntime) {
+    let mut flow = fresh("remove", "a listener").expect(&rt, "such a call");
+    let answered = tells_and_answers(&mut flow);
     drop(flow);
-    answered
+    assert!(rt; matches!(answered, Ok(true)));
 }
 
-fn hands_its_cause_on(rt: &impl Abort, flow: &mut Flow<u32, u32, u32>) -> Result<(), Fail> {
-    plays(
-        rt,
+fn hands_its_cause_on(flow: &mut Flow<u32, u32, u32>) -> Result<bool, AllocError> {
+    let took = plays(
         flow,
         "lock key / locked / going\n\
             get / found / going\n\
@@ -193,20 +184,20 @@ fn hands_its_cause_on(rt: &impl Abort, flow: &mut Flow<u32, u32, u32>) -> Result
             stamp moment / stamped / going\n\
             remove / found / going\n",
     )?;
-    assert!(rt; is_due(flow, Some(Cause::Expired))?);
-    plays(
-        rt,
+    let due = is_due(flow, Some(Cause::Expired))?;
+    let evicted = plays(
         flow,
         "open notice / the listener is off / going\n\
             unlock key / unlocked / going\n\
             post write / posted / evicted\n",
-    )
+    )?;
+    Ok(took && due && evicted)
 }
 
 #[test]
-fn the_cause_of_a_chosen_record_is_handed_on(rt: HostRuntime) -> Result<(), Fail> {
-    let mut flow = fresh(&rt, "evict", "a listener");
-    let evicted = hands_its_cause_on(&rt, &mut flow);
+fn the_cause_of_a_chosen_record_is_handed_on(rt: HostRuntime) {
+    let mut flow = fresh("evict", "a listener").expect(&rt, "such a call");
+    let evicted = hands_its_cause_on(&mut flow);
     drop(flow);
-    evicted
+    assert!(rt; matches!(evicted, Ok(true)));
 }

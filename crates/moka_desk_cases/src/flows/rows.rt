@@ -8,8 +8,8 @@ use crate::flows::given::{given, rules_named, start_named};
 use crate::flows::names::{turn_name, want_name};
 use moka_hist::{Found, Got, Turn, Visit, Want};
 use moka_init::Flow;
+use std::alloc::AllocError;
 use std::process::Abort;
-use std::test::Fail;
 
 // Whether the answer is of the form that belongs to what was wanted.
 fn does_fit(want: &Want<u32, u32, u32>, given: &Got<u32, u32, u32>) -> bool
@@ -51,78 +51,107 @@ fn is_found_by(visit: &Visit<u32, u32, u32>, found: &Found<u32, u32>) -> bool
     }
 }
 
-// One step of the flow: the access that it wants, and what that gives.
+// One step of the flow: the turn that is left where it wants this access, and what that gives
+// belongs to it; None otherwise, and where the flow has answered.
 fn stepped(
-    rt: &impl Abort,
     flow: &mut Flow<u32, u32, u32>,
     access: &str,
     given: Got<u32, u32, u32>,
-) -> Result<Turn<u32, u32, u32>, Fail> {
-    let live = !flow.has_answered();
-    assert!(rt; live, "before {access}");
+) -> Result<Option<Turn<u32, u32, u32>>, AllocError> {
+    if flow.has_answered() {
+        drop(given);
+        return Ok(None);
+    }
     let want = flow.want()?;
-    let name = want_name(&want);
+    let named = want_name(&want) == access;
     let fits = does_fit(&want, &given);
     drop(want);
-    assert_eq!(rt; name, access);
-    assert!(rt; fits, "at {access}");
+    if !named || !fits {
+        drop(given);
+        return Ok(None);
+    }
     let left = flow.take(given);
-    Ok(left)
+    Ok(Some(left))
 }
 
-// The turn after one step: the access that the flow wants, and the word for what that gives.
+// The same, by the word for what the access gives.
 pub(crate) fn turn_after(
-    rt: &impl Abort,
     flow: &mut Flow<u32, u32, u32>,
     access: &str,
     word: &str,
-) -> Result<Turn<u32, u32, u32>, Fail> {
-    let given = given(access, word).expect(rt, "a word of the access's kind");
-    stepped(rt, flow, access, given)
+) -> Result<Option<Turn<u32, u32, u32>>, AllocError> {
+    match given(access, word) {
+        None => Ok(None),
+        Some(given) => stepped(flow, access, given),
+    }
 }
 
-// A row: an access, what it gives, and the turn then.
-pub(crate) fn goes(rt: &impl Abort, flow: &mut Flow<u32, u32, u32>, row: &str) -> Result<(), Fail> {
-    let (access, rest) = row.split_once(" / ").expect(rt, "a row has three parts");
-    let (word, turn) = rest.split_once(" / ").expect(rt, "a row has three parts");
-    let left = turn_after(rt, flow, access, word)?;
-    let name = turn_name(&left);
-    drop(left);
-    assert_eq!(rt; name, turn, "after {access}");
-    Ok(())
+// Whether the flow goes as a row says: an access, what it gives, and the turn then.
+fn goes(flow: &mut Flow<u32, u32, u32>, row: &str) -> Result<bool, AllocError> {
+    let Some((access, rest)) = row.split_once(" / ") else {
+        return Ok(false);
+    };
+    let Some((word, turn)) = rest.split_once(" / ") else {
+        return Ok(false);
+    };
+    match turn_after(flow, access, word)? {
+        None => Ok(false),
+        Some(left) => {
+            let is_so = turn_name(&left) == turn;
+            drop(left);
+            Ok(is_so)
+        }
+    }
 }
 
-// One row after the other, a line each.
-pub(crate) fn plays(
-    rt: &impl Abort,
-    flow: &mut Flow<u32, u32, u32>,
-    rows: &str,
-) -> Result<(), Fail> {
+// The first row, a line each, by its number, as which the flow doesn't go.
+fn first_wrong(flow: &mut Flow<u32, u32, u32>, rows: &str) -> Result<Option<u64>, AllocError> {
+    let mut number: u64 = 1;
     for row in rows.lines() {
-        goes(rt, flow, row)?;
+        if !goes(flow, row)? {
+            return Ok(Some(number));
+        }
+        number = number.wrapping_add(1);
     }
-    Ok(())
+    Ok(None)
 }
 
-// A fresh call, of the number 7: what is started, and the rules.
-pub(crate) fn fresh(rt: &impl Abort, start: &str, rules: &str) -> Flow<u32, u32, u32> {
-    let start = start_named(start).expect(rt, "a start has a name");
-    let rules = rules_named(rules).expect(rt, "rules have a name");
-    Flow::new(start, 7, rules)
+// Whether the flow goes as each of the rows says.
+pub(crate) fn plays(flow: &mut Flow<u32, u32, u32>, rows: &str) -> Result<bool, AllocError> {
+    Ok(first_wrong(flow, rows)?.is_none())
 }
 
-// The rows of such a call.
-fn runs(rt: &impl Abort, start: &str, rules: &str, rows: &str) -> Result<(), Fail> {
-    let mut flow = fresh(rt, start, rules);
-    let played = plays(rt, &mut flow, rows);
-    drop(flow);
-    played
+// A fresh call, of the number 7: what is started, and the rules, by their names.
+pub(crate) fn fresh(start: &str, rules: &str) -> Option<Flow<u32, u32, u32>> {
+    let rules = rules_named(rules)?;
+    let start = start_named(start)?;
+    Some(Flow::new(start, 7, rules))
 }
 
-// One call after the other: what is started, the rules, and the rows.
-pub(crate) fn run_all(rt: &impl Abort, flows: &[(&str, &str, &str)]) -> Result<(), Fail> {
-    for flow in flows {
-        runs(rt, flow.0, flow.1, flow.2)?;
+// The first row of such a call that is wrong; the row 0 where there is no such call.
+fn first_wrong_of(start: &str, rules: &str, rows: &str) -> Result<Option<u64>, AllocError> {
+    match fresh(start, rules) {
+        None => Ok(Some(0)),
+        Some(mut flow) => {
+            let wrong = first_wrong(&mut flow, rows);
+            drop(flow);
+            wrong
+        }
     }
-    Ok(())
+}
+
+// The first of the calls and its first row that is wrong: what is started, the rules, and the rows.
+fn first_wrong_in(flows: &[(&str, &str, &str)]) -> Result<Option<(usize, u64)>, AllocError> {
+    for place in 0..flows.len() {
+        let flow = &flows[place];
+        if let Some(row) = first_wrong_of(flow.0, flow.1, flow.2)? {
+            return Ok(Some((place, row)));
+        }
+    }
+    Ok(None)
+}
+
+// One call after the other goes as its rows say.
+pub(crate) fn run_all(rt: &impl Abort, flows: &[(&str, &str, &str)]) {
+    assert_eq!(rt; first_wrong_in(flows), Ok(None));
 }

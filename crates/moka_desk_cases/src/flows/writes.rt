@@ -4,8 +4,6 @@ use crate::flows::rows::{fresh, plays, run_all};
 use moka_hist::{Owed, Write};
 use moka_init::Flow;
 use std::alloc::AllocError;
-use std::process::Abort;
-use std::test::Fail;
 
 /// Flows: what is started, the rules, and the rows.
 const FLOWS: [(&str, &str, &str); 4] = [
@@ -55,8 +53,8 @@ const FLOWS: [(&str, &str, &str); 4] = [
 ];
 
 #[test]
-fn gets_and_inserts_run_access_by_access(rt: HostRuntime) -> Result<(), Fail> {
-    run_all(&rt, &FLOWS)
+fn gets_and_inserts_run_access_by_access(rt: HostRuntime) {
+    run_all(&rt, &FLOWS);
 }
 
 // An insert under a listener commits its write, which replaces a record.
@@ -74,11 +72,12 @@ fn is_due(flow: &Flow<u32, u32, u32>) -> Result<bool, AllocError> {
     Ok(is_due)
 }
 
-fn tells_and_hears(rt: &impl Abort, flow: &mut Flow<u32, u32, u32>) -> Result<(), Fail> {
-    plays(rt, flow, COMMITTED)?;
-    assert!(rt; is_due(flow)?);
-    plays(rt, flow, "open notice / replaced / ask listener\n")?;
-    assert!(rt; !is_due(flow)?);
+// Whether its notice is due until it is opened, and it holds its write then.
+fn tells(flow: &mut Flow<u32, u32, u32>) -> Result<bool, AllocError> {
+    let committed = plays(flow, COMMITTED)?;
+    let due = is_due(flow)?;
+    let opened = plays(flow, "open notice / replaced / ask listener\n")?;
+    let still_due = is_due(flow)?;
     let write = Write::Upsert {
         number: 7,
         old: Some(2),
@@ -87,40 +86,44 @@ fn tells_and_hears(rt: &impl Abort, flow: &mut Flow<u32, u32, u32>) -> Result<()
         write,
         notice: Some(7),
     };
-    assert!(rt; flow.held() == Some(owed));
-    plays(
-        rt,
+    Ok(committed && due && opened && !still_due && flow.held() == Some(owed))
+}
+
+fn tells_and_hears(flow: &mut Flow<u32, u32, u32>) -> Result<bool, AllocError> {
+    let told = tells(flow)?;
+    let heard = plays(
         flow,
         "notice ended / not yet / wait\n\
             notice ended / heard / going\n\
             unlock key / unlocked / going\n\
             post write / posted / done\n",
-    )
+    )?;
+    Ok(told && heard)
 }
 
 #[test]
-fn a_writer_tells_the_listener_and_hears_it_before_it_posts(rt: HostRuntime) -> Result<(), Fail> {
-    let mut flow = fresh(&rt, "insert", "a listener");
-    let told = tells_and_hears(&rt, &mut flow);
+fn a_writer_tells_the_listener_and_hears_it_before_it_posts(rt: HostRuntime) {
+    let mut flow = fresh("insert", "a listener").expect(&rt, "such a call");
+    let told = tells_and_hears(&mut flow);
     drop(flow);
-    told
+    assert!(rt; matches!(told, Ok(true)));
 }
 
-fn tells_nobody(rt: &impl Abort, flow: &mut Flow<u32, u32, u32>) -> Result<(), Fail> {
-    plays(rt, flow, COMMITTED)?;
-    plays(
-        rt,
+fn tells_nobody(flow: &mut Flow<u32, u32, u32>) -> Result<bool, AllocError> {
+    let committed = plays(flow, COMMITTED)?;
+    let posted = plays(
         flow,
         "open notice / the listener is off / going\n\
             unlock key / unlocked / going\n\
             post write / posted / done\n",
-    )
+    )?;
+    Ok(committed && posted)
 }
 
 #[test]
-fn a_listener_that_is_off_is_not_asked(rt: HostRuntime) -> Result<(), Fail> {
-    let mut flow = fresh(&rt, "insert", "a listener");
-    let told = tells_nobody(&rt, &mut flow);
+fn a_listener_that_is_off_is_not_asked(rt: HostRuntime) {
+    let mut flow = fresh("insert", "a listener").expect(&rt, "such a call");
+    let told = tells_nobody(&mut flow);
     drop(flow);
-    told
+    assert!(rt; matches!(told, Ok(true)));
 }

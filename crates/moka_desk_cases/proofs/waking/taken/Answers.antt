@@ -21,8 +21,15 @@ take_turn-requires-3 c =
     let first = c.in_ok-first.ensures.makes (turn_of w None) c.requires.1 (λ e. cc) in
     (turn_of w (Some 1), c.in_ok-second.ensures.makes (turn_of w (Some 1)) first (differ 1 2 refl), differ 1 3 refl)
 
-pub returns : goal.returns
-returns c =
+pub returns-then-not-second : goal.returns-then-not-second
+returns-then-not-second c =
+    let w = c.requires.0 in
+    let first = c.in_ok-first.ensures.makes (turn_of w None) c.requires.1 (λ e. cc) in
+    let second = c.in_ok-second.ensures.makes (turn_of w (Some 1)) first (differ 1 2 refl) in
+    (w, c.in_ok-third.ensures.makes (turn_of w (Some 1)) second (differ 1 3 refl))
+
+pub returns-else-not-second : goal.returns-else-not-second
+returns-else-not-second c =
     let w = c.requires.0 in
     let first = c.in_ok-first.ensures.makes (turn_of w None) c.requires.1 (λ e. cc) in
     let second = c.in_ok-second.ensures.makes (turn_of w (Some 1)) first (differ 1 2 refl) in

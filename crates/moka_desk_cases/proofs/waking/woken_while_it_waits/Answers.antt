@@ -12,8 +12,8 @@ take_told-requires c =
     let w = untouched c.requires.0 in
     (opened w 3 takes.Value, c.in_ok-open_ask.ensures.makes w c.requires.1 (refl, refl), refl)
 
-pub woken_with_its_answer-before-requires : goal.woken_with_its_answer-before-requires
-woken_with_its_answer-before-requires c =
+pub woken_with_its_answer-woken-requires : goal.woken_with_its_answer-woken-requires
+woken_with_its_answer-woken-requires c =
     let w = untouched c.requires.0 in
     let opens = c.in_ok-open_ask.ensures.makes w c.requires.1 (refl, refl) in
     (took_told (opened w 3 takes.Value) 3, c.take_told.ensures.makes (opened w 3 takes.Value) opens refl, refl)

@@ -9,7 +9,7 @@ use Rattle.moka_init.proofs.Still.{access_still}
 use Rattle.moka_desk_cases.proofs.flows.rows.stepped.Goals as goal
 
 pub take-left-requires-clause-form : goal.take-left-requires-clause-form
-take-left-requires-clause-form g c =
+take-left-requires-clause-form c =
     let fits : FitsWant c.in_ok-want.want c.args.given = search rules in
     subst (λ (a : Access ℕ ℕ ℕ). HasForm a c.args.given)
     (sym (access_still c.args.flow.now c.want.new.self c.in_ok-want.ensures.still))

@@ -5,7 +5,7 @@ use Rattle.moka_hist.specs.declared.loads.Kind.TheVariants as kind
 use Rattle.moka_hist.specs.declared.rules.Rules.{Rules}
 use Rattle.moka_hist.specs.declared.visits.Settled.TheVariants as settled
 use Rattle.moka_desk_cases.specs.Rests.{untouched}
-use Rattle.moka_desk_cases.proofs.loads.owned_on.Goals as goal
+use Rattle.moka_desk_cases.proofs.loads.owns_alone.Goals as goal
 
 -- call 1 computes alone
 abbrev alone : Rules → DeskPart ℕ ℕ ℕ
