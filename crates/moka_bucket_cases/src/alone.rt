@@ -8,7 +8,6 @@ use moka_buckets::BucketTable;
 use moka_hist::{Stored, TableAnswer, TableOp, TableTurn};
 use moka_table::Table;
 use std::alloc::{AllocError, Global};
-use std::process::Abort;
 use std::test::Fail;
 
 fn insert(key: u64, value: u64) -> TableOp<u64, u64> {
@@ -81,31 +80,38 @@ fn run_act(table: &mut Lowest, act: Act) -> Result<(u32, Option<u64>), AllocErro
     run(table, operation(act))
 }
 
-fn act_each(rt: &impl Abort, table: &mut Lowest) -> Result<(), Fail> {
-    let cases = [
-        (Act::Look, 1, None),
-        (Act::Put(70), 135, None),
-        (Act::Look, 2, Some(70)),
-        (Act::Put(71), 3, Some(70)),
-        (Act::Remove, 3, Some(71)),
-        (Act::Look, 2, None),
-        (Act::Put(72), 3, None),
-    ];
-    for (done, steps, there) in cases {
-        assert_eq!(rt; run_act(table, done)?, (steps, there));
+// What is done to key 7 one after the other: how many steps each makes, and the value that was there.
+const ACTS: [(Act, u32, Option<u64>); 7] = [
+    (Act::Look, 1, None),
+    (Act::Put(70), 135, None),
+    (Act::Look, 2, Some(70)),
+    (Act::Put(71), 3, Some(70)),
+    (Act::Remove, 3, Some(71)),
+    (Act::Look, 2, None),
+    (Act::Put(72), 3, None),
+];
+
+// The first of these that makes other steps or finds something else.
+fn first_wrong(table: &mut Lowest) -> Result<Option<usize>, AllocError> {
+    for place in 0..ACTS.len() {
+        let (act, steps, there) = ACTS[place];
+        let (made, found) = run_act(table, act)?;
+        if made != steps || found != there {
+            return Ok(Some(place));
+        }
     }
-    Ok(())
+    Ok(None)
 }
 
 #[test]
 fn steps_of_operations_on_an_empty_table(rt: HostRuntime) -> Result<(), Fail> {
     let mut table = lowest(rt.alloc())?;
     let before = table.words();
-    let acted = act_each(&rt, &mut table);
-    let sizes = (table.words(), table.len(), table.segments());
+    let wrong = first_wrong(&mut table);
+    let (words, len, segments) = (table.words(), table.len(), table.segments());
     drop(table);
-    acted?;
-    assert_eq!(rt; (before, sizes), (0, (128, 1, 1)));
+    assert_eq!(rt; wrong?, None);
+    assert!(rt; before == 0 && words == 128 && len == 1 && segments == 1);
     Ok(())
 }
 
@@ -148,7 +154,8 @@ fn the_ninety_first_key_grows_the_array(rt: HostRuntime) -> Result<(), Fail> {
     let grown = grow(&mut one);
     let words = one.words();
     drop(one);
-    assert_eq!(rt; (grown?, words), ((609, None), 256));
+    assert!(rt; matches!(grown, Ok((609, None))));
+    assert!(rt; words == 256);
     Ok(())
 }
 
@@ -158,35 +165,45 @@ fn the_ninety_first_key_apart_grows_the_array(rt: HostRuntime) -> Result<(), Fai
     let grown = grow(&mut apart);
     let (words, len) = (apart.words(), apart.len());
     drop(apart);
-    assert_eq!(rt; (grown?, words, len), ((519, None), 256, 91));
+    assert!(rt; matches!(grown, Ok((519, None))));
+    assert!(rt; words == 256 && len == 91);
     Ok(())
 }
 
-// Removes 14 of 20 keys; tells whether the first 13 were there, how the last was removed, and how many
-// keys are left.
-fn remove_fourteen(table: &mut Zero) -> Result<(bool, (u32, Option<u64>), usize), AllocError> {
+// Removes 14 of 20 keys; tells whether the first 13 were there, the last was removed by so many
+// steps, and six keys are left.
+fn removes_fourteen(table: &mut Zero, steps: u32) -> Result<bool, AllocError> {
     fill(table, 20)?;
     let cleared = clear(table, 0, 13)?;
-    Ok((cleared, run(table, remove(13))?, table.len()))
+    let (made, there) = run(table, remove(13))?;
+    Ok(cleared && made == steps && there == Some(13) && table.len() == 6)
 }
 
 // Of 20 keys with one hash, 14 removals: that many tombstones call for a new array.
 #[test]
 fn the_fourteenth_removal_grows_the_array(rt: HostRuntime) -> Result<(), Fail> {
     let mut table = zero(rt.alloc())?;
-    let removed = remove_fourteen(&mut table);
+    let removed = removes_fourteen(&mut table, 391);
     drop(table);
-    assert_eq!(rt; removed?, (true, (391, Some(13)), 6));
+    assert!(rt; removed?);
     Ok(())
 }
 
-// How many segments and words a new table has.
-fn sizes(alloc: Global, segments: usize, capacity: usize) -> Result<(usize, usize), AllocError>
+// Whether a new table, asked for so many segments, has so many of them, and so many words.
+fn has_words(
+    alloc: Global,
+    segments: usize,
+    capacity: usize,
+    count: usize,
+    words: usize,
+) -> Result<bool, AllocError>
     requires some { 0 < segments }
     requires few { segments ≤ 65536 }
 {
     let table: Zero = BucketTable::with_segments(alloc, segments, capacity, BuildZero {})?;
-    Ok((table.segments(), table.words()))
+    let is_so = table.segments() == count && table.words() == words;
+    drop(table);
+    Ok(is_so)
 }
 
 #[test]
@@ -200,51 +217,46 @@ fn first_arrays_are_as_long_as_the_capacity_asks(rt: HostRuntime) -> Result<(), 
         (65_536, 0, 65_536, 0),
     ];
     for (segments, capacity, count, words) in cases {
-        assert_eq!(rt;
-            sizes(rt.alloc(), segments, capacity)?,
-            (count, words),
-            "{segments} segments, a capacity of {capacity}"
-        );
+        let is_so = has_words(rt.alloc(), segments, capacity, count, words)?;
+        assert!(rt; is_so, "{segments} segments, a capacity of {capacity}");
     }
-    assert!(rt; sizes(rt.alloc(), 1, usize::MAX).is_err());
+    assert!(rt; has_words(rt.alloc(), 1, usize::MAX, 1, 0).is_err());
     Ok(())
 }
 
-// The words of a table with 90 keys, those once it is compact, and what its last key has then.
-fn compact_full(table: &mut Zero) -> Result<(usize, usize, Option<u64>), AllocError> {
+// Whether a table with 90 keys has 256 words once it is compact, in place of 128, and its last key
+// there.
+fn compacts_full(table: &mut Zero) -> Result<bool, AllocError> {
     fill(table, 90)?;
     let words = table.words();
     table.compact()?;
-    Ok((
-        words,
-        table.words(),
-        run(table, TableOp::Get { key: 89 })?.1,
-    ))
+    let last = run(table, TableOp::Get { key: 89 })?.1;
+    Ok(words == 128 && table.words() == 256 && last == Some(89))
 }
 
-// The words of that table once it is compact without its first key, and how many keys it has.
-fn compact_fewer(table: &mut Zero) -> Result<(usize, usize), AllocError> {
+// Whether that table has 128 words once it is compact without its first key, and 89 keys.
+fn compacts_fewer(table: &mut Zero) -> Result<bool, AllocError> {
     let _ = run(table, remove(0))?;
     table.compact()?;
-    Ok((table.words(), table.len()))
+    Ok(table.words() == 128 && table.len() == 89)
 }
 
-// Whether the other keys were there, and the words once it is compact without them.
-fn compact_none(table: &mut Zero) -> Result<(bool, usize), AllocError> {
+// Whether the other keys were there, and there is no word once it is compact without them.
+fn compacts_none(table: &mut Zero) -> Result<bool, AllocError> {
     let cleared = clear(table, 1, 90)?;
     table.compact()?;
-    Ok((cleared, table.words()))
+    Ok(cleared && table.words() == 0)
 }
 
 #[test]
 fn compacting_leaves_as_few_words_as_the_keys_allow(rt: HostRuntime) -> Result<(), Fail> {
     let mut table = zero(rt.alloc())?;
-    let full = compact_full(&mut table);
-    let fewer = compact_fewer(&mut table);
-    let none = compact_none(&mut table);
+    let full = compacts_full(&mut table);
+    let fewer = compacts_fewer(&mut table);
+    let none = compacts_none(&mut table);
     drop(table);
-    assert_eq!(rt; full?, (128, 256, Some(89)));
-    assert_eq!(rt; fewer?, (128, 89));
-    assert_eq!(rt; none?, (true, 0));
+    assert!(rt; full?);
+    assert!(rt; fewer?);
+    assert!(rt; none?);
     Ok(())
 }

@@ -165,12 +165,12 @@ fn orders(alloc: Global, inserts: bool, most: u32) -> Result<Option<u32>, AllocE
 // An array of one word with a key: each update makes it grow.
 #[test]
 fn a_list_of_keys_beside_a_removal_that_grows_the_array(rt: HostRuntime) -> Result<(), Fail> {
-    assert_eq!(rt; orders(rt.alloc(), false, 1_000_000)?, Some(236_262));
+    assert!(rt; orders(rt.alloc(), false, 1_000_000)? == Some(236_262));
     Ok(())
 }
 
 #[test]
 fn a_list_of_keys_beside_an_insert_that_grows_the_array(rt: HostRuntime) -> Result<(), Fail> {
-    assert_eq!(rt; orders(rt.alloc(), true, 1_000_000)?, Some(491_998));
+    assert!(rt; orders(rt.alloc(), true, 1_000_000)? == Some(491_998));
     Ok(())
 }

@@ -1,6 +1,7 @@
 //! A table whose operations stay undecided for a while: what the contract of `Table` asks of one
 //! that others change meanwhile.
 ghost use Rattle.std.specs.Prelude.{◌≡◌, ◌≢◌, ◌<◌, ◌≤◌, ◌+◌, max, OnErr, IfOk, Some, None};
+ghost use Rattle.std.specs.Bool.{OnTrue};
 ghost use Rattle.std.specs.HashMap.{hash_map_len};
 ghost use Rattle.std.proofs.Common.{arith};
 ghost use Rattle.moka_hist.specs.Finite.{IsExact};
@@ -123,14 +124,26 @@ fn with_pieces(alloc: Global, pieces: u64) -> Slow<u32, u32>
     }
 }
 
+// Makes one step; tells whether the operation stays undecided.
+#[cfg(test)]
+fn goes_on(table: &mut Slow<u32, u32>, call: &mut PlainCall<u32, u32>) -> Result<bool, AllocError>
+    requires { call.old.operation ≢ None }
+    ensures { IfOk result (λ going. OnTrue going (call.new.operation ≢ None)) }
+{
+    let turn = table.step(call)?;
+    let going = turn.is_going();
+    drop(turn);
+    Ok(going)
+}
+
 #[cfg(test)]
 fn decide_both(rt: &impl Abort, table: &mut Slow<u32, u32>) -> Result<(), Fail> {
     let mut first = table.begin(TableOp::Get { key: 3 });
     let mut second = table.begin(TableOp::Get { key: 4 });
-    assert!(rt; table.step(&mut first)?.is_going());
-    assert!(rt; table.step(&mut second)?.is_going());
-    assert!(rt; !table.step(&mut first)?.is_going());
-    assert!(rt; !table.step(&mut second)?.is_going());
+    assert!(rt; goes_on(table, &mut first)?);
+    assert!(rt; goes_on(table, &mut second)?);
+    assert!(rt; !goes_on(table, &mut first)?);
+    assert!(rt; !goes_on(table, &mut second)?);
     Ok(())
 }
 
@@ -142,23 +155,35 @@ fn an_operation_decides_once_the_pieces_are_done(rt: HostRuntime) -> Result<(), 
     decided
 }
 
+// An insert of key 3, if that is absent.
 #[cfg(test)]
-fn remove_late(rt: &impl Abort, table: &mut Slow<u32, u32>) -> Result<(), Fail> {
-    let mut removal = table.begin(TableOp::RemoveIf {
-        key: 3,
-        stamp: Some(1),
-    });
-    assert!(rt; table.step(&mut removal)?.is_going());
+fn insert() -> TableOp<u32, u32> {
     let stored = Stored {
         value: 7,
         stamp: 1,
         modified: 0,
     };
-    let mut insert = table.begin(TableOp::InsertIfAbsent { key: 3, stored });
-    assert!(rt; !table.step(&mut insert)?.is_going());
-    assert_eq!(rt; table.len(), 1);
-    assert!(rt; !table.step(&mut removal)?.is_going());
-    assert_eq!(rt; table.len(), 0);
+    TableOp::InsertIfAbsent { key: 3, stored }
+}
+
+// A removal of it.
+#[cfg(test)]
+fn removal() -> TableOp<u32, u32> {
+    TableOp::RemoveIf {
+        key: 3,
+        stamp: Some(1),
+    }
+}
+
+#[cfg(test)]
+fn remove_late(rt: &impl Abort, table: &mut Slow<u32, u32>) -> Result<(), Fail> {
+    let mut late = table.begin(removal());
+    assert!(rt; goes_on(table, &mut late)?);
+    let mut early = table.begin(insert());
+    assert!(rt; !goes_on(table, &mut early)?);
+    assert!(rt; table.len() == 1);
+    assert!(rt; !goes_on(table, &mut late)?);
+    assert!(rt; table.len() == 0);
     Ok(())
 }
 
