@@ -9,16 +9,16 @@ use Rattle.moka_hist.specs.declared.rules.Cause.{Cause}
 use Rattle.moka_hist.specs.declared.rules.Cause.TheVariants.{Expired, Explicit, Replaced, Size}
 use Rattle.moka_desk.specs.Moments.{AreAlike, reads_moments}
 
-past_alike : (idle : Option Duration) (capacity : Bool) (a b c d : ℕ) → c ≡ d → ((is_some idle || capacity) ≡ true → a ≡ b) → is_past idle a c ≡ is_past idle b d
-past_alike None capacity a b c d e h = refl
-past_alike (Some duration) capacity a b c d e h = let same = h refl in λ i. is_past (Some duration) (same i) (e i)
+past_alike : (idle : Option Duration) (a b c d : ℕ) → c ≡ d → (is_some idle ≡ true → a ≡ b) → is_past idle a c ≡ is_past idle b d
+past_alike None a b c d e h = refl
+past_alike (Some duration) a b c d e h = let same = h refl in λ i. is_past (Some duration) (same i) (e i)
 
 module _ (rules : Rules) (t u : Times) (alike : AreAlike rules t u) where
   live : is_past_live rules t ≡ is_past_live rules u
   live = λ i. is_past rules.time_to_live (alike.modified i) (alike.clock i)
 
   idle : is_past_idle rules t ≡ is_past_idle rules u
-  idle = past_alike rules.time_to_idle (is_some rules.max_capacity) t.accessed u.accessed t.clock u.clock alike.clock alike.accessed
+  idle = past_alike rules.time_to_idle t.accessed u.accessed t.clock u.clock alike.clock alike.accessed
 
   valid : t.valid_after ≡ u.valid_after
   valid = alike.valid.0 ∙ sym alike.valid.1

@@ -251,9 +251,10 @@ impl<K: Eq + Hash + Clone + Drop, V: Drop, E: Drop> Desk<K, V, E> {
     }
 }
 
-/// Whether a rule reads when a record was last seen: a time to idle, or a capacity.
+/// Whether a rule reads when a record was last seen: a time to idle. A capacity alone doesn't, since
+/// no visit chooses records by size.
 fn reads_moments(rules: &Rules) -> bool
     ensures { result ≡ reads_moments rules.now }
 {
-    rules.time_to_idle.is_some() || rules.max_capacity.is_some()
+    rules.time_to_idle.is_some()
 }
