@@ -92,6 +92,17 @@ module _ {K V E : Type 0} {same : PartialEq.Ghosts K} {hash : Hash.Ghosts K} whe
   AnswersMove old change new =
       ((n : ℕ) → answer_line new n ≡ change n (answer_line old n)) × (new.waits ≡ old.waits)
 
+  -- The call leaves: it is taken off each list, and the lists of its load, of its lock and of the
+  -- answer to its ask are empty then. On the other lists every other call stays.
+  pub record LeftMove (old : Desk K V E same hash) (call : ℕ) (new : Desk K V E same hash)
+      : Type 0 where
+    pub turns : (n : ℕ) → turn_line new n ≡ without call (turn_line old n)
+    pub settlements : (n : ℕ) →
+        settlement_line new n ≡ comes call n (without call (settlement_line old n))
+    pub locks : (n : ℕ) → lock_line new n ≡ comes call n (without call (lock_line old n))
+    pub notices : (n : ℕ) → notice_line new n ≡ without call (notice_line old n)
+    pub answers : (n : ℕ) → answer_line new n ≡ comes call n (answer_line old n)
+
   -- all that wait for such an answer to the ask of this number leave its list, and no other list
   -- changes
   abbrev pub ToldMove : Desk K V E same hash → ℕ → Told V E → Desk K V E same hash → Type 0

@@ -63,6 +63,10 @@ impl<V: Drop, E: Drop> Asks<V, E> {
               told = put_at p.told call None;
             }) self.new) }
         ensures err { OnErr result (AsksBecome self.old (λ p. p) self.new) }
+        ensures waits { OnOk result ((n : ℕ)
+            → asker_at self.new.open_asks n ≡ cond (call == n) [] (asker_at self.old.open_asks n)) }
+        ensures unlisted { OnErr result ((n : ℕ)
+            → asker_at self.new.open_asks n ≡ asker_at self.old.open_asks n) }
         ensures back { OnOk result ((n : ℕ) →
             is_told self.new n ≡ all_but call (is_told self.old) n) }
         ensures still { OnErr result ((n : ℕ) → is_told self.new n ≡ is_told self.old n) }
@@ -134,6 +138,8 @@ impl<V: Drop, E: Drop> Asks<V, E> {
           asks = put_at p.asks call None;
           told = put_at p.told call None;
         }) self.new }
+        ensures waits { (n : ℕ)
+            → asker_at self.new.open_asks n ≡ cond (call == n) [] (asker_at self.old.open_asks n) }
         ensures back { (n : ℕ) → is_told self.new n ≡ all_but call (is_told self.old) n }
     {
         drop(self.open_asks.remove(&call));

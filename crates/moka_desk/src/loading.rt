@@ -19,7 +19,7 @@ impl<K: Eq + Hash + Clone + Drop, V: Drop, E: Drop> Desk<K, V, E> {
     ghost use Rattle.moka_hist.specs.Dropping.{left, owed_with};
     ghost use Rattle.moka_hist.specs.declared.visits.Visit.TheVariants as visit;
     ghost use Rattle.moka_hist.specs.declared.visits.Found.TheVariants as found;
-    ghost use Rattle.moka_desk.specs.Waits.{awaited, comes, leaves, lock_line, notice_line, settlement_line, stays, told_line, waits_at, AnswersMove, NobodyMoves, NoticesMove, SettlementsMove, ToldMove};
+    ghost use Rattle.moka_desk.specs.Waits.{awaited, comes, leaves, lock_line, notice_line, settlement_line, stays, told_line, waits_at, AnswersMove, LeftMove, NobodyMoves, NoticesMove, SettlementsMove, ToldMove};
     ghost use Rattle.moka_desk.specs.WakeList.{after_leaving, AnswersWake, NobodyWakes, NoticesWake, SettlementsWake, ToldWake, Wake};
     ghost use Rattle.moka_desk.specs.Woken.{all_but, and_calls};
     ghost use Rattle.moka_desk.specs.Asks.{asks_if, is_open};
@@ -123,6 +123,8 @@ impl<K: Eq + Hash + Clone + Drop, V: Drop, E: Drop> Desk<K, V, E> {
         requires { Can K.eq self.old (visit.OpenAsk call takes) }
         ensures makes { OnOk result (Makes K.eq self.old (visit.OpenAsk call takes) self.new) }
         ensures err { OnErr result (Stays K.eq self.old self.new) }
+        ensures waits { OnOk result (AnswersMove self.old (comes call) self.new) }
+        ensures unlisted { OnErr result (AnswersMove self.old stays self.new) }
         ensures wakes { NobodyWakes self.old self.new }
         ensures misses { OnOk result (MissAfter K.eq self.old (visit.OpenAsk call takes) self.new) }
         ensures misses_still { OnErr result (MissWith K.eq self.old (λ w. w) self.new) }
@@ -207,6 +209,7 @@ impl<K: Eq + Hash + Clone + Drop, V: Drop, E: Drop> Desk<K, V, E> {
         ensures woken { result
             ≡ without call (settlement_line self.old call) ++
             without call (lock_line self.old call) }
+        ensures waits { LeftMove self.old call self.new }
         ensures wakes { Wake self.old
             (after_leaving call (settlement_line self.old call) (lock_line self.old call)) self.new }
         ensures misses { MissWith K.eq self.old (λ w. left w call held) self.new }

@@ -42,6 +42,7 @@ impl<K: Eq + Hash + Clone + Drop, V: Drop, E: Drop> Desk<K, V, E> {
     ghost use Rattle.moka_desk.specs.StandsFor.{StandsFor, Becomes};
     ghost use Rattle.moka_desk.specs.History.{KeepsAsBefore, keeps_history, keeps_moments};
     ghost use Rattle.moka_desk.specs.ListedMiss.{ListedMiss, MissWith};
+    ghost use Rattle.moka_desk.specs.Waits.{NobodyMoves};
     ghost use Rattle.moka_desk.specs.WakeList.{is_on, wake_list, ListedAreUnwoken, NobodyWakes};
 
     /// A desk by these rules, where nothing has happened, with a log of this many writes, that keeps
@@ -148,6 +149,7 @@ impl<K: Eq + Hash + Clone + Drop, V: Drop, E: Drop> Desk<K, V, E> {
             (λ w. if nat_lt moment w.clock then w else record w { clock = moment }) self.new }
         ensures misses { MissWith K.eq self.old
             (λ w. if nat_lt moment w.clock then w else record w { clock = moment }) self.new }
+        ensures quiet { NobodyMoves self.old self.new }
         ensures wakes { NobodyWakes self.old self.new }
         ensures kept { KeepsAsBefore self.old self.new }
     {
@@ -169,6 +171,7 @@ impl<K: Eq + Hash + Clone + Drop, V: Drop, E: Drop> Desk<K, V, E> {
         ensures misses { (w : DeskPart K V E) → ListedMiss self.old w
             → MatchOption result (ListedMiss self.new w)
             (λ n. ListedMiss self.new (record w { last = n })) }
+        ensures quiet { NobodyMoves self.old self.new }
         ensures wakes { NobodyWakes self.old self.new }
         ensures kept { KeepsAsBefore self.old self.new }
     {
