@@ -1,6 +1,6 @@
 -- Notices, as one is opened or ends.
 use Rattle.std.proofs.Common.{◌≡◌, ℕ, ◌==◌, Bool, true, false, cond, Option, Some, None, refl, sym, ap, ◌∙◌}
-use Rattle.std.specs.Option.{option_map}
+use Rattle.std.specs.Option.{option_map, option_map_or}
 use Rattle.std.proofs.lemmas.Bool.{eqb-true, eqb-false}
 use Rattle.moka_hist.specs.Finite.{put_at}
 use Rattle.moka_hist.specs.Visits.{runs}
@@ -89,3 +89,11 @@ found_either r q (Some x) e f = rw (e, f) (by (runs x.state)) where
   by : (b : Bool) → either (cond b (Some x) None) (cond b None (Some x)) ≡ Some x
   by true = refl
   by false = refl
+
+-- one that runs is found whatever is kept of the past
+pub found_now : {K V : Type 0} (running_now past o : Option (Notice K V)) → running_now ≡ if_running o → option_map_or (λ x. runs x.state) o false ≡ true → either running_now past ≡ o
+found_now r q None e is = cc
+found_now r q (Some x) e is = rw e (by (runs x.state) is) where
+  by : (b : Bool) → b ≡ true → either (cond b (Some x) None) q ≡ Some x
+  by true f = refl
+  by false f = cc

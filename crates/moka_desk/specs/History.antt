@@ -15,6 +15,12 @@ module _ {K V E : Type 0} {same : PartialEq.Ghosts K} {hash : Hash.Ghosts K} whe
   abbrev pub keeps_history : Desk K V E same hash → Bool
   keeps_history desk = desk.writes.applied.history && (desk.notices.history && desk.moments)
 
+  -- each of these is kept, or none is
+  abbrev pub KeepsAll : Bool → Desk K V E same hash → Type 0
+  KeepsAll history desk =
+      (desk.writes.applied.history ≡ history) × (desk.notices.history ≡ history) ×
+      (desk.moments ≡ history)
+
   -- it keeps one exactly where it kept one
   abbrev pub KeepsAsBefore : Desk K V E same hash → Desk K V E same hash → Type 0
   KeepsAsBefore old new = keeps_history new ≡ keeps_history old

@@ -1,6 +1,6 @@
 //! The visits that see to loads and asks, and a call that leaves.
 
-ghost use Rattle.std.specs.Prelude.{◌≡◌, ℕ, Some, None, ◌++◌, is_some, IfOk, IfNone, IfSome, MatchOption, OnSome, OnOk, OnErr, if◌then◌else◌};
+ghost use Rattle.std.specs.Prelude.{◌≡◌, ℕ, true, Some, None, ◌++◌, is_some, IsNone, IfOk, IfNone, IfSome, MatchOption, OnSome, OnOk, OnErr, if◌then◌else◌};
 ghost use Rattle.moka_sync.specs.Waiting.{without};
 
 use crate::Desk;
@@ -14,9 +14,10 @@ impl<K: Eq + Hash + Clone + Drop, V: Drop, E: Drop> Desk<K, V, E> {
     ghost use Rattle.moka_hist.specs.State.{DeskPart};
     ghost use Rattle.std.specs.Option.{option_map};
     ghost use Rattle.moka_hist.specs.Conditions.{MayLeave};
-    ghost use Rattle.moka_hist.specs.Visits.{is_running};
+    ghost use Rattle.moka_hist.specs.Visits.{is_running, settlement_for};
     ghost use Rattle.moka_hist.specs.Telling.{heard, is_asked, told as with_told};
     ghost use Rattle.moka_hist.specs.Dropping.{left, owed_with};
+    ghost use Rattle.moka_hist.specs.declared.loads.Kind.TheVariants as kind;
     ghost use Rattle.moka_hist.specs.declared.visits.Visit.TheVariants as visit;
     ghost use Rattle.moka_hist.specs.declared.visits.Found.TheVariants as found;
     ghost use Rattle.moka_desk.specs.Waits.{awaited, comes, leaves, lock_line, notice_line, settlement_line, stays, told_line, waits_at, AnswersMove, LeftMove, NobodyMoves, NoticesMove, SettlementsMove, ToldMove};
@@ -24,6 +25,7 @@ impl<K: Eq + Hash + Clone + Drop, V: Drop, E: Drop> Desk<K, V, E> {
     ghost use Rattle.moka_desk.specs.Woken.{all_but, and_calls};
     ghost use Rattle.moka_desk.specs.Asks.{asks_if, is_open};
     ghost use Rattle.moka_desk.specs.History.{KeepsAsBefore};
+    ghost use Rattle.moka_desk.specs.Readers.{is_copied};
     ghost use Rattle.moka_desk.specs.StandsFor.{StandsFor, Can, CanLeave, Finds, Becomes, Makes, Stays};
     ghost use Rattle.moka_desk.specs.ListedMiss.{MissAfter, MissWith};
 
@@ -58,6 +60,8 @@ impl<K: Eq + Hash + Clone + Drop, V: Drop, E: Drop> Desk<K, V, E> {
             (found.OwnAlone owned)) }
         ensures makes { OnOk result (Makes K.eq self.old (visit.OwnAlone call key) self.new) }
         ensures err { OnErr result (Stays K.eq self.old self.new) }
+        ensures needs { OnErr result ((w : DeskPart K V E) → StandsFor K.eq self.old w
+            → IsNone (w.owners (record { key = key; kind = kind.Compute }))) }
         ensures quiet { NobodyMoves self.old self.new }
         ensures wakes { NobodyWakes self.old self.new }
         ensures misses { OnOk result (MissAfter K.eq self.old (visit.OwnAlone call key) self.new) }
@@ -89,6 +93,8 @@ impl<K: Eq + Hash + Clone + Drop, V: Drop, E: Drop> Desk<K, V, E> {
         ensures unlisted { OnErr result (SettlementsMove self.old stays self.new) }
         ensures back { OnOk result (SettlementsWake self.old (all_but call) self.new) }
         ensures still { OnErr result (NobodyWakes self.old self.new) }
+        ensures needs { OnErr result (awaited self.old call ≡ None → (w : DeskPart K V E)
+            → StandsFor K.eq self.old w → is_copied (settlement_for w call) ≡ true) }
         // who is listed misses that thing
         ensures misses { OnOk result (MissAfter K.eq self.old (visit.ReadSettled call) self.new) }
         ensures misses_still { OnErr result (MissWith K.eq self.old (λ w. w) self.new) }

@@ -1,12 +1,12 @@
 //! The loads that calls own and wait for.
 
-ghost use Rattle.std.specs.Prelude.{◌≡◌, ℕ, ◌+◌, ◌-◌, ◌≤◌, ◌<◌, ◌==◌, ◌&&◌, ◌^◌, cond, Option, Some, None, is_some, unwrap_or, nat_eq, OnOk, OnErr, IfOk, if◌then◌else◌};
+ghost use Rattle.std.specs.Prelude.{◌≡◌, ℕ, ◌+◌, ◌-◌, ◌≤◌, ◌<◌, ◌==◌, ◌&&◌, ◌^◌, cond, Option, Some, None, true, is_some, unwrap_or, nat_eq, IsNone, OnOk, OnErr, IfOk, if◌then◌else◌};
 ghost use Rattle.moka_hist.specs.Finite.{IsExact};
 ghost use Rattle.std.specs.Bool.{OnTrue};
 ghost use Rattle.std.specs.Option.{option_and_then, option_map};
 ghost use Rattle.std.specs.HashMap.{get, spare, hash_map_len};
 ghost use Rattle.moka_needs.specs.Needs.{ending_of};
-ghost use Rattle.moka_desk.specs.Readers.{waiting_for};
+ghost use Rattle.moka_desk.specs.Readers.{has_content, is_copied, waiting_for};
 
 use crate::maps::{put, replace};
 use moka_hist::{Claim, Load, Settled};
@@ -98,6 +98,8 @@ impl<K: Eq + Hash + Clone + Drop, V: Drop, E: Drop> Loads<K, V, E> {
         ensures ok { OnOk result (LoadsMake K.eq self.old
             (λ w. load_part (claimed_alone K.eq w call load (w.owners load))) self.new) }
         ensures err { OnErr result (LoadsStay K.eq self.old self.new) }
+        ensures needs { OnErr result ((w : DeskPart K V E) → LoadsAre K.eq self.old (load_part w)
+            → IsNone (w.owners load)) }
     {
         if self.owners.contains_key(&load) {
             drop(load);
@@ -172,6 +174,8 @@ impl<K: Eq + Hash + Clone + Drop, V: Drop, E: Drop> Loads<K, V, E> {
             → found ≡ unwrap_or (settlement_for w call) settled.NotYet) }
         ensures ok { OnOk result (LoadsMake K.eq self.old (λ w. load_part (read w call)) self.new) }
         ensures err { OnErr result (self.new ≡ self.old) }
+        ensures needs { OnErr result (is_copied (option_and_then (get nat_eq self.old.settled)
+            (get nat_eq self.old.joined call)) ≡ true) }
     {
         match self.settlement_for(call)? {
             Some(settlement) => {
@@ -232,8 +236,10 @@ impl<K: Eq + Hash + Clone + Drop, V: Drop, E: Drop> Loads<K, V, E> {
         E: Clone,
         requires values { IsExact V.is_clone }
         requires errors { IsExact E.is_clone }
-        ensures { IfOk result (λ found. found ≡ option_and_then (get nat_eq self.now.settled)
+        ensures found { IfOk result (λ found. found ≡ option_and_then (get nat_eq self.now.settled)
             (get nat_eq self.now.joined call)) }
+        ensures needs { OnErr result (is_copied (option_and_then (get nat_eq self.now.settled)
+            (get nat_eq self.now.joined call)) ≡ true) }
     {
         let Some(owner) = self.joined.get(&call) else {
             return Ok(None);
@@ -345,7 +351,8 @@ fn settlement_copy<V: Clone, E: Clone>(
 ) -> Result<Settled<V, E>, AllocError>
     requires values { IsExact V.is_clone }
     requires errors { IsExact E.is_clone }
-    ensures { IfOk result (λ copy. copy ≡ settlement.now) }
+    ensures copy { IfOk result (λ copy. copy ≡ settlement.now) }
+    ensures needs { OnErr result (has_content settlement.now ≡ true) }
 {
     match settlement {
         Settled::NotYet => Ok(Settled::NotYet),

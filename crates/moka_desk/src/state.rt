@@ -39,8 +39,9 @@ impl<K: Eq + Hash + Clone + Drop, V: Drop, E: Drop> Desk<K, V, E> {
     ghost use Rattle.moka_hist.specs.State.{DeskPart, fresh_desk};
     ghost use Rattle.moka_hist.specs.Finite.{IsExact};
     ghost use Rattle.moka_hist.specs.Run.{last_call};
+    ghost use Rattle.moka_hist.specs.Visits.{is_running};
     ghost use Rattle.moka_desk.specs.StandsFor.{StandsFor, Becomes};
-    ghost use Rattle.moka_desk.specs.History.{KeepsAsBefore, keeps_history, keeps_moments};
+    ghost use Rattle.moka_desk.specs.History.{KeepsAll, KeepsAsBefore, keeps_history, keeps_moments};
     ghost use Rattle.moka_desk.specs.ListedMiss.{ListedMiss, MissWith};
     ghost use Rattle.moka_desk.specs.Waits.{NobodyMoves};
     ghost use Rattle.moka_desk.specs.WakeList.{is_on, wake_list, ListedAreUnwoken, NobodyWakes};
@@ -51,6 +52,8 @@ impl<K: Eq + Hash + Clone + Drop, V: Drop, E: Drop> Desk<K, V, E> {
         ensures stands { IfOk result (λ desk. (tests : ℕ → K → V → Bool)
             → StandsFor K.eq desk (fresh_desk K V E rules log tests)) }
         ensures history { IfOk result (λ desk. keeps_history desk ≡ true) }
+        ensures misses { IfOk result (λ desk. (w : DeskPart K V E) → ListedMiss desk w) }
+        ensures unwoken { IfOk result (λ desk. (call : ℕ) → is_on (wake_list desk) call ≡ false) }
     {
         Desk::starting_after(alloc, rules, log, 0)
     }
@@ -81,6 +84,7 @@ impl<K: Eq + Hash + Clone + Drop, V: Drop, E: Drop> Desk<K, V, E> {
         ensures stands { IfOk result (λ desk. (tests : ℕ → K → V → Bool)
             → StandsFor K.eq desk (record (fresh_desk K V E rules log tests) { last = last })) }
         ensures history { IfOk result (λ desk. keeps_history desk ≡ false) }
+        ensures kind { IfOk result (λ desk. KeepsAll false desk) }
         ensures misses { IfOk result (λ desk. (w : DeskPart K V E) → ListedMiss desk w) }
         ensures unwoken { IfOk result (λ desk. (call : ℕ) → is_on (wake_list desk) call ≡ false) }
     {
@@ -99,6 +103,7 @@ impl<K: Eq + Hash + Clone + Drop, V: Drop, E: Drop> Desk<K, V, E> {
         ensures stands { IfOk result (λ desk. (tests : ℕ → K → V → Bool)
             → StandsFor K.eq desk (record (fresh_desk K V E rules log tests) { last = last })) }
         ensures history { IfOk result (λ desk. keeps_history desk ≡ history) }
+        ensures kind { IfOk result (λ desk. KeepsAll history desk) }
         ensures misses { IfOk result (λ desk. (w : DeskPart K V E) → ListedMiss desk w) }
         ensures unwoken { IfOk result (λ desk. (call : ℕ) → is_on (wake_list desk) call ≡ false) }
     {
@@ -215,8 +220,10 @@ impl<K: Eq + Hash + Clone + Drop, V: Drop, E: Drop> Desk<K, V, E> {
         V: Clone,
         requires keys { IsExact K.is_clone }
         requires values { IsExact V.is_clone }
-        ensures { IfOk result (λ notice. keeps_history self.now ≡ true → (w : DeskPart K V E)
+        ensures whole { IfOk result (λ notice. keeps_history self.now ≡ true → (w : DeskPart K V E)
             → StandsFor K.eq self.now w → notice ≡ w.notices number) }
+        ensures running { IfOk result (λ notice. (w : DeskPart K V E) → StandsFor K.eq self.now w
+            → is_running w number ≡ true → notice ≡ w.notices number) }
     {
         self.notices.notice(number)
     }

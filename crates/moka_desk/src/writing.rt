@@ -16,7 +16,7 @@ impl<K: Eq + Hash + Clone + Drop, V: Drop, E: Drop> Desk<K, V, E> {
     ghost use Rattle.moka_hist.specs.declared.visits.Visit.TheVariants as visit;
     ghost use Rattle.moka_hist.specs.declared.visits.Found.TheVariants as found;
     ghost use Rattle.moka_desk.specs.StandsFor.{StandsFor, Can, Finds, Becomes, Makes, Stays};
-    ghost use Rattle.moka_desk.specs.History.{KeepsAsBefore};
+    ghost use Rattle.moka_desk.specs.History.{KeepsAsBefore, keeps_moments};
     ghost use Rattle.moka_desk.specs.ListedMiss.{MissAfter, MissWith};
     ghost use Rattle.moka_desk.specs.Waits.{comes, leaves, stays, turn_line, waits_at, NobodyMoves, TurnsMove};
     ghost use Rattle.moka_desk.specs.WakeList.{NobodyWakes, TurnsWake};
@@ -82,13 +82,16 @@ impl<K: Eq + Hash + Clone + Drop, V: Drop, E: Drop> Desk<K, V, E> {
 
     /// Judges whether the record of this stamp, written at the moment `modified`, is seen by a call
     /// whose replace test holds on it, if `replaced`: it is seen where that is false. The access
-    /// moment of a record that is seen is raised to the clock; only that may want memory.
+    /// moment of a record that is seen is raised to the clock where moments are kept; only that
+    /// may want memory.
     pub fn judge(&mut self, replaced: bool, stamp: u64, modified: u64) -> Result<bool, AllocError>
         ensures finds { IfOk result (λ seen. seen ≡ not replaced) }
         ensures makes { OnOk result (Becomes K.eq self.old
             (λ w. judged w stamp modified (not replaced)) self.new) }
         ensures err { OnErr result (Stays K.eq self.old self.new) }
         ensures needs { OnErr result (IsFalse replaced) }
+        ensures needs_moments { OnErr result (keeps_moments self.old ≡ true) }
+        ensures unkept { keeps_moments self.old ≡ false → self.new ≡ self.old }
         ensures quiet { NobodyMoves self.old self.new }
         ensures wakes { NobodyWakes self.old self.new }
         ensures misses { OnOk result
@@ -109,6 +112,8 @@ impl<K: Eq + Hash + Clone + Drop, V: Drop, E: Drop> Desk<K, V, E> {
         ensures makes { OnOk result (Becomes K.eq self.old
             (λ w. judged w stamp modified true) self.new) }
         ensures err { OnErr result (Stays K.eq self.old self.new) }
+        ensures needs { OnErr result (keeps_moments self.old ≡ true) }
+        ensures unkept { keeps_moments self.old ≡ false → self.new ≡ self.old }
         ensures quiet { NobodyMoves self.old self.new }
         ensures wakes { NobodyWakes self.old self.new }
         ensures kept { KeepsAsBefore self.old self.new }
