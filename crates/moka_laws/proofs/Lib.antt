@@ -69,3 +69,5 @@ pub mod Computed
 pub mod Nops
 pub mod Apart
 pub mod OwnedUntil
+pub mod Giving
+pub mod Given

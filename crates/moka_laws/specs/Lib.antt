@@ -16,3 +16,4 @@ pub mod Answered
 pub mod Alone
 pub mod Removals
 pub mod Computes
+pub mod Given

@@ -57,5 +57,5 @@ pub use sound::{
     clock_keeps_sound, deciding_keeps_sound, entering_keeps_sound, fresh_is_sound,
     leaving_keeps_sound, reached_is_sound, telling_keeps_sound, visits_keep_sound,
 };
-pub use stored::{reached_by_lawful_run, stored_under_own_keys};
+pub use stored::{reached_by_lawful_run, stored_is_given, stored_under_own_keys};
 pub use waiting::{live_calls_go_on, waits_by_cause};
