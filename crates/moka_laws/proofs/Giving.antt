@@ -1,5 +1,6 @@
--- What each event keeps that gives only what is P holds along runs of such events.
-use Rattle.std.proofs.Common.{◌≡◌, ℕ, zero, suc, ◌==◌, nat_lt, Bool, true, false, List, [], ◌∷◌, Option, Some, None, MatchOption, MatchBool, inl, inr, refl, sym, subst}
+-- What is kept by each event that gives only pairs of P, and starts only calls of Q, holds along runs
+-- of such events.
+use Rattle.std.proofs.Common.{◌≡◌, ℕ, zero, suc, ◌+◌, ◌==◌, nat_lt, Bool, true, false, List, [], ◌∷◌, Option, Some, None, MatchOption, MatchBool, inl, inr, refl, sym, subst}
 use Rattle.moka_hist.specs.Dropping.{dropped}
 use Rattle.moka_hist.specs.State.{State, Call}
 use Rattle.moka_hist.specs.Step.{Step}
@@ -17,19 +18,25 @@ use Rattle.moka_hist.specs.declared.records.Mode.TheVariants as mode
 use Rattle.moka_hist.specs.declared.replies.Refusal.{Refusal}
 use Rattle.moka_hist.specs.declared.replies.Reply.{Reply}
 use Rattle.moka_hist.specs.declared.replies.Reply.TheVariants as reply
-use Rattle.moka_laws.specs.Given.{Gives, WasGiven, brought}
+use Rattle.moka_laws.specs.Given.{Gives, HasStarted, WasGiven, brought, key_of}
 
-module _ {K V E : Type 0} (P : K → V → Type 0) where
+module _ {K V E : Type 0} (P : K → V → Type 0) (Q : ℕ → K → Type 0) where
   -- whatever the event gives is P
   abbrev pub GivesOnly : State K V E → Event K V E → Reply K V E → Type 0
   GivesOnly s e r = (key : K) (value : V) → Gives s e r key value → P key value
+
+  -- the event, if it starts a call, starts it for a key of its number
+  abbrev BeginsOnly : Event K V E → Reply K V E → Type 0
+  BeginsOnly e r =
+      (n : ℕ) (start : Start K V) → e ≡ event.Start start → r ≡ reply.Call n → Q n (key_of start)
 
   module _ (eq : K → K → Bool) where
     -- each event that gives only what is P keeps it
     pub record IsKeptGiving (I : State K V E → Type 0) : Type 0 where
       pub at : (s : State K V E) (moment : ℕ) → I s → I (at_moment s moment)
       pub start : (s : State K V E) (start : Start K V) → I s →
-          ((key : K) (value : V) → brought start ≡ Some (key, value) → P key value) → I (started s start)
+          ((key : K) (value : V) → brought start ≡ Some (key, value) → P key value) →
+          Q (s.world.desk.last + 1) (key_of start) → I (started s start)
       pub step : (s t : State K V E) (n : ℕ) (turn : Turn K V E) → I s → Step eq s n turn t → I t
       pub tell : (s : State K V E) (n : ℕ) (given : Told V E) → I s →
           GivesOnly s (event.Tell n given) reply.Told → I (with_desk s (told_call s.world.desk n given))
@@ -75,37 +82,42 @@ module _ {K V E : Type 0} (P : K → V → Type 0) where
       is_told s n told.Off i gave = kept.hear s n true i
 
       happens : (s t : State K V E) (e : Event K V E) (r : Reply K V E) → I s → GivesOnly s e r →
+          BeginsOnly e r →
           Happens eq Any s e r t → I t
-      happens s t (event.At moment) r i gave h =
+      happens s t (event.At moment) r i gave begun h =
           either t (nat_lt moment s.world.desk.clock) _ _ (refused s t _ r i)
           (becomes (at_moment s moment) t _ r (kept.at s moment i)) h
-      happens s t (event.Start start) r i gave h =
+      happens s t (event.Start start) r i gave begun h =
           either t (s.world.desk.last == last_call) _ _ (refused s t _ r i)
           (λ b. becomes (started s start) t _ r
-          (kept.start s start i (subst (GivesOnly s (event.Start start)) b.reply gave)) b) h
-      happens s t (event.Step n) r i gave h =
+          (kept.start s start i (subst (GivesOnly s (event.Start start)) b.reply gave)
+          (begun (s.world.desk.last + 1) start refl b.reply)) b) h
+      happens s t (event.Step n) r i gave begun h =
           looked t (s.calls n) _ (λ _. Steps eq s n r t) (refused s t _ r i)
           (λ c e steps. kept.step s t n steps.turn i steps.step) h
-      happens s t (event.Poll n) r i gave h =
+      happens s t (event.Poll n) r i gave begun h =
           looked t (s.calls n) _ (λ _. Polls eq Any s n r t) (refused s t _ r i)
           (λ c e polls. kept.step polls.mid t n polls.last.turn
           (goings polls.going s polls.mid n i polls.goes) polls.last.step) h
-      happens s t (event.Tell n answer) r i gave h =
+      happens s t (event.Tell n answer) r i gave begun h =
           either t (is_asked s.world.desk n answer) _ _
           (λ b. becomes (with_desk s (tells s.world.desk n answer)) t _ r
           (is_told s n answer i (subst (GivesOnly s (event.Tell n answer)) b.reply gave)) b)
           (refused s t _ r i) h
-      happens s t (event.Drop n) r i gave h =
+      happens s t (event.Drop n) r i gave begun h =
           looked t (s.calls n) _ (λ c. Drops s n c c.mode r t) (refused s t _ r i)
           (λ c e d. drops s t n c c.mode r e i d) h
 
       -- so what holds where a run begins that gives only what is P holds where it ends
       pub along : (s t : State K V E) (es : List (Event K V E)) (rs : List (Reply K V E))
           (run : Run eq Any s es rs t) →
-          ((key : K) (value : V) → WasGiven eq s es rs t run key value → P key value) → I s → I t
-      along s t [] [] run gave i = subst I (sym run) i
-      along s t (e ∷ es) (r ∷ rs) run gave i =
+          ((key : K) (value : V) → WasGiven eq s es rs t run key value → P key value) →
+          ((n : ℕ) (start : Start K V) → HasStarted n es rs start → Q n (key_of start)) → I s → I t
+      along s t [] [] run gave begun i = subst I (sym run) i
+      along s t (e ∷ es) (r ∷ rs) run gave begun i =
           along run.0 t es rs run.3 (λ key value g. gave key value (inr g))
-          (happens s run.0 e r i (λ key value g. gave key value (inl g)) run.1)
-      along s t [] (r ∷ rs) run gave i = absurd run
-      along s t (e ∷ es) [] run gave i = absurd run
+          (λ n start b. begun n start (inr b))
+          (happens s run.0 e r i (λ key value g. gave key value (inl g))
+          (λ n start is says. begun n start (inl (is, says))) run.1)
+      along s t [] (r ∷ rs) run gave begun i = absurd run
+      along s t (e ∷ es) [] run gave begun i = absurd run

@@ -69,5 +69,6 @@ pub mod Computed
 pub mod Nops
 pub mod Apart
 pub mod OwnedUntil
+pub mod StartedOnce
 pub mod Giving
-pub mod Given
+pub mod OnlyGiven

@@ -66,7 +66,7 @@ kind_one Compute GetWith e = absurd (false≢true e)
 kind_one Compute Optional e = absurd (false≢true e)
 kind_one Compute Try e = absurd (false≢true e)
 
-and_left : (x y : Bool) → (x && y) ≡ true → x ≡ true
+pub and_left : (x y : Bool) → (x && y) ≡ true → x ≡ true
 and_left true y h = refl
 and_left false y h = absurd (false≢true h)
 

@@ -11,11 +11,11 @@ use Rattle.moka_laws.specs.Starting.{WasStarted}
 use Rattle.moka_laws.proofs.Following.{IsFollowed, follow}
 use Rattle.moka_laws.proofs.Kept.{IsStable, runs}
 
-no_refusal : {K V E : Type 0} (n : ℕ) (why : Refusal) → ◌≡◌ {A = Reply K V E} (reply.Call n)
+pub no_refusal : {K V E : Type 0} (n : ℕ) (why : Refusal) → ◌≡◌ {A = Reply K V E} (reply.Call n)
     (reply.Refused why) → ⊥
 no_refusal n why e = cc
 
-same_call : {K V E : Type 0} (n m : ℕ) → ◌≡◌ {A = Reply K V E} (reply.Call n) (reply.Call m) → n ≡ m
+pub same_call : {K V E : Type 0} (n m : ℕ) → ◌≡◌ {A = Reply K V E} (reply.Call n) (reply.Call m) → n ≡ m
 same_call n m e = cc
 
 module _ {K V E : Type 0} (eq : K → K → Bool) (start : Start K V) (n : ℕ) (t : State K V E)

@@ -1,10 +1,15 @@
--- What is given to the cache, and that nothing else is stored.
-use Rattle.std.specs.Prelude.{◌≡◌, ℕ, Bool, List, [], ◌∷◌, Option, Some, None, ◌⊎◌}
-use Rattle.std.specs.Option.{option_and_then}
+-- What is given to the cache, and that it stores and hands out nothing else.
+use Rattle.std.specs.Prelude.{◌≡◌, ℕ, Bool, true, List, ◌∷◌, Option, Some, None, ◌⊎◌}
+use Rattle.std.specs.Option.{option_and_then, option_map}
 use Rattle.moka_hist.specs.State.{State, fresh}
 use Rattle.moka_hist.specs.Plan.{Item}
 use Rattle.moka_hist.specs.Plan as plan
 use Rattle.moka_hist.specs.Run.{Run, Any}
+use Rattle.moka_hist.specs.Step.{Step}
+use Rattle.moka_hist.specs.declared.accesses.Turn.{Turn}
+use Rattle.moka_hist.specs.declared.accesses.Turn.TheVariants as turn
+use Rattle.moka_hist.specs.declared.entries.CompResult.{CompResult}
+use Rattle.moka_hist.specs.declared.entries.CompResult.TheVariants as done
 use Rattle.moka_hist.specs.declared.events.Event.{Event}
 use Rattle.moka_hist.specs.declared.events.Event.TheVariants as event
 use Rattle.moka_hist.specs.declared.events.Op.TheVariants as op
@@ -13,6 +18,9 @@ use Rattle.moka_hist.specs.declared.events.Start.TheVariants as start
 use Rattle.moka_hist.specs.declared.events.Told.{Told}
 use Rattle.moka_hist.specs.declared.events.Told.TheVariants as told
 use Rattle.moka_hist.specs.declared.records.Stored.{Stored}
+use Rattle.moka_hist.specs.declared.replies.Answer.{Answer}
+use Rattle.moka_hist.specs.declared.replies.Answer.TheVariants as answer
+use Rattle.moka_hist.specs.declared.replies.Ask.TheVariants as ask
 use Rattle.moka_hist.specs.declared.replies.Reply.{Reply}
 use Rattle.moka_hist.specs.declared.replies.Reply.TheVariants as reply
 use Rattle.moka_hist.specs.declared.rules.Rules.{Rules}
@@ -48,13 +56,12 @@ module _ {K V E : Type 0} where
   -- some event of the run gives the cache the value for the key
   abbrev pub WasGiven : (eq : K → K → Bool) (s : State K V E) (es : List (Event K V E))
       (rs : List (Reply K V E)) (new : State K V E) → Run eq Any s es rs new → K → V → Type 0
-  WasGiven eq s [] [] new run key value = ⊥
   WasGiven eq s (e ∷ es) (r ∷ rs) new run key value =
       Gives s e r key value ⊎ WasGiven eq run.0 es rs new run.3 key value
-  WasGiven eq s [] (r ∷ rs) new run key value = ⊥
-  WasGiven eq s (e ∷ es) [] new run key value = ⊥
+  WasGiven eq s _ _ new run key value = ⊥
 
--- whatever is stored after a run on a fresh cache, some event of that run has given for its own key
+-- whatever is stored after a run on a fresh cache, some event of that run has given for the very key
+-- that it is stored with
 abbrev pub StoredIsGiven : (K V E : Type 0) → (K → K → Bool) → Type 0
 StoredIsGiven K V E eq =
     (rules : Rules) (size : ℕ) (tests : ℕ → K → V → Bool) (s : State K V E)
@@ -62,3 +69,63 @@ StoredIsGiven K V E eq =
     (run : Run eq Any (fresh K V E rules size tests) es rs s) (q : K) (p : K × Stored V) →
     s.world.table.stored q ≡ Some p →
     WasGiven eq (fresh K V E rules size tests) es rs s run p.0 p.1.value
+
+-- the key that a call is started for
+abbrev pub key_of : {K V : Type 0} → Start K V → K
+key_of (start.Get key) = key
+key_of (start.Insert key value) = key
+key_of (start.GetWith key replace) = key
+key_of (start.Optional key) = key
+key_of (start.Try key) = key
+key_of (start.OrInsert key value) = key
+key_of (start.Compute key) = key
+key_of (start.TryCompute key) = key
+key_of (start.Upsert key) = key
+key_of (start.ComputeAlone key) = key
+key_of (start.Invalidate key) = key
+key_of (start.Remove key) = key
+key_of (start.Evict key stamp cause) = key
+
+-- the value of what a compute did, if any
+abbrev pub value_done : {K V : Type 0} → CompResult K V → Option V
+value_done (done.Inserted entry) = Some entry.value
+value_done (done.ReplacedWith entry) = Some entry.value
+value_done (done.Removed entry) = Some entry.value
+value_done (done.Unchanged entry) = Some entry.value
+value_done (done.StillNone key) = None
+
+module _ {K V E : Type 0} where
+  -- the value in an answer, if any
+  abbrev pub value_of : Answer K V E → Option V
+  value_of (answer.Found found) = found
+  value_of (answer.Loaded value fresh) = Some value
+  value_of (answer.Computed done) = value_done done
+  value_of _ = None
+
+  -- the value that a call hands out by a step, if any: to its caller as it answers, to its
+  -- initializer as it asks for a compute, or to the listener
+  abbrev pub handed : Turn K V E → Option V
+  handed (turn.Answer answer) = value_of answer
+  handed (turn.Ask (ask.Compute found)) = option_map (λ pair. pair.1) found
+  handed (turn.Ask (ask.Listener key value cause)) = Some value
+  handed (turn.Ask ask.Init) = None
+  handed turn.Going = None
+  handed turn.Wait = None
+
+  -- one of the events, by its reply, has started the call of this number so
+  abbrev pub HasStarted : ℕ → List (Event K V E) → List (Reply K V E) → Start K V → Type 0
+  HasStarted n (e ∷ es) (r ∷ rs) begun =
+      ((e ≡ event.Start begun) × (r ≡ reply.Call n)) ⊎ HasStarted n es rs begun
+  HasStarted n _ _ begun = ⊥
+
+-- whatever value a call hands out by a step after a run on a fresh cache, some event of that run
+-- has given for a key equal to that which the call was started for
+abbrev pub HandedIsGiven : (K V E : Type 0) → (K → K → Bool) → Type 0
+HandedIsGiven K V E eq =
+    (rules : Rules) (size : ℕ) (tests : ℕ → K → V → Bool) (s t : State K V E)
+    (es : List (Event K V E)) (rs : List (Reply K V E))
+    (run : Run eq Any (fresh K V E rules size tests) es rs s) (n : ℕ) (turn : Turn K V E)
+    (start : Start K V) (value : V) →
+    HasStarted n es rs start → Step eq s n turn t → handed turn ≡ Some value →
+    (key : K) × WasGiven eq (fresh K V E rules size tests) es rs s run key value ×
+    (eq key (key_of start) ≡ true)

@@ -8,6 +8,7 @@ mod alone;
 mod answered;
 mod bounded;
 mod computes;
+mod given;
 mod held;
 mod lawful;
 mod listening;
@@ -29,6 +30,7 @@ pub use computes::{
     computes_are_one, nops_answer_asked, nops_change_nothing, one_compute_acts,
     owned_until_settled, waits_are_apart,
 };
+pub use given::{handed_is_given, stored_is_given};
 pub use held::{calls_may_leave, held_are_known};
 pub use lawful::{
     event_is_lawful, lawful_run_goes_on, reached_is_lawful, run_is_lawful, steps_are_lawful,
@@ -57,5 +59,5 @@ pub use sound::{
     clock_keeps_sound, deciding_keeps_sound, entering_keeps_sound, fresh_is_sound,
     leaving_keeps_sound, reached_is_sound, telling_keeps_sound, visits_keep_sound,
 };
-pub use stored::{reached_by_lawful_run, stored_is_given, stored_under_own_keys};
+pub use stored::{reached_by_lawful_run, stored_under_own_keys};
 pub use waiting::{live_calls_go_on, waits_by_cause};
