@@ -1,5 +1,5 @@
--- What is kept by each event that gives only pairs of P, and starts only calls of Q, holds along runs
--- of such events.
+-- What is kept by each event that gives only pairs of P, and starts only calls of Q, holds along
+-- runs of such events.
 use Rattle.std.proofs.Common.{◌≡◌, ℕ, zero, suc, ◌+◌, ◌==◌, nat_lt, Bool, true, false, List, [], ◌∷◌, Option, Some, None, MatchOption, MatchBool, inl, inr, refl, sym, subst}
 use Rattle.moka_hist.specs.Dropping.{dropped}
 use Rattle.moka_hist.specs.State.{State, Call}
@@ -25,13 +25,13 @@ module _ {K V E : Type 0} (P : K → V → Type 0) (Q : ℕ → K → Type 0) wh
   abbrev pub GivesOnly : State K V E → Event K V E → Reply K V E → Type 0
   GivesOnly s e r = (key : K) (value : V) → Gives s e r key value → P key value
 
-  -- the event, if it starts a call, starts it for a key of its number
+  -- the event, if it starts a call, starts it for a key that is Q of its number
   abbrev BeginsOnly : Event K V E → Reply K V E → Type 0
   BeginsOnly e r =
       (n : ℕ) (start : Start K V) → e ≡ event.Start start → r ≡ reply.Call n → Q n (key_of start)
 
   module _ (eq : K → K → Bool) where
-    -- each event that gives only what is P keeps it
+    -- each event that gives only what is P, and starts only calls of Q, keeps it
     pub record IsKeptGiving (I : State K V E → Type 0) : Type 0 where
       pub at : (s : State K V E) (moment : ℕ) → I s → I (at_moment s moment)
       pub start : (s : State K V E) (start : Start K V) → I s →
@@ -108,7 +108,7 @@ module _ {K V E : Type 0} (P : K → V → Type 0) (Q : ℕ → K → Type 0) wh
           looked t (s.calls n) _ (λ c. Drops s n c c.mode r t) (refused s t _ r i)
           (λ c e d. drops s t n c c.mode r e i d) h
 
-      -- so what holds where a run begins that gives only what is P holds where it ends
+      -- so what holds where such a run begins holds where it ends
       pub along : (s t : State K V E) (es : List (Event K V E)) (rs : List (Reply K V E))
           (run : Run eq Any s es rs t) →
           ((key : K) (value : V) → WasGiven eq s es rs t run key value → P key value) →

@@ -1,4 +1,5 @@
--- Whatever is stored and handed out was given: what live calls are to store and to hand out was.
+-- Whatever is stored and handed out was given. What is fair here, of a plan, a desk or a table, is
+-- to store only what was given, and to hand out only what was given for an equal key.
 use Rattle.std.proofs.Common.{◌≡◌, ℕ, ◌+◌, ◌==◌, Bool, true, false, cond, ◌&&◌, nat_lt, is_some, List, [], ◌∷◌, Option, Some, None, refl, sym, ap, ◌∙◌, subst}
 use Rattle.std.specs.Cmp.{IsEquivalence}
 use Rattle.std.proofs.lemmas.Bool.{eqb-true}
@@ -112,18 +113,19 @@ TableFair {K} {V} P eq stored =
 abbrev KeyAt : {K : Type 0} → (ℕ → K → Type 0) → (K → K → Bool) → ℕ → K → Type 0
 KeyAt {K} Q eq o k = (a : K) × Q o a × (eq a k ≡ true)
 
--- P is of pairs that were given, R of values that a call of the key may hand out, and Q of the keys of
--- calls: what was given may be handed out for an equal key, and so may what a call of an equal key may
-pub record Ties {K V : Type 0} (P R : K → V → Type 0) (Q : ℕ → K → Type 0) (eq : K → K → Bool) : Type 0
+-- P is of pairs that were given, R of values that a call of the key may hand out, and Q of the keys
+-- of calls: what was given may be handed out for an equal key, and so may what a call of an equal
+-- key may hand out
+record Ties {K V : Type 0} (P R : K → V → Type 0) (Q : ℕ → K → Type 0) (eq : K → K → Bool) : Type 0
   where
     own : (k : K) (value : V) → P k value → R k value
     near : (k q : K) (value : V) → P k value → eq k q ≡ true → R q value
     read : (n o : ℕ) (q r a b : K) (value : V) → Q n q → Q n r → Q o b → eq b r ≡ true → Q o a →
         R a value → R q value
 
--- Owners own loads of their own keys; who waits, waits for an owner of an equal key; and an owner ends
--- with a value of its key.
-pub record DeskFair {K V E : Type 0} (R : K → V → Type 0) (Q : ℕ → K → Type 0) (eq : K → K → Bool)
+-- Owners own loads of their own keys; who waits, waits for an owner of an equal key; and an owner
+-- ends with a value that it may hand out.
+record DeskFair {K V E : Type 0} (R : K → V → Type 0) (Q : ℕ → K → Type 0) (eq : K → K → Bool)
     (owned : Load K → Option ℕ) (waits : ℕ → Option ℕ) (ended : ℕ → Option (Settled V E)) : Type 0
   where
     owners : (load : Load K) (o : ℕ) → owned load ≡ Some o → KeyAt Q eq o load.key
@@ -147,8 +149,8 @@ none_told : {K V : Type 0} (E : Type 0) (P : K → V → Type 0) (key : K) → T
 none_told E P key g v e = absurd (none_some e)
 
 module _ {K V E : Type 0} (P R : K → V → Type 0) (q : K) where
-  -- The item is for the key q: what it is to store is a pair of P, what it hands out or ends with is
-  -- a value of R, and it takes no answer to an ask.
+  -- The item is for the key q: what it is to store is a pair of P, what it hands out or ends with
+  -- is a value of R, and it takes no answer to an ask.
   abbrev ItemFair : Item K V E → Type 0
   ItemFair (plan.Get aim key) = (key ≡ q) × AimFair P q aim
   ItemFair (plan.Judge aim key found) = R q found.value × AimFair P q aim
@@ -708,10 +710,10 @@ module _ {K V E : Type 0} (P R : K → V → Type 0) where
     abbrev CallIsFair : Option (Told V E) → ℕ → List (Item K V E) → Type 0
     CallIsFair told n rest = (q : K) × Q n q × PlanFair P R q told rest
 
-    pub record IsFair (s : State K V E) : Type 0 where
-      pub table : TableFair P eq s.world.table.stored
-      pub desk : DeskFair R Q eq s.world.desk.owners s.world.desk.joined s.world.desk.settled
-      pub plans : (n : ℕ) (c : Call K V E) → s.calls n ≡ Some c →
+    record IsFair (s : State K V E) : Type 0 where
+      table : TableFair P eq s.world.table.stored
+      desk : DeskFair R Q eq s.world.desk.owners s.world.desk.joined s.world.desk.settled
+      plans : (n : ℕ) (c : Call K V E) → s.calls n ≡ Some c →
           CallIsFair (s.world.desk.told n) n c.plan
 
     -- what the step hands out is fair for the call's key
@@ -719,7 +721,7 @@ module _ {K V E : Type 0} (P R : K → V → Type 0) where
     TurnIsFair n turn = (q : K) × Q n q × ValueFair R q (handed turn)
 
     module _ (ties : Ties P R Q eq) where
-      pub step_fair : (s t : State K V E) (n : ℕ) (turn : Turn K V E) → IsFair s →
+      step_fair : (s t : State K V E) (n : ℕ) (turn : Turn K V E) → IsFair s →
           Step eq s n turn t → IsFair t × TurnIsFair n turn
       step_fair s t n turn i step =
           let own = i.plans n step.call step.live in
@@ -821,7 +823,7 @@ module _ {K V E : Type 0} (P R : K → V → Type 0) where
       }
 
       -- what a run leaves of a fresh cache is fair, if it gives and starts only what is P and Q
-      pub run_fair : (rules : Rules) (size : ℕ) (tests : ℕ → K → V → Bool) (s : State K V E)
+      run_fair : (rules : Rules) (size : ℕ) (tests : ℕ → K → V → Bool) (s : State K V E)
           (es : List (Event K V E)) (rs : List (Reply K V E))
           (run : Run eq Any (fresh K V E rules size tests) es rs s) →
           ((key : K) (value : V) →

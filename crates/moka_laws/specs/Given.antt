@@ -60,8 +60,8 @@ module _ {K V E : Type 0} where
       Gives s e r key value ⊎ WasGiven eq run.0 es rs new run.3 key value
   WasGiven eq s _ _ new run key value = ⊥
 
--- whatever is stored after a run on a fresh cache, some event of that run has given for the very key
--- that it is stored with
+-- whatever is stored after a run on a fresh cache, some event of that run has given for the very
+-- key that it is stored with
 abbrev pub StoredIsGiven : (K V E : Type 0) → (K → K → Bool) → Type 0
 StoredIsGiven K V E eq =
     (rules : Rules) (size : ℕ) (tests : ℕ → K → V → Bool) (s : State K V E)

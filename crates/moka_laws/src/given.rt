@@ -8,8 +8,9 @@ pub fn stored_is_given<K: Eq, V, E>()
     ensures given { StoredIsGiven K V E K.eq }
 {}
 
-/// Cites the law that whatever value a call hands out by a step after a run on a fresh cache, in its
-/// answer, to its initializer or to the listener, an event of the run has given for an equal key.
+/// Cites the law that whatever value a call hands out by a step after a run on a fresh cache, in
+/// its answer, to its initializer or to the listener, an event of the run has given for an equal
+/// key.
 pub fn handed_is_given<K: Eq, V, E>()
     ensures given { HandedIsGiven K V E K.eq }
 {}
