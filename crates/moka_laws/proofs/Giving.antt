@@ -51,7 +51,7 @@ module _ {K V E : Type 0} (P : K → V → Type 0) (Q : ℕ → K → Type 0) wh
       becomes : (next t : State K V E) (answer r : Reply K V E) → I next → Becomes next answer r t → I t
       becomes next t answer r i h = subst I (sym h.after) i
 
-      goings : (k : ℕ) (s t : State K V E) (n : ℕ) → I s → Goings eq Any k s n t → I t
+      pub goings : (k : ℕ) (s t : State K V E) (n : ℕ) → I s → Goings eq Any k s n t → I t
       unfolding Goings
       goings zero s t n i going = subst I (sym going) i
       goings (suc k) s t n i going =

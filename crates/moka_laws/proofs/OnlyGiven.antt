@@ -1,6 +1,6 @@
 -- Whatever is stored and handed out was given. What is fair here, of a plan, a desk or a table, is
 -- to store only what was given, and to hand out only what was given for an equal key.
-use Rattle.std.proofs.Common.{◌≡◌, ℕ, ◌+◌, ◌==◌, Bool, true, false, cond, ◌&&◌, nat_lt, is_some, List, [], ◌∷◌, Option, Some, None, refl, sym, ap, ◌∙◌, subst}
+use Rattle.std.proofs.Common.{◌≡◌, ℕ, ◌+◌, ◌==◌, Bool, true, false, cond, ◌&&◌, nat_lt, is_some, List, [], ◌∷◌, Option, Some, None, MatchOption, ◌⊎◌, inl, inr, refl, sym, ap, ◌∙◌, subst}
 use Rattle.std.specs.Cmp.{IsEquivalence}
 use Rattle.std.proofs.lemmas.Bool.{eqb-true}
 use Rattle.std.specs.Option.{option_and_then, option_map}
@@ -20,7 +20,7 @@ use Rattle.moka_hist.specs.Writing.{cause_handed, nothing_answer, removed_answer
 use Rattle.moka_hist.specs.Entries.{put_answer, unchanged}
 use Rattle.moka_hist.specs.Tables.{taken_by}
 use Rattle.moka_hist.specs.declared.replies.Answer.TheVariants as answer
-use Rattle.moka_hist.specs.Run.{Any, Run, started, with_desk, fresh_call}
+use Rattle.moka_hist.specs.Run.{Any, Happens, Polls, Refuses, Run, Steps, started, with_desk, fresh_call, reply_of}
 use Rattle.moka_hist.specs.declared.accesses.Turn.{Turn}
 use Rattle.moka_hist.specs.declared.events.Event.{Event}
 use Rattle.moka_hist.specs.declared.events.Event.TheVariants as event
@@ -35,6 +35,7 @@ use Rattle.moka_hist.specs.declared.loads.Load.{Load}
 use Rattle.moka_hist.specs.declared.loads.Sought.{Sought}
 use Rattle.moka_hist.specs.declared.records.Stored.{Stored}
 use Rattle.moka_hist.specs.declared.replies.Answer.{Answer}
+use Rattle.moka_hist.specs.declared.replies.Refusal.TheVariants as refusal
 use Rattle.moka_hist.specs.declared.replies.Reply.{Reply}
 use Rattle.moka_hist.specs.declared.replies.Reply.TheVariants as reply
 use Rattle.moka_hist.specs.declared.rules.Rules.{Rules}
@@ -42,14 +43,14 @@ use Rattle.moka_hist.specs.declared.visits.Found.TheVariants as found
 use Rattle.moka_hist.specs.declared.visits.Settled.{Settled}
 use Rattle.moka_hist.specs.declared.visits.Settled.TheVariants as settled
 use Rattle.moka_hist.specs.declared.writes.Write.TheVariants.{Remove, Upsert}
-use Rattle.moka_laws.specs.Given.{HandedIsGiven, StoredIsGiven, HasStarted, WasGiven, handed, key_of, value_of, asked_key, brought, value_in}
+use Rattle.moka_laws.specs.Given.{HandedIsGiven, SteppedIsGiven, StoredIsGiven, HasStarted, WasGiven, handed, key_of, value_of, asked_key, brought, value_in}
 use Rattle.moka_laws.proofs.Counting.{none_some, some_same, put_cases, put_here, put_there}
 use Rattle.moka_laws.proofs.Owning.{and_left}
 use Rattle.moka_laws.proofs.Rules.{chosen_next, kept_next, loaded_plans, put_plans, read_key_next}
 use Rattle.moka_laws.proofs.StepCases.{OnStep, step_cases}
 use Rattle.moka_laws.proofs.Outcomes.{Outcomes, computes_of, outcomes}
 use Rattle.moka_laws.proofs.StartedOnce.{started_once}
-use Rattle.moka_laws.proofs.Giving.{GivesOnly, IsKeptGiving, along}
+use Rattle.moka_laws.proofs.Giving.{GivesOnly, IsKeptGiving, along, goings}
 
 -- what is taken out is gone, and what is left was there
 out_was : {A : Type 0} (b : Bool) (p : A) (old : Option A) → cond b None old ≡ Some p → old ≡ Some p
@@ -193,7 +194,7 @@ module _ {K V E : Type 0} (P R : K → V → Type 0) (q : K) where
 
   -- the call is left so, and hands out a value of R, if any
   abbrev NextFair : Option (Told V E) → Next K V E → Type 0
-  NextFair told next = CallFair told next.left × ValueFair R q (handed next.turn)
+  NextFair told next = CallFair told next.left × ValueFair R q (handed (reply_of next.turn))
 
   rest_fair : (told : Option (Told V E)) (rest : List (Item K V E)) → RestFair rest →
       PlanFair told rest
@@ -718,7 +719,7 @@ module _ {K V E : Type 0} (P R : K → V → Type 0) where
 
     -- what the step hands out is fair for the call's key
     abbrev pub TurnIsFair : ℕ → Turn K V E → Type 0
-    TurnIsFair n turn = (q : K) × Q n q × ValueFair R q (handed turn)
+    TurnIsFair n turn = (q : K) × Q n q × ValueFair R q (handed (reply_of turn))
 
     module _ (ties : Ties P R Q eq) where
       step_fair : (s t : State K V E) (n : ℕ) (turn : Turn K V E) → IsFair s →
@@ -855,42 +856,84 @@ stored_given {K} {V} {E} eq rules size tests s es rs run q p is =
     (λ key value h. h) (λ n start h. tt) in
     (fair.table q p is).0
 
+module _ {K V E : Type 0} (eq : K → K → Bool) (laws : IsEquivalence eq) (rules : Rules) (size : ℕ)
+    (tests : ℕ → K → V → Bool) (s : State K V E) (es : List (Event K V E)) (rs : List (Reply K V E))
+    (run : Run eq Any (fresh K V E rules size tests) es rs s) where
+  abbrev Given : K → V → Type 0
+  Given = WasGiven eq (fresh K V E rules size tests) es rs s run
+
+  -- it was given for an equal key
+  abbrev Near : K → V → Type 0
+  Near q v = (key : K) × Given key v × (eq key q ≡ true)
+
+  -- the run has started the call for this key
+  abbrev StartedFor : ℕ → K → Type 0
+  StartedFor n k = (start : Start K V) × HasStarted n es rs start × (key_of start ≡ k)
+
+  one_key : (n : ℕ) (a b : K) → StartedFor n a → StartedFor n b → a ≡ b
+  one_key n a b x y = sym x.2 ∙
+      ap key_of (started_once eq (fresh K V E rules size tests) s es rs n x.0 y.0 run x.1 y.1) ∙ y.2
+
+  given_ties : Ties Given Near StartedFor eq
+  given_ties = record {
+    own = λ k v h. (k, h, laws.refl k);
+    near = λ k q v h e. (k, h, e);
+    read = λ n o q r a b v has has_r at_b e at_a h. (
+      h.0,
+      h.1,
+      subst (λ x. eq h.0 x ≡ true) (one_key n r q has_r has)
+          (laws.congr h.0 b r (subst (λ x. eq h.0 x ≡ true) (one_key o a b at_a at_b) h.2) ∙ e),
+    );
+  }
+
+  given_fair : IsFair Given Near StartedFor eq s
+  given_fair = run_fair Given Near StartedFor eq given_ties rules size tests s es rs run
+      (λ key v h. h) (λ n start b. (start, b, refl))
+
+  -- what a call may hand out was given for a key equal to its own
+  given_near : (n : ℕ) (turn : Turn K V E) (start : Start K V) (value : V) →
+      HasStarted n es rs start → TurnIsFair Given Near StartedFor eq n turn →
+      handed (reply_of turn) ≡ Some value → Near (key_of start) value
+  given_near n turn start value began fair is =
+      subst (λ k. Near k value) (one_key n fair.0 (key_of start) fair.1 (start, began, refl))
+      (fair.2 value is)
+
+  -- as it is stepped or polled
+  on_event : (t : State K V E) (n : ℕ) (e : Event K V E) (r : Reply K V E) (start : Start K V)
+      (value : V) → HasStarted n es rs start → (e ≡ event.Step n) ⊎ (e ≡ event.Poll n) →
+      Happens eq Any s e r t → handed r ≡ Some value → Near (key_of start) value
+  on_event t n e r start value began (inl is) h v =
+      stepped (s.calls n) (subst (λ x. Happens eq Any s x r t) is h)
+    where
+      stepped : (o : Option (Call K V E)) →
+          MatchOption o (Refuses s refusal.UnknownCall r t) (λ _. Steps eq s n r t) →
+          Near (key_of start) value
+      stepped None h = absurd (none_some (sym (ap handed h.reply) ∙ v))
+      stepped (Some c) h = given_near n h.turn start value began
+          (step_fair Given Near StartedFor eq given_ties s t n h.turn given_fair h.step).1
+          (sym (ap handed h.reply) ∙ v)
+  on_event t n e r start value began (inr is) h v =
+      polled (s.calls n) (subst (λ x. Happens eq Any s x r t) is h)
+    where
+      polled : (o : Option (Call K V E)) →
+          MatchOption o (Refuses s refusal.UnknownCall r t) (λ _. Polls eq Any s n r t) →
+          Near (key_of start) value
+      polled None h = absurd (none_some (sym (ap handed h.reply) ∙ v))
+      polled (Some c) h =
+          let fair : IsFair Given Near StartedFor eq h.mid =
+          goings Given StartedFor eq (IsFair Given Near StartedFor eq)
+          (fair_kept Given Near StartedFor eq given_ties) h.going s h.mid n given_fair h.goes in
+          given_near n h.last.turn start value began
+          (step_fair Given Near StartedFor eq given_ties h.mid t n h.last.turn fair h.last.step).1
+          (sym (ap handed h.last.reply) ∙ v)
+
 module _ {K V E : Type 0} (eq : K → K → Bool) (laws : IsEquivalence eq) where
   pub handed_given : HandedIsGiven K V E eq
-  handed_given rules size tests s t es rs run n turn start value begun step is =
-      let turned = (step_fair given near key_at eq ties s t n turn fair step).1 in
-      subst (λ k. near k value) (one n turned.0 (key_of start) turned.1 (start, begun, refl))
-      (turned.2 value is)
-    where
-      given : K → V → Type 0
-      given = WasGiven eq (fresh K V E rules size tests) es rs s run
+  handed_given rules size tests s t es rs run n e r start value began is h v =
+      on_event eq laws rules size tests s es rs run t n e r start value began is h v
 
-      -- it was given for an equal key
-      near : K → V → Type 0
-      near q v = (key : K) × given key v × (eq key q ≡ true)
-
-      key_at : ℕ → K → Type 0
-      key_at m k = (other : Start K V) × HasStarted m es rs other × (key_of other ≡ k)
-
-      one : (m : ℕ) (a b : K) → key_at m a → key_at m b → a ≡ b
-      one m a b x y = sym x.2 ∙
-          ap key_of (started_once eq (fresh K V E rules size tests) s es rs m x.0 y.0 run x.1 y.1) ∙ y.2
-
-      trans : (a b c : K) → eq a b ≡ true → eq b c ≡ true → eq a c ≡ true
-      trans a b c e f = laws.congr a b c e ∙ f
-
-      ties : Ties given near key_at eq
-      ties = record {
-        own = λ k v h. (k, h, laws.refl k);
-        near = λ k q v h e. (k, h, e);
-        read = λ m o q r a b v has has_r at_b e at_a h. (
-          h.0,
-          h.1,
-          subst (λ x. eq h.0 x ≡ true) (one m r q has_r has)
-              (trans h.0 b r (subst (λ x. eq h.0 x ≡ true) (one o a b at_a at_b) h.2) e),
-        );
-      }
-
-      fair : IsFair given near key_at eq s
-      fair = run_fair given near key_at eq ties rules size tests s es rs run (λ key v h. h)
-          (λ m other b. (other, b, refl))
+  pub stepped_given : SteppedIsGiven K V E eq
+  stepped_given rules size tests s t es rs run n turn start value began step v =
+      given_near eq laws rules size tests s es rs run n turn start value began
+      (step_fair _ _ _ eq (given_ties eq laws rules size tests s es rs run) s t n turn
+      (given_fair eq laws rules size tests s es rs run) step).1 v

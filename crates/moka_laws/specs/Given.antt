@@ -4,10 +4,9 @@ use Rattle.std.specs.Option.{option_and_then, option_map}
 use Rattle.moka_hist.specs.State.{State, fresh}
 use Rattle.moka_hist.specs.Plan.{Item}
 use Rattle.moka_hist.specs.Plan as plan
-use Rattle.moka_hist.specs.Run.{Run, Any}
+use Rattle.moka_hist.specs.Run.{Happens, Run, Any, reply_of}
 use Rattle.moka_hist.specs.Step.{Step}
 use Rattle.moka_hist.specs.declared.accesses.Turn.{Turn}
-use Rattle.moka_hist.specs.declared.accesses.Turn.TheVariants as turn
 use Rattle.moka_hist.specs.declared.entries.CompResult.{CompResult}
 use Rattle.moka_hist.specs.declared.entries.CompResult.TheVariants as done
 use Rattle.moka_hist.specs.declared.events.Event.{Event}
@@ -102,15 +101,13 @@ module _ {K V E : Type 0} where
   value_of (answer.Computed done) = value_done done
   value_of _ = None
 
-  -- the value that a call hands out by a step, if any: to its caller as it answers, to its
+  -- the value that a call hands out by this reply, if any: to its caller as it answers, to its
   -- initializer as it asks for a compute, or to the listener
-  abbrev pub handed : Turn K V E → Option V
-  handed (turn.Answer answer) = value_of answer
-  handed (turn.Ask (ask.Compute found)) = option_map (λ pair. pair.1) found
-  handed (turn.Ask (ask.Listener key value cause)) = Some value
-  handed (turn.Ask ask.Init) = None
-  handed turn.Going = None
-  handed turn.Wait = None
+  abbrev pub handed : Reply K V E → Option V
+  handed (reply.Answer answer) = value_of answer
+  handed (reply.Ask (ask.Compute found)) = option_map (λ pair. pair.1) found
+  handed (reply.Ask (ask.Listener key value cause)) = Some value
+  handed _ = None
 
   -- one of the events, by its reply, has started the call of this number so
   abbrev pub HasStarted : ℕ → List (Event K V E) → List (Reply K V E) → Start K V → Type 0
@@ -118,14 +115,26 @@ module _ {K V E : Type 0} where
       ((e ≡ event.Start begun) × (r ≡ reply.Call n)) ⊎ HasStarted n es rs begun
   HasStarted n _ _ begun = ⊥
 
--- whatever value a call hands out by a step after a run on a fresh cache, some event of that run
--- has given for a key equal to that which the call was started for
+-- whatever value a call hands out, as it is stepped or polled after a run on a fresh cache, some
+-- event of that run has given for a key equal to that which the call was started for
 abbrev pub HandedIsGiven : (K V E : Type 0) → (K → K → Bool) → Type 0
 HandedIsGiven K V E eq =
     (rules : Rules) (size : ℕ) (tests : ℕ → K → V → Bool) (s t : State K V E)
     (es : List (Event K V E)) (rs : List (Reply K V E))
+    (run : Run eq Any (fresh K V E rules size tests) es rs s) (n : ℕ) (e : Event K V E)
+    (r : Reply K V E) (start : Start K V) (value : V) →
+    HasStarted n es rs start → (e ≡ event.Step n) ⊎ (e ≡ event.Poll n) → Happens eq Any s e r t →
+    handed r ≡ Some value →
+    (key : K) × WasGiven eq (fresh K V E rules size tests) es rs s run key value ×
+    (eq key (key_of start) ≡ true)
+
+-- so by a step of its own
+abbrev pub SteppedIsGiven : (K V E : Type 0) → (K → K → Bool) → Type 0
+SteppedIsGiven K V E eq =
+    (rules : Rules) (size : ℕ) (tests : ℕ → K → V → Bool) (s t : State K V E)
+    (es : List (Event K V E)) (rs : List (Reply K V E))
     (run : Run eq Any (fresh K V E rules size tests) es rs s) (n : ℕ) (turn : Turn K V E)
     (start : Start K V) (value : V) →
-    HasStarted n es rs start → Step eq s n turn t → handed turn ≡ Some value →
+    HasStarted n es rs start → Step eq s n turn t → handed (reply_of turn) ≡ Some value →
     (key : K) × WasGiven eq (fresh K V E rules size tests) es rs s run key value ×
     (eq key (key_of start) ≡ true)
