@@ -44,11 +44,12 @@ impl<K: Eq + Hash + Clone + Drop, V: Clone + Drop> PlainTable<K, V> {
         }
     }
 
-    // What the map has at the key, as clones.
+    // What the map has at the key, as clones. Where it has nothing there it takes no memory.
     fn look(&self, key: &K) -> Result<TableAnswer<K, V>, AllocError>
         requires keys { IsExact K.is_clone }
         requires values { IsExact V.is_clone }
-        ensures { IfOk result (λ a. a ≡ answer_of (map_of K.eq self.now key.now)) }
+        ensures answer { IfOk result (λ a. a ≡ answer_of (map_of K.eq self.now key.now)) }
+        ensures absent { map_of K.eq self.now key.now ≡ None → IsOk result }
     {
         match self.pairs.get(key) {
             None => Ok(TableAnswer::None),
@@ -133,6 +134,7 @@ impl<K: Eq + Hash + Clone + Drop, V: Clone + Drop> PlainTable<K, V> {
         requires values { IsExact V.is_clone }
         ensures ok { IfOk result (λ t.
             t ≡ TableTurn.Decided (answer_of (map_of K.eq self.now key))) }
+        ensures absent { map_of K.eq self.now key ≡ None → IsOk result }
         ensures err { OnErr result (call.new.operation ≡ Some (TableOp.Get key)) }
     {
         match self.look(&key) {
@@ -296,6 +298,9 @@ impl<K: Eq + Hash + Clone + Drop, V: Clone + Drop> Table<K, V> for PlainTable<K,
         // A removal takes no memory.
         ensures removal { (key : K) (stamp : Option ℕ)
             → call.old.operation ≡ Some (TableOp.RemoveIf key stamp) → IsOk result }
+        // Nor does a look at a key that is absent.
+        ensures absent { (key : K) → call.old.operation ≡ Some (TableOp.Get key)
+            → map_of K.eq self.old key ≡ None → IsOk result }
         // An undecided call is still begun, and nearer to its end.
         ensures undecided { IfOk result (λ turn. turn ≡ TableTurn.Going
             → (call.new.operation ≡ call.old.operation) × (call.new.operation ≢ None)) }
