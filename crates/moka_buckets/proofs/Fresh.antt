@@ -74,22 +74,22 @@ fresh_none size parts none = record {
 module _ {K V : Type 0} (eq : K → K → Bool) (hash : K → ℕ) (first size : ℕ) (least : 128 ≤ first) (short : size ≤ first) where
   fresh_present : (p : Part K V) → IsFresh size p → present_nodes (memory_at p) ≡ []
   fresh_present p fresh = elim fresh.begins [
-    | inl none ↦ none_present p.arrays none
+    | inl none ↦ none_present p.arrays none.1
     | inr has ↦ root_present (replicate size Empty) p.arrays has.1 ∙ empty_stores size
   ]
 
   fresh_placed : (p : Part K V) → IsFresh size p → ArePlaced p.arrays
   fresh_placed p fresh = elim fresh.begins [
-    | inl none ↦ none_placed p.arrays none
+    | inl none ↦ none_placed p.arrays none.1
     | inr has ↦ root_placed (replicate size Empty) p.arrays has.1
   ]
 
   fresh_sound : (p : Part K V) → IsFresh size p → (keys : ℕ → Option K) → IsSound (hash_by hash keys) (same_by eq keys) (mine_by keys) (memory_at p)
   fresh_sound p fresh keys = by fresh.begins
     where
-      by : HasNone p.arrays ⊎ (IsPowerOfTwo size × HasRoot (replicate size Empty) p.arrays) →
+      by : ((size ≡ 0) × HasNone p.arrays) ⊎ (IsPowerOfTwo size × HasRoot (replicate size Empty) p.arrays) →
           IsSound (hash_by hash keys) (same_by eq keys) (mine_by keys) (memory_at p)
-      by (inl none) = none_is_sound (hash_by hash keys) (same_by eq keys) (mine_by keys) (memory_at p) none.arrays none.rooted
+      by (inl (small, none)) = none_is_sound (hash_by hash keys) (same_by eq keys) (mine_by keys) (memory_at p) none.arrays none.rooted
       by (inr (power, has)) = one_is_sound (hash_by hash keys) (same_by eq keys) (mine_by keys) (memory_at p) 0 has.arrays has.rooted
           (let one = has.numbered in omega (arith, one))
           (subst (λ ws. IsPowerOfTwo (length ws)) (sym has.words_are) (subst (λ n. IsPowerOfTwo n) (sym (length-replicate size Empty)) power))
@@ -99,8 +99,8 @@ module _ {K V : Type 0} (eq : K → K → Bool) (hash : K → ℕ) (first size :
   fresh_short : (p : Part K V) → IsFresh size p → (place a : ℕ) → array_at (memory_at p) place ≡ Some a → length (words_in p.arrays.all.items a) ≤ first
   fresh_short p fresh place a e = by fresh.begins
     where
-      by : HasNone p.arrays ⊎ (IsPowerOfTwo size × HasRoot (replicate size Empty) p.arrays) → length (words_in p.arrays.all.items a) ≤ first
-      by (inl none) = absurd (no_item (ap (λ xs. slice_get xs place) (sym none.arrays) ∙ e))
+      by : ((size ≡ 0) × HasNone p.arrays) ⊎ (IsPowerOfTwo size × HasRoot (replicate size Empty) p.arrays) → length (words_in p.arrays.all.items a) ≤ first
+      by (inl (small, none)) = absurd (no_item (ap (λ xs. slice_get xs place) (sym none.arrays) ∙ e))
       by (inr (power, has)) =
           let is = (first_at place a (ap (λ xs. slice_get xs place) (sym has.arrays) ∙ e)).1 in
           let long = ap (λ n. length (words_in p.arrays.all.items n)) is ∙ (ap (λ ws. length ws) has.words_are ∙ length-replicate size Empty) in

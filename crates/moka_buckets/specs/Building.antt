@@ -21,9 +21,10 @@ pub record HasRoot (words : List Word) (s : Arrays) : Type 0 where
   pub words_are : words_in s.all.items 0 ≡ words
   pub placed : option_map (λ array. array.place) (slice_get s.all.items 0) ≡ Some 0
 
--- a segment without keys, with no array or one of so many empty words
+-- a segment without keys, with one array of so many empty words, and with none where that is none
 pub record IsFresh {K V : Type 0} (size : ℕ) (p : Part K V) : Type 0 where
-  pub begins : HasNone p.arrays ⊎ (IsPowerOfTwo size × HasRoot (replicate size Empty) p.arrays)
+  pub begins : ((size ≡ 0) × HasNone p.arrays)
+      ⊎ (IsPowerOfTwo size × HasRoot (replicate size Empty) p.arrays)
   pub len : p.arrays.segment.len ≡ 0
   pub nodes : p.nodes.items ≡ []
   pub peak : p.peak ≡ 0

@@ -60,6 +60,7 @@ impl<K: Eq + Hash, V, S: BuildHasher> Model for BucketTable<K, V, S> {
 impl<K: Eq + Hash + Drop, V: Drop, S: BuildHasher + Drop> BucketTable<K, V, S> {
     ghost use Rattle.std.specs.Int.{IsNextPowerOfTwo};
     ghost use Rattle.moka_table.specs.Empty.{IsEmptyTable};
+    ghost use Rattle.moka_buckets.specs.Building.{AreFresh};
     ghost use Rattle.moka_buckets.specs.Views.{IsFirst, bucket_table, count_of, first_of, map_in, peak_of, words_in};
 
     /// A table without keys, of so many segments, rounded up to a power of two. For a capacity each
@@ -75,6 +76,8 @@ impl<K: Eq + Hash + Drop, V: Drop, S: BuildHasher + Drop> BucketTable<K, V, S> {
         ensures segments { IfOk result (λ t. IsNextPowerOfTwo segments (length t.parts)) }
         ensures first { IfOk result (λ t. IsFirst capacity (length t.parts) t.first) }
         ensures hasher { IfOk result (λ t. t.hasher ≡ hasher) }
+        // Each segment has a first array of so many words, all of them empty, or none where that is 0.
+        ensures fresh { IfOk result (λ t. AreFresh (length t.parts) t.first t.parts) }
         // It has no key, and never had one.
         ensures none { IfOk result (λ t. (key : K)
             → map_in S.BuildHasher S.Hasher.Hasher K.eq K.hash_input t key ≡ None) }
