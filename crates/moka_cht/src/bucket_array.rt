@@ -183,7 +183,9 @@ impl<K: Eq + Drop, V: Drop> BucketArray<K, V> {
     }
 
     /// Stores the value that the modifier makes of the stored pair, under the key handed in, and
-    /// gives the previous value; or the value handed in, where the key is absent.
+    /// gives the previous value; or the value handed in, where the key is absent. Where there is no
+    /// bucket free for it the key is dropped, and the value given back. Without memory key and
+    /// value are dropped, and the modifier may have been called.
     pub fn insert_or_modify<F: FnMut(&K, &V) -> V>(
         &mut self,
         hash: u64,

@@ -87,8 +87,8 @@ fn respond<Snk: Sink>(alloc: Global, bytes: Vec<u8>, sink: &mut Snk) -> Status
 /// they are too many, to `BadLine` at their first bad line, and to `Done` where they say a
 /// schedule.
 ///
-/// But after `Done` and `WriteFault` the sink was not called, and after `WriteFault` it was written
-/// the beginning of the report.
+/// At any other status than `Done` and `WriteFault` the sink was not called; after `WriteFault` the
+/// beginning of the report was written.
 pub fn play<Src: Source, Snk: Sink>(
     alloc: Global,
     words: &[String],

@@ -76,8 +76,8 @@ impl WaitList {
 
     /// Takes memory for `additional` further waiters, so that `add_reserved` can list them.
     ///
-    /// Answers an error where there is no memory, or where 2^64 waiters came since the list was
-    /// last handed out; then nothing has changed.
+    /// Answers an error where there is no memory, where 2^64 waiters came since the list was last
+    /// handed out, or where it would have 2^63 nodes; then nothing has changed.
     pub fn reserve(&mut self, additional: usize) -> Result<(), AllocError>
         ensures ok { OnOk result
             (self.new ≡ record self.old { room = self.old.room + additional }) }
