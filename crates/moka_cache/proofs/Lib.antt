@@ -5,3 +5,5 @@ pub mod Suiting
 pub mod Taking
 pub mod Telling
 pub mod Loading
+pub mod Giving
+pub mod Ending

@@ -34,7 +34,7 @@ module _ {K V E : Type 0} (eq : K → K → Bool) (such : Taken V E → Type 0) 
   pub turned : (old : Flow K V E) (s : Stop K V E) (t : Option (Poll (Result (Answer K V E) PollError))) (new : Flow K V E) → StopIs eq such old s new → Follows s t
       → TurnIs eq such old t new
   turned old (stop.Answers answer) t new end follows = subst (λ u. TurnIs eq such old u new) (sym follows) end
-  turned old stop.Going t new after follows = subst (λ u. TurnIs eq such old u new) (sym follows) after
+  turned old stop.Going t new after follows = subst (λ u. TurnIs eq such old u new) (sym follows) after.0
   turned old stop.Waits t new after follows = may_pend old t new after.0 follows
   turned old (stop.Asks ask) t new after follows = may_pend old t new after.0 follows
   turned old stop.Memory t new after follows = subst (λ u. TurnIs eq such old u new) (sym follows) (refl, after)

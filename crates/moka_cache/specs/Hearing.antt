@@ -1,5 +1,5 @@
 -- What follows a hold of the lock, without it, and which notice a call awaits.
-use Rattle.std.specs.Prelude.{◌≡◌, ◌⊎◌, ℕ, Option, Some, None, IsSomeAnd, Result, Ok, Err}
+use Rattle.std.specs.Prelude.{◌≡◌, ◌⊎◌, ℕ, Option, Some, None, IsSome, IsSomeAnd, Result, Ok, Err}
 use Rattle.futures.specs.declared.task.Poll.{Poll}
 use Rattle.futures.specs.declared.task.Poll.TheVariants.{Ready, Pending}
 use Rattle.moka_hist.specs.Plan.{hearing}
@@ -10,8 +10,14 @@ use Rattle.moka_cache.specs.declared.errors.PollError.{PollError}
 use Rattle.moka_cache.specs.declared.errors.PollError.TheVariants as error
 use Rattle.moka_cache.specs.declared.hearing.Turned.{Turned}
 use Rattle.moka_cache.specs.declared.hearing.Turned.TheVariants as turned
+use Rattle.moka_kept.specs.declared.heard.Heard.{Heard}
+use Rattle.moka_kept.specs.declared.heard.ListenerEnd.{ListenerEnd}
 use Rattle.moka_kept.specs.declared.stop.Stop.{Stop}
 use Rattle.moka_kept.specs.declared.stop.Stop.TheVariants as stop
+
+-- the ends that the listener gives of notices, if there is one
+abbrev pub Ends : {L : Type 0} → (L → ℕ → ListenerEnd → Type 0) → Option L → ℕ → ListenerEnd → Type 0
+Ends ends listener notice end = IsSomeAnd listener (λ l. ends l notice end)
 
 -- the notices whose polls the listener leaves pending, if there is one
 abbrev pub Unheard : {L : Type 0} → (L → ℕ → Type 0) → Option L → ℕ → Type 0
@@ -22,6 +28,11 @@ abbrev pub over_in : {A : Type 0} → Turned A → Option (Poll A)
 over_in (turned.On heard) = None
 over_in (turned.Over poll) = Some poll
 
+-- the end of a notice that the next hold of the lock is to tell, if the listener gave one
+abbrev pub heard_in : {A : Type 0} → Turned A → Option Heard
+heard_in (turned.On heard) = heard
+heard_in (turned.Over poll) = None
+
 -- the turn goes on, or is pending
 abbrev pub MayPend : {A : Type 0} → Option (Poll A) → Type 0
 MayPend turn = (turn ≡ None) ⊎ (turn ≡ Some Pending)
@@ -31,6 +42,18 @@ module _ {K V E : Type 0} where
   -- which it took up
   abbrev pub Awaits : (ℕ → Type 0) → Flow K V E → Type 0
   Awaits such flow = (n : ℕ) × (hearing flow.call (call_of flow).plan ≡ Some n) × such n
+
+  -- it is the end of the notice that the flow's call awaits, as such a listener may give it
+  abbrev pub IsHeard : (ℕ → ListenerEnd → Type 0) → Flow K V E → Heard → Type 0
+  IsHeard ends flow heard =
+      (hearing flow.call (call_of flow).plan ≡ Some heard.notice) × ends heard.notice heard.end
+
+  -- the listener's last poll for the notice that the flow's call awaits, if it does and there is a
+  -- listener, left that pending
+  abbrev pub WasPolled : {L : Type 0} → (L → ℕ → Type 0) → Option L → Flow K V E → Type 0
+  WasPolled pends listener flow =
+      IsSome listener → (n : ℕ) → hearing flow.call (call_of flow).plan ≡ Some n
+      → Unheard pends listener n
 
   -- What follows a hold that left the call so: it goes on, is pending where it asks or waits, or
   -- answers.

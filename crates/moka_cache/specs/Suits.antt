@@ -1,14 +1,17 @@
 -- What a state may answer, by what it was started for.
-use Rattle.std.specs.Prelude.{◌≡◌, Bool, true, Option, IsSome}
+use Rattle.std.specs.Prelude.{◌≡◌, Bool, true, Option, Some, IsSome}
 use Rattle.moka_hist.specs.State.{Call}
 use Rattle.moka_hist.specs.declared.events.Start.{Start}
 use Rattle.moka_hist.specs.declared.events.Told.{Told}
 use Rattle.moka_hist.specs.declared.replies.Answer.{Answer}
 use Rattle.moka_init.specs.FlowPlan.{call_of}
+use Rattle.moka_hist.specs.declared.rules.Rules.{Rules}
 use Rattle.moka_laws.specs.Loads.{may_answer}
 use Rattle.moka_laws.specs.Shapes.{Fits, asks_nobody}
 use Rattle.moka_cache.specs.Asked.{ToldSuch}
-use Rattle.moka_cache.specs.Stages.{AnswersWith}
+use Rattle.moka_kept.specs.Taking.{Taken}
+use Rattle.moka_cache.specs.Stages.{AnswersWith, name_in}
+use Rattle.moka_cache.specs.Starts.{called}
 use Rattle.moka_cache.specs.declared.stage.Stage.{Stage}
 use Rattle.moka_cache.specs.declared.stage.Stage.TheVariants as stage
 
@@ -33,3 +36,14 @@ abbrev pub Tells : {A K V E O : Type 0} → (K → K → Bool) → (Told V E →
 Tells {A} {K} {V} {E} eq such begins output stage =
     (named : Option K) (answer : Answer K V E) → AnswersWith eq (ToldSuch such) begins stage answer
     → IsSome (output named answer)
+
+-- What a state may answer that starts so, in a cache of these rules: an answer of its call follows
+-- from accesses by which it took nothing of who is asked but what is such, and is one that its
+-- start may have; and the state tells it by the key that it keeps.
+abbrev pub StateAnswers : {A K V E O : Type 0} → (K → K → Bool) → (Taken V E → Type 0) → Rules
+    → (A → Start K V) → (A → Option K) → (Option K → Answer K V E → Option O) → Stage A K V E
+    → Option K → O → Type 0
+StateAnswers {A} {K} {V} {E} eq such rules start names output stage kept told =
+    (answer : Answer K V E) × AnswersWith eq such (called rules start) stage answer
+    × (Suits eq start stage → IsAnswerOf start answer)
+    × (Some told ≡ output (name_in names stage kept) answer)

@@ -87,7 +87,10 @@ pub(crate) fn is_polled<K: Clone + Drop, V, E, Q: Asked<K, V, E>>(
     flow: &Flow<K, V, E>,
 ) -> bool
     requires { IsExact K.is_clone }
-    ensures { OnTrue result (is_taking (access_at flow.now) ≡ true) }
+    ensures asking { OnTrue result (is_taking (access_at flow.now) ≡ true) }
+    // Where it is open and isn't polled, nobody gives an answer.
+    ensures unasked { OnFalse result (is_taking (access_at flow.now) ≡ true
+        → (told : Told V E) → Q.gives asked.now told → ⊥) }
 {
     asked.is_somebody() && is_asking(flow)
 }

@@ -1,9 +1,11 @@
 //! A call that a thread runs to its end.
+ghost use Rattle.std.specs.Prelude.{◌≡◌, IfErr, IfOk};
 ghost use Rattle.moka_hist.specs.Finite.{IsExact};
+ghost use Rattle.moka_cache.specs.Asked.{Accords};
 ghost use Rattle.moka_cache.specs.Settings.{rules_of};
 ghost use Rattle.moka_cache.specs.Stages.{MayPoll};
 ghost use Rattle.moka_cache.specs.Starts.{called};
-ghost use Rattle.moka_cache.specs.Suits.{Tells};
+ghost use Rattle.moka_cache.specs.Suits.{StateAnswers, Tells};
 
 use crate::asked::Asked;
 use crate::begin::Begin;
@@ -46,6 +48,12 @@ where
         requires asks { Q.can_poll self.asked }
         requires tells { Tells K.eq (Q.gives self.asked)
             (called (rules_of self.cache.now) A.start) A.output self.stage }
+        // What its call may come to.
+        ensures answers { IfOk result (λ r. IfOk r
+            (StateAnswers K.eq (Accords (Q.gives self.entry.asked) (Q.tests self.entry.asked))
+            (rules_of self.entry.cache.now) A.start A.named A.output
+            self.entry.stage self.entry.named)) }
+        ensures spent { IfOk result (λ r. IfErr r (λ e. e ≡ PollError.CallsSpent)) }
     {
         run(rt, self, moments)
     }
@@ -58,6 +66,8 @@ where
     S: State<R>,
     M: Moments + Drop,
     requires { S.can_poll state }
+    ensures answers { IfOk result (λ r. IfOk r (S.gives state)) }
+    ensures spent { IfOk result (λ r. IfErr r (λ e. e ≡ PollError.CallsSpent)) }
 {
     block_on(rt, Polled::new(rt, state, moments))
 }

@@ -1,17 +1,15 @@
 //! A call of a cache, as a state that is polled.
-ghost use Rattle.std.specs.Prelude.{◌≡◌, ◌↔◌, Bool, Some, IfOk, IfErr, OnOk, OnErr};
+ghost use Rattle.std.specs.Prelude.{◌≡◌, ◌↔◌, Bool, IfOk, IfErr, OnOk, OnErr};
 ghost use Rattle.futures.specs.Poll.{IfReady, OnPending};
 ghost use Rattle.futures.specs.Task.{IsArmed, Keeps};
 ghost use Rattle.moka_hist.specs.Finite.{IsExact};
-ghost use Rattle.moka_hist.specs.declared.replies.Answer.{Answer};
 ghost use Rattle.moka_cache.specs.Asked.{Accords};
 ghost use Rattle.moka_cache.specs.Hearing.{Unheard};
 ghost use Rattle.moka_cache.specs.Settings.{listener_of, rules_of};
 ghost use Rattle.moka_hist.specs.declared.events.Told.{Told};
-ghost use Rattle.moka_cache.specs.Stages.{AnswersWith, Begins, CameOnWith, IsNamed, MayPoll};
-ghost use Rattle.moka_cache.specs.Stages.{StagePends, name_in};
+ghost use Rattle.moka_cache.specs.Stages.{Begins, CameOnWith, IsNamed, MayPoll, StagePends};
 ghost use Rattle.moka_cache.specs.Starts.{called};
-ghost use Rattle.moka_cache.specs.Suits.{IsAnswerOf, Suits, Tells};
+ghost use Rattle.moka_cache.specs.Suits.{StateAnswers, Suits, Tells};
 
 use crate::asked::{Asked, Nobody};
 use crate::begin::Begin;
@@ -203,11 +201,10 @@ where
         requires tells { Tells K.eq (Q.gives self.old.asked)
             (called (rules_of self.old.cache.now) A.start) A.output self.old.stage }
         // What was done.
-        ensures answers { IfReady result (λ r. IfOk r (λ told. (answer : Answer K V E)
-            × AnswersWith K.eq (Accords (Q.gives self.old.asked) (Q.tests self.old.asked))
-            (called (rules_of self.old.cache.now) A.start) self.old.stage answer
-            × (Suits K.eq A.start self.old.stage → IsAnswerOf A.start answer)
-            × (Some told ≡ A.output (name_in A.named self.old.stage self.old.named) answer))) }
+        ensures answers { IfReady result (λ r. IfOk r
+            (StateAnswers K.eq (Accords (Q.gives self.old.asked) (Q.tests self.old.asked))
+            (rules_of self.old.cache.now) A.start A.named A.output
+            self.old.stage self.old.named)) }
         ensures failed { IfReady result (λ r. OnErr r
             (CameOnWith K.eq (Accords (Q.gives self.old.asked) (Q.tests self.old.asked))
             (called (rules_of self.old.cache.now) A.start) self.old.stage self.new.stage)) }
@@ -307,6 +304,9 @@ where
         × MayPoll call.stage × Q.can_poll call.asked
         × Tells K.eq (Q.gives call.asked)
         (called (rules_of call.cache.now) A.start) A.output call.stage };
+
+    ghost gives = { λ call. StateAnswers K.eq (Accords (Q.gives call.asked) (Q.tests call.asked))
+        (rules_of call.cache.now) A.start A.named A.output call.stage call.named };
 
     ghost is_spent = { λ call. call.stage ≡ Stage.Spent };
 

@@ -1,11 +1,14 @@
 //! What follows a hold of the lock, without it: who is asked begins, and the listener is started,
 //! and polled.
-ghost use Rattle.std.specs.Prelude.{◌≡◌, ◌⊎◌, Bool, Some};
-ghost use Rattle.futures.specs.Poll.{OnPending};
+ghost use Rattle.std.specs.Prelude.{◌≡◌, ◌⊎◌, Bool, Some, None, IfNone, IfSome, IsSome};
+ghost use Rattle.futures.specs.Poll.{IfReady, OnPending};
 ghost use Rattle.futures.specs.Task.{IsArmed, Keeps};
 ghost use Rattle.moka_hist.specs.declared.events.Told.{Told};
 ghost use Rattle.moka_cache.specs.Asked.{BegunBy, BegunFor, entry_of};
-ghost use Rattle.moka_cache.specs.Hearing.{Awaits, Follows, MayPend, Unheard, over_in};
+ghost use Rattle.moka_hist.specs.Plan.{hearing};
+ghost use Rattle.moka_init.specs.FlowPlan.{call_of};
+ghost use Rattle.moka_cache.specs.Hearing.{Awaits, Ends, Follows, IsHeard, MayPend, Unheard};
+ghost use Rattle.moka_cache.specs.Hearing.{WasPolled, heard_in, over_in};
 
 use crate::asked::Asked;
 use crate::cache::Shared;
@@ -54,6 +57,11 @@ where
         ensures follows { Follows stop (over_in result) }
         ensures cause { over_in result ≡ Some Poll.Pending
             → (stop ≡ Stop.Waits) ⊎ Awaits (Unheard L.pends self.now.listener) flow.now }
+        // What the next hold is to tell, and that a listener that is awaited was polled.
+        ensures heard { IfSome (heard_in result)
+            (IsHeard (Ends L.ends self.now.listener) flow.now) }
+        ensures polled { over_in result ≡ Some Poll.Pending
+            → WasPolled L.pends self.now.listener flow.now }
         ensures armed { over_in result ≡ Some Poll.Pending → IsArmed cx.new }
         ensures kept { Keeps cx.old cx.new }
     {
@@ -84,6 +92,11 @@ where
         ensures pends { MayPend (over_in result) }
         ensures cause { over_in result ≡ Some Poll.Pending
             → Awaits (Unheard L.pends self.now.listener) flow.now }
+        // What the next hold is to tell, and that a listener that is awaited was polled.
+        ensures heard { IfSome (heard_in result)
+            (IsHeard (Ends L.ends self.now.listener) flow.now) }
+        ensures polled { over_in result ≡ Some Poll.Pending
+            → WasPolled L.pends self.now.listener flow.now }
         ensures armed { over_in result ≡ Some Poll.Pending → IsArmed cx.new }
         ensures kept { Keeps cx.old cx.new }
     {
@@ -101,6 +114,11 @@ where
         cx: &mut Context<'_>,
     ) -> Turned<Result<Answer<K, V, E>, PollError>>
         ensures pends { MayPend (over_in result) }
+        // What the next hold is to tell, and that a listener that is awaited was polled.
+        ensures heard { IfSome (heard_in result)
+            (IsHeard (Ends L.ends self.now.listener) flow.now) }
+        ensures polled { over_in result ≡ Some Poll.Pending
+            → WasPolled L.pends self.now.listener flow.now }
         ensures kept { Keeps cx.old cx.new }
     {
         match self.hear(flow, cx) {
@@ -133,10 +151,15 @@ where
         }
     }
 
-    // Polls the listener for the notice whose end the call awaits. None where it awaits none.
+    // Polls the listener for the notice whose end the call awaits. None where it awaits none, or
+    // there is no listener.
     fn hear(&self, flow: &Flow<K, V, E>, cx: &mut Context<'_>) -> Option<Poll<Heard>>
         ensures cause { result ≡ Some Poll.Pending
             → Awaits (Unheard L.pends self.now.listener) flow.now }
+        ensures ended { IfSome result (λ polled. IfReady polled
+            (IsHeard (Ends L.ends self.now.listener) flow.now)) }
+        ensures none { IfNone result (IsSome self.now.listener
+            → hearing flow.now.call (call_of flow.now).plan ≡ None) }
         ensures armed { result ≡ Some Poll.Pending → IsArmed cx.new }
         ensures kept { Keeps cx.old cx.new }
     {
@@ -182,6 +205,9 @@ fn hear_by<K: Drop, V: Drop, E: Drop, L: Listener<K, V>>(
     cx: &mut Context<'_>,
 ) -> Option<Poll<Heard>>
     ensures cause { result ≡ Some Poll.Pending → Awaits (L.pends listener.now) flow.now }
+    ensures ended { IfSome result (λ polled. IfReady polled
+        (IsHeard (L.ends listener.now) flow.now)) }
+    ensures none { IfNone result (hearing flow.now.call (call_of flow.now).plan ≡ None) }
     ensures armed { result ≡ Some Poll.Pending → IsArmed cx.new }
     ensures kept { Keeps cx.old cx.new }
 {
@@ -198,6 +224,8 @@ fn poll_notice<K, V, L: Listener<K, V>>(
     cx: &mut Context<'_>,
 ) -> Poll<Heard>
     ensures pending { OnPending result (L.pends listener.now notice) }
+    ensures ended { IfReady result (λ heard. (heard.notice ≡ notice)
+        × L.ends listener.now notice heard.end) }
     ensures armed { OnPending result (IsArmed cx.new) }
     ensures kept { Keeps cx.old cx.new }
 {
@@ -211,6 +239,7 @@ fn poll_notice<K, V, L: Listener<K, V>>(
 fn go_with<T>(poll: Poll<Heard>) -> Turned<T>
     ensures pends { MayPend (over_in result) }
     ensures same { over_in result ≡ Some Poll.Pending → poll ≡ Poll.Pending }
+    ensures heard { IfSome (heard_in result) (λ heard. poll ≡ Poll.Ready heard) }
 {
     match poll {
         Poll::Ready(heard) => Turned::On(Some(heard)),

@@ -1,7 +1,8 @@
 //! Who hears of records that leave.
 ghost use Rattle.std.specs.Prelude.{⊤, ℕ};
-ghost use Rattle.futures.specs.Poll.{OnPending};
+ghost use Rattle.futures.specs.Poll.{IfReady, OnPending};
 ghost use Rattle.futures.specs.Task.{IsArmed, Keeps};
+ghost use Rattle.moka_kept.specs.declared.heard.ListenerEnd.{ListenerEnd};
 
 use futures::task::{Context, Poll};
 use moka_hist::Cause;
@@ -13,6 +14,9 @@ pub trait Listener<K, V>: Drop {
     /// Holds of the notices that a poll leaves pending.
     ghost pends: { Self → ℕ → Type 0 } = { λ _ _. ⊤ };
 
+    /// Holds of the notices that a poll ends, and of how it ends them.
+    ghost ends: { Self → ℕ → ListenerEnd → Type 0 } = { λ _ _ _. ⊤ };
+
     /// Begins to hear that the value has left the key, and why: once for each notice, before the
     /// first poll of that.
     fn start(&self, notice: u64, key: &K, value: &V, cause: Cause);
@@ -22,6 +26,7 @@ pub trait Listener<K, V>: Drop {
     /// call that takes its write up goes on with the notice.
     fn poll(&self, notice: u64, cx: &mut Context<'_>) -> Poll<ListenerEnd>
         ensures pending { OnPending result (pends self.now notice) }
+        ensures ended { IfReady result (ends self.now notice) }
         ensures armed { OnPending result (IsArmed cx.new) }
         ensures kept { Keeps cx.old cx.new };
 }

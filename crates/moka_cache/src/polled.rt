@@ -1,5 +1,5 @@
 //! A future over a state.
-ghost use Rattle.std.specs.Prelude.{◌≡◌, ◌↔◌, IsSome, IfSome, IfErr, IfOk, OnErr};
+ghost use Rattle.std.specs.Prelude.{◌≡◌, ◌↔◌, ⊤, IsSome, IfSome, IfErr, IfOk, OnErr};
 ghost use Rattle.futures.specs.Poll.{IfReady, OnPending};
 ghost use Rattle.futures.specs.Task.{IsArmed, Keeps};
 
@@ -22,6 +22,9 @@ pub trait State<R: Wait> {
     /// It has not answered.
     ghost can_poll: { Self → Type 0 };
 
+    /// Holds of each answer that it may come to.
+    ghost gives: { Self → Self.Output → Type 0 } = { λ _ _. ⊤ };
+
     /// No number was left for its call.
     ghost is_spent: { Self → Type 0 };
 
@@ -36,6 +39,11 @@ pub trait State<R: Wait> {
         requires { can_poll self.old }
         ensures pending { OnPending result (can_poll self.new) }
         ensures failed { IfReady result (λ r. OnErr r (can_poll self.new)) }
+        // What it answers, and that it may come to no other answer afterwards.
+        ensures value { IfReady result (λ r. IfOk r (gives self.old)) }
+        ensures same { OnPending result ((x : _) → gives self.new x → gives self.old x) }
+        ensures same_failed { IfReady result (λ r. OnErr r
+            ((x : _) → gives self.new x → gives self.old x)) }
         ensures spent { IfReady result (λ r. IfErr r (λ e.
             (e ≡ PollError.CallsSpent) ↔ is_spent self.new)) }
         ensures numbered { OnPending result (is_spent self.new → ⊥) }
@@ -82,9 +90,15 @@ impl<R: Wait, S: State<R>, M: Moments + Drop> Drop for Polled<'_, R, S, M> {
 }
 
 impl<R: Wait, S: State<R>, M: Moments + Drop> Future for Polled<'_, R, S, M> {
+    ghost use Rattle.moka_cache.specs.declared.errors.PollError.TheVariants as PollError;
+
     type Output = Result<S::Output, PollError>;
 
     ghost can_poll = { λ p. IsSome p.state × IfSome p.state S.can_poll };
+
+    // What the state may come to, or that no number was left; never that memory was wanting.
+    ghost gives = { λ p r. IfOk r (λ answer. IfSome p.state (λ state. S.gives state answer))
+        × IfErr r (λ e. e ≡ PollError.CallsSpent) };
 
     fn poll(&mut self, cx: &mut Context<'_>) -> Poll<Self::Output> {
         let moment = self.moments.moment();
@@ -104,6 +118,9 @@ fn poll_again<R: Wait, S: State<R>>(
 ) -> Poll<Result<S::Output, PollError>>
     requires { S.can_poll state.old }
     ensures pending { OnPending result (S.can_poll state.new) }
+    ensures value { IfReady result (λ r. IfOk r (S.gives state.old)) }
+    ensures spent { IfReady result (λ r. IfErr r (λ e. e ≡ PollError.CallsSpent)) }
+    ensures same { OnPending result ((x : _) → S.gives state.new x → S.gives state.old x) }
     ensures numbered { OnPending result (S.is_spent state.new → ⊥) }
     ensures armed { OnPending result (IsArmed cx.new) }
     ensures kept { Keeps cx.old cx.new }

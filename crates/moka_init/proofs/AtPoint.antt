@@ -1,13 +1,13 @@
 -- What a flow wants and needs is what the point wants and needs at which it stands.
 use Rattle.std.proofs.Common.{◌≡◌, sym, subst}
-use Rattle.std.specs.Prelude.{Option, Result, IfOk, OnErr}
+use Rattle.std.specs.Prelude.{true, Option, Result, IfOk, OnErr}
 use Rattle.moka_hist.specs.declared.accesses.Want.{Want}
 use Rattle.moka_needs.specs.declared.needs.Need.{Need}
 use Rattle.moka_init.specs.declared.flow.Flow.{Flow}
 use Rattle.moka_init.specs.declared.points.Point.{Point}
 use Rattle.moka_init.specs.PointPlan.{plan_at}
 use Rattle.moka_init.specs.Grounds.{access_at, access_from, wish_of, wish_for, TakesCopies}
-use Rattle.moka_init.specs.Needs.{need_at}
+use Rattle.moka_init.specs.Needs.{is_claim, need_at}
 
 module _ {K V E F : Type 0} (flow : Flow K V E) (p : Point K V E) (stands : flow.point ≡ p) where
   pub wants : (r : Result (Want K V E) F) → IfOk r (λ want. want ≡ wish_for flow (plan_at p))
@@ -21,6 +21,10 @@ module _ {K V E F : Type 0} (flow : Flow K V E) (p : Point K V E) (stands : flow
   pub may_need : (r : Result (Option (Need K)) F) → IfOk r (λ need. need ≡ need_at (access_from flow (plan_at p)))
       → IfOk r (λ need. need ≡ need_at (access_at flow))
   may_need r = subst (λ q. IfOk r (λ need. need ≡ need_at (access_from flow (plan_at q)))) (sym stands)
+
+  pub claims : (r : Result (Option (Need K)) F) → OnErr r (is_claim (need_at (access_from flow (plan_at p))) ≡ true)
+      → OnErr r (is_claim (need_at (access_at flow)) ≡ true)
+  claims r = subst (λ q. OnErr r (is_claim (need_at (access_from flow (plan_at q))) ≡ true)) (sym stands)
 
 module _ {K V E : Type 0} (flow : Flow K V E) (p : Point K V E) (stands : flow.point ≡ p) where
   pub needs : (need : Option (Need K)) → need ≡ need_at (access_from flow (plan_at p))

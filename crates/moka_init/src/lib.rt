@@ -2,7 +2,7 @@
 //!
 //! A `Flow` tells its next access (`want`) and goes on with what that access gave (`take`). `step`
 //! makes one step of a flow on a `Ground`, and `poll` steps up to the first turn that isn't Going.
-//! The schedule machine drives them; the polls of a cache are to drive the same.
+//! The schedule machine drives them, and so do the polls of a cache (`moka_kept`).
 #![tactic(auto)]
 
 mod calls;

@@ -1,8 +1,8 @@
 //! What the next visit of a flow needs of the desk.
-ghost use Rattle.std.specs.Prelude.{◌≡◌, Some, IfOk};
+ghost use Rattle.std.specs.Prelude.{◌≡◌, Some, true, IfOk, OnErr};
 ghost use Rattle.moka_hist.specs.Finite.{IsExact};
 ghost use Rattle.moka_init.specs.Grounds.{access_at, access_from};
-ghost use Rattle.moka_init.specs.Needs.{need_at};
+ghost use Rattle.moka_init.specs.Needs.{is_claim, need_at};
 ghost use Rattle.moka_init.specs.PointPlan.{settled_of, posting_plan, looking_plan, loading_plan};
 ghost use Rattle.moka_init.specs.PointPlan.{computing_plan, writing_plan, removing_plan};
 ghost use Rattle.moka_init.specs.PointPlan.{listening_plan};
@@ -19,10 +19,12 @@ use std::alloc::AllocError;
 
 impl<K: Clone + Drop, V, E> Flow<K, V, E> {
     /// What the flow's next visit needs of the desk. None where its next access is one of the
-    /// table, which needs nothing of it. Where a load is to be claimed its key is cloned.
+    /// table, which needs nothing of it. Where a load is to be claimed its key is cloned, and only
+    /// there memory may be wanting.
     pub fn need(&self) -> Result<Option<Need<K>>, AllocError>
         requires { IsExact K.is_clone }
-        ensures { IfOk result (λ need. need ≡ need_at (access_at self.now)) }
+        ensures ok { IfOk result (λ need. need ≡ need_at (access_at self.now)) }
+        ensures err { OnErr result (is_claim (need_at (access_at self.now)) ≡ true) }
     {
         match &self.point {
             Point::Posting(posting) => Ok(Some(self.posting_need(posting))),
@@ -57,8 +59,10 @@ impl<K: Clone + Drop, V, E> Flow<K, V, E> {
 
     fn loading_need(&self, loading: &Loading<K, V, E>) -> Result<Option<Need<K>>, AllocError>
         requires { IsExact K.is_clone }
-        ensures { IfOk result (λ need.
+        ensures ok { IfOk result (λ need.
             need ≡ need_at (access_from self.now (loading_plan loading.now))) }
+        ensures err { OnErr result (is_claim
+            (need_at (access_from self.now (loading_plan loading.now))) ≡ true) }
     {
         match loading {
             Loading::Own(sought) => claims(&sought.load.key, sought.load.kind),
@@ -71,8 +75,10 @@ impl<K: Clone + Drop, V, E> Flow<K, V, E> {
 
     fn computing_need(&self, computing: &Computing<K, V, E>) -> Result<Option<Need<K>>, AllocError>
         requires { IsExact K.is_clone }
-        ensures { IfOk result (λ need.
+        ensures ok { IfOk result (λ need.
             need ≡ need_at (access_from self.now (computing_plan computing.now))) }
+        ensures err { OnErr result (is_claim
+            (need_at (access_from self.now (computing_plan computing.now))) ≡ true) }
     {
         match computing {
             Computing::Own(compute) => claims(&compute.key, Kind::Compute),

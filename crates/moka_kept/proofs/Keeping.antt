@@ -21,7 +21,7 @@ use Rattle.moka_laws.specs.Sound.{ClockKeepsSound, EnteringKeepsSound, LeavingKe
 use Rattle.moka_laws.proofs.Counting.{put_here}
 use Rattle.moka_kept.specs.Taking.{is_of_call}
 use Rattle.moka_kept.specs.Kept.{CacheLayers, IsKept, IsToldTo}
-use Rattle.moka_kept.specs.Kept.{NumbersSpent}
+use Rattle.moka_kept.specs.Kept.{IsLast, NumbersSpent}
 
 -- what a call was told is there to be taken
 there_at : {K V E : Type 0} (w : DeskPart K V E) (call : ℕ) (answer : Told V E) → is_of_call answer ≡ true → (told w call answer).told call ≡ Some answer
@@ -96,6 +96,18 @@ module _ {K V E : Type 0} {same : PartialEq.Ghosts K} {hash : Hash.Ghosts K} (eq
       next : (b : Bool) → Some n ≡ cond b None (Some (w.last + 1)) → n ≡ w.last + 1
       next true e = absurd (cc)
       next false e = cc
+
+  -- some sound desk has given it out last
+  pub last_entered : (layers : CacheLayers K V E same hash) (n m : ℕ) → m ≡ n → EnteringKeepsSound K V E eq
+      → ((w : DeskPart K V E) → StandsFor eq layers.desk w → Some n ≡ cond (w.last == last_call) None (Some (w.last + 1)))
+      → IsKept eq layers → IsLast K V E eq m
+  last_entered layers n m is law finds kept =
+      subst (IsLast K V E eq) (sym is)
+      (first (kept.world.desk.last == last_call) (finds kept.world.desk kept.stands.desk), (record kept.world.desk { last = n }, law kept.world.desk n kept.sound, refl))
+    where
+      first : (b : Bool) → Some n ≡ cond b None (Some (kept.world.desk.last + 1)) → 0 < n
+      first true e = absurd (cc)
+      first false e = let is : n ≡ kept.world.desk.last + 1 = cc in omega (arith, is)
 
   -- where none is left, the greatest was given out
   pub spent_entered : (layers : CacheLayers K V E same hash) (r : Option ℕ)

@@ -1,5 +1,5 @@
 -- How steps of a flow, one after another, leave its call.
-use Rattle.std.proofs.Common.{◌≡◌, Bool, false, Some, None, Result, Ok, Err, IfOk, OnErr, refl, sym, ◌∙◌, subst}
+use Rattle.std.proofs.Common.{◌≡◌, inl, Bool, false, Some, None, Result, Ok, Err, IfOk, OnErr, refl, sym, ◌∙◌, subst}
 use Rattle.moka_hist.specs.Next.{answers}
 use Rattle.moka_hist.specs.State.{Call}
 use Rattle.moka_hist.specs.declared.accesses.Turn.{Turn}
@@ -11,7 +11,7 @@ use Rattle.moka_init.specs.declared.flow.Flow.{Flow}
 use Rattle.moka_kept.specs.Paths.{CameWith, EndedWith, LeftWith}
 use Rattle.moka_kept.specs.Rests.{Rests}
 use Rattle.moka_kept.specs.Taking.{Taken}
-use Rattle.moka_kept.specs.Stops.{CameTo, StopIs, stop_after, stop_of}
+use Rattle.moka_kept.specs.Stops.{CameTo, GoesOn, StopIs, stop_after, stop_of}
 use Rattle.moka_kept.specs.declared.stop.Stop.{Stop}
 use Rattle.moka_kept.specs.declared.stop.Stop.TheVariants as stop
 use Rattle.moka_kept.proofs.Ways.{came_on, came_same, came_weaker, ended_came, ended_on, ended_weaker}
@@ -46,7 +46,8 @@ module _ {K V E : Type 0} (eq : K → K → Bool) (such : Taken V E → Type 0) 
   -- a step that is followed by this turn stops its call so
   pub stops : (old : Flow K V E) (t : Turn K V E) (new : Flow K V E) → new.call ≡ old.call → HasBegun None new → Leaves t new
       → EndedWith eq such old.call (call_of old) (next_in t new) → StopIs eq such old (stop_of t) new
-  stops old turn.Going new number begun live end = came_by old new turn.Going number begun live end
+  stops old turn.Going new number begun live end =
+      (came_by old new turn.Going number begun live end, inl (left_by old new turn.Going number end))
   stops old turn.Wait new number begun live end = (came_by old new turn.Wait number begun live end, left_by old new turn.Wait number end)
   stops old (turn.Ask ask) new number begun live end =
       (came_by old new (turn.Ask ask) number begun live end, left_by old new (turn.Ask ask) number end)
@@ -59,8 +60,9 @@ module _ {K V E : Type 0} (eq : K → K → Bool) (such : Taken V E → Type 0) 
   stops_made old (Err e) new rests number begun leaves end still = stays old new rests begun still
 
   -- a step that leaves the call going
-  pub came_going : {F : Type 0} (old : Flow K V E) (r : Result (Turn K V E) F) (new : Flow K V E) → r ≡ Ok turn.Going → StopIs eq such old (stop_after r) new → CameTo eq such old new
-  came_going {F} old r new going stops = subst (λ (x : Result (Turn K V E) F). StopIs eq such old (stop_after x) new) going stops
+  pub left_going : {F : Type 0} (old : Flow K V E) (r : Result (Turn K V E) F) (new : Flow K V E) → r ≡ Ok turn.Going → StopIs eq such old (stop_after r) new
+      → CameTo eq such old new × GoesOn eq new
+  left_going {F} old r new going stops = subst (λ (x : Result (Turn K V E) F). StopIs eq such old (stop_after x) new) going stops
 
   -- steps after steps
   pub came_to_on : (a b c : Flow K V E) → CameTo eq such a b → CameTo eq such b c → CameTo eq such a c
@@ -78,7 +80,7 @@ module _ {K V E : Type 0} (eq : K → K → Bool) (such : Taken V E → Type 0) 
 
   pub stops_on : (a b : Flow K V E) (s : Stop K V E) (c : Flow K V E) → CameTo eq such a b → StopIs eq such b s c → StopIs eq such a s c
   stops_on a b (stop.Answers answer) c before end = answers_on a b answer before end
-  stops_on a b stop.Going c before after = came_to_on a b c before after
+  stops_on a b stop.Going c before after = (came_to_on a b c before after.0, after.1)
   stops_on a b stop.Waits c before after = (came_to_on a b c before after.0, after.1)
   stops_on a b (stop.Asks ask) c before after = (came_to_on a b c before after.0, after.1)
   stops_on a b stop.Memory c before after = came_to_on a b c before after
@@ -95,7 +97,7 @@ module _ {K V E : Type 0} (eq : K → K → Bool) (such other : Taken V E → Ty
   -- less is known of the answers that are taken
   pub stops_weaker : (old : Flow K V E) (s : Stop K V E) (new : Flow K V E) → StopIs eq such old s new → StopIs eq other old s new
   stops_weaker old (stop.Answers answer) new end = ended_weaker eq such other weaker old.call (call_of old) (answers answer) end
-  stops_weaker old stop.Going new after = came_to_weaker old new after
+  stops_weaker old stop.Going new after = (came_to_weaker old new after.0, after.1)
   stops_weaker old stop.Waits new after = (came_to_weaker old new after.0, after.1)
   stops_weaker old (stop.Asks ask) new after = (came_to_weaker old new after.0, after.1)
   stops_weaker old stop.Memory new after = came_to_weaker old new after

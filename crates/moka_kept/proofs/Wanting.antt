@@ -22,7 +22,7 @@ use Rattle.moka_kept.specs.Taking.{Answered, NoAnswer, Taken, Tested, is_passed,
 use Rattle.moka_needs.specs.declared.needs.Need.{Need}
 use Rattle.moka_hist.specs.declared.visits.Visit.{Visit}
 use Rattle.moka_init.specs.FlowPlan.{tested_in}
-use Rattle.moka_init.specs.Needs.{need_at}
+use Rattle.moka_init.specs.Needs.{is_claim, need_at}
 use Rattle.moka_desk.specs.Past.{AllowsAlike}
 use Rattle.moka_desk.specs.StandsFor.{StandsFor}
 use Rattle.moka_desk.specs.declared.state.Desk.{Desk}
@@ -114,6 +114,15 @@ module _ {K V E : Type 0} where
   pub taking_none : (a : Access K V E) → None ≡ need_at a → is_taking a ≡ false
   taking_none (On_table operation) is = refl
   taking_none (On_desk made) is = absurd (cc)
+
+  -- what claims takes no answer
+  claim_takes : (made : Visit K V E) → is_claim (Some (need_of made)) ≡ true → takes_answer made ≡ false
+  claim_takes (visit.TakeTold n) claims = absurd (false≢true claims)
+  claim_takes _ claims = refl
+
+  pub taking_claim : (a : Access K V E) → is_claim (need_at a) ≡ true → is_taking a ≡ false
+  taking_claim (On_table operation) claims = refl
+  taking_claim (On_desk made) claims = claim_takes made claims
 
   -- a call's next access asks the test that its plan does
   tested_item : (n : ℕ) (item : Item K V E) (rest : List (Item K V E)) → tested_by (access_for n item) ≡ tested_in (item ∷ rest)

@@ -79,3 +79,8 @@ MayMake w (On_desk made) = MayVisit w made
 -- some sound desk has given the greatest number out
 abbrev pub NumbersSpent : (K V E : Type 0) → (K → K → Bool) → Type 0
 NumbersSpent K V E eq = (w : DeskPart K V E) × SoundDesk eq w × (w.last ≡ last_call)
+
+-- this number is the last that some sound desk has given out, and the first was 1
+abbrev pub IsLast : (K V E : Type 0) → (K → K → Bool) → ℕ → Type 0
+IsLast K V E eq number =
+    (0 < number) × ((w : DeskPart K V E) × SoundDesk eq w × (w.last ≡ number))

@@ -1,11 +1,11 @@
 -- How a hold of the lock leaves a call.
-use Rattle.std.specs.Prelude.{◌≡◌, Bool, Result, Ok, Err}
+use Rattle.std.specs.Prelude.{◌≡◌, ◌⊎◌, Bool, true, Result, Ok, Err, is_some}
 use Rattle.moka_hist.specs.Next.{answers}
 use Rattle.moka_hist.specs.declared.replies.Answer.{Answer}
 use Rattle.moka_hist.specs.declared.replies.Ask.{Ask}
 use Rattle.moka_hist.specs.declared.accesses.Turn.{Turn}
 use Rattle.moka_hist.specs.declared.accesses.Turn.TheVariants as turn
-use Rattle.moka_init.specs.FlowPlan.{call_of}
+use Rattle.moka_init.specs.FlowPlan.{call_of, tested_in}
 use Rattle.moka_init.specs.declared.flow.Flow.{Flow}
 use Rattle.moka_kept.specs.Paths.{CameWith, EndedWith, LeftWith}
 use Rattle.moka_kept.specs.Rests.{Rests}
@@ -47,12 +47,19 @@ module _ {K V E : Type 0} where
   abbrev pub LeftAsking : (K → K → Bool) → Flow K V E → Ask K V → Type 0
   LeftAsking eq flow ask = LeftWith eq flow.call (call_of flow) (turn.Ask ask)
 
+  -- The flow's call may go on in a further hold: its last access left it going; or its next visit
+  -- judges a record by its replace test, which is to be asked first.
+  abbrev pub GoesOn : (K → K → Bool) → Flow K V E → Type 0
+  GoesOn eq flow =
+      LeftWith eq flow.call (call_of flow) turn.Going
+      ⊎ (is_some (tested_in (call_of flow).plan) ≡ true)
+
   -- the steps left the call so: its answer follows from the last of its accesses; or it came to
   -- where its flow stands
   abbrev pub StopIs : (K → K → Bool) → (Taken V E → Type 0) → Flow K V E → Stop K V E → Flow K V E
       → Type 0
   StopIs eq such old (stop.Answers answer) new = AnswersFrom eq such old answer
-  StopIs eq such old stop.Going new = CameTo eq such old new
+  StopIs eq such old stop.Going new = CameTo eq such old new × GoesOn eq new
   StopIs eq such old stop.Waits new = CameTo eq such old new × Waits eq new
   StopIs eq such old (stop.Asks ask) new = CameTo eq such old new × LeftAsking eq new ask
   StopIs eq such old stop.Memory new = CameTo eq such old new

@@ -1,9 +1,11 @@
 //! Table and desk, as a poll reaches them under the lock.
-ghost use Rattle.std.specs.Prelude.{◌≡◌, None, IfOk, OnErr};
+ghost use Rattle.std.specs.Prelude.{◌≡◌, ℕ, List, Some, None, cond, false, IfNone, IfOk, IfSome, OnErr};
 ghost use Rattle.std.proofs.Common.{◌∙◌, refl};
 ghost use Rattle.moka_hist.specs.Finite.{IsExact};
 ghost use Rattle.moka_layers.specs.Counted.{counted};
+ghost use Rattle.moka_sync.specs.Waiting.{waits};
 ghost use Rattle.moka_kept.specs.Kept.{IsKept, ReachIs, MayReach, in_hand};
+ghost use Rattle.moka_kept.specs.Parked.{is_parked};
 
 use crate::in_hand::InHand;
 use crate::parked::{HandedOut, Parked, Wakers};
@@ -37,7 +39,11 @@ impl<K: Eq + Hash + Clone + Drop, V: Clone + Drop, E: Clone + Drop> Reach<K, V, 
     /// Hands out the wakers of the calls that the last visit handed out, if it did.
     pub(crate) fn hand_out(&mut self, parked: &mut Parked, woken: &mut Wakers)
         requires { IsKept K.eq self.old.layers }
-        ensures { IsKept K.eq self.new.layers }
+        ensures kept { IsKept K.eq self.new.layers }
+        ensures out { self.new.woken ≡ None }
+        ensures parked { (calls : List ℕ) → self.old.woken ≡ Some calls → (n : ℕ)
+            → is_parked parked.new n ≡ cond (waits n calls) false (is_parked parked.old n) }
+        ensures nobody { self.old.woken ≡ None → parked.new ≡ parked.old }
     {
         match self.take_woken() {
             Some(handed) => parked.hand_out(handed, woken),
@@ -48,7 +54,10 @@ impl<K: Eq + Hash + Clone + Drop, V: Clone + Drop, E: Clone + Drop> Reach<K, V, 
     // Gives those that the last visit handed out, if it is one that does.
     fn take_woken(&mut self) -> Option<HandedOut>
         requires { IsKept K.eq self.old.layers }
-        ensures { IsKept K.eq self.new.layers }
+        ensures kept { IsKept K.eq self.new.layers }
+        ensures out { self.new.woken ≡ None }
+        ensures some { IfSome result (λ handed. self.old.woken ≡ Some handed.calls) }
+        ensures none { IfNone result (self.old.woken ≡ None) }
     {
         if self.woken.is_none() {
             return None;

@@ -5,7 +5,7 @@ ghost use Rattle.moka_hist.specs.Finite.{IsExact};
 ghost use Rattle.moka_hist.specs.State.{World};
 ghost use Rattle.moka_init.specs.FlowPlan.{call_of, tested_in};
 ghost use Rattle.moka_kept.specs.Counts.{Behind, sees};
-ghost use Rattle.moka_kept.specs.Kept.{NumbersSpent};
+ghost use Rattle.moka_kept.specs.Kept.{IsLast, NumbersSpent};
 ghost use Rattle.moka_kept.specs.Rests.{Rests};
 ghost use Rattle.moka_kept.specs.Stops.{StopIs};
 ghost use Rattle.moka_kept.specs.Taking.{Brings};
@@ -46,9 +46,11 @@ impl<K: Eq + Hash + Clone + Drop, V: Clone + Drop, E: Clone + Drop> Guarded<K, V
     }
 
     /// Moves the clock on to the moment, where that is later, and gives the next call number out.
-    /// Answers None where the greatest one was given out.
+    /// The first is 1; no clause speaks of two calls, so that one comes after the other is said of
+    /// the desk alone. Answers None where the greatest one was given out.
     pub fn enter<R: Wait>(&self, rt: &R, moment: u64) -> Option<Number>
-        ensures { IfNone result (NumbersSpent K V E K.eq) }
+        ensures last { IfSome result (λ number. IsLast K V E K.eq number.call) }
+        ensures spent { IfNone result (NumbersSpent K V E K.eq) }
     {
         let mut guard = self.kept.lock(rt);
         let kept = &mut *guard;

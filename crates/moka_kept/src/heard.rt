@@ -1,5 +1,15 @@
 //! What a listener answered, as the next hold of the lock tells it.
-ghost use Rattle.std.specs.Prelude.{◌≡◌};
+ghost use Rattle.std.specs.Prelude.{◌≡◌, false, IfNone, OnSome};
+ghost use Rattle.moka_hist.specs.State.{DeskPart};
+ghost use Rattle.moka_hist.specs.Visits.{is_running};
+ghost use Rattle.moka_hist.specs.Telling.{told};
+ghost use Rattle.moka_desk.specs.StandsFor.{StandsFor};
+ghost use Rattle.moka_kept.specs.Kept.{IsKept};
+ghost use Rattle.moka_kept.specs.Taking.{end_told};
+
+use crate::ground::Reach;
+use crate::parked::HandedOut;
+use std::hash::Hash;
 
 /// How a listener ends a notice.
 #[derive(Clone, Copy, PartialEq, Eq, Debug)]
@@ -11,10 +21,10 @@ pub enum ListenerEnd {
 }
 
 /// The end of a notice, as the listener gave it. It has no `Drop`, so nobody can let it go: the
-/// next hold of the lock takes it, and tells it.
+/// next hold of the lock takes it, and `tell` alone takes it apart.
 pub struct Heard {
-    pub(crate) notice: u64,
-    pub(crate) end: ListenerEnd,
+    notice: u64,
+    end: ListenerEnd,
 }
 
 impl Heard {
@@ -24,5 +34,23 @@ impl Heard {
         ensures end { result.end ≡ end }
     {
         Heard { notice, end }
+    }
+
+    /// Tells the desk that the notice has ended so, and gives those that it hands out. Answers None
+    /// where that doesn't run; nothing has changed then.
+    pub(crate) fn tell<K: Eq + Hash + Clone + Drop, V: Clone + Drop, E: Clone + Drop>(
+        self,
+        reach: &mut Reach<K, V, E>,
+    ) -> Option<HandedOut>
+        requires { IsKept K.eq reach.old.layers }
+        ensures kept { IsKept K.eq reach.new.layers }
+        ensures told { OnSome result ((w : DeskPart K V E)
+            → StandsFor K.eq reach.old.layers.desk w
+            → StandsFor K.eq reach.new.layers.desk (told w self.notice (end_told self.end))) }
+        ensures refused { IfNone result ((w : DeskPart K V E)
+            → StandsFor K.eq reach.old.layers.desk w → is_running w self.notice ≡ false) }
+    {
+        let Heard { notice, end } = self;
+        reach.hear(notice, end)
     }
 }

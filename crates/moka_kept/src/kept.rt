@@ -1,5 +1,5 @@
 //! What lies under the lock of a cache.
-ghost use Rattle.std.specs.Prelude.{◌≡◌, None, IfNone};
+ghost use Rattle.std.specs.Prelude.{◌≡◌, None, IfNone, IfSome};
 ghost use Rattle.moka_hist.specs.Finite.{IsExact};
 ghost use Rattle.moka_kept.specs.Kept.{IsKept};
 
@@ -39,7 +39,7 @@ impl<K: Eq + Hash, V, E> Model for Kept<K, V, E> {
 
 impl<K: Eq + Hash + Clone + Drop, V: Clone + Drop, E: Clone + Drop> Kept<K, V, E> {
     ghost use Rattle.futures.specs.Task.{IsArmed, Keeps};
-    ghost use Rattle.moka_kept.specs.Kept.{NumbersSpent};
+    ghost use Rattle.moka_kept.specs.Kept.{IsLast, NumbersSpent};
     ghost use Rattle.moka_kept.specs.Rests.{Rests};
     ghost use Rattle.moka_kept.specs.Stops.{StopIs, stop_after, stop_of};
     ghost use Rattle.moka_init.specs.FlowPlan.{call_of, tested_in};
@@ -61,7 +61,8 @@ impl<K: Eq + Hash + Clone + Drop, V: Clone + Drop, E: Clone + Drop> Kept<K, V, E
     /// Moves the clock on to the moment, where that is later, and gives the next call number out.
     /// Answers None where the greatest one was given out.
     pub(crate) fn enter(&mut self, moment: u64) -> Option<Number>
-        ensures { IfNone result (NumbersSpent K V E K.eq) }
+        ensures last { IfSome result (λ number. IsLast K V E K.eq number.call) }
+        ensures spent { IfNone result (NumbersSpent K V E K.eq) }
     {
         self.reach.move_clock(moment);
         self.reach.enter()
@@ -83,8 +84,7 @@ impl<K: Eq + Hash + Clone + Drop, V: Clone + Drop, E: Clone + Drop> Kept<K, V, E
 
     // Tells the end of a notice.
     fn end_notice(&mut self, heard: Heard, woken: &mut Wakers) {
-        let Heard { notice, end } = heard;
-        let handed = self.reach.hear(notice, end);
+        let handed = heard.tell(&mut self.reach);
         self.hand_out(handed, woken);
     }
 

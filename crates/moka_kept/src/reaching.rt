@@ -1,11 +1,12 @@
 //! Calls and the clock, as they reach table and desk: whatever they do leaves a sound world.
 ghost use Rattle.std.specs.Prelude.{◌≡◌, ◌≤◌, Some, None, Bool, false, true, IfNone, IfOk, IfSome};
-ghost use Rattle.std.specs.Prelude.{OnErr, OnSome, is_some, ◌+◌};
+ghost use Rattle.std.specs.Prelude.{OnErr, OnOk, OnSome, is_some, ◌+◌};
 ghost use Rattle.std.specs.Bool.{OnFalse, OnTrue};
 ghost use Rattle.std.specs.Option.{option_map};
 ghost use Rattle.moka_hist.specs.Finite.{IsExact};
 ghost use Rattle.moka_hist.specs.State.{DeskPart};
-ghost use Rattle.moka_hist.specs.Telling.{told};
+ghost use Rattle.moka_hist.specs.Visits.{is_running};
+ghost use Rattle.moka_hist.specs.Telling.{is_asked, told};
 ghost use Rattle.moka_desk.specs.Past.{AllowsAlike};
 ghost use Rattle.moka_desk.specs.StandsFor.{StandsFor};
 ghost use Rattle.moka_init.specs.FlowPlan.{call_of, next_in, tested_in, Leaves, StandsStill};
@@ -21,7 +22,7 @@ ghost use Rattle.moka_kept.specs.Taking.{is_taking, needs_answer};
 ghost use Rattle.moka_kept.specs.Kept.{IsBrought, IsKept, IsToldTo, MayMake};
 ghost use Rattle.moka_kept.specs.Paths.{EndedWith};
 ghost use Rattle.moka_kept.specs.Rests.{Rests};
-ghost use Rattle.moka_kept.specs.Kept.{NumbersSpent};
+ghost use Rattle.moka_kept.specs.Kept.{IsLast, NumbersSpent};
 
 use crate::brought::Brought;
 use crate::ground::Reach;
@@ -77,6 +78,7 @@ impl<K: Eq + Hash + Clone + Drop, V: Clone + Drop, E: Clone + Drop> Reach<K, V, 
         ensures next { IfSome result (λ number. (w : DeskPart K V E)
             → StandsFor K.eq self.old.layers.desk w → (number.call ≡ w.last + 1)
             × StandsFor K.eq self.new.layers.desk (record w { last = number.call })) }
+        ensures last { IfSome result (λ number. IsLast K V E K.eq number.call) }
         ensures spent { IfNone result (NumbersSpent K V E K.eq) }
     {
         moka_laws::entering_keeps_sound::<K, V, E>();
@@ -92,6 +94,10 @@ impl<K: Eq + Hash + Clone + Drop, V: Clone + Drop, E: Clone + Drop> Reach<K, V, 
         requires { IsKept K.eq self.old.layers }
         ensures kept { IsKept K.eq self.new.layers }
         ensures told { OnSome result (IsToldTo K.eq self.new.layers call answer) }
+        ensures refused { IfNone result (is_of_call answer ≡ true → (w : DeskPart K V E)
+            → StandsFor K.eq self.old.layers.desk w → is_asked w call answer ≡ false) }
+        ensures same { IfNone result ((w : DeskPart K V E)
+            → StandsFor K.eq self.old.layers.desk w → StandsFor K.eq self.new.layers.desk w) }
     {
         moka_laws::telling_keeps_sound::<K, V, E>();
         match is_of_call(&answer) {
@@ -109,6 +115,10 @@ impl<K: Eq + Hash + Clone + Drop, V: Clone + Drop, E: Clone + Drop> Reach<K, V, 
         ensures told { OnSome result ((w : DeskPart K V E)
             → StandsFor K.eq self.old.layers.desk w
             → StandsFor K.eq self.new.layers.desk (told w notice (end_told end))) }
+        ensures refused { IfNone result ((w : DeskPart K V E)
+            → StandsFor K.eq self.old.layers.desk w → is_running w notice ≡ false) }
+        ensures same { IfNone result ((w : DeskPart K V E)
+            → StandsFor K.eq self.old.layers.desk w → StandsFor K.eq self.new.layers.desk w) }
     {
         moka_laws::telling_keeps_sound::<K, V, E>();
         Some(HandedOut::of(self.layers.desk.tell(notice, told_by(end))?))
@@ -199,6 +209,8 @@ impl<K: Eq + Hash + Clone + Drop, V: Clone + Drop, E: Clone + Drop> Reach<K, V, 
         ensures begun { HasBegun None flow.new }
         ensures number { flow.new.call ≡ flow.old.call }
         ensures err { OnErr result (StandsStill flow.old flow.new) }
+        // Whom the visit handed out, nobody is to hand out any more.
+        ensures out { OnOk result (self.new.woken ≡ None) }
     {
         match may_step(&self.layers.desk, flow, takes) {
             true => {
@@ -373,15 +385,16 @@ fn needs_answer<K>(need: &Need<K>) -> bool
     }
 }
 
-/// Whether the flow's next visit takes the answer to its own ask, which is open. False too where
-/// memory is wanting to tell.
+/// Whether the flow's next visit takes the answer to its own ask, which is open.
 pub fn is_asking<K: Clone + Drop, V, E>(flow: &Flow<K, V, E>) -> bool
     requires { IsExact K.is_clone }
-    ensures { OnTrue result (is_taking (access_at flow.now) ≡ true) }
+    ensures { result ≡ is_taking (access_at flow.now) }
 {
     match flow.need() {
         Ok(Some(need)) => needs_answer(&need),
-        _ => false,
+        Ok(None) => false,
+        // (only a claim wants memory to be told, and it takes no answer)
+        Err(_) => false,
     }
 }
 
@@ -398,7 +411,8 @@ fn is_tested<K, V, E>(flow: &Flow<K, V, E>) -> bool
 /// Whether the flow's next visit judges a record by its call's replace test, and nothing was
 /// brought for it.
 pub(crate) fn is_unasked<K, V, E>(flow: &Flow<K, V, E>, brought: &Brought<V, E>) -> bool
-    ensures { OnFalse result (brought.now ≡ Brought.Nothing
+    ensures unasked { OnTrue result (is_some (tested_in (call_of flow.now).plan) ≡ true) }
+    ensures asked { OnFalse result (brought.now ≡ Brought.Nothing
         → tested_in (call_of flow.now).plan ≡ None) }
 {
     match brought {

@@ -1,9 +1,15 @@
--- Where the flow needs its answer, its access takes that.
+-- Where the flow needs its answer, its access takes that; a claim takes none.
 use Rattle.std.proofs.Common.{sym, ◌∙◌}
 use Rattle.moka_init.specs.Grounds.{access_at}
-use Rattle.moka_kept.proofs.Wanting.{on_true, taking_needs}
+use Rattle.moka_kept.proofs.Wanting.{taking_claim, taking_needs, taking_none}
 use Rattle.moka_kept.proofs.reaching.is_asking.Goals as goal
 
 pub returns-in-Ok-Some : goal.returns-in-Ok-Some
 returns-in-Ok-Some g c =
-    on_true c.needs_answer.result _ (λ yes. taking_needs (access_at c.args.flow.now) c.in-Ok-Some.need (sym c.in-Ok-Some.field-0-is ∙ c.in-Ok-Some.ensures) ∙ sym c.needs_answer.ensures ∙ yes)
+    c.needs_answer.ensures ∙ sym (taking_needs (access_at c.args.flow.now) c.in-Ok-Some.need (sym c.in-Ok-Some.field-0-is ∙ c.in-Ok-Some.ensures.ok))
+
+pub returns-in-Ok-None : goal.returns-in-Ok-None
+returns-in-Ok-None g c = sym (taking_none (access_at c.args.flow.now) (sym c.in-Ok-None.field-0-is ∙ c.in-Ok-None.ensures.ok))
+
+pub returns-in-Err : goal.returns-in-Err
+returns-in-Err g c = sym (taking_claim (access_at c.args.flow.now) c.in-Err.ensures.err)

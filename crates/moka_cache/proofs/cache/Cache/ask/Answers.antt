@@ -45,12 +45,12 @@ returns-in-Ready-Some-clause-cause g c = pends_by _ _ _ (over_in c.round-in-Read
 
 pub returns-in-Ready-Some-clause-unasked : goal.returns-in-Ready-Some-clause-unasked
 returns-in-Ready-Some-clause-unasked g c =
-    asked_here g.K.PartialEq.eq (Accords (g.Q.Asked.gives c.args.asked.now) (g.Q.Asked.tests c.args.asked.now)) c.args.flow.now c.requires.rests c.if-not-is_polled.ensures c.args.asked.now c.round-in-Ready-Some.new.asked
+    asked_here g.K.PartialEq.eq (Accords (g.Q.Asked.gives c.args.asked.now) (g.Q.Asked.tests c.args.asked.now)) c.args.flow.now c.requires.rests c.if-not-is_polled.ensures.asking c.args.asked.now c.round-in-Ready-Some.new.asked
 
 pub returns-in-Ready-None-clause-unasked : goal.returns-in-Ready-None-clause-unasked
 returns-in-Ready-None-clause-unasked g c =
-    asked_here g.K.PartialEq.eq (Accords (g.Q.Asked.gives c.args.asked.now) (g.Q.Asked.tests c.args.asked.now)) c.args.flow.now c.requires.rests c.if-not-is_polled.ensures c.args.asked.now c.poll.new.self
+    asked_here g.K.PartialEq.eq (Accords (g.Q.Asked.gives c.args.asked.now) (g.Q.Asked.tests c.args.asked.now)) c.args.flow.now c.requires.rests c.if-not-is_polled.ensures.asking c.args.asked.now c.poll.new.self
 
 pub returns-in-Pending-clause-unasked : goal.returns-in-Pending-clause-unasked
 returns-in-Pending-clause-unasked g c =
-    asked_here g.K.PartialEq.eq (Accords (g.Q.Asked.gives c.args.asked.now) (g.Q.Asked.tests c.args.asked.now)) c.args.flow.now c.requires.rests c.if-not-is_polled.ensures c.args.asked.now c.poll.new.self
+    asked_here g.K.PartialEq.eq (Accords (g.Q.Asked.gives c.args.asked.now) (g.Q.Asked.tests c.args.asked.now)) c.args.flow.now c.requires.rests c.if-not-is_polled.ensures.asking c.args.asked.now c.poll.new.self

@@ -1,5 +1,7 @@
 -- A pending call awaits its notice, whose poll is pending.
 use Rattle.std.proofs.Common.{Some, ap}
+use Rattle.moka_cache.specs.Hearing.{Ends, IsHeard, heard_in}
+use Rattle.moka_cache.proofs.Ending.{awaited_polled, ready_so}
 use Rattle.moka_cache.proofs.cache.Shared.after_ask.Goals as goal
 
 pub returns-in-Some-clause-cause : goal.returns-in-Some-clause-cause
@@ -7,3 +9,11 @@ returns-in-Some-clause-cause g c = λ pending. c.in-Some.ensures.cause (ap Some 
 
 pub returns-in-Some-clause-armed : goal.returns-in-Some-clause-armed
 returns-in-Some-clause-armed g c = λ pending. c.in-Some.ensures.armed (ap Some (c.go_with.ensures.same pending))
+
+pub returns-in-Some-clause-heard : goal.returns-in-Some-clause-heard
+returns-in-Some-clause-heard g c =
+    ready_so (heard_in c.go_with.result) c.in-Some.poll (IsHeard (Ends g.L.Listener.ends c.args.self.now.listener) c.args.flow.now) c.go_with.ensures.heard c.in-Some.ensures.ended
+
+pub returns-in-Some-clause-polled : goal.returns-in-Some-clause-polled
+returns-in-Some-clause-polled g c = λ pending.
+    awaited_polled c.args.flow.now g.L.Listener.pends c.args.self.now.listener (c.in-Some.ensures.cause (ap Some (c.go_with.ensures.same pending)))

@@ -18,7 +18,7 @@ pub hand_out-requires : goal.hand_out-requires
 hand_out-requires g c = c.step_allowed-made.ensures.kept
 
 pub returns-in-true-clause-kept : goal.returns-in-true-clause-kept
-returns-in-true-clause-kept g c = c.hand_out.ensures
+returns-in-true-clause-kept g c = c.hand_out.ensures.kept
 
 pub returns-in-true-clause-untaken : goal.returns-in-true-clause-untaken
 returns-in-true-clause-untaken g c = λ takes untested. c.step_allowed-made.ensures.untaken (c.in-true.ensures.takes ∙ takes) untested

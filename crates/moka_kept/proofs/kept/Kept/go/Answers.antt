@@ -1,11 +1,11 @@
 -- The first step goes by what was brought, and the others take nothing.
-use Rattle.std.proofs.Common.{sym, subst}
+use Rattle.std.proofs.Common.{inl, inr, refl, sym, subst}
 use Rattle.moka_init.specs.FlowPlan.{call_of, tested_in}
 use Rattle.moka_kept.specs.Taking.{Brings}
 use Rattle.moka_kept.specs.declared.brought.Brought.{Brought}
 use Rattle.moka_kept.specs.Stops.{StopIs, stop_after}
 use Rattle.moka_kept.specs.declared.stop.Stop.{Stop}
-use Rattle.moka_kept.proofs.Stopping.{came_going, came_here, came_to_on, came_to_weaker, stops_on, stops_weaker}
+use Rattle.moka_kept.proofs.Stopping.{came_here, came_to_on, came_to_weaker, left_going, stops_on, stops_weaker}
 use Rattle.moka_kept.proofs.kept.Kept.go.Goals as goal
 
 pub loop-init : goal.loop-init
@@ -13,6 +13,7 @@ loop-init g c = record {
   came = came_here g.K.PartialEq.eq (Brings (tested_in (call_of c.args.flow.now).plan) c.args.brought) c.args.flow.now c.requires.rests;
   brings = λ t is. is;
   kept = λ fact holds. holds;
+  goes = inl refl;
 }
 
 pub returns-then-not-goes_on-clause-stops : goal.returns-then-not-goes_on-clause-stops
@@ -38,11 +39,12 @@ loop-preserved g c =
     let new = c.one_step-made.new.flow in
     let given = Brings (tested_in (call_of mid).plan) c.replace.result in
     let such = Brings (tested_in (call_of flow).plan) c.args.brought in
+    let left = left_going eq given mid c.one_step-made.result new c.if-not-goes_on.ensures c.one_step-made.ensures.stops in
     record {
       came = came_to_on eq such flow mid new c.loop.invariant.came
           (came_to_weaker eq given such
-          (λ t is. c.loop.invariant.brings t (subst (λ (b : Brought g.row.V.Denot g.row.E.Denot). Brings (tested_in (call_of mid).plan) b t) c.replace.ensures.value is)) mid new
-          (came_going eq given mid c.one_step-made.result new c.if-not-goes_on.ensures c.one_step-made.ensures.stops));
+          (λ t is. c.loop.invariant.brings t (subst (λ (b : Brought g.row.V.Denot g.row.E.Denot). Brings (tested_in (call_of mid).plan) b t) c.replace.ensures.value is)) mid new left.0);
       brings = λ t none. absurd (subst (λ (b : Brought g.row.V.Denot g.row.E.Denot). Brings (tested_in (call_of new).plan) b t) c.replace.ensures.after none);
       kept = c.loop.invariant.kept;
+      goes = inr left.1;
     }
