@@ -261,8 +261,8 @@ impl<K: Eq + Hash + Clone + Drop, V: Drop, E: Drop> Desk<K, V, E> {
     }
 }
 
-/// Whether a rule reads when a record was last seen: a time to idle. A capacity alone doesn't, since
-/// no visit chooses records by size.
+/// Whether a rule reads when a record was last seen: a time to idle. A capacity alone doesn't,
+/// since no visit chooses records by size.
 fn reads_moments(rules: &Rules) -> bool
     ensures { result ≡ reads_moments rules.now }
 {
