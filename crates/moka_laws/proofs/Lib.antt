@@ -72,3 +72,5 @@ pub mod OwnedUntil
 pub mod StartedOnce
 pub mod Giving
 pub mod OnlyGiven
+pub mod FirstItem
+pub mod Missed

@@ -6,7 +6,7 @@ use Rattle.moka_hist.specs.Plan as plan
 use Rattle.moka_hist.specs.Causes.{chosen_holds}
 use Rattle.moka_hist.specs.Visits.{times_at}
 use Rattle.moka_hist.specs.Tables.{removed}
-use Rattle.moka_hist.specs.Writing.{stamp_asked, removed_answer, nothing_answer}
+use Rattle.moka_hist.specs.Writing.{stamp_asked, removed_answer, nothing_answer, nothing_rest}
 use Rattle.moka_hist.specs.Step.{Step}
 use Rattle.moka_hist.specs.Places.{Holds}
 use Rattle.moka_hist.specs.Run.{IsReached}
@@ -192,6 +192,36 @@ KeptByCause K V E eq =
     (reply : Turn K V E) →
     IsReached eq s → s.calls n ≡ Some c → c.plan ≡ item ∷ rest → Step eq s n reply t →
     KeepsByCause s n c item rest reply t
+
+-- ---- what is missed
+
+module _ {K V E : Type 0} where
+  -- after a step of this call nothing is left to it but to say that it found nothing, once the lock
+  -- is freed or the clock is read
+  abbrev pub HasMissed : State K V E → ℕ → Call K V E → Removal K → Type 0
+  HasMissed t n c removal =
+      IsSomeAnd (t.calls n) (λ d. d.plan ≡ nothing_rest c.rules.listener removal)
+
+  -- The call goes on by this step as one that found nothing only where nothing stands under the
+  -- key; where nothing does it goes on so, and where something does that is taken out, but for
+  -- where its table operation stays undecided.
+  pub record MissesByCause (eq : K → K → Bool) (s : State K V E) (n : ℕ) (c : Call K V E)
+      (removal : Removal K) (key : K) (t : State K V E) : Type 0 where
+    pub only : HasMissed t n c removal → s.world.table.stored key ≡ None
+    pub each : s.world.table.stored key ≡ None →
+        HasMissed t n c removal ⊎ (t.calls n ≡ Some (record c { mode = mode.Mid }))
+    pub taken : IsSome (s.world.table.stored key) →
+        (t.world.table ≡ removed eq n s.world.table key) ⊎
+        (t.calls n ≡ Some (record c { mode = mode.Mid }))
+
+-- in every state a removal of whatever stands under the key misses by cause
+abbrev pub MissedByCause : (K V E : Type 0) → (K → K → Bool) → Type 0
+MissedByCause K V E eq =
+    (s t : State K V E) (n : ℕ) (c : Call K V E) (removal : Removal K) (key : K)
+    (rest : List (Item K V E)) (reply : Turn K V E) →
+    s.calls n ≡ Some c → c.plan ≡ plan.Out removal key ∷ rest → stamp_asked removal ≡ None →
+    Step eq s n reply t →
+    MissesByCause eq s n c removal key t
 
 -- in every reached state under a listener the chosen record that is about to be taken out stands
 -- under its key: the key's lock was held since it was found

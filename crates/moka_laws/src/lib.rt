@@ -52,8 +52,8 @@ pub use reaching::{
 };
 pub use readers::{nothing_unread_is_kept, readers_are_counted, waiters_answer_settled};
 pub use removals::{
-    chosen_stands, disabled_stores_nothing, evicted_is_out, kept_by_cause, places_come_back,
-    removals_answer, remove_answers_taken, stamps_are_one,
+    chosen_stands, disabled_stores_nothing, evicted_is_out, kept_by_cause, missed_by_cause,
+    places_come_back, removals_answer, remove_answers_taken, stamps_are_one,
 };
 pub use sound::{
     clock_keeps_sound, deciding_keeps_sound, entering_keeps_sound, fresh_is_sound,

@@ -1,6 +1,6 @@
 //! What is taken out and what is kept, and what a disabled cache does.
 
-ghost use Rattle.moka_laws.specs.Removals.{ChosenStands, DisabledStoresNothing, EvictedIsOut, KeptByCause, PlacesComeBack, RemovalsAnswer, RemoveAnswersTaken, StampsAreOne};
+ghost use Rattle.moka_laws.specs.Removals.{ChosenStands, DisabledStoresNothing, EvictedIsOut, KeptByCause, MissedByCause, PlacesComeBack, RemovalsAnswer, RemoveAnswersTaken, StampsAreOne};
 
 /// Cites the law that in every reached state of a cache of capacity 0 no record is stored, none
 /// ever was, and no write or notice stands anywhere.
@@ -37,6 +37,13 @@ pub fn evicted_is_out<K: Eq, V, E>()
 /// where it stands under the key no longer, or the cause doesn't hold.
 pub fn kept_by_cause<K: Eq, V, E>()
     ensures kept { KeptByCause K V E K.eq }
+{}
+
+/// Cites the law that a step which takes out whatever stands under a key goes on as one that found
+/// nothing exactly where nothing stands there, unless its table operation stays undecided: no
+/// removal says that it found nothing while a record stands.
+pub fn missed_by_cause<K: Eq, V, E>()
+    ensures missed { MissedByCause K V E K.eq }
 {}
 
 /// Cites the law that in every reached state, where a listener is set, the chosen record that a
