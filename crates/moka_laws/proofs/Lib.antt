@@ -74,3 +74,4 @@ pub mod Giving
 pub mod OnlyGiven
 pub mod FirstItem
 pub mod Missed
+pub mod Leaving

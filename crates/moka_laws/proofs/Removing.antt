@@ -44,7 +44,7 @@ contains_last (y ∷ xs) x = let h = contains_last xs x in (suc h.0, omega (arit
 
 module _ {K V : Type 0} where
   -- what is taken out stood there, and is what was asked for
-  taken_was : (asked : Option ℕ) (o : Option (K × Stored V)) (pair : K × Stored V) →
+  pub taken_was : (asked : Option ℕ) (o : Option (K × Stored V)) (pair : K × Stored V) →
       taken_by asked o ≡ Some pair →
       (o ≡ Some pair) × IsAsked asked pair.1.stamp
   taken_was asked None pair e = absurd (none_some e)

@@ -17,3 +17,4 @@ pub mod Alone
 pub mod Removals
 pub mod Computes
 pub mod Given
+pub mod Leaving
