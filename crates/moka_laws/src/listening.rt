@@ -1,6 +1,7 @@
 //! Key locks, notices and open asks.
 
 ghost use Rattle.moka_laws.specs.Listening.{AsksAreOne, KeysAreLocked, LocksAreOne, ReachedLocksAreHeld, ReachedNoticesAreInOrder, ReachedNoticesAreSettled};
+ghost use Rattle.moka_laws.specs.Leaving.{NoticesAsk, ReplacedAreTold, TakenAreTold};
 
 /// Cites the law that in every reached state, where a listener is set, each committed write that
 /// replaced a record has one notice, due or opened; there is no other; none was skipped before the
@@ -38,4 +39,14 @@ pub fn notices_are_in_order<K: Eq, V, E>()
 /// open, no notice of its number runs.
 pub fn asks_are_one<K: Eq, V, E>()
     ensures one { AsksAreOne K V E K.eq }
+{}
+
+/// Cites the law that on a reached state, where a listener is set, a write that takes the place of
+/// a record, or a removal that takes one out, leaves its call with the notice of just that record;
+/// and that the step of a notice asks the listener with the key, that record's value, and the cause
+/// of its leaving, unless the listener is off.
+pub fn notices_tell_left<K: Eq, V, E>()
+    ensures replaced { ReplacedAreTold K V E K.eq }
+    ensures taken { TakenAreTold K V E K.eq }
+    ensures asked { NoticesAsk K V E K.eq }
 {}
