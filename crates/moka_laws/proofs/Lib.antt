@@ -75,3 +75,4 @@ pub mod OnlyGiven
 pub mod FirstItem
 pub mod Missed
 pub mod Leaving
+pub mod Asked

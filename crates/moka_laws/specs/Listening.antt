@@ -1,11 +1,13 @@
 -- Key locks, notices and open asks in every reached state.
-use Rattle.std.specs.Prelude.{◌≡◌, ◌≢◌, ℕ, Bool, true, List, ◌∷◌, Option, Some, None, IsSome}
+use Rattle.std.specs.Prelude.{◌≡◌, ◌≢◌, ◌⊎◌, ℕ, Bool, true, List, ◌∷◌, map, Option, Some, None, IsSome, Contains}
 use Rattle.moka_hist.specs.State.{Call, State}
-use Rattle.moka_hist.specs.Plan.{Change, Item}
+use Rattle.moka_hist.specs.Plan.{Change, Item, hearing}
 use Rattle.moka_hist.specs.Plan as plan
 use Rattle.moka_hist.specs.Notices.{LocksAreHeld, NoticesAreInOrder, NoticesAreSettled}
+use Rattle.moka_hist.specs.Places.{Initializes}
 use Rattle.moka_hist.specs.Run.{IsReached}
 use Rattle.moka_hist.specs.Visits.{is_running}
+use Rattle.moka_hist.specs.declared.loads.Load.{Load}
 
 -- in every reached state each replaced or removed record has its notice, and no write is logged
 -- while its notice runs
@@ -57,3 +59,30 @@ abbrev pub AsksAreOne : (K V E : Type 0) → (K → K → Bool) → Type 0
 AsksAreOne K V E eq =
     (s : State K V E) (n : ℕ) → IsReached eq s →
     IsSome (s.world.desk.asks n) → is_running s.world.desk n ≢ true
+
+-- in every reached state an open ask of a call is that of a live one, which waits for the answer
+abbrev pub AsksAreLive : (K V E : Type 0) → (K → K → Bool) → Type 0
+AsksAreLive K V E eq =
+    (s : State K V E) (n : ℕ) → IsReached eq s → IsSome (s.world.desk.asks n) →
+    (load : Load K) × Initializes s n load
+
+module _ {K V E : Type 0} where
+  -- a live call is to hear how the notice of this number ended: its own, or that of an owed write
+  -- that it took up
+  pub record IsHeard (s : State K V E) (number : ℕ) : Type 0 where
+    pub hearer : ℕ
+    pub call : Call K V E
+    pub live : s.calls hearer ≡ Some call
+    pub hears : hearing hearer call.plan ≡ Some number
+
+  -- an owed write was left with the notice of this number
+  abbrev pub IsOwedWith : State K V E → ℕ → Type 0
+  IsOwedWith s number = Contains (map (λ o. o.notice) s.world.desk.owed) (Some number)
+
+-- in every reached state a notice that runs, whose number is that of the listener's open ask, is
+-- heard by a live call, or will be by that which takes the owed write up that has it; its own call
+-- may be gone
+abbrev pub RunningAreHeard : (K V E : Type 0) → (K → K → Bool) → Type 0
+RunningAreHeard K V E eq =
+    (s : State K V E) (number : ℕ) → IsReached eq s → is_running s.world.desk number ≡ true →
+    IsHeard s number ⊎ IsOwedWith s number

@@ -37,8 +37,8 @@ pub use lawful::{
     event_is_lawful, lawful_run_goes_on, reached_is_lawful, run_is_lawful, steps_are_lawful,
 };
 pub use listening::{
-    asks_are_one, keys_are_locked, locks_are_held, locks_are_one, notices_are_in_order,
-    notices_are_settled, notices_tell_left,
+    asks_are_live, asks_are_one, keys_are_locked, locks_are_held, locks_are_one,
+    notices_are_in_order, notices_are_settled, notices_tell_left,
 };
 pub use loads::{
     aborts_are_counted, answers_fit, error_by_cause, exhausted_at_last, nothing_by_cause,

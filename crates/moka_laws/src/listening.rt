@@ -1,6 +1,6 @@
 //! Key locks, notices and open asks.
 
-ghost use Rattle.moka_laws.specs.Listening.{AsksAreOne, KeysAreLocked, LocksAreOne, ReachedLocksAreHeld, ReachedNoticesAreInOrder, ReachedNoticesAreSettled};
+ghost use Rattle.moka_laws.specs.Listening.{AsksAreLive, AsksAreOne, KeysAreLocked, LocksAreOne, ReachedLocksAreHeld, ReachedNoticesAreInOrder, ReachedNoticesAreSettled, RunningAreHeard};
 ghost use Rattle.moka_laws.specs.Leaving.{NoticesAsk, ReplacedAreTold, TakenAreTold};
 
 /// Cites the law that in every reached state, where a listener is set, each committed write that
@@ -49,4 +49,12 @@ pub fn notices_tell_left<K: Eq, V, E>()
     ensures replaced { ReplacedAreTold K V E K.eq }
     ensures taken { TakenAreTold K V E K.eq }
     ensures asked { NoticesAsk K V E K.eq }
+{}
+
+/// Cites the law that in every reached state an open ask of a call is that of a live one, which
+/// waits for the answer; and that a notice that runs, whose own call may be gone, is heard by a live
+/// call, or was left with an owed write.
+pub fn asks_are_live<K: Eq, V, E>()
+    ensures live { AsksAreLive K V E K.eq }
+    ensures heard { RunningAreHeard K V E K.eq }
 {}
