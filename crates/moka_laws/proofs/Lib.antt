@@ -76,3 +76,4 @@ pub mod FirstItem
 pub mod Missed
 pub mod Leaving
 pub mod Asked
+pub mod Off

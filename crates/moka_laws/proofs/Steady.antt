@@ -1,4 +1,5 @@
--- What a step leaves as it was: the rules, and what other calls have committed.
+-- What a step leaves as it was: the rules, whether the listener is off, and what other calls have
+-- committed.
 use Rattle.std.proofs.Common.{◌≡◌, ℕ, zero, suc, ◌==◌, Bool, true, false, cond, [], ◌∷◌, ◌++◌, Option, Some, None, is_some, refl, sym, ap, ◌∙◌, subst, arith}
 use Rattle.moka_hist.specs.Finite.{times}
 use Rattle.moka_hist.specs.State.{State, World, DeskPart, TablePart}
@@ -62,40 +63,41 @@ module _ {K V : Type 0} (eq : K → K → Bool) where
           by_commits (taken_by stamp (t.stored key)) x t (removed eq n t key) more
 
 module _ {K V E : Type 0} (eq : K → K → Bool) where
-  -- no visit changes the rules, or gives a number out
+  -- no visit changes the rules, gives a number out, or turns the listener off
   record SameBase (d new : DeskPart K V E) : Type 0 where
     rules : new.rules ≡ d.rules
     last : new.last ≡ d.last
+    off : new.off ≡ d.off
 
   visit_base : (d : DeskPart K V E) (made : Visit K V E) → SameBase d (makes eq d made)
   visit_base d (visit.LockKey call key) = by (is_unlocked_for d call key)
     where
       by : (b : Bool) → SameBase d (locked_by eq d call key b)
-      by true = record { rules = refl; last = refl }
-      by false = record { rules = refl; last = refl }
+      by true = record { rules = refl; last = refl; off = refl }
+      by false = record { rules = refl; last = refl; off = refl }
   visit_base d (visit.WaitOrOwn call key kind) = by (d.owners (record { key = key; kind = kind }))
     where
       by : (o : Option ℕ) → SameBase d (claimed eq d call (record { key = key; kind = kind }) o)
-      by None = record { rules = refl; last = refl }
-      by (Some owner) = record { rules = refl; last = refl }
+      by None = record { rules = refl; last = refl; off = refl }
+      by (Some owner) = record { rules = refl; last = refl; off = refl }
   visit_base d (visit.OwnAlone call key) = by (d.owners (computes_of key))
     where
       by : (o : Option ℕ) → SameBase d (claimed_alone eq d call (computes_of key) o)
-      by None = record { rules = refl; last = refl }
-      by (Some owner) = record { rules = refl; last = refl }
+      by None = record { rules = refl; last = refl; off = refl }
+      by (Some owner) = record { rules = refl; last = refl; off = refl }
   visit_base d (visit.ReadSettled call) = by (is_some (settlement_for d call)) refl
     where
       by : (b : Bool) → is_some (settlement_for d call) ≡ b → SameBase d (read d call)
-      by true e = rw e (record { rules = refl; last = refl })
-      by false e = rw e (record { rules = refl; last = refl })
-  visit_base d _ = record { rules = refl; last = refl }
+      by true e = rw e (record { rules = refl; last = refl; off = refl })
+      by false e = rw e (record { rules = refl; last = refl; off = refl })
+  visit_base d _ = record { rules = refl; last = refl; off = refl }
 
   access_base : (n : ℕ) (w new : World K V E) (a : Access K V E) (g : Got K V E) → Gets eq n w a g new →
       SameBase w.desk new.desk
   access_base n w new (On_table o) (got.Table table.Going) gets = rw gets.1
-      (record { rules = refl; last = refl })
+      (record { rules = refl; last = refl; off = refl })
   access_base n w new (On_table o) (got.Table (table.Decided answer)) gets = rw gets.2
-      (record { rules = refl; last = refl })
+      (record { rules = refl; last = refl; off = refl })
   access_base n w new (On_desk made) (got.Desk f) gets = rw gets.1 (visit_base w.desk made)
   access_base n w new (On_table o) (got.Desk f) gets = absurd gets
   access_base n w new (On_desk made) (got.Table turn) gets = absurd gets
@@ -141,6 +143,10 @@ module _ {K V E : Type 0} (eq : K → K → Bool) where
   pub step_last : (s t : State K V E) (n : ℕ) (turn : Turn K V E) → Step eq s n turn t →
       t.world.desk.last ≡ s.world.desk.last
   step_last s t n turn step = (step_base s t n turn step).last
+
+  pub step_off : (s t : State K V E) (n : ℕ) (turn : Turn K V E) → Step eq s n turn t →
+      t.world.desk.off ≡ s.world.desk.off
+  step_off s t n turn step = (step_base s t n turn step).off
 
   pub goings_rules : (P : State K V E → Type 0) (k : ℕ) (s t : State K V E) (n : ℕ) →
       Goings eq P k s n t →

@@ -5,9 +5,13 @@ use Rattle.moka_hist.specs.Plan.{Change, Item, hearing}
 use Rattle.moka_hist.specs.Plan as plan
 use Rattle.moka_hist.specs.Notices.{LocksAreHeld, NoticesAreInOrder, NoticesAreSettled}
 use Rattle.moka_hist.specs.Places.{Initializes}
-use Rattle.moka_hist.specs.Run.{IsReached}
+use Rattle.moka_hist.specs.Run.{Any, Happens, IsReached}
 use Rattle.moka_hist.specs.Visits.{is_running}
+use Rattle.moka_hist.specs.declared.events.Event.TheVariants as event
+use Rattle.moka_hist.specs.declared.events.Told.TheVariants as told
 use Rattle.moka_hist.specs.declared.loads.Load.{Load}
+use Rattle.moka_hist.specs.declared.replies.Reply.TheVariants as reply
+use Rattle.moka_laws.specs.Starting.{Leads}
 
 -- in every reached state each replaced or removed record has its notice, and no write is logged
 -- while its notice runs
@@ -86,3 +90,19 @@ abbrev pub RunningAreHeard : (K V E : Type 0) → (K → K → Bool) → Type 0
 RunningAreHeard K V E eq =
     (s : State K V E) (number : ℕ) → IsReached eq s → is_running s.world.desk number ≡ true →
     IsHeard s number ⊎ IsOwedWith s number
+
+-- On a reached state the listener was told off, as the answer to a notice that ran, and then some
+-- events led here.
+pub record WasTurnedOff {K V E : Type 0} (eq : K → K → Bool) (s : State K V E) : Type 0 where
+  pub before : State K V E
+  pub reached : IsReached eq before
+  pub number : ℕ
+  pub running : is_running before.world.desk number ≡ true
+  pub after : State K V E
+  pub told : Happens eq Any before (event.Tell number told.Off) reply.Told after
+  pub led : Leads eq after s
+
+-- in every reached state the listener is off only where it was turned off
+abbrev pub OffWasTold : (K V E : Type 0) → (K → K → Bool) → Type 0
+OffWasTold K V E eq =
+    (s : State K V E) → IsReached eq s → s.world.desk.off ≡ true → WasTurnedOff eq s

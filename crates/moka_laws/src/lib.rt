@@ -38,7 +38,7 @@ pub use lawful::{
 };
 pub use listening::{
     asks_are_live, asks_are_one, keys_are_locked, locks_are_held, locks_are_one,
-    notices_are_in_order, notices_are_settled, notices_tell_left,
+    notices_are_in_order, notices_are_settled, notices_tell_left, off_was_told,
 };
 pub use loads::{
     aborts_are_counted, answers_fit, error_by_cause, exhausted_at_last, nothing_by_cause,

@@ -1,6 +1,6 @@
 //! Key locks, notices and open asks.
 
-ghost use Rattle.moka_laws.specs.Listening.{AsksAreLive, AsksAreOne, KeysAreLocked, LocksAreOne, ReachedLocksAreHeld, ReachedNoticesAreInOrder, ReachedNoticesAreSettled, RunningAreHeard};
+ghost use Rattle.moka_laws.specs.Listening.{AsksAreLive, AsksAreOne, KeysAreLocked, LocksAreOne, OffWasTold, ReachedLocksAreHeld, ReachedNoticesAreInOrder, ReachedNoticesAreSettled, RunningAreHeard};
 ghost use Rattle.moka_laws.specs.Leaving.{NoticesAsk, ReplacedAreTold, TakenAreTold};
 
 /// Cites the law that in every reached state, where a listener is set, each committed write that
@@ -57,4 +57,10 @@ pub fn notices_tell_left<K: Eq, V, E>()
 pub fn asks_are_live<K: Eq, V, E>()
     ensures live { AsksAreLive K V E K.eq }
     ensures heard { RunningAreHeard K V E K.eq }
+{}
+
+/// Cites the law that in every reached state the listener is off only where it was told so, as the
+/// answer to a notice that ran on a reached state, from which some events led here.
+pub fn off_was_told<K: Eq, V, E>()
+    ensures told { OffWasTold K V E K.eq }
 {}
