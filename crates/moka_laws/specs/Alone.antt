@@ -9,7 +9,8 @@ use Rattle.moka_hist.specs.declared.events.Start.TheVariants as start
 use Rattle.moka_hist.specs.declared.replies.Answer.{Answer}
 use Rattle.moka_hist.specs.declared.replies.Answer.TheVariants as answer
 
--- The call makes steps, one after the other, by the last of which it answers.
+-- The call makes steps, one after the other, by the last of which it answers: it neither waits nor
+-- asks.
 pub record AnswersAlone {K V E : Type 0} (eq : K → K → Bool) (s : State K V E) (n : ℕ)
     (a : Answer K V E) (t : State K V E) : Type 0 where
   pub going : ℕ
@@ -17,8 +18,8 @@ pub record AnswersAlone {K V E : Type 0} (eq : K → K → Bool) (s : State K V 
   pub goes : Goings eq Any going s n mid
   pub last : Step eq mid n (turn.Answer a) t
 
--- an insert, and then a get of an equal key, give the inserted value, where no other call makes a
--- step between, and the cache is not disabled
+-- an insert that answers so, and right after it a get of an equal key that does, give the inserted
+-- value, in a cache that is not disabled
 abbrev pub InsertThenGet : (K V E : Type 0) → (K → K → Bool) → Type 0
 InsertThenGet K V E eq =
     (s t u : State K V E) (n : ℕ) (key q : K) (value : V) (a : Answer K V E) →

@@ -64,8 +64,9 @@ pub fn answers_fit<K: Eq, V, E>()
     ensures fits { AnswersFit K V E K.eq }
 {}
 
-/// Cites the law that a call which asks nobody answers as what it was started for may, whatever worlds
-/// it meets: a get what it found, an insert and an invalidation that they are done, and so on.
+/// Cites the law that a call which asks nobody answers as what it was started for may, whatever
+/// worlds it meets: a get some value or none, an insert and an invalidation that they are done, and
+/// so on.
 pub fn shapes_fit<K: Eq, V, E>()
     ensures fits { ShapesFit K V E K.eq }
 {}
