@@ -31,7 +31,6 @@ pub use computes::{
     owned_until_settled, waits_are_apart,
 };
 pub use given::{handed_is_given, stored_is_given};
-pub use held::{calls_may_leave, held_are_known};
 pub use held::{calls_may_leave, held_are_known, writes_name_old};
 pub use lawful::{
     event_is_lawful, lawful_run_goes_on, reached_is_lawful, run_is_lawful, steps_are_lawful,
