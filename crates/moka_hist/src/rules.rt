@@ -14,18 +14,20 @@ pub enum Cause {
     Explicit,
     /// A later write took its place.
     Replaced,
-    /// The cache held more than its capacity.
+    /// It was chosen to leave, and the cache has a capacity.
     Size,
 }
 
 /// What a cache was built with. Where a rule is `None`, there is none.
 #[derive(Clone, Copy, PartialEq, Eq, Debug)]
 pub struct Rules {
-    /// How many records the cache keeps.
+    /// The capacity. It bounds nothing by itself: it says that a record which was chosen for its
+    /// size may leave, and 0 that the cache is disabled.
     pub max_capacity: Option<u64>,
-    /// How long a record is kept after its last write.
+    /// How long after its last write a record has expired. The rule is kept, and the cause for
+    /// which a record leaves is judged by it; no look is yet.
     pub time_to_live: Option<Duration>,
-    /// How long a record is kept after its last access.
+    /// How long after its last access a record has expired; judged by as the time to live is.
     pub time_to_idle: Option<Duration>,
     /// Whether a listener hears of records that leave.
     pub listener: bool,
