@@ -203,8 +203,8 @@ module _ {K V E : Type 0} where
       IsSomeAnd (t.calls n) (λ d. d.plan ≡ nothing_rest c.rules.listener removal)
 
   -- The call goes on by this step as one that found nothing only where nothing stands under the
-  -- key; where nothing does it goes on so, and where something does that is taken out, but for
-  -- where its table operation stays undecided.
+  -- key; where nothing does it goes on so, and where something does it takes that out, or its table
+  -- operation stays undecided.
   pub record MissesByCause (eq : K → K → Bool) (s : State K V E) (n : ℕ) (c : Call K V E)
       (removal : Removal K) (key : K) (t : State K V E) : Type 0 where
     pub only : HasMissed t n c removal → s.world.table.stored key ≡ None

@@ -1,7 +1,7 @@
 //! The writes that calls hold.
 
-ghost use Rattle.moka_laws.specs.Leaving.{RemovalsNameOld, UpsertsNameOld};
 ghost use Rattle.moka_laws.specs.Held.{CallsMayLeave, DeskKnowsHeld};
+ghost use Rattle.moka_laws.specs.Leaving.{RemovalsNameOld, UpsertsNameOld};
 
 /// Cites the law that in every reached state the desk knows each write that a live call holds.
 pub fn held_are_known<K: Eq, V, E>()

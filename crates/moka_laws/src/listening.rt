@@ -1,7 +1,7 @@
 //! Key locks, notices and open asks.
 
-ghost use Rattle.moka_laws.specs.Listening.{AsksAreLive, AsksAreOne, KeysAreLocked, LocksAreOne, OffWasTold, ReachedLocksAreHeld, ReachedNoticesAreInOrder, ReachedNoticesAreSettled, RunningAreHeard};
 ghost use Rattle.moka_laws.specs.Leaving.{NoticesAsk, ReplacedAreTold, TakenAreTold};
+ghost use Rattle.moka_laws.specs.Listening.{AsksAreLive, AsksAreOne, KeysAreLocked, LocksAreOne, OffWasTold, ReachedLocksAreHeld, ReachedNoticesAreInOrder, ReachedNoticesAreSettled, RunningAreHeard};
 
 /// Cites the law that in every reached state, where a listener is set, each committed write that
 /// replaced a record has one notice, due or opened; there is no other; none was skipped before the
@@ -52,8 +52,8 @@ pub fn notices_tell_left<K: Eq, V, E>()
 {}
 
 /// Cites the law that in every reached state an open ask of a call is that of a live one, which
-/// waits for the answer; and that a notice that runs, whose own call may be gone, is heard by a live
-/// call, or was left with an owed write.
+/// waits for the answer; and that a notice that runs, whose own call may be gone, is heard by a
+/// live call, or was left with a write that is still owed.
 pub fn asks_are_live<K: Eq, V, E>()
     ensures live { AsksAreLive K V E K.eq }
     ensures heard { RunningAreHeard K V E K.eq }

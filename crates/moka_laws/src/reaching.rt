@@ -38,8 +38,8 @@ pub fn run_goes_on<K: Eq, V, E>()
     ensures goes_on { RunGoesOn K V E K.eq }
 {}
 
-/// Cites the law that for each call of a run there is a way with the same ends, of its own steps and
-/// of events that leave it alone.
+/// Cites the law that for each call of a run there is a way with the same ends, of its own steps
+/// and of events that leave it alone.
 pub fn runs_are_ways<K: Eq, V, E>()
     ensures ways { RunsAreWays K V E K.eq }
 {}

@@ -39,9 +39,9 @@ pub fn kept_by_cause<K: Eq, V, E>()
     ensures kept { KeptByCause K V E K.eq }
 {}
 
-/// Cites the law that a step which takes out whatever stands under a key goes on as one that found
-/// nothing exactly where nothing stands there, unless its table operation stays undecided: no
-/// removal says that it found nothing while a record stands.
+/// Cites the law that a removal of whatever stands under a key goes on as one that found nothing
+/// exactly where nothing stands there as its table operation decides, and takes out what stands
+/// there: it never decides that it found nothing while a record stands.
 pub fn missed_by_cause<K: Eq, V, E>()
     ensures missed { MissedByCause K V E K.eq }
 {}
