@@ -36,7 +36,7 @@ fn cut_option<'a>(bytes: &'a [u8], name: &[u8]) -> (Option<&'a [u8]>, &'a [u8])
     }
 }
 
-/// How many records the cache keeps, where that is said.
+/// The capacity, where one is said.
 #[tactic(auto, unfolding(crate::specs::ScheduleReading::cap_of))]
 fn cap_of(said: Option<&[u8]>) -> Option<Option<u64>>
     ensures { result ≡ cap_of (option_copied said.entry) }
