@@ -76,7 +76,7 @@ impl<K: Eq + Hash + Drop, V: Drop, S: BuildHasher + Drop> BucketTable<K, V, S> {
         ensures segments { IfOk result (λ t. IsNextPowerOfTwo segments (length t.parts)) }
         ensures first { IfOk result (λ t. IsFirst capacity (length t.parts) t.first) }
         ensures hasher { IfOk result (λ t. t.hasher ≡ hasher) }
-        // Each segment has a first array of so many words, all of them empty, or none where that is 0.
+        // Each segment has a first array of so many empty words, or none where that is 0.
         ensures fresh { IfOk result (λ t. AreFresh (length t.parts) t.first t.parts) }
         // It has no key, and never had one.
         ensures none { IfOk result (λ t. (key : K)

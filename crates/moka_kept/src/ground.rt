@@ -1,5 +1,6 @@
 //! Table and desk, as a poll reaches them under the lock.
-ghost use Rattle.std.specs.Prelude.{◌≡◌, ℕ, List, Some, None, cond, false, IfNone, IfOk, IfSome, OnErr};
+ghost use Rattle.std.specs.Prelude.{◌≡◌, ℕ, List, Some, None, cond, false};
+ghost use Rattle.std.specs.Prelude.{IfNone, IfOk, IfSome, OnErr};
 ghost use Rattle.std.proofs.Common.{◌∙◌, refl};
 ghost use Rattle.moka_hist.specs.Finite.{IsExact};
 ghost use Rattle.moka_layers.specs.Counted.{counted};

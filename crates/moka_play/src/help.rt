@@ -12,7 +12,7 @@ play runs a schedule on a cache of one thread, and writes a report of it.
 A schedule is lines of text. The first line is cache, and then these options, each or not, in this
 order:
   cap=N                      the capacity is N; a cache of capacity 0 stores nothing
-  log=N                      the write log has room for N writes, from 1 to 65536; without it for 384
+  log=N                      the write log has room for N writes, 1 to 65536; without it for 384
   listener                   a listener hears of each record that is replaced or taken out
 and each other line is an event:
   at MOMENT                  the clock moves on to the moment, in nanoseconds
