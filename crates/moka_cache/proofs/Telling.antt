@@ -21,7 +21,7 @@ use Rattle.moka_hist.specs.declared.visits.Found.{Found}
 use Rattle.moka_hist.specs.declared.visits.Found.TheVariants as found
 use Rattle.moka_hist.specs.declared.visits.Visit.{Visit}
 use Rattle.moka_hist.specs.declared.visits.Visit.TheVariants as visit
-use Rattle.moka_shapes.specs.Computes.{ComputesTell, Follows, is_alone, key_computed, taken}
+use Rattle.moka_shapes.specs.Computes.{ComputesTell, Follows, is_alone, key_computed, other_goes, taken}
 use Rattle.moka_kept.specs.Paths.{EndedWith, LeadsWith}
 use Rattle.moka_kept.specs.Taking.{Answered, Taken, taken_in, taken_made}
 use Rattle.moka_cache.specs.Asked.{TellsDone, TellsPut, ToldSuch}
@@ -96,8 +96,9 @@ module _ {K V E : Type 0} (eq : K → K → Bool) (law : ComputesTell K V E eq) 
   answers_such : EndedWith eq such n (fresh_call rules begin) (answers said) → AnswersSuch (λ t. such (Answered t)) begin key said
   answers_such end =
       let path : List (Got K V E) = what_gave end.came.0 in
-      either ((t : Told V E) × Contains (path ++ end.given ∷ []) (taken t) × Follows key t said) ((is_alone begin ≡ true) × ((pair : Option (K × V)) × (said ≡ unchanged key pair)))
-      (AnswersSuch (λ t. such (Answered t)) begin key said) (λ by. inl (by.0, such_told eq such n (fresh_call rules begin) (answers said) end by.0 by.1, by.2)) (λ alone. inr alone)
+      either ((t : Told V E) × Contains (path ++ end.given ∷ []) (taken t) × Follows key t said)
+      ((is_alone begin ≡ true) × Contains (path ++ end.given ∷ []) other_goes × ((pair : Option (K × V)) × (said ≡ unchanged key pair)))
+      (AnswersSuch (λ t. such (Answered t)) begin key said) (λ by. inl (by.0, such_told eq such n (fresh_call rules begin) (answers said) end by.0 by.1, by.2)) (λ alone. inr (alone.0, alone.2))
       (law rules begin key n path end.call end.given said computes (may_lead eq such n (fresh_call rules begin) end.came.0 end.call end.came.1)
       (may_give eq n end.call end.given end.last) (sym (ap (λ (x : Next K V E). x.turn) end.follows)))
 

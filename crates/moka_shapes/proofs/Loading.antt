@@ -1,5 +1,6 @@
 -- A load answers what follows from what it was told or read, whatever it is given.
-use Rattle.std.proofs.Common.{◌≡◌, ℕ, ◌+◌, ◌==◌, Bool, true, false, List, [], ◌∷◌, ◌++◌, Some, None, IfSome, Contains, inl, inr, refl, sym, ap, ◌∙◌, subst}
+use Rattle.std.proofs.Common.{◌≡◌, ◌⊎◌, ℕ, ◌+◌, ◌==◌, Bool, true, false, List, [], ◌∷◌, ◌++◌, Some, None, IfSome, Contains, inl, inr, refl, sym, ap, ◌∙◌, subst}
+use Rattle.std.proofs.lemmas.Bool.{false≢true}
 use Rattle.std.proofs.lemmas.List.Elements.{Contains-append_left, Contains-append_right, Contains-push}
 use Rattle.std.specs.Option.{unwrap_or}
 use Rattle.moka_hist.specs.State.{World, Call}
@@ -26,6 +27,8 @@ use Rattle.moka_hist.specs.declared.records.Stored.{Stored}
 use Rattle.moka_hist.specs.declared.replies.Answer.{Answer}
 use Rattle.moka_hist.specs.declared.replies.Answer.TheVariants as answer
 use Rattle.moka_hist.specs.declared.rules.Rules.{Rules}
+use Rattle.moka_hist.specs.declared.tables.TableAnswer.TheVariants as table
+use Rattle.moka_hist.specs.declared.tables.TableTurn.TheVariants as look
 use Rattle.moka_hist.specs.declared.visits.Found.TheVariants as found
 use Rattle.moka_hist.specs.declared.visits.Settled.{Settled}
 use Rattle.moka_hist.specs.declared.visits.Settled.TheVariants as settled
@@ -36,7 +39,7 @@ use Rattle.moka_laws.proofs.Rules.{loaded_plans}
 use Rattle.moka_laws.proofs.StepCases.{OnStep, by_plan}
 use Rattle.moka_needs.specs.Reads.{EndedAs, ReadsItsKind, kind_read}
 use Rattle.moka_shapes.specs.Computes.{taken}
-use Rattle.moka_shapes.specs.Loads.{FollowsEnd, FollowsTold, LoadAnswers, LoadsTell, MayGiveLoad, MayLeadLoad, kind_loaded, read}
+use Rattle.moka_shapes.specs.Loads.{FollowsEnd, FollowsTold, LoadAnswers, LoadsTell, MayGiveLoad, MayLeadLoad, kind_loaded, looked, read}
 use Rattle.moka_shapes.proofs.Leaving.{AllSuit, Leaves, answers_so, goes_suits, on}
 
 -- what a load of this kind may answer that is given this
@@ -44,7 +47,30 @@ record Says {K V E : Type 0} (kind : Kind) (given : Got K V E) (May : Answer K V
   told : (gave : Told V E) (a : Answer K V E) → given ≡ taken gave → FollowsTold gave a → May a
   ended : (with : Settled V E) (a : Answer K V E) → given ≡ read with → FollowsEnd kind with a → May a
   gives_up : given ≡ read settled.Aborted → May answer.RetriesExhausted
-  finds : (value : V) → May (answer.Loaded value false)
+  finds : (there : K) (stored : Stored V) → given ≡ looked there stored → May (answer.Loaded stored.value false)
+
+-- ---- what begins with a look
+
+module _ {K V E : Type 0} where
+  abbrev is_look : Item K V E → Bool
+  is_look (plan.Get aim key) = true
+  is_look _ = false
+
+  abbrev looks_first : List (Item K V E) → Bool
+  looks_first [] = false
+  looks_first (item ∷ rest) = is_look item
+
+  abbrev Looks : List (Item K V E) → Type 0
+  Looks p = (aim : Aim K V) × (key : K) × (rest : List (Item K V E)) × (p ≡ plan.Get aim key ∷ rest)
+
+  item_looks : (item : Item K V E) (rest : List (Item K V E)) → Looks (item ∷ rest) ⊎ (is_look item ≡ false)
+  item_looks (plan.Get aim key) rest = inl (aim, key, rest, refl)
+  item_looks _ rest = inr refl
+
+  -- a plan begins with a look, or doesn't
+  looks_or_not : (p : List (Item K V E)) → Looks p ⊎ (looks_first p ≡ false)
+  looks_or_not [] = inr refl
+  looks_or_not (item ∷ rest) = item_looks item rest
 
 -- ---- what suits a load of this kind, which may answer so
 
@@ -58,7 +84,7 @@ module _ {K V E : Type 0} (kind : Kind) (May : Answer K V E → Type 0) where
   -- the item answers as the load may, and is no other call's
   abbrev Suits : Item K V E → Type 0
   Suits (plan.Get aim key) = SuitsAim aim
-  Suits (plan.Judge aim key stored) = SuitsAim aim
+  Suits (plan.Judge aim key stored) = SuitsAim aim × May (answer.Loaded stored.value false)
   Suits (plan.Own sought) = sought.load.kind ≡ kind
   Suits (plan.Read sought) = sought.load.kind ≡ kind
   Suits (plan.Own_key compute) = ⊥
@@ -78,10 +104,10 @@ module _ {K V E : Type 0} (kind : Kind) (May : Answer K V E → Type 0) where
     misses_suit (plan.To_own sought) s = on Suits May _ (λ b e. cc) (tt, tt)
     misses_suit _ s = absurd s
 
-    finds_suit : (aim : Aim K V) (there : K) (stored : Stored V) → SuitsAim aim → Leaves Suits May (finds_pair c aim there stored)
-    finds_suit (plan.To_load sought) there stored s = on Suits May _ (λ b e. cc) (s, tt)
-    finds_suit (plan.To_own sought) there stored s = on Suits May _ (λ b e. cc) (s, tt)
-    finds_suit _ there stored s = absurd s
+    finds_suit : (aim : Aim K V) (there : K) (stored : Stored V) → May (answer.Loaded stored.value false) → SuitsAim aim → Leaves Suits May (finds_pair c aim there stored)
+    finds_suit (plan.To_load sought) there stored may s = on Suits May _ (λ b e. cc) ((s, may), tt)
+    finds_suit (plan.To_own sought) there stored may s = on Suits May _ (λ b e. cc) ((s, may), tt)
+    finds_suit _ there stored may s = absurd s
 
     hits_suit : (aim : Aim K V) (there : K) (value : V) → May (answer.Loaded value false) → SuitsAim aim → Leaves Suits May (hits c aim there value)
     hits_suit (plan.To_load sought) there value may s = answers_so Suits May (answer.Loaded value false) _ refl refl may
@@ -115,7 +141,21 @@ module _ {K V E : Type 0} (kind : Kind) (May : Answer K V E → Type 0) (given :
       by true e = rw e (answers_so (Suits kind May) May answer.RetriesExhausted _ refl refl (says.gives_up is))
       by false e = rw e (on (Suits kind May) May _ (λ b e. cc) (same, tt))
 
+  -- what follows from a look
+  look_suits : (n : ℕ) (aim : Aim K V) (key : K) (rest : List (Item K V E)) → AllSuit (Suits kind May) (plan.Get aim key ∷ rest)
+      → Leaves (Suits kind May) May (next_of n (record c { plan = plan.Get aim key ∷ rest }) given)
+  look_suits n aim key rest p = by given (λ k stored is. says.finds k stored is)
+    where
+      by : (g : Got K V E) → ((k : K) (stored : Stored V) → g ≡ looked k stored → May (answer.Loaded stored.value false))
+          → Leaves (Suits kind May) May (next_of n (record c { plan = plan.Get aim key ∷ rest }) g)
+      by (got.Table look.Going) finds = on (Suits kind May) May _ (λ b e. cc) p
+      by (got.Table (look.Decided table.None)) finds = misses_suit kind May (record c { plan = plan.Get aim key ∷ rest }) aim p.0
+      by (got.Table (look.Decided (table.Some k stored))) finds =
+          finds_suit kind May (record c { plan = plan.Get aim key ∷ rest }) aim k stored (finds k stored refl) p.0
+      by (got.Desk f) finds = on (Suits kind May) May _ (λ b e. cc) p
+
   module _ (eq : K → K → Bool) (w : World K V E) (n : ℕ) (p : AllSuit (Suits kind May) c.plan)
+      (acts : looks_first c.plan ≡ false)
       (tells : (load : Load K) (rest : List (Item K V E)) (gave : Told V E) → c.plan ≡ plan.Told load ∷ rest → w.desk.told n ≡ Some gave → given ≡ taken gave)
       (reads : (sought : Sought K) (rest : List (Item K V E)) (with : Settled V E) → c.plan ≡ plan.Read sought ∷ rest → settlement_for w.desk n ≡ Some with
       → (given ≡ read with) × (may_end sought.load.kind with ≡ true)) where
@@ -142,13 +182,9 @@ module _ {K V E : Type 0} (kind : Kind) (May : Answer K V E → Type 0) (given :
     on_item plan.Turn rest e q = (λ f. goes_suits (Suits kind May) May (λ a may. may) c rest q.1, λ f. parks)
     on_item plan.Apply rest e q = (λ f. goes_suits (Suits kind May) May (λ a may. may) c rest q.1, λ x xs f. on (Suits kind May) May _ (λ b g. cc) q)
     on_item plan.End rest e q = goes_suits (Suits kind May) May (λ a may. may) c rest q.1
-    on_item (plan.Get aim key) rest e q = (
-      (λ more. on (Suits kind May) May _ (λ b g. cc) p),
-      (λ none. misses_suit kind May c aim q.0),
-      λ k stored some. finds_suit kind May c aim k stored q.0,
-    )
+    on_item (plan.Get aim key) rest e q = absurd (false≢true (sym acts ∙ ap looks_first e))
     on_item (plan.Judge aim key stored) rest e q =
-        ((λ seen. hits_suit kind May c aim key stored.value (says.finds stored.value) q.0), λ unseen. misses_suit kind May c aim q.0)
+        ((λ seen. hits_suit kind May c aim key stored.value q.0.1 q.0.0), λ unseen. misses_suit kind May c aim q.0.0)
     on_item (plan.Own sought) rest e q = (
       λ able none. on (Suits kind May) May _ (λ b g. cc) (q.0, tt),
       λ disabled none. on (Suits kind May) May _ (λ b g. cc) (tt, tt),
@@ -214,10 +250,16 @@ module _ {K V E : Type 0} (n : ℕ) (w : World K V E) (c : Call K V E) where
 module _ {K V E : Type 0} (eq : K → K → Bool) (kind : Kind) (May : Answer K V E → Type 0) (n : ℕ) where
   -- one step
   step_suits : (c : Call K V E) (given : Got K V E) → Says kind given May → AllSuit (Suits kind May) c.plan → MayGiveLoad eq n c given → Leaves (Suits kind May) May (next_of n c given)
-  step_suits c given says suits by =
-      by_plan eq (λ w next. Leaves (Suits kind May) May next) by.gives.world n c.rules c.mode c.plan c.aborts given by.gives.after by.gives.gets
-      (on_plan kind May given says c eq by.gives.world n suits (took eq n by.gives.world by.gives.after c given by.gives.gets)
-      (λ sought rest with is some. (did_read eq n by.gives.world by.gives.after c given by.gives.gets sought rest with is some, ends_so n by.gives.world c sought rest with by.ends is some)) c.plan refl suits)
+  step_suits c given says suits by = split (looks_or_not c.plan)
+    where
+      split : Looks c.plan ⊎ (looks_first c.plan ≡ false) → Leaves (Suits kind May) May (next_of n c given)
+      split (inl looks) =
+          subst (λ q. Leaves (Suits kind May) May (next_of n (record c { plan = q }) given)) (sym looks.3)
+          (look_suits kind May given says c n looks.0 looks.1 looks.2 (subst (AllSuit (Suits kind May)) looks.3 suits))
+      split (inr acts) =
+          by_plan eq (λ w next. Leaves (Suits kind May) May next) by.gives.world n c.rules c.mode c.plan c.aborts given by.gives.after by.gives.gets
+          (on_plan kind May given says c eq by.gives.world n suits acts (took eq n by.gives.world by.gives.after c given by.gives.gets)
+          (λ sought rest with is some. (did_read eq n by.gives.world by.gives.after c given by.gives.gets sought rest with is some, ends_so n by.gives.world c sought rest with by.ends is some)) c.plan refl suits)
 
   path_suits : (path : List (Got K V E)) (c d : Call K V E) → ((given : Got K V E) → Contains path given → Says kind given May) → AllSuit (Suits kind May) c.plan → MayLeadLoad eq n c path d
       → AllSuit (Suits kind May) d.plan
@@ -245,7 +287,7 @@ says_of kind path given there = record {
   told = λ gave a is follows. inl (gave, subst (Contains path) is there, follows);
   ended = λ with a is follows. inr (inl (with, subst (Contains path) is there, follows));
   gives_up = λ is. inr (inr (inr (subst (Contains path) is there, refl)));
-  finds = λ value. inr (inr (inl (value, refl)));
+  finds = λ k stored is. inr (inr (inl (k, stored, subst (Contains path) is there, refl)));
 }
 
 pub loads_tell : {K V E : Type 0} (eq : K → K → Bool) → LoadsTell K V E eq

@@ -36,6 +36,11 @@ module _ {K V E : Type 0} where
   abbrev pub taken : Told V E → Got K V E
   taken told = got.Desk (found.TakeTold (Some told))
 
+  -- what an access gave by which a call that computes alone finds that another compute of the key
+  -- goes
+  abbrev pub other_goes : Got K V E
+  other_goes = got.Desk (found.OwnAlone true)
+
   -- A compute of the key that was told this answers so, where its look found the pair, or nothing.
   -- What it is told to take out may be gone by then.
   abbrev pub Follows : K → Told V E → Answer K V E → Type 0
@@ -51,11 +56,12 @@ module _ {K V E : Type 0} where
   Follows key told.Off said = ⊥
 
   -- It answers what follows from what one of its accesses told it. One that asks nothing where
-  -- another goes may answer what the key has.
+  -- another goes may answer what the key has, where one of its accesses found that another goes.
   abbrev pub Answers : Start K V → K → List (Got K V E) → Answer K V E → Type 0
   Answers begin key path said =
       ((given : Told V E) × Contains path (taken given) × Follows key given said)
-      ⊎ ((is_alone begin ≡ true) × ((pair : Option (K × V)) × (said ≡ unchanged key pair)))
+      ⊎ ((is_alone begin ≡ true) × Contains path other_goes
+      × ((pair : Option (K × V)) × (said ≡ unchanged key pair)))
 
 -- so does each compute, from its fresh call on
 abbrev pub ComputesTell : (K V E : Type 0) → (K → K → Bool) → Type 0

@@ -13,9 +13,12 @@ use Rattle.moka_hist.specs.declared.events.Told.{Told}
 use Rattle.moka_hist.specs.declared.events.Told.TheVariants as told
 use Rattle.moka_hist.specs.declared.loads.Kind.{Kind}
 use Rattle.moka_hist.specs.declared.loads.Kind.TheVariants as kind
+use Rattle.moka_hist.specs.declared.records.Stored.{Stored}
 use Rattle.moka_hist.specs.declared.replies.Answer.{Answer}
 use Rattle.moka_hist.specs.declared.replies.Answer.TheVariants as answer
 use Rattle.moka_hist.specs.declared.rules.Rules.{Rules}
+use Rattle.moka_hist.specs.declared.tables.TableAnswer.TheVariants as table
+use Rattle.moka_hist.specs.declared.tables.TableTurn.TheVariants as look
 use Rattle.moka_hist.specs.declared.visits.Found.TheVariants as found
 use Rattle.moka_hist.specs.declared.visits.Settled.{Settled}
 use Rattle.moka_hist.specs.declared.visits.Settled.TheVariants as settled
@@ -36,6 +39,10 @@ module _ {K V E : Type 0} where
   abbrev pub read : Settled V E → Got K V E
   read with = got.Desk (found.ReadSettled with)
 
+  -- what an access gave by which a look of a call finds this pair
+  abbrev pub looked : K → Stored V → Got K V E
+  looked there stored = got.Table (look.Decided (table.Some there stored))
+
   -- A load that was told this answers so.
   abbrev pub FollowsTold : Told V E → Answer K V E → Type 0
   FollowsTold (told.Value value) said = said ≡ answer.Loaded value true
@@ -50,13 +57,14 @@ module _ {K V E : Type 0} where
   FollowsEnd kind with said = (may_end kind with ≡ true) × (said_of with false ≡ Some said)
 
   -- A load of this kind answers what follows from what one of its accesses told it, or from the end
-  -- that one of them read; or a value that its look found; or that it gave up, where it read that
-  -- an owner was dropped.
+  -- that one of them read; or the value of a pair that a look of its own found; or that it gave
+  -- up, where it read that an owner was dropped.
   abbrev pub LoadAnswers : Kind → List (Got K V E) → Answer K V E → Type 0
   LoadAnswers kind path said =
       ((given : Told V E) × Contains path (taken given) × FollowsTold given said)
       ⊎ ((with : Settled V E) × Contains path (read with) × FollowsEnd kind with said)
-      ⊎ ((value : V) × (said ≡ answer.Loaded value false))
+      ⊎ ((there : K) × (stored : Stored V) × Contains path (looked there stored)
+      × (said ≡ answer.Loaded stored.value false))
       ⊎ (Contains path (read settled.Aborted) × (said ≡ answer.RetriesExhausted))
 
 -- some world may give the load of this number this for its next access; an end that it reads by
