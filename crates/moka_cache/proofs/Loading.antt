@@ -21,7 +21,7 @@ use Rattle.moka_hist.specs.declared.visits.Settled.TheVariants as settled
 use Rattle.moka_laws.specs.Loads.{may_answer}
 use Rattle.moka_laws.proofs.Counting.{none_some, some_same}
 use Rattle.moka_shapes.specs.Computes.{taken}
-use Rattle.moka_shapes.specs.Loads.{FollowsEnd, FollowsTold, LoadsTell, MayGiveLoad, MayLeadLoad, kind_loaded, looked, read}
+use Rattle.moka_shapes.specs.Loads.{FollowsEnd, FollowsTold, LoadsTell, MayGiveLoad, MayLeadLoad, judged, kind_loaded, looked, read}
 use Rattle.moka_kept.specs.Paths.{EndedWith, IsGiven, LeadsWith}
 use Rattle.moka_kept.specs.Taking.{Answered, Taken}
 use Rattle.moka_cache.specs.Asked.{TellsOption, TellsResult, TellsValue, ToldSuch}
@@ -66,14 +66,14 @@ module _ {K V E : Type 0} (eq : K → K → Bool) (law : LoadsTell K V E eq) (su
       let path : List (Got K V E) = what_gave end.came.0 in
       let whole : List (Got K V E) = path ++ end.given ∷ [] in
       either ((t : Told V E) × Contains whole (taken t) × FollowsTold t said)
-      (((with : Settled V E) × Contains whole (read with) × FollowsEnd kind with said) ⊎ ((there : K) × (stored : Stored V) × Contains whole (looked there stored) × (said ≡ answer.Loaded stored.value false))
+      (((with : Settled V E) × Contains whole (read with) × FollowsEnd kind with said) ⊎ ((there : K) × (stored : Stored V) × Contains whole (looked there stored) × Contains whole judged × (said ≡ answer.Loaded stored.value false))
       ⊎ (Contains whole (read settled.Aborted) × (said ≡ answer.RetriesExhausted))) (P said)
       (λ by. holds.told by.0 said (such_told eq such n (fresh_call rules begin) (answers said) end by.0 by.1) by.2)
       (either ((with : Settled V E) × Contains whole (read with) × FollowsEnd kind with said)
-      (((there : K) × (stored : Stored V) × Contains whole (looked there stored) × (said ≡ answer.Loaded stored.value false)) ⊎ (Contains whole (read settled.Aborted) × (said ≡ answer.RetriesExhausted))) (P said)
+      (((there : K) × (stored : Stored V) × Contains whole (looked there stored) × Contains whole judged × (said ≡ answer.Loaded stored.value false)) ⊎ (Contains whole (read settled.Aborted) × (said ≡ answer.RetriesExhausted))) (P said)
       (λ by. holds.ended by.0 said by.2)
-      (either ((there : K) × (stored : Stored V) × Contains whole (looked there stored) × (said ≡ answer.Loaded stored.value false)) (Contains whole (read settled.Aborted) × (said ≡ answer.RetriesExhausted)) (P said)
-      (λ by. subst P (sym by.3) (holds.found by.1.value)) (λ by. subst P (sym by.1) holds.gave_up)))
+      (either ((there : K) × (stored : Stored V) × Contains whole (looked there stored) × Contains whole judged × (said ≡ answer.Loaded stored.value false)) (Contains whole (read settled.Aborted) × (said ≡ answer.RetriesExhausted)) (P said)
+      (λ by. subst P (sym by.4) (holds.found by.1.value)) (λ by. subst P (sym by.1) holds.gave_up)))
       (law rules begin kind n path end.call end.given said loads (may_lead_load eq such n (fresh_call rules begin) end.came.0 end.call end.came.1)
       (may_give_load eq such n end.call end.given end.last) (sym (ap (λ (x : Next K V E). x.turn) end.follows)))
 

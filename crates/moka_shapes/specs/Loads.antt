@@ -39,9 +39,14 @@ module _ {K V E : Type 0} where
   abbrev pub read : Settled V E → Got K V E
   read with = got.Desk (found.ReadSettled with)
 
-  -- what an access gave by which a look of a call finds this pair
+  -- what an access gave where the table answered with this pair: a look found it, or a write took
+  -- its place
   abbrev pub looked : K → Stored V → Got K V E
   looked there stored = got.Table (look.Decided (table.Some there stored))
+
+  -- what an access gave by which it judges that what a look found may be seen
+  abbrev pub judged : Got K V E
+  judged = got.Desk (found.Judge true)
 
   -- A load that was told this answers so.
   abbrev pub FollowsTold : Told V E → Answer K V E → Type 0
@@ -57,14 +62,14 @@ module _ {K V E : Type 0} where
   FollowsEnd kind with said = (may_end kind with ≡ true) × (said_of with false ≡ Some said)
 
   -- A load of this kind answers what follows from what one of its accesses told it, or from the end
-  -- that one of them read; or the value of a pair that a look of its own found; or that it gave
-  -- up, where it read that an owner was dropped.
+  -- that one of them read; or the value of a pair that the table gave one of them, where one judged
+  -- that what was found may be seen; or that it gave up, where it read that an owner was dropped.
   abbrev pub LoadAnswers : Kind → List (Got K V E) → Answer K V E → Type 0
   LoadAnswers kind path said =
       ((given : Told V E) × Contains path (taken given) × FollowsTold given said)
       ⊎ ((with : Settled V E) × Contains path (read with) × FollowsEnd kind with said)
       ⊎ ((there : K) × (stored : Stored V) × Contains path (looked there stored)
-      × (said ≡ answer.Loaded stored.value false))
+      × Contains path judged × (said ≡ answer.Loaded stored.value false))
       ⊎ (Contains path (read settled.Aborted) × (said ≡ answer.RetriesExhausted))
 
 -- some world may give the load of this number this for its next access; an end that it reads by
