@@ -3,8 +3,8 @@
 ghost use Rattle.moka_shapes.specs.Computes.{ComputesTell};
 
 /// Cites the law that a compute answers what follows from what it was told by one of its accesses,
-/// whatever worlds gave it those: it stored the value, took out what was there, left what was there,
-/// or failed with the error. One that goes alone or not at all may else answer what the key has,
+/// whatever worlds gave it those: it stored the value, took out what was there, left what was
+/// there, or failed with the error. One that goes alone or not at all may else answer what the key has,
 /// where one of its accesses found that another compute of the key goes.
 pub fn computes_tell<K: Eq, V, E>()
     ensures tells { ComputesTell K V E K.eq }
