@@ -231,11 +231,10 @@ module _ {K V E : Type 0} where
 
     misses_falls : (bound : ℕ) (aim : Aim K V) → Same old new → old.logged + judge_steps old.owed old.most c.aborts aim ≤ bound → Falls new bound (misses c aim)
     misses_falls bound (plan.To_evict key stamp cause) s h = kept_falls bound s (omega (arith, h))
-    misses_falls bound plan.To_answer s h = never new bound (misses c plan.To_answer) (λ e. cc)
+    misses_falls bound (plan.To_show form) s h = never new bound (misses c (plan.To_show form)) (λ e. cc)
     misses_falls bound (plan.To_load sought) s h = same_falls old new bound c (plan.Own sought ∷ []) s (omega (arith, h))
     misses_falls bound (plan.To_own sought) s h = same_falls old new bound c (plan.Ask sought.load ∷ []) s (omega (arith, h))
     misses_falls bound (plan.To_compute compute) s h = same_falls old new bound c (plan.Ask_op compute None ∷ []) s (omega (arith, h))
-    misses_falls bound (plan.To_report key) s h = never new bound (misses c (plan.To_report key)) (λ e. cc)
     misses_falls bound (plan.To_insert key value) s h =
         same_falls old new bound c (put c.rules key value (plan.Reply (answer.Loaded value true) ∷ [])) s (by c.rules.listener)
       where
@@ -246,12 +245,11 @@ module _ {K V E : Type 0} where
 
     hits_falls : (bound : ℕ) (aim : Aim K V) (there : K) (value : V) → Same old new → old.logged + judge_steps old.owed old.most c.aborts aim ≤ bound → Falls new bound (hits c aim there value)
     hits_falls bound (plan.To_evict key stamp cause) there value s h = never new bound (waits c) (λ e. cc)
-    hits_falls bound plan.To_answer there value s h = never new bound (hits c plan.To_answer there value) (λ e. cc)
+    hits_falls bound (plan.To_show form) there value s h = never new bound (hits c (plan.To_show form) there value) (λ e. cc)
     hits_falls bound (plan.To_load sought) there value s h = never new bound (hits c (plan.To_load sought) there value) (λ e. cc)
     hits_falls bound (plan.To_insert key unused) there value s h = never new bound (hits c (plan.To_insert key unused) there value) (λ e. cc)
     hits_falls bound (plan.To_compute compute) there value s h =
         same_falls old new bound c (plan.Ask_op compute (Some (there, value)) ∷ []) s (omega (arith, h))
-    hits_falls bound (plan.To_report key) there value s h = never new bound (hits c (plan.To_report key) there value) (λ e. cc)
     hits_falls bound (plan.To_own sought) there value s h =
         same_falls old new bound c (plan.Settle (settled.Ready value) ∷ plan.Reply (answer.Loaded value false) ∷ []) s (omega (arith, h))
 
@@ -501,12 +499,11 @@ module _ {K V E : Type 0} where
         chosen false key stamp cause = kept_falls old new c young _ s (omega arith)
 
         finds_falls : (aim : Aim K V) → Falls new (bound_of old new c young (plan.Get aim key ∷ rest)) (finds_pair c aim there stored)
-        finds_falls plan.To_answer = same_falls old new _ c (plan.Judge plan.To_answer there stored ∷ []) s (omega arith)
+        finds_falls (plan.To_show form) = same_falls old new _ c (plan.Judge (plan.To_show form) there stored ∷ []) s (omega arith)
         finds_falls (plan.To_load sought) = same_falls old new _ c (plan.Judge (plan.To_load sought) there stored ∷ []) s (omega arith)
         finds_falls (plan.To_own sought) = same_falls old new _ c (plan.Judge (plan.To_own sought) there stored ∷ []) s (omega arith)
         finds_falls (plan.To_insert k value) = same_falls old new _ c (plan.Judge (plan.To_insert k value) there stored ∷ []) s (omega arith)
         finds_falls (plan.To_compute compute) = same_falls old new _ c (plan.Judge (plan.To_compute compute) there stored ∷ []) s (omega arith)
-        finds_falls (plan.To_report k) = same_falls old new _ c (plan.Judge (plan.To_report k) there stored ∷ []) s (omega arith)
         finds_falls (plan.To_evict k stamp cause) = chosen (stored.stamp == stamp) k stamp cause
 
     -- a look or a write that stays undecided

@@ -10,12 +10,11 @@ post_worst true = omega arith
 post_worst false = omega arith
 
 pub judge_more : {K V : Type 0} (o o' m m' aborts : ℕ) (aim : Aim K V) → o ≤ o' → m ≤ m' → judge_steps o m aborts aim ≤ judge_steps o' m' aborts aim
-judge_more o o' m m' aborts plan.To_answer p h = omega arith
+judge_more o o' m m' aborts (plan.To_show form) p h = omega arith
 judge_more o o' m m' aborts (plan.To_load sought) p h = omega arith
 judge_more o o' m m' aborts (plan.To_own sought) p h = omega arith
 judge_more o o' m m' aborts (plan.To_insert key value) p h = omega arith
 judge_more o o' m m' aborts (plan.To_compute compute) p h = omega arith
-judge_more o o' m m' aborts (plan.To_report key) p h = omega arith
 judge_more o o' m m' aborts (plan.To_evict key stamp cause) p h = omega (arith, h)
 
 -- an owner that has ended costs most, since the call then begins anew

@@ -68,12 +68,11 @@ read_key_steps ended owed most = cond ended (own_key_steps owed most + 1) 1
 module _ {K V : Type 0} where
   -- to judge the record that was found, and to go on whether or not it is seen
   abbrev pub judge_steps : ℕ → ℕ → ℕ → Aim K V → ℕ
-  judge_steps owed most aborts plan.To_answer = 1
+  judge_steps owed most aborts (plan.To_show form) = 1
   judge_steps owed most aborts (plan.To_load sought) = 1 + own_steps most aborts
   judge_steps owed most aborts (plan.To_own sought) = 3
   judge_steps owed most aborts (plan.To_insert key value) = 1 + insert_steps owed most
   judge_steps owed most aborts (plan.To_compute compute) = 2
-  judge_steps owed most aborts (plan.To_report key) = 2
   judge_steps owed most aborts (plan.To_evict key stamp cause) = holds_steps most
 
 module _ {K V E : Type 0} where

@@ -25,7 +25,7 @@ module _ {K V E : Type 0} where
 
   -- what the key has is answered, and nothing asked
   abbrev pub report_rest : Bool → K → List (Item K V E)
-  report_rest false key = plan.Drain ∷ look (plan.To_report key) key
+  report_rest false key = plan.Drain ∷ look (plan.To_show (plan.As_report key)) key
   report_rest true key = plan.Drain ∷ plan.Reply (unchanged key None) ∷ []
 
   -- the owner asks in the end; the others wait until it has ended

@@ -18,16 +18,21 @@ use Rattle.moka_hist.specs.declared.rules.Cause.{Cause}
 use Rattle.moka_hist.specs.declared.rules.Rules.{Rules}
 use Rattle.moka_hist.specs.declared.writes.Write as write
 
+-- how a look that only answers shows what it found: as a get's value, or as the report of a compute
+-- that leaves it as it is
+pub data Shown (K : Type 0) : Type 0 where
+  As_value : Shown K
+  As_report : (key : K) → Shown K
+
 -- what a look is for: to answer what was found, to load what wasn't, to own a load, to store a
 -- value where nothing was found, to compute, or to evict
 pub data Aim (K V : Type 0) : Type 0 where
-  To_answer : Aim K V
+  To_show : (form : Shown K) → Aim K V
   To_load : (sought : Sought K) → Aim K V
   To_own : (sought : Sought K) → Aim K V
   To_insert : (key : K) → (value : V) → Aim K V
-  -- to ask what is to be done with what was found, or to answer it
+  -- to ask what is to be done with what was found
   To_compute : (compute : Compute K) → Aim K V
-  To_report : (key : K) → Aim K V
   -- to take out the record of this stamp, which was chosen for this cause
   To_evict : (key : K) → (stamp : ℕ) → (cause : Cause) → Aim K V
 
@@ -137,7 +142,7 @@ seek kind key replace = record { load = record { key = key; kind = kind }; repla
 -- the plan of a call that looks up, stores or loads: a disabled cache neither looks nor stores
 abbrev pub get_plan : {K V E : Type 0} → Bool → K → List (Item K V E)
 get_plan true key = Reply (answer.Found None) ∷ []
-get_plan false key = Drain ∷ look To_answer key
+get_plan false key = Drain ∷ look (To_show As_value) key
 
 abbrev pub insert_plan : {K V E : Type 0} → Bool → Rules → K → V → List (Item K V E)
 insert_plan true rules key value = Reply answer.Done ∷ []

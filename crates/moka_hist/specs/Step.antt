@@ -47,12 +47,11 @@ takes_of kind.Compute = takes.Op
 
 -- the test by which a look's call passes over what it finds
 abbrev pub replace_of : {K V : Type 0} → Aim K V → Option ℕ
-replace_of plan.To_answer = None
+replace_of (plan.To_show form) = None
 replace_of (plan.To_load sought) = sought.replace
 replace_of (plan.To_own sought) = sought.replace
 replace_of (plan.To_insert key value) = None
 replace_of (plan.To_compute compute) = None
-replace_of (plan.To_report key) = None
 replace_of (plan.To_evict key stamp cause) = None
 
 module _ {K V E : Type 0} where

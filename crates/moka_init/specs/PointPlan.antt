@@ -65,12 +65,12 @@ compute_of c = record { key = c.key; takes = takes_by c.asks }
 
 module _ {K V : Type 0} where
   abbrev pub aim_of : looks.Look K V → Aim K V
-  aim_of (look.Answer key) = plan.To_answer
+  aim_of (look.Answer key) = plan.To_show plan.As_value
   aim_of (look.Load sought) = plan.To_load sought
   aim_of (look.Own sought) = plan.To_own sought
   aim_of (look.Insert key value) = plan.To_insert key value
   aim_of (look.Compute compute) = plan.To_compute (compute_of compute)
-  aim_of (look.Report key) = plan.To_report key
+  aim_of (look.Report key) = plan.To_show (plan.As_report key)
 
   -- the key that is looked up
   abbrev pub key_sought : looks.Look K V → K

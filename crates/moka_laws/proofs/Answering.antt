@@ -115,8 +115,7 @@ module _ {K V E : Type 0} where
   keeps_well c = kept_next (λ v. LeftWell v.left) c (λ off. tt) (λ on. tt)
 
   misses_well : (c : Call K V E) (aim : Aim K V) → LeftWell (misses c aim).left
-  misses_well c plan.To_answer = tt
-  misses_well c (plan.To_report key) = tt
+  misses_well c (plan.To_show form) = tt
   misses_well c (plan.To_load sought) = tt
   misses_well c (plan.To_own sought) = tt
   misses_well c (plan.To_compute compute) = tt
@@ -126,8 +125,7 @@ module _ {K V E : Type 0} where
 
   finds_well : (c : Call K V E) (aim : Aim K V) (k : K) (stored : Stored V) →
       LeftWell (finds_pair c aim k stored).left
-  finds_well c plan.To_answer k stored = tt
-  finds_well c (plan.To_report key) k stored = tt
+  finds_well c (plan.To_show form) k stored = tt
   finds_well c (plan.To_load sought) k stored = tt
   finds_well c (plan.To_insert under new) k stored = tt
   finds_well c (plan.To_own sought) k stored = tt
@@ -137,8 +135,7 @@ module _ {K V E : Type 0} where
 
   hits_well : (c : Call K V E) (aim : Aim K V) (there : K) (value : V) → EndsWell c.plan →
       LeftWell (hits c aim there value).left
-  hits_well c plan.To_answer there value h = tt
-  hits_well c (plan.To_report key) there value h = tt
+  hits_well c (plan.To_show form) there value h = tt
   hits_well c (plan.To_load sought) there value h = tt
   hits_well c (plan.To_insert under new) there value h = tt
   hits_well c (plan.To_own sought) there value h = tt

@@ -6,7 +6,7 @@ use Rattle.moka_hist.specs.State.{State, World, Call}
 use Rattle.moka_hist.specs.Plan.{Item, Aim, Change, Removal, end_load, is_disabled, get_plan, insert_plan, load_plan, or_insert_plan, seek, take_out, under_lock, plan_of}
 use Rattle.moka_hist.specs.Plan as plan
 use Rattle.moka_hist.specs.Next.{Next, goes, waits}
-use Rattle.moka_hist.specs.Looking.{hits, misses, keeps, finds_pair}
+use Rattle.moka_hist.specs.Looking.{shown, hits, misses, keeps, finds_pair}
 use Rattle.moka_hist.specs.Loading.{after_read, after_abort, after_told, retries}
 use Rattle.moka_hist.specs.Step.{Step, takes_of}
 use Rattle.moka_hist.specs.Telling.{takes_error, does_take}
@@ -142,9 +142,8 @@ module _ {K V : Type 0} (E : Type 0) (begin : Start K V) where
 
   -- a look for this goes on as the start may
   abbrev pub SuitsAim : Aim K V → Type 0
-  SuitsAim plan.To_answer = (value : Option V) → may_answer {E = E} begin (answer.Found value) ≡ true
-  SuitsAim (plan.To_report key) =
-      (done : CompResult K V) → may_answer {E = E} begin (answer.Computed done) ≡ true
+  SuitsAim (plan.To_show form) =
+      (pair : Option (K × V)) → may_answer {E = E} begin (shown form pair) ≡ true
   SuitsAim (plan.To_load sought) = kind_of begin ≡ Some sought.load.kind
   SuitsAim (plan.To_own sought) = kind_of begin ≡ Some sought.load.kind
   SuitsAim (plan.To_compute compute) = SuitsCompute compute.takes
@@ -209,8 +208,7 @@ module _ {K V E : Type 0} (begin : Start K V) where
         (λ is_on. on _ (λ b e. cc) (tt, (may, tt)))
 
     misses_suit : (aim : Aim K V) → SuitsAim E begin aim → Leaves (misses c aim)
-    misses_suit plan.To_answer s = answers_so (answer.Found None) _ refl refl (s None)
-    misses_suit (plan.To_report key) s = answers_so (unchanged key None) _ refl refl (s _)
+    misses_suit (plan.To_show form) s = answers_so (shown form None) _ refl refl (s None)
     misses_suit (plan.To_load sought) s = on _ (λ b e. cc) (s, tt)
     misses_suit (plan.To_own sought) s = on _ (λ b e. cc) (s, tt)
     misses_suit (plan.To_compute compute) s = on _ (λ b e. cc) (s, tt)
@@ -222,8 +220,7 @@ module _ {K V E : Type 0} (begin : Start K V) where
 
     finds_suit : (aim : Aim K V) (there : K) (stored : Stored V) → SuitsAim E begin aim →
         Leaves (finds_pair c aim there stored)
-    finds_suit plan.To_answer there stored s = on _ (λ b e. cc) (s, tt)
-    finds_suit (plan.To_report key) there stored s = on _ (λ b e. cc) (s, tt)
+    finds_suit (plan.To_show form) there stored s = on _ (λ b e. cc) (s, tt)
     finds_suit (plan.To_load sought) there stored s = on _ (λ b e. cc) (s, tt)
     finds_suit (plan.To_own sought) there stored s = on _ (λ b e. cc) (s, tt)
     finds_suit (plan.To_compute compute) there stored s = on _ (λ b e. cc) (s, tt)
@@ -235,10 +232,8 @@ module _ {K V E : Type 0} (begin : Start K V) where
 
     hits_suit : (aim : Aim K V) (there : K) (value : V) → SuitsAim E begin aim → AllSuit c.plan →
         Leaves (hits c aim there value)
-    hits_suit plan.To_answer there value s p =
-        answers_so (answer.Found (Some value)) _ refl refl (s (Some value))
-    hits_suit (plan.To_report key) there value s p =
-        answers_so (unchanged key (Some (there, value))) _ refl refl (s _)
+    hits_suit (plan.To_show form) there value s p =
+        answers_so (shown form (Some (there, value))) _ refl refl (s (Some (there, value)))
     hits_suit (plan.To_load sought) there value s p =
         answers_so (answer.Loaded value false) _ refl refl (loads_may E begin sought.load.kind value false s)
     hits_suit (plan.To_own sought) there value s p =
@@ -391,7 +386,7 @@ module _ {K V E : Type 0} (begin : Start K V) where
         λ disabled none. on _ (λ b g. cc) (tt, (q.0, tt)),
       ),
       λ owner some. (
-        (λ able. on _ (λ b g. cc) (tt, (q.0.0, tt))),
+        (λ able. on _ (λ b g. cc) (tt, ((λ pair. unchanged_may c key pair takes.TryOp q.0), tt))),
         λ not. on _ (λ b g. cc) (tt, (q.0.0 _, tt)),
       ),
     )

@@ -56,8 +56,7 @@ module _ {K V E : Type 0} where
   keeps_takes c = kept_next (λ v. weigh_call takes_told v.left ≡ 0) c (λ off. refl) (λ on. refl)
 
   misses_takes : (c : Call K V E) (aim : Aim K V) → weigh_call takes_told (misses c aim).left ≡ 0
-  misses_takes c plan.To_answer = refl
-  misses_takes c (plan.To_report key) = refl
+  misses_takes c (plan.To_show form) = refl
   misses_takes c (plan.To_load sought) = refl
   misses_takes c (plan.To_own sought) = refl
   misses_takes c (plan.To_compute compute) = refl
@@ -67,8 +66,7 @@ module _ {K V E : Type 0} where
 
   finds_take : (c : Call K V E) (aim : Aim K V) (k : K) (stored : Stored V) →
       weigh_call takes_told (finds_pair c aim k stored).left ≡ 0
-  finds_take c plan.To_answer k stored = refl
-  finds_take c (plan.To_report key) k stored = refl
+  finds_take c (plan.To_show form) k stored = refl
   finds_take c (plan.To_load sought) k stored = refl
   finds_take c (plan.To_insert under new) k stored = refl
   finds_take c (plan.To_own sought) k stored = refl
@@ -79,8 +77,7 @@ module _ {K V E : Type 0} where
 
   hits_takes : (c : Call K V E) (aim : Aim K V) (there : K) (value : V) → IsLook aim →
       weigh_call takes_told (hits c aim there value).left ≡ 0
-  hits_takes c plan.To_answer there value l = refl
-  hits_takes c (plan.To_report key) there value l = refl
+  hits_takes c (plan.To_show form) there value l = refl
   hits_takes c (plan.To_load sought) there value l = refl
   hits_takes c (plan.To_insert under new) there value l = refl
   hits_takes c (plan.To_own sought) there value l = refl

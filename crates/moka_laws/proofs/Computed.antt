@@ -197,8 +197,8 @@ module _ {K V E : Type 0} (eq : K → K → Bool) (begin : Start K V) (key : K) 
   alone_awaits s (plan.Out (plan.To_remove_as_told own) at ∷ []) alone h = refl
   alone_awaits s (plan.Idle ∷ plan.Settle with ∷ plan.Reply a ∷ []) alone h = refl
   alone_awaits s (plan.Settle with ∷ plan.Reply a ∷ []) alone h = refl
-  alone_awaits s (plan.Get (plan.To_report own) at ∷ []) alone h = refl
-  alone_awaits s (plan.Judge (plan.To_report own) there stored ∷ []) alone h = refl
+  alone_awaits s (plan.Get (plan.To_show (plan.As_report own)) at ∷ []) alone h = refl
+  alone_awaits s (plan.Judge (plan.To_show (plan.As_report own)) there stored ∷ []) alone h = refl
   alone_awaits s (plan.Reply a ∷ []) alone h = refl
   alone_awaits s [] alone h = refl
   alone_awaits s (_ ∷ rest) alone h = absurd h

@@ -157,12 +157,12 @@ module _ {K V E : Type 0} (eq : K → K → Bool) (begin : Start K V) (key : K) 
       OwnsComputes s n key × ComputeSays eq begin s n key a
   Stage s (plan.Settle with ∷ plan.Reply a ∷ []) =
       OwnsComputes s n key × ComputeSays eq begin s n key a
-  Stage s (plan.Get (plan.To_report own) at ∷ []) =
+  Stage s (plan.Get (plan.To_show (plan.As_report own)) at ∷ []) =
       (own ≡ key) × (at ≡ key) × (begin ≡ start.ComputeAlone key) ×
       HasMade eq s n (StandsAside key)
-  Stage s (plan.Judge (plan.To_report own) there stored ∷ []) =
+  Stage s (plan.Judge (plan.To_show (plan.As_report own)) there stored ∷ []) =
       (own ≡ key) × (begin ≡ start.ComputeAlone key) × HasMade eq s n (StandsAside key) ×
-      HasMade eq s n (LooksUp n (plan.To_report key) key (Some (there, stored)))
+      HasMade eq s n (LooksUp n (plan.To_show (plan.As_report key)) key (Some (there, stored)))
   Stage s (plan.Reply a ∷ []) = ComputeSays eq begin s n key a
   Stage s _ = ⊥
 
@@ -208,9 +208,9 @@ module _ {K V E : Type 0} (eq : K → K → Bool) (begin : Start K V) (key : K) 
       (f.owning ∙ h.0, says_on s v a f.led f.rules h.1)
   stage_on s v f (plan.Settle with ∷ plan.Reply a ∷ []) h =
       (f.owning ∙ h.0, says_on s v a f.led f.rules h.1)
-  stage_on s v f (plan.Get (plan.To_report own) at ∷ []) h =
+  stage_on s v f (plan.Get (plan.To_show (plan.As_report own)) at ∷ []) h =
       (h.0, h.1, h.2, made_on eq s v n _ f.led h.3)
-  stage_on s v f (plan.Judge (plan.To_report own) there stored ∷ []) h =
+  stage_on s v f (plan.Judge (plan.To_show (plan.As_report own)) there stored ∷ []) h =
       (h.0, h.1, made_on eq s v n _ f.led h.2, made_on eq s v n _ f.led h.3)
   stage_on s v f (plan.Reply a ∷ []) h = says_on s v a f.led f.rules h
   stage_on s v f [] h = absurd h
@@ -591,7 +591,7 @@ module _ {K V E : Type 0} (eq : K → K → Bool) (begin : Start K V) (key : K) 
         outcomes eq Shows s.world n c (plan.Own_alone own) [] (
           owns_key (alone_of own) st.0,
           λ owner some. (
-            (λ able. go _ (plan.Drain ∷ plan.Get (plan.To_report own) own ∷ []) refl (inl refl)
+            (λ able. go _ (plan.Drain ∷ plan.Get (plan.To_show (plan.As_report own)) own ∷ []) refl (inl refl)
                 (λ step. (st.0, st.0, st.1, aside _ owner some step))),
             λ off. go _ (plan.Drain ∷ plan.Reply (unchanged own None) ∷ []) refl (inl refl)
                 (λ step. Was_disabled st.1 (aside _ owner some step)
@@ -702,14 +702,14 @@ module _ {K V E : Type 0} (eq : K → K → Bool) (begin : Start K V) (key : K) 
         outcomes eq Shows s.world n c (plan.Settle with) (plan.Reply a ∷ [])
         (go _ (plan.Reply a ∷ []) refl (inl refl)
         (λ step. says_on s _ a (step_leads eq s _ n _ step) refl st.1))
-    on_stage (plan.Get (plan.To_report own) at ∷ []) e st =
-        outcomes eq Shows s.world n c (plan.Get (plan.To_report own) at) [] (
+    on_stage (plan.Get (plan.To_show (plan.As_report own)) at ∷ []) e st =
+        outcomes eq Shows s.world n c (plan.Get (plan.To_show (plan.As_report own)) at) [] (
           λ more. stay _ e st _ refl refl refl,
           λ none. go _ (plan.Reply (unchanged own None) ∷ []) refl (inl refl)
               (λ step. Reports None st.2 (made_on eq s _ n _ (step_leads eq s _ n _ step) st.3)
               (looks _ _ None step none (λ f. false≢true (ap at_table f)))
               (ap (λ k. unchanged k None) st.0)),
-          λ there stored some. go _ (plan.Judge (plan.To_report own) there stored ∷ []) refl
+          λ there stored some. go _ (plan.Judge (plan.To_show (plan.As_report own)) there stored ∷ []) refl
               (inl refl) (λ step. (
                 st.0,
                 st.2,
@@ -720,14 +720,14 @@ module _ {K V E : Type 0} (eq : K → K → Bool) (begin : Start K V) (key : K) 
       where
         looks : (new : World K V E) (next : Next K V E) (seen : Option (K × Stored V)) →
             Made new next → s.world.table.stored at ≡ seen →
-            (plan_left next.left ≡ plan.Get (plan.To_report own) at ∷ [] → ⊥) →
-            HasMade eq (after new next) n (LooksUp n (plan.To_report key) key seen)
+            (plan_left next.left ≡ plan.Get (plan.To_show (plan.As_report own)) at ∷ [] → ⊥) →
+            HasMade eq (after new next) n (LooksUp n (plan.To_show (plan.As_report key)) key seen)
         looks new next seen step stood not =
-            now new next (LooksUp n (plan.To_report key) key seen) step
-            (subst (λ k. LooksUp n (plan.To_report k) key seen s c next.turn (after new next)) st.0
-            (looks_up new next (plan.To_report own) at seen e st.1 stood not))
-    on_stage (plan.Judge (plan.To_report own) there stored ∷ []) e st =
-        outcomes eq Shows s.world n c (plan.Judge (plan.To_report own) there stored) [] (
+            now new next (LooksUp n (plan.To_show (plan.As_report key)) key seen) step
+            (subst (λ k. LooksUp n (plan.To_show (plan.As_report k)) key seen s c next.turn (after new next)) st.0
+            (looks_up new next (plan.To_show (plan.As_report own)) at seen e st.1 stood not))
+    on_stage (plan.Judge (plan.To_show (plan.As_report own)) there stored ∷ []) e st =
+        outcomes eq Shows s.world n c (plan.Judge (plan.To_show (plan.As_report own)) there stored) [] (
           λ seen. go _ (plan.Reply (unchanged own (Some (there, stored.value))) ∷ []) refl
               (inl refl) (λ step. Reports (Some (there, stored)) st.1
               (made_on eq s _ n _ (step_leads eq s _ n _ step) st.2)

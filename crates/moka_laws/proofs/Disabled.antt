@@ -76,8 +76,7 @@ module _ {K V E : Type 0} where
 
   misses_calm : (c : Call K V E) (aim : Aim K V) → inserts aim ≡ 0 →
       weigh_call stores (misses c aim).left ≡ 0
-  misses_calm c plan.To_answer h = refl
-  misses_calm c (plan.To_report key) h = refl
+  misses_calm c (plan.To_show form) h = refl
   misses_calm c (plan.To_load sought) h = refl
   misses_calm c (plan.To_own sought) h = refl
   misses_calm c (plan.To_compute compute) h = refl
@@ -86,8 +85,7 @@ module _ {K V E : Type 0} where
 
   finds_calm : (c : Call K V E) (aim : Aim K V) (there : K) (seen : Stored V) → inserts aim ≡ 0 →
       weigh_call stores (finds_pair c aim there seen).left ≡ 0
-  finds_calm c plan.To_answer there seen h = refl
-  finds_calm c (plan.To_report key) there seen h = refl
+  finds_calm c (plan.To_show form) there seen h = refl
   finds_calm c (plan.To_load sought) there seen h = refl
   finds_calm c (plan.To_own sought) there seen h = refl
   finds_calm c (plan.To_compute compute) there seen h = refl
@@ -98,8 +96,7 @@ module _ {K V E : Type 0} where
 
   hits_calm : (c : Call K V E) (aim : Aim K V) (there : K) (value : V) → weigh stores c.plan ≡ 0 →
       weigh_call stores (hits c aim there value).left ≡ 0
-  hits_calm c plan.To_answer there value p = refl
-  hits_calm c (plan.To_report key) there value p = refl
+  hits_calm c (plan.To_show form) there value p = refl
   hits_calm c (plan.To_load sought) there value p = refl
   hits_calm c (plan.To_insert under new) there value p = refl
   hits_calm c (plan.To_own sought) there value p = refl

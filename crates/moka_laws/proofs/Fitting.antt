@@ -154,8 +154,7 @@ module _ {K V E : Type 0} where
 
     misses_fit : (c : Call K V E) (aim : Aim K V) (key : K) → ItemFits owned (plan.Get aim key) →
         AllFit owned (plan_left (misses c aim).left)
-    misses_fit c plan.To_answer key f = tt
-    misses_fit c (plan.To_report under) key f = tt
+    misses_fit c (plan.To_show form) key f = tt
     misses_fit c (plan.To_load sought) key f = (tt, tt)
     misses_fit c (plan.To_own sought) key f = (f, tt)
     misses_fit c (plan.To_compute compute) key f = (f, tt)
@@ -175,8 +174,7 @@ module _ {K V E : Type 0} where
     finds_fit : (c : Call K V E) (aim : Aim K V) (key k : K) (stored : Stored V) →
         ItemFits owned (plan.Get aim key) →
         AllFit owned (plan_left (finds_pair c aim k stored).left)
-    finds_fit c plan.To_answer key k stored f = (tt, tt)
-    finds_fit c (plan.To_report under) key k stored f = (tt, tt)
+    finds_fit c (plan.To_show form) key k stored f = (tt, tt)
     finds_fit c (plan.To_load sought) key k stored f = (tt, tt)
     finds_fit c (plan.To_own sought) key k stored f = (f, tt)
     finds_fit c (plan.To_compute compute) key k stored f = (f, tt)
@@ -190,8 +188,7 @@ module _ {K V E : Type 0} where
         ItemFits owned (plan.Judge aim there stored) →
         ItemTakes asked given (plan.Judge aim there stored) →
         AllFit owned (plan_left (hits c aim there value).left)
-    hits_fit asked given c plan.To_answer there value stored p f one = tt
-    hits_fit asked given c (plan.To_report key) there value stored p f one = tt
+    hits_fit asked given c (plan.To_show form) there value stored p f one = tt
     hits_fit asked given c (plan.To_load sought) there value stored p f one = tt
     hits_fit asked given c (plan.To_own sought) there value stored p f one =
         (ends_value E owned sought.load.kind value f one, (tt, tt))

@@ -140,8 +140,7 @@ module _ {K V E : Type 0} where
   stays_weighs c = kept_next (λ v. weigh_call held v.left ≡ 0) c (λ off. refl) (λ on. refl)
 
   misses_weigh : (c : Call K V E) (aim : Aim K V) → weigh_call held (misses c aim).left ≡ 0
-  misses_weigh c plan.To_answer = refl
-  misses_weigh c (plan.To_report key) = refl
+  misses_weigh c (plan.To_show form) = refl
   misses_weigh c (plan.To_load sought) = refl
   misses_weigh c (plan.To_own sought) = refl
   misses_weigh c (plan.To_compute compute) = refl
@@ -151,8 +150,7 @@ module _ {K V E : Type 0} where
 
   finds_weigh : (c : Call K V E) (aim : Aim K V) (k : K) (stored : Stored V) →
       weigh_call held (finds_pair c aim k stored).left ≡ 0
-  finds_weigh c plan.To_answer k stored = refl
-  finds_weigh c (plan.To_report key) k stored = refl
+  finds_weigh c (plan.To_show form) k stored = refl
   finds_weigh c (plan.To_load sought) k stored = refl
   finds_weigh c (plan.To_insert under new) k stored = refl
   finds_weigh c (plan.To_own sought) k stored = refl
@@ -195,8 +193,7 @@ module _ {K V E : Type 0} where
     hits_holds : (c : Call K V E) (aim : Aim K V) (there : K) (value : V) → HoldsAs n h c.plan →
         h ≡ None →
         HoldsAs n h (plan_left (hits c aim there value).left)
-    hits_holds c plan.To_answer there value p none = none
-    hits_holds c (plan.To_report key) there value p none = none
+    hits_holds c (plan.To_show form) there value p none = none
     hits_holds c (plan.To_load sought) there value p none = none
     hits_holds c (plan.To_insert under new) there value p none = none
     hits_holds c (plan.To_own sought) there value p none = (none, refl)

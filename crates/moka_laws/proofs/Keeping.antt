@@ -10,7 +10,7 @@ use Rattle.moka_hist.specs.State.{DeskPart, State, World, Call}
 use Rattle.moka_hist.specs.Plan.{Item, Aim, Removal, get_plan, insert_plan, is_disabled, load_plan, plan_of, under_lock}
 use Rattle.moka_hist.specs.Plan as plan
 use Rattle.moka_hist.specs.Next.{Next, goes, waits}
-use Rattle.moka_hist.specs.Looking.{finds_pair, hits, keeps, misses}
+use Rattle.moka_hist.specs.Looking.{finds_pair, hits, keeps, misses, shown}
 use Rattle.moka_hist.specs.Loading.{after_abort, after_read, after_told, retries}
 use Rattle.moka_hist.specs.Step.{Step, state_after}
 use Rattle.moka_hist.specs.Tables.{taken_by}
@@ -35,7 +35,7 @@ use Rattle.moka_hist.specs.declared.visits.Settled.TheVariants as settled
 use Rattle.moka_laws.specs.Removals.{IsKept, IsToKeep, KeepsByCause, KeptByCause}
 use Rattle.moka_laws.proofs.Counting.{differ_not, none_some, some_same, put_cases, put_here}
 use Rattle.moka_laws.proofs.Weights.{weigh, weigh_call}
-use Rattle.moka_laws.proofs.Rules.{chosen_by, kept_next, loaded_plans, put_plans, read_key_next, told_op_next_by, IsComputed, unchanged_computed, put_computed}
+use Rattle.moka_laws.proofs.Rules.{shown_next, chosen_by, kept_next, loaded_plans, put_plans, read_key_next, told_op_next_by, IsComputed, unchanged_computed, put_computed}
 use Rattle.moka_laws.proofs.Kept as events
 use Rattle.moka_laws.proofs.StepCases.{OnStep, more_step, step_cases}
 use Rattle.moka_laws.proofs.Outcomes.{Outcomes, outcomes}
@@ -105,10 +105,13 @@ module _ {K V E : Type 0} where
 
   hits_quiet : (c : Call K V E) (aim : Aim K V) (key : K) (seen : Stored V) → keeping
       (plan.Judge aim key seen) ≡ 0 → Quiet (hits c aim key seen.value)
-  hits_quiet c plan.To_answer key seen h = record
-      { left = refl; turn = answers_quiet (answer.Found (Some seen.value)) refl }
-  hits_quiet c (plan.To_report under) key seen h = record
-      { left = refl; turn = answers_quiet (unchanged under (Some (key, seen.value))) refl }
+  hits_quiet c (plan.To_show form) key seen h =
+      let pair : Option (K × V) = Some (key, seen.value) in
+      record {
+        left = refl;
+        turn = answers_quiet (shown form pair)
+            (shown_next (λ a. kept a ≡ 0) form pair refl (λ under. refl));
+      }
   hits_quiet c (plan.To_load sought) key seen h = record
       { left = refl; turn = answers_quiet (answer.Loaded seen.value false) refl }
   hits_quiet c (plan.To_insert under new) key seen h = record
@@ -310,11 +313,12 @@ module _ {K V E : Type 0} (s : State K V E) where
 
     misses_by : (aim : Aim K V) (key : K) → s.world.table.stored key ≡ None → Decides
         (plan.Get aim key) (misses c aim)
-    misses_by plan.To_answer key none = quiet (plan.Get plan.To_answer key) _ (λ h. h)
-        (record { left = refl; turn = answers_quiet (answer.Found None) refl })
-    misses_by (plan.To_report under) key none =
-        quiet (plan.Get (plan.To_report under) key) _ (λ h. h)
-        (record { left = refl; turn = answers_quiet (unchanged under None) refl })
+    misses_by (plan.To_show form) key none = quiet (plan.Get (plan.To_show form) key) _ (λ h. h)
+        (record {
+          left = refl;
+          turn = answers_quiet (shown form None)
+              (shown_next (λ a. kept a ≡ 0) form None refl (λ under. refl));
+        })
     misses_by (plan.To_load sought) key none = quiet (plan.Get (plan.To_load sought) key) _ (λ h. h)
         (record { left = refl; turn = λ e. cc })
     misses_by (plan.To_own sought) key none = quiet (plan.Get (plan.To_own sought) key) _ (λ h. h)
@@ -333,10 +337,7 @@ module _ {K V E : Type 0} (s : State K V E) where
     finds_by : (aim : Aim K V) (key there : K) (seen : Stored V) → s.world.table.stored key ≡ Some
         (there, seen) →
         Decides (plan.Get aim key) (finds_pair c aim there seen)
-    finds_by plan.To_answer key there seen some = quiet (plan.Get plan.To_answer key) _ (λ h. h)
-        (record { left = refl; turn = λ e. cc })
-    finds_by (plan.To_report under) key there seen some =
-        quiet (plan.Get (plan.To_report under) key) _ (λ h. h)
+    finds_by (plan.To_show form) key there seen some = quiet (plan.Get (plan.To_show form) key) _ (λ h. h)
         (record { left = refl; turn = λ e. cc })
     finds_by (plan.To_load sought) key there seen some = quiet (plan.Get (plan.To_load sought) key) _
         (λ h. h) (record { left = refl; turn = λ e. cc })

@@ -324,8 +324,7 @@ module _ {K V E : Type 0} where
 
     missed : (aim : Aim K V) (key : K) (rest : List (Item K V E)) → Now (plan.Get aim key ∷ rest) →
         Leaves w.desk n c w.desk.rules w.desk.locked (misses c aim).left
-    missed plan.To_answer key rest q = keeps w.desk n c tt (free _ refl q (λ k i. i))
-    missed (plan.To_report under) key rest q = keeps w.desk n c tt (free _ refl q (λ k i. i))
+    missed (plan.To_show form) key rest q = keeps w.desk n c tt (free _ refl q (λ k i. i))
     missed (plan.To_load sought) key rest q = keeps w.desk n c refl (free _ refl q (λ k i. i))
     missed (plan.To_own sought) key rest q = keeps w.desk n c refl (free _ refl q (λ k i. i))
     missed (plan.To_compute compute) key rest q = keeps w.desk n c refl (free _ refl q (λ k i. i))
@@ -358,9 +357,7 @@ module _ {K V E : Type 0} where
     has_found : (aim : Aim K V) (key k : K) (stored : Stored V) (rest : List (Item K V E)) →
         Now (plan.Get aim key ∷ rest) →
         Leaves w.desk n c w.desk.rules w.desk.locked (finds_pair c aim k stored).left
-    has_found plan.To_answer key k stored rest q = keeps w.desk n c refl (free _ refl q (λ l i. i))
-    has_found (plan.To_report under) key k stored rest q =
-        keeps w.desk n c refl (free _ refl q (λ l i. i))
+    has_found (plan.To_show form) key k stored rest q = keeps w.desk n c refl (free _ refl q (λ l i. i))
     has_found (plan.To_load sought) key k stored rest q =
         keeps w.desk n c refl (free _ refl q (λ l i. i))
     has_found (plan.To_insert under new) key k stored rest q =
@@ -379,8 +376,7 @@ module _ {K V E : Type 0} where
     hit : (aim : Aim K V) (key : K) (stored : Stored V) (rest : List (Item K V E)) → Now c.plan →
         Now (plan.Judge aim key stored ∷ rest) →
         Leaves w.desk n c w.desk.rules w.desk.locked (hits c aim key stored.value).left
-    hit plan.To_answer key stored rest p q = keeps w.desk n c tt (free _ refl q (λ k i. i))
-    hit (plan.To_report under) key stored rest p q = keeps w.desk n c tt (free _ refl q (λ k i. i))
+    hit (plan.To_show form) key stored rest p q = keeps w.desk n c tt (free _ refl q (λ k i. i))
     hit (plan.To_load sought) key stored rest p q = keeps w.desk n c tt (free _ refl q (λ k i. i))
     hit (plan.To_insert under new) key stored rest p q = keeps w.desk n c tt (free _ refl q (λ k i. i))
     hit (plan.To_own sought) key stored rest p q = keeps w.desk n c refl (free _ refl q (λ k i. i))
@@ -585,7 +581,7 @@ module _ {K V E : Type 0} where
 
   fresh_form : (rules : Rules) (p : List (Item K V E)) → IsFresh rules p → Locks rules.listener None p
   fresh_form rules p (Disabled a d plain) = starts rules.listener _ refl (λ e. refl)
-  fresh_form rules p (Gets key d) = starts rules.listener _ refl (λ e. refl)
+  fresh_form rules p (Gets form key d) = starts rules.listener _ refl (λ e. refl)
   fresh_form rules p (Loads sought d one) = starts rules.listener _ refl (λ e. refl)
   fresh_form rules p (Owns sought d one) = starts rules.listener _ refl (λ e. refl)
   fresh_form rules p (Computes compute one) = starts rules.listener _ refl (λ e. refl)

@@ -125,8 +125,7 @@ module _ {K V E : Type 0} where
   keeps_none n c = kept_next (λ v. naming n (plan_left v.left) ≡ None) c (λ off. refl) (λ on. refl)
 
   pub misses_none : (n : ℕ) (c : Call K V E) (aim : Aim K V) → naming n (plan_left (misses c aim).left) ≡ None
-  misses_none n c plan.To_answer = refl
-  misses_none n c (plan.To_report key) = refl
+  misses_none n c (plan.To_show form) = refl
   misses_none n c (plan.To_load sought) = refl
   misses_none n c (plan.To_own sought) = refl
   misses_none n c (plan.To_compute compute) = refl
@@ -137,8 +136,7 @@ module _ {K V E : Type 0} where
 
   pub finds_none : (n : ℕ) (c : Call K V E) (aim : Aim K V) (there : K) (stored : Stored V) →
       naming n (plan_left (finds_pair c aim there stored).left) ≡ None
-  finds_none n c plan.To_answer there stored = refl
-  finds_none n c (plan.To_report key) there stored = refl
+  finds_none n c (plan.To_show form) there stored = refl
   finds_none n c (plan.To_load sought) there stored = refl
   finds_none n c (plan.To_insert under new) there stored = refl
   finds_none n c (plan.To_own sought) there stored = refl
@@ -150,8 +148,7 @@ module _ {K V E : Type 0} where
 
   pub hits_none : (n : ℕ) (c : Call K V E) (aim : Aim K V) (there : K) (value : V) → IsLook aim →
       naming n (plan_left (hits c aim there value).left) ≡ None
-  hits_none n c plan.To_answer there value l = refl
-  hits_none n c (plan.To_report key) there value l = refl
+  hits_none n c (plan.To_show form) there value l = refl
   hits_none n c (plan.To_load sought) there value l = refl
   hits_none n c (plan.To_insert under new) there value l = refl
   hits_none n c (plan.To_own sought) there value l = refl

@@ -46,7 +46,7 @@ use Rattle.moka_hist.specs.declared.writes.Write.TheVariants.{Remove, Upsert}
 use Rattle.moka_laws.specs.Given.{HandedIsGiven, SteppedIsGiven, StoredIsGiven, HasStarted, WasGiven, handed, key_of, value_of, asked_key, brought, value_in}
 use Rattle.moka_laws.proofs.Counting.{none_some, some_same, put_cases, put_here, put_there}
 use Rattle.moka_laws.proofs.Owning.{and_left}
-use Rattle.moka_laws.proofs.Rules.{chosen_next, kept_next, loaded_plans, put_plans, read_key_next}
+use Rattle.moka_laws.proofs.Rules.{shown_next, chosen_next, kept_next, loaded_plans, put_plans, read_key_next}
 use Rattle.moka_laws.proofs.StepCases.{OnStep, step_cases}
 use Rattle.moka_laws.proofs.Outcomes.{Outcomes, computes_of, outcomes}
 use Rattle.moka_laws.proofs.StartedOnce.{started_once}
@@ -96,12 +96,11 @@ ToldFair {K} {V} {E} P key told =
 
 -- a look for this is for the key q, and what it is to store is a pair of P
 abbrev AimFair : {K V : Type 0} → (K → V → Type 0) → K → Aim K V → Type 0
-AimFair P q plan.To_answer = Unit {0}
+AimFair P q (plan.To_show form) = Unit {0}
 AimFair P q (plan.To_load sought) = sought.load.key ≡ q
 AimFair P q (plan.To_own sought) = sought.load.key ≡ q
 AimFair P q (plan.To_insert key value) = P key value × (key ≡ q)
 AimFair P q (plan.To_compute compute) = compute.key ≡ q
-AimFair P q (plan.To_report key) = Unit {0}
 AimFair P q (plan.To_evict key stamp cause) = key ≡ q
 
 -- each stored pair is one of P, under its own key
@@ -256,8 +255,7 @@ module _ {K V E : Type 0} (P R : K → V → Type 0) (q : K) where
   finds_fair : (told : Option (Told V E)) (c : Call K V E) (aim : Aim K V) (there : K)
       (seen : Stored V) → R q seen.value → AimFair P q aim →
       NextFair told (finds_pair c aim there seen)
-  finds_fair told c plan.To_answer there seen r h = (((r, h), tt), none_fair R q)
-  finds_fair told c (plan.To_report key) there seen r h = (((r, h), tt), none_fair R q)
+  finds_fair told c (plan.To_show form) there seen r h = (((r, h), tt), none_fair R q)
   finds_fair told c (plan.To_load sought) there seen r h = (((r, h), tt), none_fair R q)
   finds_fair told c (plan.To_own sought) there seen r h = (((r, h), tt), none_fair R q)
   finds_fair told c (plan.To_compute compute) there seen r h = (((r, h), tt), none_fair R q)
@@ -269,8 +267,11 @@ module _ {K V E : Type 0} (P R : K → V → Type 0) (q : K) where
   hits_fair : (told : Option (Told V E)) (c : Call K V E) (aim : Aim K V) (there : K) (value : V) →
       R q value → AimFair P q aim → PlanFair told c.plan →
       NextFair told (hits c aim there value)
-  hits_fair told c plan.To_answer there value r h p = (tt, one_fair R q value r)
-  hits_fair told c (plan.To_report key) there value r h p = (tt, one_fair R q value r)
+  hits_fair told c (plan.To_show form) there value r h p = (
+    tt,
+    shown_next (λ a. ValueFair R q (value_of a)) form (Some (there, value)) (one_fair R q value r)
+        (λ key. one_fair R q value r),
+  )
   hits_fair told c (plan.To_load sought) there value r h p = (tt, one_fair R q value r)
   hits_fair told c (plan.To_own sought) there value r h p =
       ((one_fair R q value r, (one_fair R q value r, tt)), none_fair R q)
@@ -297,8 +298,11 @@ module _ {K V E : Type 0} (P R : K → V → Type 0) (q : K) where
   module _ (Q : ℕ → K → Type 0) (eq : K → K → Bool) (ties : Ties P R Q eq) where
     misses_fair : (told : Option (Told V E)) (c : Call K V E) (aim : Aim K V) → AimFair P q aim →
         NextFair told (misses c aim)
-    misses_fair told c plan.To_answer h = (tt, none_fair R q)
-    misses_fair told c (plan.To_report key) h = (tt, none_fair R q)
+    misses_fair told c (plan.To_show form) h = (
+      tt,
+      shown_next (λ a. ValueFair R q (value_of a)) form None (none_fair R q)
+          (λ key. none_fair R q),
+    )
     misses_fair told c (plan.To_load sought) h = ((h, tt), none_fair R q)
     misses_fair told c (plan.To_own sought) h = ((h, tt), none_fair R q)
     misses_fair told c (plan.To_compute compute) h = (((h, none_fair R q), tt), none_fair R q)

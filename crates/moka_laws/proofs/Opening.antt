@@ -185,8 +185,7 @@ module _ {K V E : Type 0} where
 
     misses_leave : (aim : Aim K V) (key : K) → c.plan ≡ plan.Get aim key ∷ [] →
         LooksAtOwn (plan.Get aim key ∷ []) → s.world.table.stored key ≡ None → Leaves s n c (misses c aim)
-    misses_leave plan.To_answer key e l none = quiet _ refl (λ f. cc)
-    misses_leave (plan.To_report under) key e l none = quiet _ refl (λ f. cc)
+    misses_leave (plan.To_show form) key e l none = quiet _ refl (λ f. cc)
     misses_leave (plan.To_load sought) key e l none = quiet _ refl (λ f. cc)
     misses_leave (plan.To_own sought) key e l none = asks_now sought (inl (
       e ∙ ap (λ k. look (plan.To_own sought) k) l,
@@ -207,8 +206,7 @@ module _ {K V E : Type 0} where
     unseen_leave _ key stored e unseen = absurd (false≢true (sym unseen))
 
     finds_leave : (aim : Aim K V) (k : K) (stored : Stored V) → Leaves s n c (finds_pair c aim k stored)
-    finds_leave plan.To_answer k stored = quiet _ refl (λ e. cc)
-    finds_leave (plan.To_report key) k stored = quiet _ refl (λ e. cc)
+    finds_leave (plan.To_show form) k stored = quiet _ refl (λ e. cc)
     finds_leave (plan.To_load sought) k stored = quiet _ refl (λ e. cc)
     finds_leave (plan.To_own sought) k stored = quiet _ refl (λ e. cc)
     finds_leave (plan.To_compute compute) k stored = quiet _ refl (λ e. cc)
@@ -219,8 +217,7 @@ module _ {K V E : Type 0} where
 
     hits_leave : (aim : Aim K V) (there : K) (value : V) → lates c.plan ≡ 0 →
         Leaves s n c (hits c aim there value)
-    hits_leave plan.To_answer there value h = quiet _ refl (λ e. cc)
-    hits_leave (plan.To_report key) there value h = quiet _ refl (λ e. cc)
+    hits_leave (plan.To_show form) there value h = quiet _ refl (λ e. cc)
     hits_leave (plan.To_load sought) there value h = quiet _ refl (λ e. cc)
     hits_leave (plan.To_own sought) there value h = quiet _ refl (λ e. cc)
     hits_leave (plan.To_compute compute) there value h = quiet _ refl (λ e. cc)

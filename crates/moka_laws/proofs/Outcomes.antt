@@ -173,7 +173,7 @@ module _ {K V E : Type 0} (eq : K → K → Bool) where
       OwnsKey M w n c (alone_of key) ×
       ((owner : ℕ) → w.desk.owners (computes_of key) ≡ Some owner →
       (is_disabled c.rules ≡ false →
-      M w (goes c (plan.Drain ∷ plan.Get (plan.To_report key) key ∷ []))) ×
+      M w (goes c (plan.Drain ∷ plan.Get (plan.To_show (plan.As_report key)) key ∷ []))) ×
       (is_disabled c.rules ≡ true →
       M w (goes c (plan.Drain ∷ plan.Reply (unchanged key None) ∷ []))))
   Outcomes M w n c (plan.Read sought) rest =

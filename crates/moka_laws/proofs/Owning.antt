@@ -197,8 +197,7 @@ module _ {K V E : Type 0} where
 
     misses_owns : (c : Call K V E) (aim : Aim K V) (key : K) (rest : List (Item K V E)) → Owns owners n (plan.Get aim key ∷ rest) →
         Owns owners n (plan_left (misses c aim).left)
-    misses_owns c plan.To_answer key rest o = owns_none [] refl
-    misses_owns c (plan.To_report under) key rest o = owns_none [] refl
+    misses_owns c (plan.To_show form) key rest o = owns_none [] refl
     misses_owns c (plan.To_load sought) key rest o = owns_none (plan.Own sought ∷ []) refl
     misses_owns c (plan.To_own sought) key rest o = record { first = o.first; later = refl }
     misses_owns c (plan.To_compute compute) key rest o = record { first = o.first; later = refl }
@@ -222,10 +221,8 @@ module _ {K V E : Type 0} where
     finds_owns : (c : Call K V E) (aim : Aim K V) (key k : K) (stored : Stored V) (rest : List (Item K V E)) →
         Owns owners n (plan.Get aim key ∷ rest) →
         Owns owners n (plan_left (finds_pair c aim k stored).left)
-    finds_owns c plan.To_answer key k stored rest o =
-        owns_none (plan.Judge plan.To_answer k stored ∷ []) refl
-    finds_owns c (plan.To_report under) key k stored rest o =
-        owns_none (plan.Judge (plan.To_report under) k stored ∷ []) refl
+    finds_owns c (plan.To_show form) key k stored rest o =
+        owns_none (plan.Judge (plan.To_show form) k stored ∷ []) refl
     finds_owns c (plan.To_load sought) key k stored rest o =
         owns_none (plan.Judge (plan.To_load sought) k stored ∷ []) refl
     finds_owns c (plan.To_insert under new) key k stored rest o =
@@ -242,8 +239,7 @@ module _ {K V E : Type 0} where
         (rest : List (Item K V E)) →
         Owns owners n c.plan → Owns owners n (plan.Judge aim there stored ∷ rest) →
         Owns owners n (plan_left (hits c aim there value).left)
-    hits_owns c plan.To_answer there value stored rest p o = owns_none [] refl
-    hits_owns c (plan.To_report key) there value stored rest p o = owns_none [] refl
+    hits_owns c (plan.To_show form) there value stored rest p o = owns_none [] refl
     hits_owns c (plan.To_load sought) there value stored rest p o = owns_none [] refl
     hits_owns c (plan.To_insert under new) there value stored rest p o = owns_none [] refl
     hits_owns c (plan.To_own sought) there value stored rest p o =
@@ -426,7 +422,7 @@ module _ {K V E : Type 0} (eq : K → K → Bool) where
     on_item (plan.Own_alone key) rest p o = (
       owns_key (alone_of key),
       λ owner some. (
-        (λ able. keeps refl (owns_none _ n (plan.Drain ∷ plan.Get (plan.To_report key) key ∷ []) refl)),
+        (λ able. keeps refl (owns_none _ n (plan.Drain ∷ plan.Get (plan.To_show (plan.As_report key)) key ∷ []) refl)),
         λ not. keeps refl (owns_none _ n (plan.Drain ∷ plan.Reply (unchanged key None) ∷ []) refl),
       ),
     )

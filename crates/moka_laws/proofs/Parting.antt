@@ -92,8 +92,7 @@ module _ {K V E : Type 0} where
         (λ on. clear_parts owed n before (λ x. refl) (λ a e. cc))
 
     misses_parts : (aim : Aim K V) → Parts owed n before (misses c aim)
-    misses_parts plan.To_answer = clear_parts owed n before (λ x. refl) (λ a e. refl)
-    misses_parts (plan.To_report key) = clear_parts owed n before (λ x. refl) (λ a e. refl)
+    misses_parts (plan.To_show form) = clear_parts owed n before (λ x. refl) (λ a e. refl)
     misses_parts (plan.To_load sought) = clear_parts owed n before (λ x. refl) (λ a e. cc)
     misses_parts (plan.To_own sought) = clear_parts owed n before (λ x. refl) (λ a e. cc)
     misses_parts (plan.To_compute compute) = clear_parts owed n before (λ x. refl) (λ a e. cc)
@@ -105,9 +104,7 @@ module _ {K V E : Type 0} where
 
     finds_parts : (aim : Aim K V) (there : K) (stored : Stored V) → Parts owed n before
         (finds_pair c aim there stored)
-    finds_parts plan.To_answer there stored = clear_parts owed n before (λ x. refl) (λ a e. cc)
-    finds_parts (plan.To_report key) there stored =
-        clear_parts owed n before (λ x. refl) (λ a e. cc)
+    finds_parts (plan.To_show form) there stored = clear_parts owed n before (λ x. refl) (λ a e. cc)
     finds_parts (plan.To_load sought) there stored = clear_parts owed n before (λ x. refl) (λ a e. cc)
     finds_parts (plan.To_insert under new) there stored = clear_parts owed n before (λ x. refl) (λ a e. cc)
     finds_parts (plan.To_own sought) there stored = clear_parts owed n before (λ x. refl) (λ a e. cc)
@@ -120,9 +117,7 @@ module _ {K V E : Type 0} where
   hits_parts : (owed : ℕ → ℕ) (n : ℕ) (c : Call K V E) (aim : Aim K V) (there : K) (value : V) →
       Parts owed n c.plan
       (hits c aim there value)
-  hits_parts owed n c plan.To_answer there value =
-      clear_parts owed n c.plan (λ x. refl) (λ a e. refl)
-  hits_parts owed n c (plan.To_report key) there value =
+  hits_parts owed n c (plan.To_show form) there value =
       clear_parts owed n c.plan (λ x. refl) (λ a e. refl)
   hits_parts owed n c (plan.To_load sought) there value = clear_parts owed n c.plan (λ x. refl)
       (λ a e. refl)

@@ -89,8 +89,7 @@ module _ {K V E : Type 0} where
     keeps_pends c none = kept_next (λ v. Pends h (plan_left v.left)) c (λ off. tt) (λ on. inl none)
 
     misses_pends : (c : Call K V E) (aim : Aim K V) → h ≡ None → Pends h (plan_left (misses c aim).left)
-    misses_pends c plan.To_answer none = tt
-    misses_pends c (plan.To_report key) none = tt
+    misses_pends c (plan.To_show form) none = tt
     misses_pends c (plan.To_load sought) none = tt
     misses_pends c (plan.To_own sought) none = tt
     misses_pends c (plan.To_compute compute) none = tt
@@ -101,8 +100,7 @@ module _ {K V E : Type 0} where
 
     finds_pends : (c : Call K V E) (aim : Aim K V) (there : K) (stored : Stored V) → h ≡ None →
         Pends h (plan_left (finds_pair c aim there stored).left)
-    finds_pends c plan.To_answer there stored none = tt
-    finds_pends c (plan.To_report key) there stored none = tt
+    finds_pends c (plan.To_show form) there stored none = tt
     finds_pends c (plan.To_load sought) there stored none = tt
     finds_pends c (plan.To_insert under new) there stored none = tt
     finds_pends c (plan.To_own sought) there stored none = tt
@@ -113,8 +111,7 @@ module _ {K V E : Type 0} where
 
     hits_pends : (c : Call K V E) (aim : Aim K V) (there : K) (value : V) → IsLook aim → Pends h
         (plan_left (hits c aim there value).left)
-    hits_pends c plan.To_answer there value l = tt
-    hits_pends c (plan.To_report key) there value l = tt
+    hits_pends c (plan.To_show form) there value l = tt
     hits_pends c (plan.To_load sought) there value l = tt
     hits_pends c (plan.To_insert under new) there value l = tt
     hits_pends c (plan.To_own sought) there value l = tt

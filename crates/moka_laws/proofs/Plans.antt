@@ -130,8 +130,7 @@ module _ {K V E : Type 0} where
       (λ on. record { plan = Freeing _ (Answering _); young = y })
 
   misses_known : (c : Call K V E) (aim : Aim K V) → c.aborts < retries → KnownIf (misses c aim).left
-  misses_known c plan.To_answer y = tt
-  misses_known c (plan.To_report key) y = tt
+  misses_known c (plan.To_show form) y = tt
   misses_known c (plan.To_load sought) y = record { plan = Drained _ (Owning sought); young = y }
   misses_known c (plan.To_own sought) y = record { plan = Asking sought.load; young = y }
   misses_known c (plan.To_compute compute) y =
@@ -145,9 +144,7 @@ module _ {K V E : Type 0} where
 
   finds_known : (c : Call K V E) (aim : Aim K V) (there : K) (stored : Stored V) → c.aborts < retries →
       KnownIf (finds_pair c aim there stored).left
-  finds_known c plan.To_answer there stored y =
-      record { plan = Judging _ there stored tt; young = y }
-  finds_known c (plan.To_report key) there stored y =
+  finds_known c (plan.To_show form) there stored y =
       record { plan = Judging _ there stored tt; young = y }
   finds_known c (plan.To_load sought) there stored y =
       record { plan = Judging _ there stored tt; young = y }
@@ -165,8 +162,7 @@ module _ {K V E : Type 0} where
   hits_known : (c : Call K V E) (aim : Aim K V) (there : K) (value : V) → IsLook aim →
       c.aborts < retries →
       KnownIf (hits c aim there value).left
-  hits_known c plan.To_answer there value l y = tt
-  hits_known c (plan.To_report key) there value l y = tt
+  hits_known c (plan.To_show form) there value l y = tt
   hits_known c (plan.To_load sought) there value l y = tt
   hits_known c (plan.To_insert key unused) there value l y = tt
   hits_known c (plan.To_own sought) there value l y =
@@ -224,7 +220,7 @@ module _ {K V E : Type 0} where
 
   fresh_form : (rules : Rules) (p : List (Item K V E)) → IsFresh rules p → IsPlan p
   fresh_form rules p (Disabled a d plain) = Posted _ (Ended _ (Answering a))
-  fresh_form rules p (Gets key d) = Posted _ (Draining _ (Looking _ key tt))
+  fresh_form rules p (Gets form key d) = Posted _ (Draining _ (Looking _ key tt))
   fresh_form rules p (Loads sought d one) = Posted _ (Draining _ (Looking _ sought.load.key tt))
   fresh_form rules p (Owns sought d one) = Posted _ (Draining _ (Owning sought))
   fresh_form rules p (Computes compute one) = Owning_key compute

@@ -149,8 +149,7 @@ module _ {K V E : Type 0} where
       (λ on. record { late = refl; posts = λ x. refl; may = omega arith })
 
   pub misses_clear : (c : Call K V E) (aim : Aim K V) → IsClear (misses c aim).left
-  misses_clear c plan.To_answer = record { late = refl; posts = λ x. refl; may = omega arith }
-  misses_clear c (plan.To_report key) = record { late = refl; posts = λ x. refl; may = omega arith }
+  misses_clear c (plan.To_show form) = record { late = refl; posts = λ x. refl; may = omega arith }
   misses_clear c (plan.To_load sought) = record { late = refl; posts = λ x. refl; may = omega arith }
   misses_clear c (plan.To_own sought) = record { late = refl; posts = λ x. refl; may = omega arith }
   misses_clear c (plan.To_compute compute) =
@@ -163,9 +162,7 @@ module _ {K V E : Type 0} where
 
   pub finds_clear : (c : Call K V E) (aim : Aim K V) (there : K) (stored : Stored V) →
       IsClear (finds_pair c aim there stored).left
-  finds_clear c plan.To_answer there stored = record { late = refl; posts = λ x. refl; may = omega arith }
-  finds_clear c (plan.To_report key) there stored =
-      record { late = refl; posts = λ x. refl; may = omega arith }
+  finds_clear c (plan.To_show form) there stored = record { late = refl; posts = λ x. refl; may = omega arith }
   finds_clear c (plan.To_load sought) there stored =
       record { late = refl; posts = λ x. refl; may = omega arith }
   finds_clear c (plan.To_insert under new) there stored =
@@ -182,9 +179,7 @@ module _ {K V E : Type 0} where
 
   pub hits_clear : (c : Call K V E) (aim : Aim K V) (there : K) (value : V) → IsClear (Some c) →
       IsClear (hits c aim there value).left
-  hits_clear c plan.To_answer there value h =
-      record { late = refl; posts = λ x. refl; may = omega arith }
-  hits_clear c (plan.To_report key) there value h =
+  hits_clear c (plan.To_show form) there value h =
       record { late = refl; posts = λ x. refl; may = omega arith }
   hits_clear c (plan.To_load sought) there value h =
       record { late = refl; posts = λ x. refl; may = omega arith }

@@ -158,8 +158,7 @@ module _ {K V E : Type 0} where
       (λ on. record { swaps = λ x. refl; notice = refl })
 
   misses_clear : (c : Call K V E) (aim : Aim K V) → Clear (misses c aim).left
-  misses_clear c plan.To_answer = record { swaps = λ x. refl; notice = refl }
-  misses_clear c (plan.To_report key) = record { swaps = λ x. refl; notice = refl }
+  misses_clear c (plan.To_show form) = record { swaps = λ x. refl; notice = refl }
   misses_clear c (plan.To_load sought) = record { swaps = λ x. refl; notice = refl }
   misses_clear c (plan.To_own sought) = record { swaps = λ x. refl; notice = refl }
   misses_clear c (plan.To_compute compute) = record { swaps = λ x. refl; notice = refl }
@@ -170,8 +169,7 @@ module _ {K V E : Type 0} where
 
   finds_clear : (c : Call K V E) (aim : Aim K V) (there : K) (stored : Stored V) →
       Clear (finds_pair c aim there stored).left
-  finds_clear c plan.To_answer there stored = record { swaps = λ x. refl; notice = refl }
-  finds_clear c (plan.To_report key) there stored = record { swaps = λ x. refl; notice = refl }
+  finds_clear c (plan.To_show form) there stored = record { swaps = λ x. refl; notice = refl }
   finds_clear c (plan.To_load sought) there stored = record { swaps = λ x. refl; notice = refl }
   finds_clear c (plan.To_insert under new) there stored = record { swaps = λ x. refl; notice = refl }
   finds_clear c (plan.To_own sought) there stored = record { swaps = λ x. refl; notice = refl }
@@ -184,8 +182,7 @@ module _ {K V E : Type 0} where
 
   hits_clear : (c : Call K V E) (aim : Aim K V) (there : K) (value : V) → IsLook aim →
       Clear (hits c aim there value).left
-  hits_clear c plan.To_answer there value l = record { swaps = λ x. refl; notice = refl }
-  hits_clear c (plan.To_report key) there value l = record { swaps = λ x. refl; notice = refl }
+  hits_clear c (plan.To_show form) there value l = record { swaps = λ x. refl; notice = refl }
   hits_clear c (plan.To_load sought) there value l = record { swaps = λ x. refl; notice = refl }
   hits_clear c (plan.To_insert under new) there value l =
       record { swaps = λ x. refl; notice = refl }

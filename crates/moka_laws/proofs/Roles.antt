@@ -92,9 +92,7 @@ module _ {K V E : Type 0} where
         (λ on. record { last = refl; owning = omega (arith, none); waiting = idle })
 
     pub misses_fits : (c : Call K V E) (aim : Aim K V) (key : K) → Fits o j (plan.Get aim key ∷ []) → Fits o j (plan_left (misses c aim).left)
-    misses_fits c plan.To_answer key f = record { last = tt; owning = omega (arith, f.owning); waiting = f.waiting }
-    misses_fits c (plan.To_report under) key f =
-        record { last = tt; owning = omega (arith, f.owning); waiting = f.waiting }
+    misses_fits c (plan.To_show form) key f = record { last = tt; owning = omega (arith, f.owning); waiting = f.waiting }
     misses_fits c (plan.To_load sought) key f = record { last = refl; owning = f.owning; waiting = f.waiting }
     misses_fits c (plan.To_own sought) key f = record { last = refl; owning = f.owning; waiting = f.waiting }
     misses_fits c (plan.To_compute compute) key f =
@@ -117,9 +115,7 @@ module _ {K V E : Type 0} where
 
     pub finds_fits : (c : Call K V E) (aim : Aim K V) (key k : K) (stored : Stored V) →
         Fits o j (plan.Get aim key ∷ []) → Fits o j (plan_left (finds_pair c aim k stored).left)
-    finds_fits c plan.To_answer key k stored f =
-        record { last = refl; owning = f.owning; waiting = f.waiting }
-    finds_fits c (plan.To_report under) key k stored f =
+    finds_fits c (plan.To_show form) key k stored f =
         record { last = refl; owning = f.owning; waiting = f.waiting }
     finds_fits c (plan.To_load sought) key k stored f =
         record { last = refl; owning = f.owning; waiting = f.waiting }
@@ -138,9 +134,7 @@ module _ {K V E : Type 0} where
     pub hits_fits : (c : Call K V E) (aim : Aim K V) (key : K) (stored : Stored V) (value : V) →
         Fits o j c.plan → Fits o j (plan.Judge aim key stored ∷ []) →
         Fits o j (plan_left (hits c aim key value).left)
-    hits_fits c plan.To_answer key stored value p f =
-        record { last = tt; owning = omega (arith, f.owning); waiting = f.waiting }
-    hits_fits c (plan.To_report under) key stored value p f =
+    hits_fits c (plan.To_show form) key stored value p f =
         record { last = tt; owning = omega (arith, f.owning); waiting = f.waiting }
     hits_fits c (plan.To_load sought) key stored value p f =
         record { last = tt; owning = omega (arith, f.owning); waiting = f.waiting }
@@ -184,8 +178,7 @@ module _ {K V E : Type 0} where
   keeps_awaits c = kept_next (λ v. awaited (plan_left v.left) ≡ None) c (λ off. refl) (λ on. refl)
 
   pub misses_awaits : (c : Call K V E) (aim : Aim K V) → awaited (plan_left (misses c aim).left) ≡ None
-  misses_awaits c plan.To_answer = refl
-  misses_awaits c (plan.To_report key) = refl
+  misses_awaits c (plan.To_show form) = refl
   misses_awaits c (plan.To_load sought) = refl
   misses_awaits c (plan.To_own sought) = refl
   misses_awaits c (plan.To_compute compute) = refl
@@ -195,8 +188,7 @@ module _ {K V E : Type 0} where
 
   pub finds_awaits : (c : Call K V E) (aim : Aim K V) (k : K) (stored : Stored V) →
       awaited (plan_left (finds_pair c aim k stored).left) ≡ None
-  finds_awaits c plan.To_answer k stored = refl
-  finds_awaits c (plan.To_report key) k stored = refl
+  finds_awaits c (plan.To_show form) k stored = refl
   finds_awaits c (plan.To_load sought) k stored = refl
   finds_awaits c (plan.To_insert under new) k stored = refl
   finds_awaits c (plan.To_own sought) k stored = refl
@@ -207,8 +199,7 @@ module _ {K V E : Type 0} where
 
   pub hits_awaits : (c : Call K V E) (aim : Aim K V) (there : K) (value : V) → IsLook aim →
       awaited (plan_left (hits c aim there value).left) ≡ None
-  hits_awaits c plan.To_answer there value l = refl
-  hits_awaits c (plan.To_report key) there value l = refl
+  hits_awaits c (plan.To_show form) there value l = refl
   hits_awaits c (plan.To_load sought) there value l = refl
   hits_awaits c (plan.To_insert under new) there value l = refl
   hits_awaits c (plan.To_own sought) there value l = refl

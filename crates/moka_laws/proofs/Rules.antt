@@ -1,13 +1,14 @@
 -- How plans depend on the rules of the cache.
 use Rattle.std.proofs.Common.{◌≡◌, ◌==◌, refl, Bool, true, false, List, [], ◌∷◌, Option, Some, None}
+use Rattle.std.specs.Option.{option_map}
 use Rattle.std.proofs.lemmas.Bool.{eqb-true}
 use Rattle.moka_hist.specs.State.{Call}
 use Rattle.moka_hist.specs.Next.{Next, goes, answers, waits}
 use Rattle.moka_hist.specs.Entries.{put_answer, unchanged}
 use Rattle.moka_hist.specs.Writing.{said}
 use Rattle.moka_hist.specs.Computing.{after_read_key, after_told_op, end_compute, put_told}
-use Rattle.moka_hist.specs.Looking.{keeps, kept_rest, finds_pair, chosen_or_not}
-use Rattle.moka_hist.specs.Plan.{Item, Aim, Removal, put, under_lock, take_out, is_disabled, told_on, load_rest, loaded, get_plan, insert_plan, load_plan, or_insert_plan, seek, plan_of}
+use Rattle.moka_hist.specs.Looking.{shown, keeps, kept_rest, finds_pair, chosen_or_not}
+use Rattle.moka_hist.specs.Plan.{Item, Aim, Shown, Removal, put, under_lock, take_out, is_disabled, told_on, load_rest, loaded, get_plan, insert_plan, load_plan, or_insert_plan, seek, plan_of}
 use Rattle.moka_hist.specs.Plan as plan
 use Rattle.moka_hist.specs.declared.events.Start.{Start}
 use Rattle.moka_hist.specs.declared.events.Start.TheVariants as start
@@ -78,6 +79,14 @@ module _ {K V E : Type 0} (P : List (Item K V E) → Type 0) where
       P (loaded rules load value)
   loaded_plans rules load value told free locked =
       loaded_plans_by rules load value (λ e. told) (λ e off. free) (λ e on. locked)
+
+module _ {K V E : Type 0} (P : Answer K V E → Type 0) where
+  -- what holds of a get's answer and of each report holds of what a look shows
+  pub shown_next : (form : Shown K) (pair : Option (K × V)) →
+      P (answer.Found (option_map (λ p. p.1) pair)) → ((key : K) → P (unchanged key pair)) →
+      P (shown form pair)
+  shown_next plan.As_value pair found reports = found
+  shown_next (plan.As_report key) pair found reports = reports key
 
 module _ {K V E : Type 0} (P : Next K V E → Type 0) (c : Call K V E) where
   -- what holds of a call whose chosen record stays, where the rules say whether it frees a lock
@@ -278,8 +287,8 @@ module _ {K V E : Type 0} where
   pub data IsFresh (rules : Rules) : List (Item K V E) → Type 0 where
     Disabled : (a : Answer K V E) → is_disabled rules ≡ true → IsPlain a →
         IsFresh rules (plan.Reply a ∷ [])
-    Gets : (key : K) → is_disabled rules ≡ false →
-        IsFresh rules (plan.Drain ∷ plan.Get plan.To_answer key ∷ [])
+    Gets : (form : Shown K) (key : K) → is_disabled rules ≡ false →
+        IsFresh rules (plan.Drain ∷ plan.Get (plan.To_show form) key ∷ [])
     Loads : (sought : Sought K) → is_disabled rules ≡ false → IsLoad sought.load.kind →
         IsFresh rules (plan.Drain ∷ plan.Get (plan.To_load sought) sought.load.key ∷ [])
     Owns : (sought : Sought K) → is_disabled rules ≡ true → IsLoad sought.load.kind →
@@ -327,7 +336,7 @@ module _ {K V E : Type 0} where
     where
       by : (b : Bool) → is_disabled rules ≡ b → IsFresh rules (get_plan b key)
       by true e = Disabled (answer.Found _) e tt
-      by false e = Gets key e
+      by false e = Gets plan.As_value key e
   fresh_plan rules (start.Insert key value) = by (is_disabled rules) refl
     where
       by : (b : Bool) → is_disabled rules ≡ b → IsFresh rules (insert_plan b rules key value)

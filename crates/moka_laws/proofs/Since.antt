@@ -74,8 +74,7 @@ module _ {K V E : Type 0} where
   keeps_tests c = kept_next (λ v. weigh_call tests v.left ≡ 0) c (λ off. refl) (λ on. refl)
 
   misses_tests : (c : Call K V E) (aim : Aim K V) → weigh_call tests (misses c aim).left ≤ look_tests aim
-  misses_tests c plan.To_answer = omega arith
-  misses_tests c (plan.To_report key) = omega arith
+  misses_tests c (plan.To_show form) = omega arith
   misses_tests c (plan.To_load sought) = omega arith
   misses_tests c (plan.To_own sought) = omega arith
   misses_tests c (plan.To_compute compute) = omega arith
@@ -90,15 +89,13 @@ module _ {K V E : Type 0} where
   unseen_tests c d (plan.To_load sought) key stored e = omega (arith, test_once sought.replace)
   unseen_tests c d (plan.To_own sought) key stored e = omega (arith, test_once sought.replace)
   unseen_tests c d (plan.To_compute compute) key stored e = omega arith
-  unseen_tests c d plan.To_answer key stored e = omega arith
-  unseen_tests c d (plan.To_report under) key stored e = omega arith
+  unseen_tests c d (plan.To_show form) key stored e = omega arith
   unseen_tests c d (plan.To_insert there value) key stored e = omega (arith, misses_tests c (plan.To_insert there value))
   unseen_tests c d (plan.To_evict there stamp cause) key stored e = omega (arith, keeps_tests c)
 
   finds_tests : (c : Call K V E) (aim : Aim K V) (there : K) (stored : Stored V) →
       weigh_call tests (finds_pair c aim there stored).left ≤ look_tests aim
-  finds_tests c plan.To_answer there stored = omega arith
-  finds_tests c (plan.To_report key) there stored = omega arith
+  finds_tests c (plan.To_show form) there stored = omega arith
   finds_tests c (plan.To_load sought) there stored = omega arith
   finds_tests c (plan.To_own sought) there stored = omega arith
   finds_tests c (plan.To_compute compute) there stored = omega arith
@@ -192,8 +189,7 @@ module _ {K V E : Type 0} where
       where
         by_hit : (aim : Aim K V) → c.plan ≡ plan.Judge aim key stored ∷ rest →
             Fewer (plan.Judge aim key stored ∷ rest) w (hits c aim key stored.value)
-        by_hit plan.To_answer e = omega arith
-        by_hit (plan.To_report key) e = omega arith
+        by_hit (plan.To_show form) e = omega arith
         by_hit (plan.To_load sought) e = omega (arith, test_once sought.replace)
         by_hit (plan.To_own sought) e = omega (arith, test_once sought.replace)
         by_hit (plan.To_compute compute) e = omega arith
@@ -277,8 +273,7 @@ module _ {K V E : Type 0} where
   goes_counts c (item ∷ rest) = as_often c _ _ refl refl
 
   misses_count : (c : Call K V E) (aim : Aim K V) → Counts c 0 (misses c aim)
-  misses_count c plan.To_answer = λ d e. absurd (none_some e)
-  misses_count c (plan.To_report key) = λ d e. absurd (none_some e)
+  misses_count c (plan.To_show form) = λ d e. absurd (none_some e)
   misses_count c (plan.To_load sought) = goes_counts c (plan.Own sought ∷ [])
   misses_count c (plan.To_own sought) = goes_counts c (plan.Ask sought.load ∷ [])
   misses_count c (plan.To_compute compute) = goes_counts c (plan.Ask_op compute None ∷ [])
@@ -288,8 +283,7 @@ module _ {K V E : Type 0} where
 
   finds_count : (c : Call K V E) (aim : Aim K V) (there : K) (stored : Stored V) →
       Counts c 0 (finds_pair c aim there stored)
-  finds_count c plan.To_answer there stored = as_often c _ _ refl refl
-  finds_count c (plan.To_report key) there stored = as_often c _ _ refl refl
+  finds_count c (plan.To_show form) there stored = as_often c _ _ refl refl
   finds_count c (plan.To_load sought) there stored = as_often c _ _ refl refl
   finds_count c (plan.To_own sought) there stored = as_often c _ _ refl refl
   finds_count c (plan.To_compute compute) there stored = as_often c _ _ refl refl
@@ -300,8 +294,7 @@ module _ {K V E : Type 0} where
 
   hits_count : (c : Call K V E) (aim : Aim K V) (there : K) (value : V) →
       Counts c 0 (hits c aim there value)
-  hits_count c plan.To_answer there value = λ d e. absurd (none_some e)
-  hits_count c (plan.To_report key) there value = λ d e. absurd (none_some e)
+  hits_count c (plan.To_show form) there value = λ d e. absurd (none_some e)
   hits_count c (plan.To_load sought) there value = λ d e. absurd (none_some e)
   hits_count c (plan.To_own sought) there value = as_often c _ _ refl refl
   hits_count c (plan.To_compute compute) there value = as_often c _ _ refl refl

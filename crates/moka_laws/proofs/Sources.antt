@@ -6,7 +6,7 @@ use Rattle.moka_hist.specs.Plan.{Item, Aim, Removal, end_load}
 use Rattle.moka_hist.specs.Writing.{nothing_answer, removed_answer, said}
 use Rattle.moka_hist.specs.Plan as plan
 use Rattle.moka_hist.specs.Next.{Next, goes, waits}
-use Rattle.moka_hist.specs.Looking.{hits, misses, keeps, finds_pair}
+use Rattle.moka_hist.specs.Looking.{shown, hits, misses, keeps, finds_pair}
 use Rattle.moka_hist.specs.Loading.{after_read, after_abort, after_told, retries}
 use Rattle.moka_hist.specs.Step.{Step}
 use Rattle.moka_hist.specs.Visits.{settlement_for}
@@ -34,7 +34,7 @@ use Rattle.moka_laws.proofs.TakesFit.{ItemTakes, AllTake}
 use Rattle.moka_laws.proofs.Kept.{IsKept, in_reached}
 use Rattle.moka_laws.proofs.Owning.{plan_left}
 use Rattle.moka_laws.proofs.Roles.{IsLast}
-use Rattle.moka_laws.proofs.Rules.{IsPlain, put_plans, loaded_plans, kept_next, chosen_next, IsFresh, Disabled, Gives_back, fresh_plan, read_key_next, told_op_next_by, IsLoad, IsComputed, unchanged_computed, put_computed}
+use Rattle.moka_laws.proofs.Rules.{IsPlain, shown_next, put_plans, loaded_plans, kept_next, chosen_next, IsFresh, Disabled, Gives_back, fresh_plan, read_key_next, told_op_next_by, IsLoad, IsComputed, unchanged_computed, put_computed}
 use Rattle.moka_laws.proofs.Safe.{IsWell, well_kept}
 use Rattle.moka_laws.proofs.StepCases.{OnStep, step_cases}
 use Rattle.moka_laws.proofs.Outcomes.{Outcomes, outcomes, computes_of}
@@ -167,8 +167,8 @@ module _ {K V E : Type 0} where
         (λ is_on. on _ (λ b e. cc) tt)
 
     misses_says : (aim : Aim K V) → Still (misses c aim)
-    misses_says plan.To_answer = plainly (answer.Found None) _ refl refl tt
-    misses_says (plan.To_report key) = plainly (unchanged key None) _ refl refl tt
+    misses_says (plan.To_show form) = plainly (shown form None) _ refl refl
+        (shown_next IsPlain form None tt (λ key. tt))
     misses_says (plan.To_load sought) = on _ (λ b e. cc) tt
     misses_says (plan.To_own sought) = on _ (λ b e. cc) tt
     misses_says (plan.To_compute compute) = on _ (λ b e. cc) tt
@@ -181,8 +181,7 @@ module _ {K V E : Type 0} where
 
     finds_says : (aim : Aim K V) (there : K) (stored : Stored V) →
         Still (finds_pair c aim there stored)
-    finds_says plan.To_answer there stored = on _ (λ b e. cc) tt
-    finds_says (plan.To_report key) there stored = on _ (λ b e. cc) tt
+    finds_says (plan.To_show form) there stored = on _ (λ b e. cc) tt
     finds_says (plan.To_load sought) there stored = on _ (λ b e. cc) tt
     finds_says (plan.To_own sought) there stored = on _ (λ b e. cc) tt
     finds_says (plan.To_compute compute) there stored = on _ (λ b e. cc) tt
@@ -197,10 +196,9 @@ module _ {K V E : Type 0} where
         ItemFits {V = V} {E = E} (d.owning n) (plan.Judge aim there stored) →
         ItemTakes (d.asks n) (d.told n) (plan.Judge aim there stored) →
         Still (hits c aim there value)
-    hits_says plan.To_answer there value stored p f one =
-        plainly (answer.Found (Some value)) _ refl refl tt
-    hits_says (plan.To_report key) there value stored p f one =
-        plainly (unchanged key (Some (there, value))) _ refl refl tt
+    hits_says (plan.To_show form) there value stored p f one =
+        plainly (shown form (Some (there, value))) _ refl refl
+        (shown_next IsPlain form (Some (there, value)) tt (λ key. tt))
     hits_says (plan.To_load sought) there value stored p f one =
         plainly (answer.Loaded value false) _ refl refl tt
     hits_says (plan.To_own sought) there value stored p f one = on _ (λ b e. cc)

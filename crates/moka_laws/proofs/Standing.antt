@@ -135,8 +135,7 @@ module _ {K V E : Type 0} where
   keeps_calm c = kept_next (λ v. weigh_call chosen v.left ≡ 0) c (λ off. refl) (λ on. refl)
 
   misses_calm : (c : Call K V E) (aim : Aim K V) → weigh_call chosen (misses c aim).left ≡ 0
-  misses_calm c plan.To_answer = refl
-  misses_calm c (plan.To_report key) = refl
+  misses_calm c (plan.To_show form) = refl
   misses_calm c (plan.To_load sought) = refl
   misses_calm c (plan.To_own sought) = refl
   misses_calm c (plan.To_compute compute) = refl
@@ -147,8 +146,7 @@ module _ {K V E : Type 0} where
   hits_calm : (c : Call K V E) (aim : Aim K V) (there : K) (value : V) → weigh chosen c.plan ≡ 0 →
       weigh_call chosen
       (hits c aim there value).left ≡ 0
-  hits_calm c plan.To_answer there value p = refl
-  hits_calm c (plan.To_report key) there value p = refl
+  hits_calm c (plan.To_show form) there value p = refl
   hits_calm c (plan.To_load sought) there value p = refl
   hits_calm c (plan.To_insert under new) there value p = refl
   hits_calm c (plan.To_own sought) there value p = refl
@@ -212,8 +210,7 @@ module _ {K V E : Type 0} where
         ((own : K) → locked_key (plan.Get aim key ∷ rest) ≡ Some own → Inside own
         (plan.Get aim key ∷ rest)) →
         StandsIf w.table.stored (finds_pair c aim there seen).left
-    finds_on plan.To_answer key there seen rest e some inside = inl refl
-    finds_on (plan.To_report under) key there seen rest e some inside = inl refl
+    finds_on (plan.To_show form) key there seen rest e some inside = inl refl
     finds_on (plan.To_load sought) key there seen rest e some inside = inl refl
     finds_on (plan.To_insert under new) key there seen rest e some inside = inl refl
     finds_on (plan.To_own sought) key there seen rest e some inside = inl refl

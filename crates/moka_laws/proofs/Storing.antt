@@ -9,7 +9,7 @@ use Rattle.moka_hist.specs.State.{DeskPart, State, World, Call}
 use Rattle.moka_hist.specs.Plan.{Item, Aim, Removal, insert_plan, is_disabled, load_plan, plan_of}
 use Rattle.moka_hist.specs.Plan as plan
 use Rattle.moka_hist.specs.Next.{Next, goes}
-use Rattle.moka_hist.specs.Looking.{hits, misses, finds_pair}
+use Rattle.moka_hist.specs.Looking.{shown, hits, misses, finds_pair}
 use Rattle.moka_hist.specs.Loading.{after_read, after_told, after_abort, retries}
 use Rattle.moka_hist.specs.Step.{Step}
 use Rattle.moka_hist.specs.Run.{fresh_call, started}
@@ -37,7 +37,7 @@ use Rattle.moka_laws.proofs.OnePlace.{times_contains}
 use Rattle.moka_laws.proofs.Owning.{plan_left}
 use Rattle.moka_laws.proofs.Roles.{IsLast}
 use Rattle.moka_laws.proofs.Safe.{IsWell, in_well, well_kept}
-use Rattle.moka_laws.proofs.Rules.{put_plans, loaded_plans_by, put_plans, read_key_next, told_op_next_by}
+use Rattle.moka_laws.proofs.Rules.{shown_next, put_plans, loaded_plans_by, put_plans, read_key_next, told_op_next_by}
 use Rattle.moka_hist.specs.Entries.{unchanged, put_answer}
 use Rattle.moka_laws.proofs.Starting.{begins_so, from_start}
 use Rattle.moka_laws.proofs.Steady.{rules_stable, step_calls, step_commits, step_last, step_rules}
@@ -135,17 +135,14 @@ module _ {K V E : Type 0} where
 
     misses_says : (c : Call K V E) (aim : Aim K V) (key : K) → takes (plan.Get aim key) ≡ 0 → Says k
         (misses c aim)
-    misses_says c plan.To_answer key t = record {
+    misses_says c (plan.To_show form) key t = record {
       left = omega arith;
       plain = refl;
-      now = λ b e. omega
-          (arith, ap stored (same_answer (reply.Found None) b e));
-    }
-    misses_says c (plan.To_report under) key t = record {
-      left = omega arith;
-      plain = refl;
-      now = λ b e. omega
-          (arith, ap stored (same_answer (unchanged under None) b e));
+      now = λ b e. omega (
+        arith,
+        ap stored (same_answer (shown form None) b e),
+        shown_next {V = V} {E = E} (λ a. stored a ≡ 0) form None refl (λ under. refl),
+      );
     }
     misses_says c (plan.To_load sought) key t = record
         { left = omega arith; plain = refl; now = λ b e. cc }
@@ -161,9 +158,7 @@ module _ {K V E : Type 0} where
 
     finds_says : (c : Call K V E) (aim : Aim K V) (key there : K) (found : Stored V) → takes
         (plan.Get aim key) ≡ 0 → Says k (finds_pair c aim there found)
-    finds_says c plan.To_answer key there found t = record
-        { left = omega arith; plain = refl; now = λ b e. cc }
-    finds_says c (plan.To_report under) key there found t = record
+    finds_says c (plan.To_show form) key there found t = record
         { left = omega arith; plain = refl; now = λ b e. cc }
     finds_says c (plan.To_load sought) key there found t = record
         { left = omega arith; plain = refl; now = λ b e. cc }
@@ -177,19 +172,15 @@ module _ {K V E : Type 0} where
 
     hits_says : (c : Call K V E) (aim : Aim K V) (key : K) (found : Stored V) → takes
         (plan.Judge aim key found) ≡ 0 → Says k (hits c aim key found.value)
-    hits_says c plan.To_answer key found t =
+    hits_says c (plan.To_show form) key found t =
         record {
           left = omega arith;
           plain = refl;
-          now = λ b e. omega
-              (arith, ap stored (same_answer (reply.Found (Some found.value)) b e));
-        }
-    hits_says c (plan.To_report under) key found t =
-        record {
-          left = omega arith;
-          plain = refl;
-          now = λ b e. omega
-              (arith, ap stored (same_answer (unchanged under (Some (key, found.value))) b e));
+          now = λ b e. omega (
+            arith,
+            ap stored (same_answer (shown form (Some (key, found.value))) b e),
+            shown_next {V = V} {E = E} (λ a. stored a ≡ 0) form (Some (key, found.value)) refl (λ under. refl),
+          );
         }
     hits_says c (plan.To_load sought) key found t =
         record {

@@ -122,8 +122,7 @@ module _ {K V E : Type 0} where
     misses_take : (c : Call K V E) (aim : Aim K V) (key : K) →
         ItemTakes asked given (plan.Get aim key) →
         AllTake asked given (plan_left (misses c aim).left)
-    misses_take c plan.To_answer key f = tt
-    misses_take c (plan.To_report under) key f = tt
+    misses_take c (plan.To_show form) key f = tt
     misses_take c (plan.To_load sought) key f = (f, tt)
     misses_take c (plan.To_own sought) key f = (f, tt)
     misses_take c (plan.To_compute compute) key f = (f, tt)
@@ -135,8 +134,7 @@ module _ {K V E : Type 0} where
     unseen_take : (c : Call K V E) (aim : Aim K V) (key : K) (stored : Stored V) →
         ItemTakes asked given (plan.Judge aim key stored) →
         AllTake asked given (plan_left (misses c aim).left)
-    unseen_take c plan.To_answer key stored f = misses_take c plan.To_answer key tt
-    unseen_take c (plan.To_report under) key stored f = misses_take c (plan.To_report under) key tt
+    unseen_take c (plan.To_show form) key stored f = misses_take c (plan.To_show form) key tt
     unseen_take c (plan.To_load sought) key stored f = misses_take c (plan.To_load sought) key f
     unseen_take c (plan.To_own sought) key stored f = misses_take c (plan.To_own sought) key f
     unseen_take c (plan.To_compute compute) key stored f =
@@ -148,8 +146,7 @@ module _ {K V E : Type 0} where
     finds_take : (c : Call K V E) (aim : Aim K V) (key k : K) (stored : Stored V) →
         ItemTakes asked given (plan.Get aim key) →
         AllTake asked given (plan_left (finds_pair c aim k stored).left)
-    finds_take c plan.To_answer key k stored f = (tt, tt)
-    finds_take c (plan.To_report under) key k stored f = (tt, tt)
+    finds_take c (plan.To_show form) key k stored f = (tt, tt)
     finds_take c (plan.To_load sought) key k stored f = (f, tt)
     finds_take c (plan.To_own sought) key k stored f = (f, tt)
     finds_take c (plan.To_compute compute) key k stored f = (f, tt)
@@ -161,8 +158,7 @@ module _ {K V E : Type 0} where
     hits_take : (c : Call K V E) (aim : Aim K V) (there : K) (value : V) (stored : Stored V) →
         AllTake asked given c.plan → ItemTakes asked given (plan.Judge aim there stored) →
         AllTake asked given (plan_left (hits c aim there value).left)
-    hits_take c plan.To_answer there value stored p f = tt
-    hits_take c (plan.To_report key) there value stored p f = tt
+    hits_take c (plan.To_show form) there value stored p f = tt
     hits_take c (plan.To_load sought) there value stored p f = tt
     hits_take c (plan.To_own sought) there value stored p f = (tt, (tt, tt))
     hits_take c (plan.To_compute compute) there value stored p f = (f, tt)
@@ -226,7 +222,7 @@ module _ {K V E : Type 0} where
         ((q.0.0, tt, taken_fits asked (takes_of load.kind) tells e q.0.1), tells_take tells rest e q.1)
     tells_take tells (plan.Told_op compute pair ∷ rest) e q =
         ((q.0.0, tt, taken_fits asked compute.takes tells e q.0.1), tells_take tells rest e q.1)
-    tells_take tells (plan.Get plan.To_answer key ∷ rest) e q =
+    tells_take tells (plan.Get (plan.To_show plan.As_value) key ∷ rest) e q =
         (tt, tells_take tells rest e q.1)
     tells_take tells (plan.Get aim key ∷ rest) e q =
         (q.0, tells_take tells rest e q.1)

@@ -119,8 +119,7 @@ module _ {K V E : Type 0} where
   keeps_calm c = kept_next (λ v. weigh of_turn (plan_left v.left) ≡ 0) c (λ off. refl) (λ on. refl)
 
   misses_calm : (c : Call K V E) (aim : Aim K V) → weigh of_turn (plan_left (misses c aim).left) ≡ 0
-  misses_calm c plan.To_answer = refl
-  misses_calm c (plan.To_report key) = refl
+  misses_calm c (plan.To_show form) = refl
   misses_calm c (plan.To_load sought) = refl
   misses_calm c (plan.To_own sought) = refl
   misses_calm c (plan.To_compute compute) = refl
@@ -130,8 +129,7 @@ module _ {K V E : Type 0} where
 
   finds_calm : (c : Call K V E) (aim : Aim K V) (there : K) (stored : Stored V) →
       weigh of_turn (plan_left (finds_pair c aim there stored).left) ≡ 0
-  finds_calm c plan.To_answer there stored = refl
-  finds_calm c (plan.To_report key) there stored = refl
+  finds_calm c (plan.To_show form) there stored = refl
   finds_calm c (plan.To_load sought) there stored = refl
   finds_calm c (plan.To_insert under new) there stored = refl
   finds_calm c (plan.To_own sought) there stored = refl
@@ -142,8 +140,7 @@ module _ {K V E : Type 0} where
 
   hits_calm : (c : Call K V E) (aim : Aim K V) (there : K) (value : V) → weigh of_turn c.plan ≡ 0 →
       weigh of_turn (plan_left (hits c aim there value).left) ≡ 0
-  hits_calm c plan.To_answer there value h = refl
-  hits_calm c (plan.To_report key) there value h = refl
+  hits_calm c (plan.To_show form) there value h = refl
   hits_calm c (plan.To_load sought) there value h = refl
   hits_calm c (plan.To_insert under new) there value h = refl
   hits_calm c (plan.To_own sought) there value h = refl

@@ -204,20 +204,20 @@ module _ {K V E : Type 0} (eq : K → K → Bool) (key q : K) (value : V) (same 
   -- ---- the get
 
   data Looks (stored : Map K V) : List (Item K V E) → Type 0 where
-    Seeking : (p : List (Item K V E)) → Has q value stored → Before (plan.Get plan.To_answer q ∷ []) p → Looks stored p
-    Judging : (k : K) (seen : Stored V) → seen.value ≡ value → Looks stored (plan.Judge plan.To_answer k seen ∷ [])
+    Seeking : (p : List (Item K V E)) → Has q value stored → Before (plan.Get (plan.To_show plan.As_value) q ∷ []) p → Looks stored p
+    Judging : (k : K) (seen : Stored V) → seen.value ≡ value → Looks stored (plan.Judge (plan.To_show plan.As_value) k seen ∷ [])
 
   abbrev Finds : Map K V → Answer K V E → Type 0
   Finds stored a = a ≡ answer.Found (Some value)
 
   looks : (n : ℕ) (w : World K V E) (c : Call K V E) (p : List (Item K V E)) → c.plan ≡ p → Looks w.table.stored p → OnStep eq (Goes Looks Finds) w n c p
   looks n w c p e (Seeking r has b) =
-      before_step Looks Finds eq w n c (plan.Get plan.To_answer q ∷ []) (λ v d. Seeking v has d) (λ a f. cc) p (
+      before_step Looks Finds eq w n c (plan.Get (plan.To_show plan.As_value) q ∷ []) (λ v d. Seeking v has d) (λ a f. cc) p (
         (λ more. record { going = λ f. (record c { mode = mode.Mid }, refl, subst (Looks w.table.stored) (sym e) (Seeking r has b)); ends = λ a f. cc }),
         λ found t o.
-            rw (o.1, o.0 ∙ ap answer_of has.2) (on Looks Finds _ c (plan.Judge plan.To_answer has.0 has.1 ∷ []) (Judging has.0 has.1 has.3)),
+            rw (o.1, o.0 ∙ ap answer_of has.2) (on Looks Finds _ c (plan.Judge (plan.To_show plan.As_value) has.0 has.1 ∷ []) (Judging has.0 has.1 has.3)),
       ) b
-  looks n w c p e (Judging k seen is) = outcomes eq (Goes Looks Finds) w n c (plan.Judge plan.To_answer k seen) [] (
+  looks n w c p e (Judging k seen is) = outcomes eq (Goes Looks Finds) w n c (plan.Judge (plan.To_show plan.As_value) k seen) [] (
     (λ sees. ended Looks Finds _ (answer.Found (Some seen.value)) (ap (λ v. answer.Found (Some v)) is)),
     λ unseen. absurd (false≢true (sym unseen)),
   )

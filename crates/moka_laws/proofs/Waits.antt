@@ -52,8 +52,7 @@ module _ {K V E : Type 0} where
   keeps_on c = kept_next GoesOn c (λ off e. cc) (λ on e. cc)
 
   misses_on : (c : Call K V E) (aim : Aim K V) → GoesOn (misses c aim)
-  misses_on c plan.To_answer = λ e. cc
-  misses_on c (plan.To_report key) = λ e. cc
+  misses_on c (plan.To_show form) = λ e. cc
   misses_on c (plan.To_load sought) = λ e. cc
   misses_on c (plan.To_own sought) = λ e. cc
   misses_on c (plan.To_compute compute) = λ e. cc
@@ -66,8 +65,7 @@ module _ {K V E : Type 0} where
 
   finds_on : (c : Call K V E) (aim : Aim K V) (k : K) (stored : Stored V) →
       GoesOn (finds_pair c aim k stored)
-  finds_on c plan.To_answer k stored = λ e. cc
-  finds_on c (plan.To_report key) k stored = λ e. cc
+  finds_on c (plan.To_show form) k stored = λ e. cc
   finds_on c (plan.To_load sought) k stored = λ e. cc
   finds_on c (plan.To_insert under new) k stored = λ e. cc
   finds_on c (plan.To_own sought) k stored = λ e. cc
@@ -77,8 +75,7 @@ module _ {K V E : Type 0} where
 
   hits_on : (c : Call K V E) (aim : Aim K V) (there : K) (value : V) → IsLook aim →
       GoesOn (hits c aim there value)
-  hits_on c plan.To_answer there value l = λ e. cc
-  hits_on c (plan.To_report key) there value l = λ e. cc
+  hits_on c (plan.To_show form) there value l = λ e. cc
   hits_on c (plan.To_load sought) there value l = λ e. cc
   hits_on c (plan.To_insert under new) there value l = λ e. cc
   hits_on c (plan.To_own sought) there value l = λ e. cc

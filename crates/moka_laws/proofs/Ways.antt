@@ -39,8 +39,7 @@ use Rattle.moka_laws.proofs.Safe.{in_well, may_step}
 
 judge_few : {K V : Type 0} (owed most aborts : ℕ) (aim : Aim K V) →
     judge_steps owed most aborts aim ≤ 8 * owed + most + 406
-judge_few owed most aborts plan.To_answer = omega arith
-judge_few owed most aborts (plan.To_report key) = omega arith
+judge_few owed most aborts (plan.To_show form) = omega arith
 judge_few owed most aborts (plan.To_load sought) = omega arith
 judge_few owed most aborts (plan.To_own sought) = omega arith
 judge_few owed most aborts (plan.To_compute compute) = omega arith

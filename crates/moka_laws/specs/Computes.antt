@@ -244,7 +244,7 @@ pub data ComputeSays {K V E : Type 0} (eq : K → K → Bool) (begin : Start K V
       ComputeSays eq begin s n key a
   Reports : (found : Option (K × Stored V)) → begin ≡ start.ComputeAlone key →
       HasMade eq s n (StandsAside key) →
-      HasMade eq s n (LooksUp n (plan.To_report key) key found) →
+      HasMade eq s n (LooksUp n (plan.To_show (plan.As_report key)) key found) →
       a ≡ unchanged key (seen_as found) → ComputeSays eq begin s n key a
 
 -- a compute answers by what it was told, never what another compute settled

@@ -5,7 +5,7 @@ use Rattle.std.proofs.lemmas.List.Elements.{Contains-append_left, Contains-appen
 use Rattle.moka_hist.specs.State.{World, Call}
 use Rattle.moka_hist.specs.Computing.{after_told_op, end_compute, put_told}
 use Rattle.moka_hist.specs.Entries.{put_answer, removed_value, unchanged}
-use Rattle.moka_hist.specs.Looking.{finds_pair, hits, misses}
+use Rattle.moka_hist.specs.Looking.{finds_pair, hits, misses, shown}
 use Rattle.moka_hist.specs.Next.{Next, goes, waits}
 use Rattle.moka_hist.specs.Plan.{Aim, Item, Removal, is_disabled, plan_of, take_out, under_lock}
 use Rattle.moka_hist.specs.Plan as plan
@@ -43,7 +43,7 @@ module _ {K V E : Type 0} (key : K) (Other : Type 0) (May : Answer K V E → Typ
   -- a look for this goes on as the compute may
   abbrev SuitsAim : Aim K V → Type 0
   SuitsAim (plan.To_compute compute) = compute.key ≡ key
-  SuitsAim (plan.To_report under) = (pair : Option (K × V)) → May (unchanged under pair)
+  SuitsAim (plan.To_show form) = (pair : Option (K × V)) → May (shown form pair)
   SuitsAim _ = ⊥
 
   -- the item answers as the compute may, and is no other call's
@@ -75,17 +75,17 @@ module _ {K V E : Type 0} (key : K) (Other : Type 0) (May : Answer K V E → Typ
   module _ (c : Call K V E) where
     misses_suit : (aim : Aim K V) → SuitsAim aim → Leaves Suits May (misses c aim)
     misses_suit (plan.To_compute compute) s = on Suits May _ (λ b e. cc) (s, tt)
-    misses_suit (plan.To_report under) s = answers_so Suits May (unchanged under None) _ refl refl (s None)
+    misses_suit (plan.To_show form) s = answers_so Suits May (shown form None) _ refl refl (s None)
     misses_suit _ s = absurd s
 
     hits_suit : (aim : Aim K V) (there : K) (value : V) → SuitsAim aim → Leaves Suits May (hits c aim there value)
     hits_suit (plan.To_compute compute) there value s = on Suits May _ (λ b e. cc) (s, tt)
-    hits_suit (plan.To_report under) there value s = answers_so Suits May (unchanged under (Some (there, value))) _ refl refl (s (Some (there, value)))
+    hits_suit (plan.To_show form) there value s = answers_so Suits May (shown form (Some (there, value))) _ refl refl (s (Some (there, value)))
     hits_suit _ there value s = absurd s
 
     finds_suit : (aim : Aim K V) (there : K) (stored : Stored V) → SuitsAim aim → Leaves Suits May (finds_pair c aim there stored)
     finds_suit (plan.To_compute compute) there stored s = on Suits May _ (λ b e. cc) (s, tt)
-    finds_suit (plan.To_report under) there stored s = on Suits May _ (λ b e. cc) (s, tt)
+    finds_suit (plan.To_show form) there stored s = on Suits May _ (λ b e. cc) (s, tt)
     finds_suit _ there stored s = absurd s
 
     puts_suit : (under : K) (pair : Option (K × V)) (value : V) → May (put_answer under pair value) → Leaves Suits May (goes c (put_told (is_disabled c.rules) c under pair value))
