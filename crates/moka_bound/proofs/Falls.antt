@@ -204,10 +204,8 @@ module _ {K V E : Type 0} where
 
     -- what is left of a removal takes a step or two
     said_few : (removal : Removal K) (a : Answer K V E) → steps_of old.owed old.most c.aborts false old.most true (said removal a) ≤ 2
-    said_few plan.To_invalidate a = omega arith
-    said_few plan.To_remove a = omega arith
-    said_few (plan.To_evict_chosen stamp cause) a = omega arith
     said_few (plan.To_remove_as_told key) a = omega arith
+    said_few _ a = omega arith
 
     -- nothing was found: the lock is freed, or the clock is read
     nothing_falls : (bound : ℕ) (removal : Removal K) (listener : Bool) → Same old new → old.logged + 3 < bound →
@@ -245,13 +243,11 @@ module _ {K V E : Type 0} where
 
     hits_falls : (bound : ℕ) (aim : Aim K V) (there : K) (value : V) → Same old new → old.logged + judge_steps old.owed old.most c.aborts aim ≤ bound → Falls new bound (hits c aim there value)
     hits_falls bound (plan.To_evict key stamp cause) there value s h = never new bound (waits c) (λ e. cc)
-    hits_falls bound (plan.To_show form) there value s h = never new bound (hits c (plan.To_show form) there value) (λ e. cc)
-    hits_falls bound (plan.To_load sought) there value s h = never new bound (hits c (plan.To_load sought) there value) (λ e. cc)
-    hits_falls bound (plan.To_insert key unused) there value s h = never new bound (hits c (plan.To_insert key unused) there value) (λ e. cc)
     hits_falls bound (plan.To_compute compute) there value s h =
         same_falls old new bound c (plan.Ask_op compute (Some (there, value)) ∷ []) s (omega (arith, h))
     hits_falls bound (plan.To_own sought) there value s h =
         same_falls old new bound c (plan.Settle (settled.Ready value) ∷ plan.Reply (answer.Loaded value false) ∷ []) s (omega (arith, h))
+    hits_falls bound aim there value s h = never new bound (hits c aim there value) (λ e. cc)
 
     -- the record that was found is seen, or not
     judge_falls : (bound : ℕ) (aim : Aim K V) (there : K) (stored : Stored V) (seen : Bool) → Same old new →
@@ -280,10 +276,6 @@ module _ {K V E : Type 0} where
     reads sought settled.Aborted s = starts_anew sought (c.aborts + 1 == retries) s
 
     is_told : (load : Load K) (given : Option (Told V E)) → Same old new → Falls new (bound_of (plan.Told load ∷ [])) (after_told c load (found.TakeTold given))
-    is_told load None s = never new _ (waits c) (λ e. cc)
-    is_told load (Some told.Done) s = never new _ (waits c) (λ e. cc)
-    is_told load (Some told.Off) s = never new _ (waits c) (λ e. cc)
-    is_told load (Some (told.Op op)) s = never new _ (waits c) (λ e. cc)
     is_told load (Some told.Nothing) s =
         same_falls old new _ c (end_load settled.Nothing answer.Nothing) s (omega arith)
     is_told load (Some (told.Err error)) s =
@@ -299,6 +291,7 @@ module _ {K V E : Type 0} where
         by true listener = omega arith
         by false true = omega arith
         by false false = omega arith
+    is_told load _ s = never new _ (waits c) (λ e. cc)
 
     -- an owner of a key's computes looks what it has, and asks
     owns_key : (compute : Compute K) → Same old new →
@@ -339,10 +332,7 @@ module _ {K V E : Type 0} where
         Falls new (bound_of (plan.Read_key compute ∷ [])) (after_read_key c compute (found.ReadSettled (unwrap_or with settled.NotYet)))
     reads_key compute None s e = never new _ (waits c) (λ d. cc)
     reads_key compute (Some settled.NotYet) s e = never new _ (waits c) (λ d. cc)
-    reads_key compute (Some (settled.Ready value)) s e = begins_anew compute s e
-    reads_key compute (Some (settled.Err error)) s e = begins_anew compute s e
-    reads_key compute (Some settled.Nothing) s e = begins_anew compute s e
-    reads_key compute (Some settled.Aborted) s e = begins_anew compute s e
+    reads_key compute _ s e = begins_anew compute s e
 
     -- a told value is stored
     puts_told : (compute : Compute K) (pair : Option (K × V)) (value : V) → Same old new →
@@ -372,10 +362,6 @@ module _ {K V E : Type 0} where
 
     does_told : (compute : Compute K) (pair : Option (K × V)) (given : Option (Told V E)) → Same old new →
         Falls new (bound_of (plan.Told_op compute pair ∷ [])) (after_told_op c compute pair (found.TakeTold given))
-    does_told compute pair None s = never new _ (waits c) (λ e. cc)
-    does_told compute pair (Some told.Nothing) s = never new _ (waits c) (λ e. cc)
-    does_told compute pair (Some told.Done) s = never new _ (waits c) (λ e. cc)
-    does_told compute pair (Some told.Off) s = never new _ (waits c) (λ e. cc)
     does_told compute pair (Some (told.Op op.Nop)) s =
         same_falls old new _ c (end_compute (unchanged compute.key pair)) s (omega arith)
     does_told compute pair (Some (told.Op (op.Put value))) s = puts_told compute pair value s
@@ -383,6 +369,7 @@ module _ {K V E : Type 0} where
     does_told compute pair (Some (told.Op op.Remove)) s = takes_told compute pair s
     does_told compute pair (Some (told.Err error)) s =
         same_falls old new _ c (end_compute (answer.ComputeErr error)) s (omega arith)
+    does_told compute pair _ s = never new _ (waits c) (λ e. cc)
 
     -- an operation that stays undecided
     stays_on : Eases old new → new.logged ≡ old.logged → new.left < old.left → (aim : Aim K V) (key : K) (rest : List (Item K V E)) → c.plan ≡ plan.Get aim key ∷ rest → Falls new (bound_of (plan.Get aim key ∷ rest)) (stays c)
@@ -499,12 +486,8 @@ module _ {K V E : Type 0} where
         chosen false key stamp cause = kept_falls old new c young _ s (omega arith)
 
         finds_falls : (aim : Aim K V) → Falls new (bound_of old new c young (plan.Get aim key ∷ rest)) (finds_pair c aim there stored)
-        finds_falls (plan.To_show form) = same_falls old new _ c (plan.Judge (plan.To_show form) there stored ∷ []) s (omega arith)
-        finds_falls (plan.To_load sought) = same_falls old new _ c (plan.Judge (plan.To_load sought) there stored ∷ []) s (omega arith)
-        finds_falls (plan.To_own sought) = same_falls old new _ c (plan.Judge (plan.To_own sought) there stored ∷ []) s (omega arith)
-        finds_falls (plan.To_insert k value) = same_falls old new _ c (plan.Judge (plan.To_insert k value) there stored ∷ []) s (omega arith)
-        finds_falls (plan.To_compute compute) = same_falls old new _ c (plan.Judge (plan.To_compute compute) there stored ∷ []) s (omega arith)
         finds_falls (plan.To_evict k stamp cause) = chosen (stored.stamp == stamp) k stamp cause
+        finds_falls aim = same_falls old new _ c (plan.Judge aim there stored ∷ []) s (omega arith)
 
     -- a look or a write that stays undecided
     get_stays : (aim : Aim K V) (key : K) (rest : List (Item K V E)) → c.plan ≡ plan.Get aim key ∷ rest → Same old new → new.left < old.left →

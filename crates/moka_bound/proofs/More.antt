@@ -10,12 +10,8 @@ post_worst true = omega arith
 post_worst false = omega arith
 
 pub judge_more : {K V : Type 0} (o o' m m' aborts : ℕ) (aim : Aim K V) → o ≤ o' → m ≤ m' → judge_steps o m aborts aim ≤ judge_steps o' m' aborts aim
-judge_more o o' m m' aborts (plan.To_show form) p h = omega arith
-judge_more o o' m m' aborts (plan.To_load sought) p h = omega arith
-judge_more o o' m m' aborts (plan.To_own sought) p h = omega arith
-judge_more o o' m m' aborts (plan.To_insert key value) p h = omega arith
-judge_more o o' m m' aborts (plan.To_compute compute) p h = omega arith
 judge_more o o' m m' aborts (plan.To_evict key stamp cause) p h = omega (arith, h)
+judge_more o o' m m' aborts _ p h = omega arith
 
 -- an owner that has ended costs most, since the call then begins anew
 abbrev pub ended_steps : Bool → ℕ
@@ -43,8 +39,6 @@ module _ {K V E : Type 0} where
   more [] o o' m m' aborts l l' r r' e e' ho hm hl hr he = omega arith
   more (plan.Drain ∷ rest) o o' m m' aborts l l' r r' e e' ho hm hl hr he =
       let h = more rest o o' m m' aborts m m' false false true true ho hm hm (same_room false) (same_end true) in omega (arith, h, ho)
-  more (plan.Ended number ∷ rest) o o' m m' aborts l l' r r' e e' ho hm hl hr he =
-      let h = more rest o o' m m' aborts m m' false false true true ho hm hm (same_room false) (same_end true) in omega (arith, h)
   more (plan.Post write ∷ rest) o o' m m' aborts l l' r r' e e' ho hm hl hr he =
       let h = more rest o o' m m' aborts m m' false false true true ho hm hm (same_room false) (same_end true) in omega (arith, h, hr)
   more (plan.Turn ∷ rest) o o' m m' aborts l l' r r' e e' ho hm hl hr he =
@@ -58,8 +52,6 @@ module _ {K V E : Type 0} where
   more (plan.Judge aim key stored ∷ rest) o o' m m' aborts l l' r r' e e' ho hm hl hr he = judge_more o o' m m' aborts aim ho hm
   more (plan.Own load ∷ rest) o o' m m' aborts l l' r r' e e' ho hm hl hr he = omega (arith, hm)
   more (plan.Read load ∷ rest) o o' m m' aborts l l' r r' e e' ho hm hl hr he = omega (arith, hm)
-  more (plan.Settle with ∷ rest) o o' m m' aborts l l' r r' e e' ho hm hl hr he =
-      let h = more rest o o' m m' aborts m m' false false true true ho hm hm (same_room false) (same_end true) in omega (arith, h)
   more (plan.Ask load ∷ rest) o o' m m' aborts l l' r r' e e' ho hm hl hr he = omega arith
   more (plan.Told load ∷ rest) o o' m m' aborts l l' r r' e e' ho hm hl hr he = omega (arith, ho, hm)
   more (plan.Own_key compute ∷ rest) o o' m m' aborts l l' r r' e e' ho hm hl hr he = omega (arith, ho, hm)
@@ -67,14 +59,6 @@ module _ {K V E : Type 0} where
   more (plan.Read_key compute ∷ rest) o o' m m' aborts l l' r r' e e' ho hm hl hr he = read_key_more o o' m m' e e' ho hm he
   more (plan.Ask_op compute found ∷ rest) o o' m m' aborts l l' r r' e e' ho hm hl hr he = omega arith
   more (plan.Told_op compute found ∷ rest) o o' m m' aborts l l' r r' e e' ho hm hl hr he = omega (arith, ho, hm)
-  more (plan.Lock key ∷ rest) o o' m m' aborts l l' r r' e e' ho hm hl hr he =
-      let h = more rest o o' m m' aborts m m' false false true true ho hm hm (same_room false) (same_end true) in omega (arith, h)
-  more (plan.Unlock wrote ∷ rest) o o' m m' aborts l l' r r' e e' ho hm hl hr he =
-      let h = more rest o o' m m' aborts m m' false false true true ho hm hm (same_room false) (same_end true) in omega (arith, h)
-  more (plan.Notice key old cause upsert ∷ rest) o o' m m' aborts l l' r r' e e' ho hm hl hr he =
-      let h = more rest o o' m m' aborts m m' false false true true ho hm hm (same_room false) (same_end true) in omega (arith, h)
-  more (plan.Heard ∷ rest) o o' m m' aborts l l' r r' e e' ho hm hl hr he =
-      let h = more rest o o' m m' aborts m m' false false true true ho hm hm (same_room false) (same_end true) in omega (arith, h)
   more (plan.Moment (plan.To_store key value) ∷ rest) o o' m m' aborts l l' r r' e e' ho hm hl hr he =
       let h = more rest o o' (m + growth) (m' + growth) aborts (m + growth) (m' + growth) false false true true ho (omega (arith, hm)) (omega (arith, hm)) (same_room false) (same_end true)
       in omega (arith, h, hm)
@@ -84,6 +68,6 @@ module _ {K V E : Type 0} where
   more (plan.Moment (plan.To_take_out removal key) ∷ rest) o o' m m' aborts l l' r r' e e' ho hm hl hr he = omega (arith, hm)
   more (plan.Holds key stamp cause there found ∷ rest) o o' m m' aborts l l' r r' e e' ho hm hl hr he = omega (arith, hm)
   more (plan.Out removal key ∷ rest) o o' m m' aborts l l' r r' e e' ho hm hl hr he = omega (arith, hl)
-  more (plan.Idle ∷ rest) o o' m m' aborts l l' r r' e e' ho hm hl hr he =
-      let h = more rest o o' m m' aborts m m' false false true true ho hm hm (same_room false) (same_end true) in omega (arith, h)
   more (plan.Reply answer ∷ rest) o o' m m' aborts l l' r r' e e' ho hm hl hr he = omega arith
+  more (_ ∷ rest) o o' m m' aborts l l' r r' e e' ho hm hl hr he =
+      let h = more rest o o' m m' aborts m m' false false true true ho hm hm (same_room false) (same_end true) in omega (arith, h)

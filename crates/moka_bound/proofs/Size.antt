@@ -34,8 +34,6 @@ module _ {K V E : Type 0} (eq : K → K → Bool) where
       locked_same : (b : Bool) → (locked_by eq w.desk n key b).size ≡ w.desk.size
       locked_same true = refl
       locked_same false = refl
-  size_same w (visit.UnlockKey n true) = refl
-  size_same w (visit.UnlockKey n false) = refl
   size_same w _ = refl
 
   pub access_size : (n : ℕ) (w new : World K V E) (a : Access K V E) (g : Got K V E) → Gets eq n w a g new → new.desk.size ≡ w.desk.size

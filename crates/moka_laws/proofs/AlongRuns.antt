@@ -43,12 +43,6 @@ module _ {K V E : Type 0} (eq : K → K → Bool) (n : ℕ) (often : State K V E
 
   event_reaches : (u v : State K V E) (e : Event K V E) (r : Reply K V E) → Reaches u → Happens eq Any u e r v →
       Reaches v
-  event_reaches u v (event.At moment) r w h = (w.0, way.Others w.0 s u v (event.At moment) r w.1 tt h)
-  event_reaches u v (event.Start start) r w h =
-      (w.0, way.Others w.0 s u v (event.Start start) r w.1 tt h)
-  event_reaches u v (event.Tell m given) r w h =
-      (w.0, way.Others w.0 s u v (event.Tell m given) r w.1 tt h)
-  event_reaches u v (event.Drop m) r w h = (w.0, way.Others w.0 s u v (event.Drop m) r w.1 tt h)
   event_reaches u v (event.Step m) r w h = by (m == n) refl
     where
       by : (b : Bool) → (m == n) ≡ b → Reaches v
@@ -68,6 +62,7 @@ module _ {K V E : Type 0} (eq : K → K → Bool) (n : ℕ) (often : State K V E
           looked_reaches u v (u.calls n) _ (λ _. Polls eq Any u n r v) (refused_reaches u v _ r w)
           (λ c polls. step_reaches polls.mid v r (goings_reach polls.going u polls.mid w polls.goes)
           polls.last) own
+  event_reaches u v one r w h = (w.0, way.Others w.0 s u v one r w.1 tt h)
 
   run_reaches : (u t : State K V E) (es : List (Event K V E)) (rs : List (Reply K V E)) → Reaches u →
       Run eq Any u es rs t → Reaches t

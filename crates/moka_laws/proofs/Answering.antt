@@ -38,25 +38,18 @@ kept_or false x y P p q = q
 
 -- what is told, if anything, is what an initializer gives
 abbrev pub IsGiven : {V E : Type 0} → Option (Told V E) → Type 0
-IsGiven None = Unit {0}
-IsGiven (Some (answer.Value value)) = Unit {0}
-IsGiven (Some answer.Nothing) = Unit {0}
-IsGiven (Some (answer.Err error)) = Unit {0}
 IsGiven (Some answer.Done) = ⊥
-IsGiven (Some (answer.Op op)) = Unit {0}
 IsGiven (Some answer.Off) = ⊥
+IsGiven _ = Unit {0}
 
 -- what a call's ask takes is what an initializer gives
 given_by : {V E : Type 0} (asked : Option Takes) (given : Told V E) →
     option_map_or (λ a. does_take a given) asked false ≡ true → IsGiven (Some given)
-given_by asked (answer.Value value) e = tt
-given_by asked answer.Nothing e = tt
-given_by asked (answer.Err error) e = tt
 given_by None answer.Done e = absurd (false≢true e)
-given_by asked (answer.Op op) e = tt
 given_by (Some a) answer.Done e = absurd (false≢true e)
 given_by None answer.Off e = absurd (false≢true e)
 given_by (Some a) answer.Off e = absurd (false≢true e)
+given_by asked _ e = tt
 
 none_told : {V E : Type 0} (x : ℕ) (f : ℕ → Option (Told V E)) (n : ℕ) → IsGiven (f x) → IsGiven (put_at f n None x)
 none_told x f n h = kept_or (n == x) None (f x) IsGiven tt h
@@ -115,44 +108,31 @@ module _ {K V E : Type 0} where
   keeps_well c = kept_next (λ v. LeftWell v.left) c (λ off. tt) (λ on. tt)
 
   misses_well : (c : Call K V E) (aim : Aim K V) → LeftWell (misses c aim).left
-  misses_well c (plan.To_show form) = tt
-  misses_well c (plan.To_load sought) = tt
-  misses_well c (plan.To_own sought) = tt
-  misses_well c (plan.To_compute compute) = tt
   misses_well c (plan.To_insert key value) =
       put_plans (λ p. LeftWell (goes c p).left) c.rules key value _ tt tt
   misses_well c (plan.To_evict key stamp cause) = keeps_well c
+  misses_well c _ = tt
 
   finds_well : (c : Call K V E) (aim : Aim K V) (k : K) (stored : Stored V) →
       LeftWell (finds_pair c aim k stored).left
-  finds_well c (plan.To_show form) k stored = tt
-  finds_well c (plan.To_load sought) k stored = tt
-  finds_well c (plan.To_insert under new) k stored = tt
-  finds_well c (plan.To_own sought) k stored = tt
-  finds_well c (plan.To_compute compute) k stored = tt
   finds_well c (plan.To_evict key stamp cause) k stored =
       chosen_next (λ v. LeftWell v.left) c key stamp cause k stored (λ off. tt) (λ on. tt) tt
+  finds_well c _ k stored = tt
 
   hits_well : (c : Call K V E) (aim : Aim K V) (there : K) (value : V) → EndsWell c.plan →
       LeftWell (hits c aim there value).left
-  hits_well c (plan.To_show form) there value h = tt
-  hits_well c (plan.To_load sought) there value h = tt
-  hits_well c (plan.To_insert under new) there value h = tt
-  hits_well c (plan.To_own sought) there value h = tt
-  hits_well c (plan.To_compute compute) there value h = tt
   hits_well c (plan.To_evict key stamp cause) there value h = h
+  hits_well c _ there value h = tt
 
   read_well : (c : Call K V E) (sought : Sought K) (with : Settled V E) → EndsWell c.plan →
       LeftWell (after_read c sought (found.ReadSettled with)).left
-  read_well c sought (settled.Ready value) h = tt
-  read_well c sought (settled.Err error) h = tt
-  read_well c sought settled.Nothing h = tt
   read_well c sought settled.NotYet h = h
   read_well c sought settled.Aborted h = by (c.aborts + 1 == retries) refl
     where
       by : (b : Bool) → (c.aborts + 1 == retries) ≡ b → LeftWell (after_abort c sought).left
       by true e = rw e tt
       by false e = rw e tt
+  read_well c sought _ h = tt
 
   told_well : (c : Call K V E) (load : Load K) (given : Told V E) → EndsWell c.plan →
       LeftWell (after_told c load (found.TakeTold (Some given))).left
@@ -160,19 +140,14 @@ module _ {K V E : Type 0} where
       loaded_plans (λ p. LeftWell (goes c p).left) c.rules load value tt tt tt
   told_well c load answer.Nothing h = tt
   told_well c load (answer.Err error) h = tt
-  told_well c load answer.Done h = h
-  told_well c load (answer.Op op) h = h
-  told_well c load answer.Off h = h
+  told_well c load _ h = h
 
   -- ---- what is told and settled
 
   pub some_ready : (with : Settled V E) (rest : List (Item K V E)) → EndsWell (plan.Settle with ∷ rest) →
       (Some with ≢ Some settled.NotYet) × EndsWell rest
   some_ready settled.NotYet rest h = absurd h
-  some_ready settled.Aborted rest h = (λ e. cc, h)
-  some_ready (settled.Ready value) rest h = (λ e. cc, h)
-  some_ready (settled.Err error) rest h = (λ e. cc, h)
-  some_ready settled.Nothing rest h = (λ e. cc, h)
+  some_ready _ rest h = (λ e. cc, h)
 
   settles_with : (d : DeskPart K V E) (n : ℕ) (with : Settled V E) (kept : ℕ → Option (Settled V E)) (x : ℕ) → Some with ≢ Some settled.NotYet →
       kept x ≢ Some settled.NotYet → settled_with d n with kept x ≢ Some settled.NotYet
@@ -197,12 +172,9 @@ module _ {K V E : Type 0} where
   module _ (eq : K → K → Bool) (w : World K V E) (n : ℕ) (c : Call K V E) (d : HasAnswers w.desk) where
     on_item : (item : Item K V E) (rest : List (Item K V E)) → EndsWell (item ∷ rest) → EndsWell c.plan → Outcomes eq Leaves w n c item rest
     on_item plan.Drain rest h p = (λ e. ((goes_well c rest h), d), (λ x xs e. (h, d)), λ x number xs e. (h, d))
-    on_item (plan.Ended number) rest h p = ((λ e. (goes_well c rest h, d)), λ e. (p, d))
-    on_item (plan.Lock key) rest h p = ((λ e. (goes_well c rest h, d)), λ e. (p, d))
     on_item (plan.Unlock wrote) rest h p = (goes_well c rest h, d)
     on_item (plan.Notice key old cause upsert) rest h p =
         ((λ e. (goes_well c rest h, d)), λ e. (h, d))
-    on_item plan.Heard rest h p = ((λ e. (goes_well c rest h, d)), λ e. (p, d))
     on_item (plan.Post write) rest h p = (λ e. ((goes_well c rest h), d), λ e. (h, d))
     on_item plan.Turn rest h p = (λ e. ((goes_well c rest h), d), λ e. (p, d))
     on_item plan.Apply rest h p = (λ e. ((goes_well c rest h), d), λ x xs e. (h, d))
@@ -263,6 +235,7 @@ module _ {K V E : Type 0} where
     )
     on_item plan.Idle rest h p = (goes_well c rest h, d)
     on_item (plan.Reply answer) rest h p = (tt, d)
+    on_item _ rest h p = ((λ e. (goes_well c rest h, d)), λ e. (p, d))
 
     on_plan : (plan : List (Item K V E)) → c.plan ≡ plan → EndsWell c.plan → OnStep eq Leaves w n c plan
     on_plan [] e p = (p, d)

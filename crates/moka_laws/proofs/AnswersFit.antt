@@ -60,19 +60,10 @@ same_answer a b e = cc
 
 -- the kind of load that a call was started for
 abbrev pub kind_of : {K V : Type 0} → Start K V → Option Kind
-kind_of (start.Get key) = None
-kind_of (start.Insert key value) = None
 kind_of (start.GetWith key replace) = Some kind.GetWith
 kind_of (start.Optional key) = Some kind.Optional
 kind_of (start.Try key) = Some kind.Try
-kind_of (start.OrInsert key value) = None
-kind_of (start.Compute key) = None
-kind_of (start.TryCompute key) = None
-kind_of (start.ComputeAlone key) = None
-kind_of (start.Upsert key) = None
-kind_of (start.Invalidate key) = None
-kind_of (start.Remove key) = None
-kind_of (start.Evict key stamp cause) = None
+kind_of _ = None
 
 -- ---- what a load may answer
 
@@ -209,26 +200,20 @@ module _ {K V E : Type 0} (begin : Start K V) where
 
     misses_suit : (aim : Aim K V) → SuitsAim E begin aim → Leaves (misses c aim)
     misses_suit (plan.To_show form) s = answers_so (shown form None) _ refl refl (s None)
-    misses_suit (plan.To_load sought) s = on _ (λ b e. cc) (s, tt)
-    misses_suit (plan.To_own sought) s = on _ (λ b e. cc) (s, tt)
-    misses_suit (plan.To_compute compute) s = on _ (λ b e. cc) (s, tt)
     misses_suit (plan.To_insert key value) s =
         put_plans (λ p. Leaves (goes c p)) c.rules key value (plan.Reply (answer.Loaded value true) ∷ [])
         (on _ (λ b e. cc) (tt, (tt, (s value true, tt))))
         (on _ (λ b e. cc) (tt, (tt, (tt, (s value true, tt)))))
     misses_suit (plan.To_evict key stamp cause) s = keeps_suit s.1
+    misses_suit _ s = on _ (λ b e. cc) (s, tt)
 
     finds_suit : (aim : Aim K V) (there : K) (stored : Stored V) → SuitsAim E begin aim →
         Leaves (finds_pair c aim there stored)
-    finds_suit (plan.To_show form) there stored s = on _ (λ b e. cc) (s, tt)
-    finds_suit (plan.To_load sought) there stored s = on _ (λ b e. cc) (s, tt)
-    finds_suit (plan.To_own sought) there stored s = on _ (λ b e. cc) (s, tt)
-    finds_suit (plan.To_compute compute) there stored s = on _ (λ b e. cc) (s, tt)
-    finds_suit (plan.To_insert key value) there stored s = on _ (λ b e. cc) (s, tt)
     finds_suit (plan.To_evict key stamp cause) there stored s =
         chosen_next Leaves c key stamp cause there stored
         (λ off. answers_so answer.Kept _ refl refl s.1)
         (λ is_on. on _ (λ b e. cc) (tt, (s.1, tt))) (on _ (λ b e. cc) (s, tt))
+    finds_suit _ there stored s = on _ (λ b e. cc) (s, tt)
 
     hits_suit : (aim : Aim K V) (there : K) (value : V) → SuitsAim E begin aim → AllSuit c.plan →
         Leaves (hits c aim there value)
@@ -282,9 +267,8 @@ module _ {K V E : Type 0} (begin : Start K V) where
       tt,
       (error_may begin load.kind error s (told_error V load.kind error takes), tt),
     )
-    told_suits load told.Done s one takes = absurd (false≢true takes)
     told_suits load (told.Op op) s one takes = absurd (load_takes_no_op load.kind one takes)
-    told_suits load told.Off s one takes = absurd (false≢true takes)
+    told_suits load _ s one takes = absurd (false≢true takes)
 
     -- what a compute answers the start may
     unchanged_may : (key : K) (pair : Option (K × V)) (takes : Takes) →
@@ -317,10 +301,8 @@ module _ {K V E : Type 0} (begin : Start K V) where
 
   -- so does what is left of a removal
   said_suits : (removal : Removal K) (a : Answer K V E) → May a → AllSuit (said removal a)
-  said_suits plan.To_invalidate a may = (may, tt)
-  said_suits plan.To_remove a may = (may, tt)
-  said_suits (plan.To_evict_chosen stamp cause) a may = (may, tt)
   said_suits (plan.To_remove_as_told key) a may = (tt, (may, tt))
+  said_suits _ a may = (may, tt)
 
   -- what a load reads of its owner, and what an owner is told, fits the call's plan
   pub record ReadsFit (w : World K V E) (n : ℕ) (c : Call K V E) : Type 0 where
@@ -353,14 +335,12 @@ module _ {K V E : Type 0} (begin : Start K V) where
     on_item (plan.Ended number) rest e q = (λ f. goes_suits c rest q.1, λ f. parks)
     on_item plan.Heard rest e q = (λ f. goes_suits c rest q.1, λ f. parks)
     on_item (plan.Lock key) rest e q = (λ f. goes_suits c rest q.1, λ f. parks)
-    on_item (plan.Unlock wrote) rest e q = goes_suits c rest q.1
     on_item (plan.Notice key old cause upsert) rest e q =
         (λ f. goes_suits c rest q.1, λ f. on _ (λ b g. cc) (tt, q.1))
     on_item (plan.Post write) rest e q =
         (λ f. goes_suits c rest q.1, λ f. on _ (λ b g. cc) (tt, (tt, (tt, q))))
     on_item plan.Turn rest e q = (λ f. goes_suits c rest q.1, λ f. parks)
     on_item plan.Apply rest e q = (λ f. goes_suits c rest q.1, λ x xs f. on _ (λ b g. cc) q)
-    on_item plan.End rest e q = goes_suits c rest q.1
     on_item (plan.Get aim key) rest e q = (
       (λ more. on _ (λ b g. cc) p),
       (λ none. misses_suit c aim q.0),
@@ -396,7 +376,6 @@ module _ {K V E : Type 0} (begin : Start K V) where
     )
     on_item (plan.Read_key compute) rest e q =
         (λ none. parks, λ with some. read_key_suits c compute with q.0 p)
-    on_item (plan.Settle with) rest e q = goes_suits c rest q.1
     on_item (plan.Ask load) rest e q = on _ (λ b g. cc) (q.0, tt)
     on_item (plan.Ask_op compute pair) rest e q = on _ (λ b g. cc) (q.0, tt)
     on_item (plan.Told load) rest e q = (
@@ -427,8 +406,8 @@ module _ {K V E : Type 0} (begin : Start K V) where
       λ k old is_on some. on _ (λ b g. cc)
           (tt, (tt, (tt, said_suits removal _ (q.0.0 old.value)))),
     )
-    on_item plan.Idle rest e q = goes_suits c rest q.1
     on_item (plan.Reply a) rest e q = answers_so a _ refl refl q.0
+    on_item _ rest e q = goes_suits c rest q.1
 
     pub on_plan : (q : List (Item K V E)) → c.plan ≡ q → AllSuit q → OnStep eq After w n c q
     on_plan [] e q = parks
@@ -475,11 +454,8 @@ module _ {K V : Type 0} (E : Type 0) where
       by : (b : Bool) → AllSuit {E = E} (start.OrInsert key value) (or_insert_plan b key value)
       by true = (tt, (refl, tt))
       by false = (tt, (λ v fresh. refl, tt))
-  fresh_suits rules (start.Compute key) =
-      (((λ done. refl), λ error e. absurd (false≢true e)), tt)
   fresh_suits rules (start.TryCompute key) = (((λ done. refl), λ error e. refl), tt)
   fresh_suits rules (start.ComputeAlone key) = (((λ done. refl), λ error e. refl), tt)
-  fresh_suits rules (start.Upsert key) = (((λ done. refl), λ error e. absurd (false≢true e)), tt)
   fresh_suits rules (start.Invalidate key) =
       out_suits (start.Invalidate key) rules plan.To_invalidate key (λ value. refl, refl)
   fresh_suits rules (start.Remove key) =
@@ -490,6 +466,8 @@ module _ {K V : Type 0} (E : Type 0) where
           (under_lock b key (plan.Get (plan.To_evict key stamp cause) key ∷ []))
       by true = (tt, ((λ value. refl, refl), tt))
       by false = ((λ value. refl, refl), tt)
+  fresh_suits rules _ =
+      (((λ done. refl), λ error e. absurd (false≢true e)), tt)
 
 -- ---- of a state
 

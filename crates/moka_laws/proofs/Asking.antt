@@ -56,33 +56,22 @@ module _ {K V E : Type 0} where
   keeps_takes c = kept_next (λ v. weigh_call takes_told v.left ≡ 0) c (λ off. refl) (λ on. refl)
 
   misses_takes : (c : Call K V E) (aim : Aim K V) → weigh_call takes_told (misses c aim).left ≡ 0
-  misses_takes c (plan.To_show form) = refl
-  misses_takes c (plan.To_load sought) = refl
-  misses_takes c (plan.To_own sought) = refl
-  misses_takes c (plan.To_compute compute) = refl
   misses_takes c (plan.To_insert key value) =
       put_plans (λ p. weigh_call takes_told (goes c p).left ≡ 0) c.rules key value _ refl refl
   misses_takes c (plan.To_evict key stamp cause) = keeps_takes c
+  misses_takes c _ = refl
 
   finds_take : (c : Call K V E) (aim : Aim K V) (k : K) (stored : Stored V) →
       weigh_call takes_told (finds_pair c aim k stored).left ≡ 0
-  finds_take c (plan.To_show form) k stored = refl
-  finds_take c (plan.To_load sought) k stored = refl
-  finds_take c (plan.To_insert under new) k stored = refl
-  finds_take c (plan.To_own sought) k stored = refl
-  finds_take c (plan.To_compute compute) k stored = refl
   finds_take c (plan.To_evict key stamp cause) k stored =
       chosen_next (λ v. weigh_call takes_told v.left ≡ 0) c key stamp cause k stored (λ off. refl)
       (λ on. refl) refl
+  finds_take c _ k stored = refl
 
   hits_takes : (c : Call K V E) (aim : Aim K V) (there : K) (value : V) → IsLook aim →
       weigh_call takes_told (hits c aim there value).left ≡ 0
-  hits_takes c (plan.To_show form) there value l = refl
-  hits_takes c (plan.To_load sought) there value l = refl
-  hits_takes c (plan.To_insert under new) there value l = refl
-  hits_takes c (plan.To_own sought) there value l = refl
-  hits_takes c (plan.To_compute compute) there value l = refl
   hits_takes c (plan.To_evict key stamp cause) there value l = absurd l
+  hits_takes c _ there value l = refl
 
   either_takes : (b : Bool) (x y : Next K V E) → weigh_call takes_told x.left ≡ 0 → weigh_call takes_told y.left ≡ 0 →
       weigh_call takes_told (cond b x y).left ≡ 0
@@ -91,11 +80,9 @@ module _ {K V E : Type 0} where
 
   reads_take : (c : Call K V E) (sought : Sought K) (with : Settled V E) → weigh takes_told c.plan ≡ 0 →
       weigh_call takes_told (after_read c sought (found.ReadSettled with)).left ≡ 0
-  reads_take c sought (settled.Ready value) e = refl
-  reads_take c sought (settled.Err error) e = refl
-  reads_take c sought settled.Nothing e = refl
   reads_take c sought settled.NotYet e = e
   reads_take c sought settled.Aborted e = either_takes (c.aborts + 1 == retries) _ _ refl refl
+  reads_take c sought _ e = refl
 
   reads_take_key : (c : Call K V E) (compute : Compute K) (with : Settled V E) →
       weigh takes_told c.plan ≡ 0 →
@@ -111,11 +98,10 @@ module _ {K V E : Type 0} where
   told_takes c load (answer.Value value) one is =
       loaded_plans (λ p. weigh_call takes_told (goes c p).left ≡ 0)
       c.rules load value refl refl refl
-  told_takes c load answer.Nothing one is = refl
-  told_takes c load (answer.Err error) one is = refl
   told_takes c load answer.Done one is = absurd (false≢true is)
   told_takes c load (answer.Op op) one is = absurd (load_takes_no_op load.kind one is)
   told_takes c load answer.Off one is = absurd (false≢true is)
+  told_takes c load _ one is = refl
 
   told_op_takes : (c : Call K V E) (compute : Compute K) (pair : Option (K × V))
       (given : Told V E) → IsComputes compute.takes →
@@ -137,10 +123,8 @@ module _ {K V E : Type 0} where
   fresh_none rules p _ = refl
 
   said_takes : (removal : Removal K) (a : Answer K V E) → weigh takes_told (said removal a) ≡ 0
-  said_takes plan.To_invalidate a = refl
-  said_takes plan.To_remove a = refl
-  said_takes (plan.To_evict_chosen stamp cause) a = refl
   said_takes (plan.To_remove_as_told key) a = refl
+  said_takes _ a = refl
 
   -- no plan takes two answers
   tail_few : (p : List (Item K V E)) → IsTail p → weigh takes_told p ≤ 1
@@ -148,14 +132,9 @@ module _ {K V E : Type 0} where
   tail_few p (Settling with a) = omega arith
 
   drained_few : (p : List (Item K V E)) → IsDrained p → weigh takes_told p ≤ 1
-  drained_few p (Looking aim key l) = omega arith
-  drained_few p (Owning sought) = omega arith
-  drained_few p (Asking_op compute pair) = omega arith
-  drained_few p (Giving a) = omega arith
-  drained_few p (Removing removal key) = omega arith
-  drained_few p (Locking_out removal key) = omega arith
   drained_few p (Putting key value rest t) = omega (arith, tail_few rest t)
   drained_few p (Locking key value rest t) = omega (arith, tail_few rest t)
+  drained_few p _ = omega arith
 
   posted_few : (p : List (Item K V E)) → IsPosted p → weigh takes_told p ≤ 1
   posted_few p (Draining rest d) = omega (arith, drained_few rest d)
@@ -173,20 +152,9 @@ module _ {K V E : Type 0} where
   plan_few p (Applying x rest d) = omega (arith, posted_few rest d)
   plan_few p (Ending x rest d) = omega (arith, posted_few rest d)
   plan_few p (Writing key value moment rest t) = omega (arith, tail_few rest t)
-  plan_few p (Judging aim key stored l) = omega arith
-  plan_few p (Reading sought) = omega arith
-  plan_few p (Asking load) = omega arith
-  plan_few p (Telling load) = omega arith
-  plan_few p (Owning_key compute) = omega arith
-  plan_few p (Owning_alone key) = omega arith
-  plan_few p (Reading_key compute) = omega arith
-  plan_few p (Telling_op compute pair) = omega arith
-  plan_few p (Choosing key stamp cause) = omega arith
-  plan_few p (Finding key stamp cause) = omega arith
-  plan_few p (Chosen key stamp cause there stored) = omega arith
-  plan_few p (Taking removal key) = omega arith
   plan_few p (Freeing rest t) = omega (arith, tail_few rest t)
   plan_few p (Idling rest t) = omega (arith, tail_few rest t)
+  plan_few p _ = omega arith
 
   -- ---- what a step has to show
 

@@ -17,7 +17,6 @@ module _ {K V E : Type 0} where
   -- a call that is to take an answer may still write
   takes_may : (p : List (Item K V E)) → weigh takes_told p ≤ weigh may_write p
   takes_may [] = omega arith
-  takes_may (plan.Told load ∷ rest) = let e = takes_may rest in omega arith
   takes_may (plan.Told_op compute pair ∷ rest) = let e = takes_may rest in omega arith
   takes_may (_ ∷ rest) = let e = takes_may rest in omega arith
 

@@ -272,7 +272,6 @@ module _ {K V E : Type 0} where
           (read_key_clear c compute with (was_clear w n (plan.Read_key compute ∷ rest) c e t sp (λ x. omega (arith, posts_none x rest t))))
           (λ x. omega (arith, posts_none x rest t)) (omega arith),
     )
-    on_item (plan.Settle with) rest e t sp = goes_on w n c (plan.Settle with) rest refl refl (λ x. refl) (late_none rest t) (λ x. refl) (omega arith)
     on_item (plan.Ask load) rest e t sp =
         clears w n (plan.Ask load ∷ rest) refl refl (λ x. refl) (record { late = refl; posts = λ x. refl; may = omega arith })
         (λ x. omega (arith, posts_none x rest t)) (omega arith)
@@ -392,9 +391,6 @@ module _ {K V E : Type 0} where
           balance = λ x. omega
               (arith, posts x, posts_none x rest t, times_last x n w.table.committed);
         }
-    on_item plan.Idle rest e t sp =
-        goes_on w n c plan.Idle rest refl refl (λ x. refl) (late_none rest t) (λ x. refl)
-        (omega arith)
     on_item (plan.Reply answer) rest e t sp = record {
       last = refl;
       tidy = refl;
@@ -402,6 +398,7 @@ module _ {K V E : Type 0} where
       others = λ m h. refl;
       balance = λ x. omega (arith, posts_none x rest t);
     }
+    on_item item rest e t sp = goes_on w n c item rest refl refl (λ x. refl) (late_none rest t) (λ x. refl) (omega arith)
 
     pub on_plan : (plan : List (Item K V E)) → c.plan ≡ plan → late plan ≡ 0 → times n w.table.committed + weigh may_write plan ≤ 1 →
         OnStep eq (Balances w n plan) w n c plan

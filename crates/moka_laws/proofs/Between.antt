@@ -23,12 +23,8 @@ module _ {K V E : Type 0} (eq : K → K → Bool) (P Q : State K V E → Type 0)
   polls_more s t n r h p = record { going = p.going; mid = p.mid; goes = steps_more p.going s p.mid n h p.goes; last = p.last; ends = p.ends }
 
   pub event_more : (s t : State K V E) (e : Event K V E) (r : Reply K V E) → IsReached eq s → Happens eq P s e r t → Happens eq Q s e r t
-  event_more s t (event.At moment) r h e = e
-  event_more s t (event.Start start) r h e = e
-  event_more s t (event.Step n) r h e = e
   event_more s t (event.Poll n) r h e = matched (s.calls n) _ _ _ (polls_more s t n r h) e
-  event_more s t (event.Tell n answer) r h e = e
-  event_more s t (event.Drop n) r h e = e
+  event_more s t _ r h e = e
 
 module _ {K V E : Type 0} (eq : K → K → Bool) (P Q : State K V E → Type 0) (more : (v : State K V E) → IsReached eq v → P v → Q v) where
   pub run_more : (s t : State K V E) (es : List (Event K V E)) (rs : List (Reply K V E)) → IsReached eq s → Run eq P s es rs t → Run eq Q s es rs t

@@ -60,9 +60,5 @@ module _ {K V E : Type 0} (eq : K → K → Bool) where
   can_come laws s n c (plan.Read_key compute) rest h live e missing =
       owner_comes s n (computes_of compute.key) missing
       (waiters_served eq s n c (plan.Read_key compute) rest (computes_of compute.key) h live e refl)
-  can_come laws s n c (plan.Told_op compute pair) rest h live e missing = missing
-  can_come laws s n c (plan.Told load) rest h live e missing = missing
   can_come laws s n c (plan.Lock key) rest h live e missing = lock_comes laws s n key h missing
-  can_come laws s n c plan.Heard rest h live e missing = missing
-  can_come laws s n c (plan.Ended number) rest h live e missing = missing
   can_come laws s n c _ rest h live e missing = missing

@@ -58,15 +58,7 @@ module _ {K V : Type 0} (E : Type 0) (eq : K → K → Bool) where
   starts_so rules (start.Upsert k) key n s e = (some_same e, λ f. cc)
   starts_so rules (start.ComputeAlone k) key n s e =
       (some_same e, ap (λ v. start.ComputeAlone v) (some_same e))
-  starts_so rules (start.Get k) key n s e = absurd (none_some e)
-  starts_so rules (start.Insert k value) key n s e = absurd (none_some e)
-  starts_so rules (start.GetWith k replace) key n s e = absurd (none_some e)
-  starts_so rules (start.Optional k) key n s e = absurd (none_some e)
-  starts_so rules (start.Try k) key n s e = absurd (none_some e)
-  starts_so rules (start.OrInsert k value) key n s e = absurd (none_some e)
-  starts_so rules (start.Invalidate k) key n s e = absurd (none_some e)
-  starts_so rules (start.Remove k) key n s e = absurd (none_some e)
-  starts_so rules (start.Evict k stamp cause) key n s e = absurd (none_some e)
+  starts_so rules _ key n s e = absurd (none_some e)
 
 module _ {K V E : Type 0} (eq : K → K → Bool) (begin : Start K V) (key : K) (n : ℕ) where
   -- the state is reached, and the call was started and is so far

@@ -79,15 +79,12 @@ module _ {K V E : Type 0} where
   told_on : (eq : K → K → Bool) (s v : State K V E) (n : ℕ) (key : K) (pair : Option (K × V))
       (given : Told V E) (a : Answer K V E) → Leads eq s v → SaysTold eq s n key pair given a →
       SaysTold eq v n key pair given a
-  told_on eq s v n key pair (told.Op op.Nop) a led h = h
-  told_on eq s v n key pair (told.Op (op.Put value)) a led h = h
-  told_on eq s v n key pair (told.Value value) a led h = h
   told_on eq s v n key pair (told.Op op.Remove) a led h =
       (h.0, made_on eq s v n (TakesOut n eq key h.0) led h.1, h.2)
-  told_on eq s v n key pair (told.Err error) a led h = h
   told_on eq s v n key pair told.Nothing a led h = absurd h
   told_on eq s v n key pair told.Done a led h = absurd h
   told_on eq s v n key pair told.Off a led h = absurd h
+  told_on eq s v n key pair _ a led h = h
 
 module _ {K V E : Type 0} (eq : K → K → Bool) (begin : Start K V) (key : K) (n : ℕ) where
   -- what is said of the call stays so, as long as it owns as before
@@ -500,9 +497,7 @@ module _ {K V E : Type 0} (eq : K → K → Bool) (begin : Start K V) (key : K) 
           go new (end_compute (answer.ComputeErr error)) rules (inl same)
           (told_says (end_compute (answer.ComputeErr error)) (told.Err error)
           (answer.ComputeErr error) e refl)
-      takes told.Nothing e = wait _ is st new rules owning same
-      takes told.Done e = wait _ is st new rules owning same
-      takes told.Off e = wait _ is st new rules owning same
+      takes _ e = wait _ is st new rules owning same
 
     -- it has taken out what stood there, if anything did
     removed_says : (new : World K V E) (rest : List (Item K V E)) (own at : K)

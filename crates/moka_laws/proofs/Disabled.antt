@@ -76,32 +76,22 @@ module _ {K V E : Type 0} where
 
   misses_calm : (c : Call K V E) (aim : Aim K V) → inserts aim ≡ 0 →
       weigh_call stores (misses c aim).left ≡ 0
-  misses_calm c (plan.To_show form) h = refl
-  misses_calm c (plan.To_load sought) h = refl
-  misses_calm c (plan.To_own sought) h = refl
-  misses_calm c (plan.To_compute compute) h = refl
   misses_calm c (plan.To_insert key value) h = absurd (omega (arith, h))
   misses_calm c (plan.To_evict key stamp cause) h = keeps_calm c
+  misses_calm c _ h = refl
 
   finds_calm : (c : Call K V E) (aim : Aim K V) (there : K) (seen : Stored V) → inserts aim ≡ 0 →
       weigh_call stores (finds_pair c aim there seen).left ≡ 0
-  finds_calm c (plan.To_show form) there seen h = refl
-  finds_calm c (plan.To_load sought) there seen h = refl
-  finds_calm c (plan.To_own sought) there seen h = refl
-  finds_calm c (plan.To_compute compute) there seen h = refl
   finds_calm c (plan.To_insert key value) there seen h = absurd (omega (arith, h))
   finds_calm c (plan.To_evict key stamp cause) there seen h =
       chosen_next (λ v. weigh_call stores v.left ≡ 0) c key stamp cause there seen (λ off. refl)
       (λ on. refl) refl
+  finds_calm c _ there seen h = refl
 
   hits_calm : (c : Call K V E) (aim : Aim K V) (there : K) (value : V) → weigh stores c.plan ≡ 0 →
       weigh_call stores (hits c aim there value).left ≡ 0
-  hits_calm c (plan.To_show form) there value p = refl
-  hits_calm c (plan.To_load sought) there value p = refl
-  hits_calm c (plan.To_insert under new) there value p = refl
-  hits_calm c (plan.To_own sought) there value p = refl
-  hits_calm c (plan.To_compute compute) there value p = refl
   hits_calm c (plan.To_evict key stamp cause) there value p = p
+  hits_calm c _ there value p = refl
 
   either_calm : (b : Bool) (x y : Next K V E) → weigh_call stores x.left ≡ 0 →
       weigh_call stores y.left ≡ 0 →
@@ -111,11 +101,9 @@ module _ {K V E : Type 0} where
 
   read_calm : (c : Call K V E) (sought : Sought K) (with : Settled V E) → weigh stores c.plan ≡ 0 →
       weigh_call stores (after_read c sought (found.ReadSettled with)).left ≡ 0
-  read_calm c sought (settled.Ready value) p = refl
-  read_calm c sought (settled.Err error) p = refl
-  read_calm c sought settled.Nothing p = refl
   read_calm c sought settled.NotYet p = p
   read_calm c sought settled.Aborted p = either_calm (c.aborts + 1 == retries) _ _ refl refl
+  read_calm c sought _ p = refl
 
   read_key_calm : (c : Call K V E) (compute : Compute K) (with : Settled V E) →
       weigh stores c.plan ≡ 0 →
@@ -133,9 +121,7 @@ module _ {K V E : Type 0} where
       (λ able e. absurd (false≢true (sym able ∙ off)))
   told_calm c load answer.Nothing off p = refl
   told_calm c load (answer.Err error) off p = refl
-  told_calm c load answer.Done off p = p
-  told_calm c load (answer.Op op) off p = p
-  told_calm c load answer.Off off p = p
+  told_calm c load _ off p = p
 
   told_op_calm : (c : Call K V E) (compute : Compute K) (pair : Option (K × V)) (given : Told V E) →
       is_disabled c.rules ≡ true → weigh stores c.plan ≡ 0 →
@@ -154,7 +140,6 @@ module _ {K V E : Type 0} where
   form_calm rules p (Puts key value able e) off = absurd (false≢true (sym able ∙ off))
   form_calm rules p (Locks_and_puts key value able e) off = absurd (false≢true (sym able ∙ off))
   form_calm rules p (Finds_or_puts key value able) off = absurd (false≢true (sym able ∙ off))
-  form_calm rules p (Disabled a d plain) off = refl
   form_calm rules p _ off = refl
 
   module _ (eq : K → K → Bool) (w : World K V E) (n : ℕ) (c : Call K V E)
@@ -186,7 +171,6 @@ module _ {K V E : Type 0} where
       λ e. record
           { empty = empty; calm = p },
     )
-    on_item (plan.Unlock wrote) rest q = goes_on rest empty (omega (arith, q))
     on_item (plan.Notice key old cause upsert) rest q = (
       λ e. goes_on rest empty (omega (arith, q)),
       λ e. record
@@ -207,7 +191,6 @@ module _ {K V E : Type 0} where
       λ x xs e. record
           { empty = empty; calm = omega (arith, q) },
     )
-    on_item plan.End rest q = goes_on rest empty (omega (arith, q))
     on_item (plan.Get aim key) rest q = (
       λ more. record { empty = empty; calm = p },
       λ none. record { empty = empty; calm = misses_calm c aim (omega (arith, q)) },
@@ -254,7 +237,6 @@ module _ {K V E : Type 0} where
       λ with e. record
           { empty = empty; calm = read_key_calm c compute with p },
     )
-    on_item (plan.Settle with) rest q = goes_on rest empty (omega (arith, q))
     on_item (plan.Ask load) rest q = record { empty = empty; calm = refl }
     on_item (plan.Ask_op compute pair) rest q = record { empty = empty; calm = refl }
     on_item (plan.Told load) rest q = (
@@ -291,8 +273,8 @@ module _ {K V E : Type 0} where
             Some (k, old) → ⊥
         nothing k old some = none_some (sym (ap (taken_by (stamp_asked removal))
             (empty.stored key)) ∙ some)
-    on_item plan.Idle rest q = goes_on rest empty (omega (arith, q))
     on_item (plan.Reply a) rest q = record { empty = empty; calm = refl }
+    on_item _ rest q = goes_on rest empty (omega (arith, q))
 
     on_plan : (plan : List (Item K V E)) → c.plan ≡ plan → OnStep eq Leaves w n c plan
     on_plan [] e = record { empty = empty; calm = p }

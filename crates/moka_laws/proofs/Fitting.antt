@@ -156,12 +156,11 @@ module _ {K V E : Type 0} where
         AllFit owned (plan_left (misses c aim).left)
     misses_fit c (plan.To_show form) key f = tt
     misses_fit c (plan.To_load sought) key f = (tt, tt)
-    misses_fit c (plan.To_own sought) key f = (f, tt)
-    misses_fit c (plan.To_compute compute) key f = (f, tt)
     misses_fit c (plan.To_insert there value) key f =
         put_plans (λ p. AllFit owned (plan_left (goes c p).left)) c.rules there value _
         (tt, (tt, (tt, tt))) (tt, (tt, (tt, (tt, tt))))
     misses_fit c (plan.To_evict there stamp cause) key f = keeps_fit c
+    misses_fit c _ key f = (f, tt)
 
     unseen_fit : (c : Call K V E) (d : DeskPart K V E) (aim : Aim K V) (key : K) (stored : Stored V) →
         is_seen d (replace_of aim) key stored ≡ false →
@@ -174,27 +173,23 @@ module _ {K V E : Type 0} where
     finds_fit : (c : Call K V E) (aim : Aim K V) (key k : K) (stored : Stored V) →
         ItemFits owned (plan.Get aim key) →
         AllFit owned (plan_left (finds_pair c aim k stored).left)
-    finds_fit c (plan.To_show form) key k stored f = (tt, tt)
-    finds_fit c (plan.To_load sought) key k stored f = (tt, tt)
     finds_fit c (plan.To_own sought) key k stored f = (f, tt)
     finds_fit c (plan.To_compute compute) key k stored f = (f, tt)
-    finds_fit c (plan.To_insert there value) key k stored f = (tt, tt)
     finds_fit c (plan.To_evict there stamp cause) key k stored f =
         chosen_next (λ v. AllFit owned (plan_left v.left)) c there stamp cause k stored
         (λ off. tt) (λ on. (tt, (tt, tt))) (tt, tt)
+    finds_fit c _ key k stored f = (tt, tt)
 
     hits_fit : (asked : Option Takes) (given : Option (Told V E)) (c : Call K V E) (aim : Aim K V)
         (there : K) (value : V) (stored : Stored V) → AllFit owned c.plan →
         ItemFits owned (plan.Judge aim there stored) →
         ItemTakes asked given (plan.Judge aim there stored) →
         AllFit owned (plan_left (hits c aim there value).left)
-    hits_fit asked given c (plan.To_show form) there value stored p f one = tt
-    hits_fit asked given c (plan.To_load sought) there value stored p f one = tt
     hits_fit asked given c (plan.To_own sought) there value stored p f one =
         (ends_value E owned sought.load.kind value f one, (tt, tt))
     hits_fit asked given c (plan.To_compute compute) there value stored p f one = (f, tt)
-    hits_fit asked given c (plan.To_insert under own) there value stored p f one = tt
     hits_fit asked given c (plan.To_evict key stamp cause) there value stored p f one = p
+    hits_fit asked given c _ there value stored p f one = tt
 
     either_fit : (b : Bool) (x y : Next K V E) → AllFit owned (plan_left x.left) →
         AllFit owned (plan_left y.left) →
@@ -204,11 +199,9 @@ module _ {K V E : Type 0} where
 
     read_fit : (c : Call K V E) (sought : Sought K) (with : Settled V E) → AllFit owned c.plan →
         AllFit owned (plan_left (after_read c sought (found.ReadSettled with)).left)
-    read_fit c sought (settled.Ready value) p = tt
-    read_fit c sought (settled.Err error) p = tt
-    read_fit c sought settled.Nothing p = tt
     read_fit c sought settled.NotYet p = p
     read_fit c sought settled.Aborted p = either_fit (c.aborts + 1 == retries) _ _ tt (tt, tt)
+    read_fit c sought _ p = tt
 
     read_key_fit : (c : Call K V E) (compute : Compute K) (with : Settled V E) →
         AllFit owned c.plan →
@@ -236,9 +229,8 @@ module _ {K V E : Type 0} where
           (error_ends V load.kind error e),
       (tt, tt),
     )
-    told_fit c load told.Done own one e = absurd (false≢true e)
     told_fit c load (told.Op op) own one e = absurd (load_takes_no_op load.kind one e)
-    told_fit c load told.Off own one e = absurd (false≢true e)
+    told_fit c load _ own one e = absurd (false≢true e)
 
     told_op_fit : (c : Call K V E) (compute : Compute K) (pair : Option (K × V))
         (tells : Told V E) →
@@ -261,26 +253,15 @@ module _ {K V E : Type 0} where
     removal_fits : (c : Call K V E) (removal : Removal K) (key : K) →
         ItemFits owned (plan.Moment (plan.To_take_out removal key)) →
         ItemFits owned (plan.Out removal key)
-    removal_fits c plan.To_invalidate key f = tt
-    removal_fits c plan.To_remove key f = tt
-    removal_fits c (plan.To_evict_chosen stamp cause) key f = tt
     removal_fits c (plan.To_remove_as_told own) key f = f
+    removal_fits c _ key f = tt
 
     said_fits : (removal : Removal K) (key : K) (a : Answer K V E) →
         ItemFits owned (plan.Out removal key) → AllFit owned (said removal a)
-    said_fits plan.To_invalidate key a f = (tt, tt)
-    said_fits plan.To_remove key a f = (tt, tt)
-    said_fits (plan.To_evict_chosen stamp cause) key a f = (tt, tt)
     said_fits (plan.To_remove_as_told own) key a f = (ends_nothing V E owned f, (tt, tt))
+    said_fits _ key a f = (tt, tt)
 
   fresh_free : (rules : Rules) (p : List (Item K V E)) → IsFresh rules p → weigh owners p ≡ 0
-  fresh_free rules p (Disabled a d plain) = refl
-  fresh_free rules p (Takes_out plan.To_invalidate key off named) = refl
-  fresh_free rules p (Locks_and_takes_out plan.To_invalidate key on named) = refl
-  fresh_free rules p (Takes_out plan.To_remove key off named) = refl
-  fresh_free rules p (Locks_and_takes_out plan.To_remove key on named) = refl
-  fresh_free rules p (Takes_out (plan.To_evict_chosen stamp cause) key off named) = refl
-  fresh_free rules p (Locks_and_takes_out (plan.To_evict_chosen stamp cause) key on named) = refl
   fresh_free rules p (Takes_out (plan.To_remove_as_told own) key off named) = absurd named
   fresh_free rules p (Locks_and_takes_out (plan.To_remove_as_told own) key on named) = absurd named
   fresh_free rules p _ = refl
@@ -328,12 +309,6 @@ module _ {K V E : Type 0} where
       λ x xs e. as_was refl (tt, q),
       λ x number xs e. as_was refl (tt, (tt, q)),
     )
-    on_item (plan.Ended number) rest q t f =
-        (λ e. goes_on rest refl q.1, λ e. as_was refl p)
-    on_item plan.Heard rest q t f =
-        (λ e. goes_on rest refl q.1, λ e. as_was refl p)
-    on_item (plan.Lock key) rest q t f =
-        (λ e. goes_on rest refl q.1, λ e. as_was refl p)
     on_item (plan.Unlock wrote) rest q t f = goes_on rest refl q.1
     on_item (plan.Notice key old cause upsert) rest q t f =
         (λ e. goes_on rest refl q.1, λ e. as_was refl (tt, q.1))
@@ -341,8 +316,6 @@ module _ {K V E : Type 0} where
       λ e. goes_on rest refl q.1,
       λ e. as_was refl (tt, (tt, (tt, q))),
     )
-    on_item plan.Turn rest q t f =
-        (λ e. goes_on rest refl q.1, λ e. as_was refl p)
     on_item plan.Apply rest q t f =
         (λ e. goes_on rest refl q.1, λ x xs e. as_was refl q)
     on_item plan.End rest q t f = goes_on rest refl q.1
@@ -421,6 +394,8 @@ module _ {K V E : Type 0} where
     )
     on_item plan.Idle rest q t f = goes_on rest refl q.1
     on_item (plan.Reply a) rest q t f = as_was refl tt
+    on_item _ rest q t f =
+        (λ e. goes_on rest refl q.1, λ e. as_was refl p)
 
     on_plan : (q : List (Item K V E)) → c.plan ≡ q → AllTake (w.desk.asks n) (w.desk.told n) q →
         Fits (w.desk.owning n) (w.desk.joined n) q → OnStep eq (Leaves w n) w n c q

@@ -91,9 +91,7 @@ module _ {K V E : Type 0} (eq : K → K → Bool) where
         Some c → c.mode ≡ m → Leads eq s t → I s →
         Drops s n c m r t → I t
     drops s t n c mode.Mid r live e l i h = refused s t _ r i h
-    drops s t n c mode.Fresh r live e l i h = becomes s (dropped s n c) t _ r l
-        (λ k. kept.drop s n c live (λ f. cc) k i) h
-    drops s t n c mode.Parked r live e l i h = becomes s (dropped s n c) t _ r l
+    drops s t n c _ r live e l i h = becomes s (dropped s n c) t _ r l
         (λ k. kept.drop s n c live (λ f. cc) k i) h
 
     either : (t : State K V E) (b : Bool) (P Q : Type 0) → (b ≡ true → P → I t) →
@@ -110,12 +108,9 @@ module _ {K V E : Type 0} (eq : K → K → Bool) where
     is_told : (s : State K V E) (n : ℕ) (answer : Told V E) → is_asked s.world.desk n answer ≡ true →
         Leads eq s (with_desk s (tells s.world.desk n answer)) → I s → I
         (with_desk s (tells s.world.desk n answer))
-    is_told s n (told.Value value) e l i = kept.tell s n (told.Value value) e l i
-    is_told s n told.Nothing e l i = kept.tell s n told.Nothing e l i
-    is_told s n (told.Err error) e l i = kept.tell s n (told.Err error) e l i
     is_told s n told.Done e l i = kept.hear s n false e l i
-    is_told s n (told.Op op) e l i = kept.tell s n (told.Op op) e l i
     is_told s n told.Off e l i = kept.hear s n true e l i
+    is_told s n one e l i = kept.tell s n one e l i
 
     happens : (s t : State K V E) (e : Event K V E) (r : Reply K V E) → I s → Leads eq s t →
         Happens eq Any s e r t → I t

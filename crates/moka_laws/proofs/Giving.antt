@@ -60,8 +60,7 @@ module _ {K V E : Type 0} (P : K → V → Type 0) (Q : ℕ → K → Type 0) wh
       drops : (s t : State K V E) (n : ℕ) (c : Call K V E) (m : Mode) (r : Reply K V E) →
           s.calls n ≡ Some c → I s → Drops s n c m r t → I t
       drops s t n c mode.Mid r live i h = refused s t _ r i h
-      drops s t n c mode.Fresh r live i h = becomes (dropped s n c) t _ r (kept.drop s n c live i) h
-      drops s t n c mode.Parked r live i h = becomes (dropped s n c) t _ r (kept.drop s n c live i) h
+      drops s t n c _ r live i h = becomes (dropped s n c) t _ r (kept.drop s n c live i) h
 
       either : (t : State K V E) (b : Bool) (A B : Type 0) → (A → I t) → (B → I t) → MatchBool b A B → I t
       either t true A B on_true on_false h = on_true h
@@ -74,12 +73,9 @@ module _ {K V E : Type 0} (P : K → V → Type 0) (Q : ℕ → K → Type 0) wh
 
       is_told : (s : State K V E) (n : ℕ) (answer : Told V E) → I s →
           GivesOnly s (event.Tell n answer) reply.Told → I (with_desk s (tells s.world.desk n answer))
-      is_told s n (told.Value value) i gave = kept.tell s n (told.Value value) i gave
-      is_told s n told.Nothing i gave = kept.tell s n told.Nothing i gave
-      is_told s n (told.Err error) i gave = kept.tell s n (told.Err error) i gave
-      is_told s n (told.Op done) i gave = kept.tell s n (told.Op done) i gave
       is_told s n told.Done i gave = kept.hear s n false i
       is_told s n told.Off i gave = kept.hear s n true i
+      is_told s n one i gave = kept.tell s n one i gave
 
       happens : (s t : State K V E) (e : Event K V E) (r : Reply K V E) → I s → GivesOnly s e r →
           BeginsOnly e r →

@@ -70,29 +70,7 @@ module _ {K V E : Type 0} where
   settles_form with rest p e (Drained q (Locking_out removal key)) = cc
   settles_form with rest p e (Drained q (Putting key value r t)) = cc
   settles_form with rest p e (Drained q (Locking key value r t)) = cc
-  settles_form with rest p e (Posting x q d) = cc
-  settles_form with rest p e (Hearing number x q d) = cc
-  settles_form with rest p e (Noticing key old cause upsert x q t) = cc
-  settles_form with rest p e (Listening x q t) = cc
-  settles_form with rest p e (Unlocking x q t) = cc
-  settles_form with rest p e (Turning x q d) = cc
-  settles_form with rest p e (Applying x q d) = cc
-  settles_form with rest p e (Ending x q d) = cc
-  settles_form with rest p e (Judging aim key stored look) = cc
-  settles_form with rest p e (Reading sought) = cc
-  settles_form with rest p e (Asking load) = cc
-  settles_form with rest p e (Telling load) = cc
-  settles_form with rest p e (Owning_key compute) = cc
-  settles_form with rest p e (Owning_alone key) = cc
-  settles_form with rest p e (Reading_key compute) = cc
-  settles_form with rest p e (Telling_op compute pair) = cc
-  settles_form with rest p e (Writing key value moment q t) = cc
-  settles_form with rest p e (Choosing key stamp cause) = cc
-  settles_form with rest p e (Finding key stamp cause) = cc
-  settles_form with rest p e (Chosen key stamp cause there stored) = cc
-  settles_form with rest p e (Taking removal key) = cc
-  settles_form with rest p e (Freeing q t) = cc
-  settles_form with rest p e (Idling q t) = cc
+  settles_form with rest p e _ = cc
 
   -- a call that waits for an owner is to read how that ended, and nothing else
   pub reads_form : (p : List (Item K V E)) → is_some (awaited p) ≡ true → IsPlan p →
@@ -111,18 +89,9 @@ module _ {K V E : Type 0} where
   reads_form p some (Applying x q d) = absurd (not_none (awaited q) some (posted_role q d))
   reads_form p some (Ending x q d) = absurd (not_none (awaited q) some (posted_role q d))
   reads_form p some (Writing key value moment q t) = absurd (not_none (awaited q) some (tail_role q t))
-  reads_form p some (Judging aim key stored look) = absurd (false≢true some)
-  reads_form p some (Asking load) = absurd (false≢true some)
-  reads_form p some (Telling load) = absurd (false≢true some)
-  reads_form p some (Owning_key compute) = absurd (false≢true some)
-  reads_form p some (Owning_alone key) = absurd (false≢true some)
-  reads_form p some (Telling_op compute pair) = absurd (false≢true some)
-  reads_form p some (Choosing key stamp cause) = absurd (false≢true some)
-  reads_form p some (Finding key stamp cause) = absurd (false≢true some)
-  reads_form p some (Chosen key stamp cause there stored) = absurd (false≢true some)
-  reads_form p some (Taking removal key) = absurd (false≢true some)
   reads_form p some (Freeing q t) = absurd (not_none (awaited q) some (tail_role q t))
   reads_form p some (Idling q t) = absurd (not_none (awaited q) some (tail_role q t))
+  reads_form p some _ = absurd (false≢true some)
 
   -- ---- what is kept
 
@@ -169,14 +138,7 @@ module _ {K V E : Type 0} where
 
       on_item : (item : Item K V E) (rest : List (Item K V E)) → Outcomes eq (Leaves w) w m c item rest
       on_item plan.Drain rest = (λ e. same refl refl refl, λ x xs e. same refl refl refl, λ x number xs e. same refl refl refl)
-      on_item (plan.Ended number) rest = (λ e. same refl refl refl, λ e. same refl refl refl)
-      on_item plan.Heard rest = (λ e. same refl refl refl, λ e. same refl refl refl)
-      on_item (plan.Lock key) rest = (λ e. same refl refl refl, λ e. same refl refl refl)
       on_item (plan.Unlock wrote) rest = same refl refl refl
-      on_item (plan.Notice key old cause upsert) rest =
-          (λ e. same refl refl refl, λ e. same refl refl refl)
-      on_item (plan.Post write) rest = (λ e. same refl refl refl, λ e. same refl refl refl)
-      on_item plan.Turn rest = (λ e. same refl refl refl, λ e. same refl refl refl)
       on_item plan.Apply rest = (λ e. same refl refl refl, λ x xs e. same refl refl refl)
       on_item plan.End rest = same refl refl refl
       on_item (plan.Get aim key) rest = (
@@ -251,6 +213,7 @@ module _ {K V E : Type 0} where
       )
       on_item plan.Idle rest = same refl refl refl
       on_item (plan.Reply a) rest = same refl refl refl
+      on_item _ rest = (λ e. same refl refl refl, λ e. same refl refl refl)
 
       on_plan : (plan : List (Item K V E)) → OnStep eq (Leaves w) w m c plan
       on_plan [] = same refl refl refl
@@ -350,11 +313,9 @@ module _ {K V E : Type 0} (eq : K → K → Bool) where
   -- what an owner settled is answered by who reads it
   read_says : (c : Call K V E) (sought : Sought K) (with : Settled V E) (said : Answer K V E) →
       said_of with false ≡ Some said → (after_read c sought (found.ReadSettled with)).turn ≡ turn.Answer said
-  read_says c sought (settled.Ready value) said e = ap (λ a. turn.Answer a) (some_same e)
-  read_says c sought (settled.Err error) said e = ap (λ a. turn.Answer a) (some_same e)
-  read_says c sought settled.Nothing said e = ap (λ a. turn.Answer a) (some_same e)
   read_says c sought settled.NotYet said e = absurd (none_some e)
   read_says c sought settled.Aborted said e = absurd (none_some e)
+  read_says c sought _ said e = ap (λ a. turn.Answer a) (some_same e)
 
   heard : (u v : State K V E) (o n : ℕ) (with : Settled V E) (said : Answer K V E)
       (reply : Turn K V E) → IsHeard o n with eq u → said_of with false ≡ Some said →

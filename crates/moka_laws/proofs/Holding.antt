@@ -89,9 +89,8 @@ may_number n x (inr own) = own_number n x own
 
 -- what a call holds is still the place of the write, once no moment is pending
 still_place : (h : Option Holding) (n : ℕ) (write : Write) → IsPlaceOf h n write → IsPlaceOf (option_map without_moment h) n write
-still_place None n write place = place
-still_place (Some (holding.Own pending)) n write place = place
 still_place (Some (holding.TookUp held)) n write place = place
+still_place _ n write place = place
 
 -- the place of a call's own write is that of any of its number
 own_place : (h : Option Holding) (n : ℕ) (write : Write) → number_of write ≡ n → IsOwn h →
@@ -140,24 +139,17 @@ module _ {K V E : Type 0} where
   stays_weighs c = kept_next (λ v. weigh_call held v.left ≡ 0) c (λ off. refl) (λ on. refl)
 
   misses_weigh : (c : Call K V E) (aim : Aim K V) → weigh_call held (misses c aim).left ≡ 0
-  misses_weigh c (plan.To_show form) = refl
-  misses_weigh c (plan.To_load sought) = refl
-  misses_weigh c (plan.To_own sought) = refl
-  misses_weigh c (plan.To_compute compute) = refl
   misses_weigh c (plan.To_insert key value) =
       put_plans (λ p. weigh_call held (goes c p).left ≡ 0) c.rules key value _ refl refl
   misses_weigh c (plan.To_evict key stamp cause) = stays_weighs c
+  misses_weigh c _ = refl
 
   finds_weigh : (c : Call K V E) (aim : Aim K V) (k : K) (stored : Stored V) →
       weigh_call held (finds_pair c aim k stored).left ≡ 0
-  finds_weigh c (plan.To_show form) k stored = refl
-  finds_weigh c (plan.To_load sought) k stored = refl
-  finds_weigh c (plan.To_insert under new) k stored = refl
-  finds_weigh c (plan.To_own sought) k stored = refl
-  finds_weigh c (plan.To_compute compute) k stored = refl
   finds_weigh c (plan.To_evict key stamp cause) k stored =
       chosen_next (λ v. weigh_call held v.left ≡ 0) c key stamp cause k stored (λ off. refl)
       (λ on. refl) refl
+  finds_weigh c _ k stored = refl
 
   either_weighs : (b : Bool) (x y : Next K V E) → weigh_call held x.left ≡ 0 → weigh_call held y.left ≡ 0 → weigh_call held (cond b x y).left ≡ 0
   either_weighs true x y h k = h
@@ -193,21 +185,17 @@ module _ {K V E : Type 0} where
     hits_holds : (c : Call K V E) (aim : Aim K V) (there : K) (value : V) → HoldsAs n h c.plan →
         h ≡ None →
         HoldsAs n h (plan_left (hits c aim there value).left)
-    hits_holds c (plan.To_show form) there value p none = none
-    hits_holds c (plan.To_load sought) there value p none = none
-    hits_holds c (plan.To_insert under new) there value p none = none
     hits_holds c (plan.To_own sought) there value p none = (none, refl)
     hits_holds c (plan.To_compute compute) there value p none = (none, refl)
     hits_holds c (plan.To_evict key stamp cause) there value p none = p
+    hits_holds c _ there value p none = none
 
     read_holds : (c : Call K V E) (sought : Sought K) (with : Settled V E) → HoldsAs n h c.plan → h ≡ None →
         HoldsAs n h (plan_left (after_read c sought (found.ReadSettled with)).left)
-    read_holds c sought (settled.Ready value) p none = none
-    read_holds c sought (settled.Err error) p none = none
-    read_holds c sought settled.Nothing p none = none
     read_holds c sought settled.NotYet p none = p
     read_holds c sought settled.Aborted p none =
         left_holds _ (either_weighs (c.aborts + 1 == retries) _ _ refl refl) none
+    read_holds c sought _ p none = none
 
     read_key_holds : (c : Call K V E) (compute : Compute K) (with : Settled V E) →
         HoldsAs n h c.plan → h ≡ None →
@@ -225,9 +213,7 @@ module _ {K V E : Type 0} where
         (none, refl)
     told_holds c load answer.Nothing p none = (none, refl)
     told_holds c load (answer.Err error) p none = (none, refl)
-    told_holds c load answer.Done p none = p
-    told_holds c load (answer.Op op) p none = p
-    told_holds c load answer.Off p none = p
+    told_holds c load _ p none = p
 
     told_op_holds : (c : Call K V E) (compute : Compute K) (pair : Option (K × V))
         (given : Told V E) → HoldsAs n h c.plan → h ≡ None →
@@ -275,10 +261,8 @@ module _ {K V E : Type 0} where
     }
 
   said_free : (removal : Removal K) (a : Answer K V E) → weigh held (said removal a) ≡ 0
-  said_free plan.To_invalidate a = refl
-  said_free plan.To_remove a = refl
-  said_free (plan.To_evict_chosen stamp cause) a = refl
   said_free (plan.To_remove_as_told key) a = refl
+  said_free _ a = refl
 
   module _ (eq : K → K → Bool) (w : World K V E) (n : ℕ) (c : Call K V E) where
     abbrev After : World K V E → Next K V E → Type 0
@@ -291,8 +275,6 @@ module _ {K V E : Type 0} where
       λ x xs e. holds_now w.desk n (Some (holding.TookUp x)) (refl, omega (arith, q.1)),
       λ x number xs e. holds_now w.desk n (Some (holding.TookUp x)) (refl, omega (arith, q.1)),
     )
-    on_item (plan.Ended number) rest p q = (λ e. keeps w.desk n (goes_holds n _ c rest q), λ e. keeps w.desk n p)
-    on_item plan.Heard rest p q = (λ e. keeps w.desk n (goes_holds n _ c rest q), λ e. keeps w.desk n p)
     on_item (plan.Lock key) rest p q =
         ((λ e. keeps w.desk n (goes_holds n _ c rest (free_holds n _ rest q.1 q.0))), λ e. keeps w.desk n p)
     on_item (plan.Unlock true) rest p q =
@@ -307,7 +289,6 @@ module _ {K V E : Type 0} where
       λ e. holds_now w.desk n None (goes_holds n None c rest (free_holds n None rest q.1 refl)),
       λ e. holds_now w.desk n _ (still_place (w.desk.holding n) n write q.0, q.1),
     )
-    on_item plan.Turn rest p q = (λ e. keeps w.desk n (goes_holds n _ c rest q), λ e. keeps w.desk n p)
     on_item plan.Apply rest p q = (λ e. keeps w.desk n (goes_holds n _ c rest q), λ x xs e. keeps w.desk n q)
     on_item plan.End rest p q = keeps w.desk n (goes_holds n _ c rest q)
     on_item (plan.Get aim key) rest p q = (
@@ -369,6 +350,7 @@ module _ {K V E : Type 0} where
     on_item plan.Idle rest p q =
         holds_now w.desk n None (goes_holds n None c rest (free_holds n None rest q.1 refl))
     on_item (plan.Reply answer) rest p q = holds_now w.desk n None refl
+    on_item _ rest p q = (λ e. keeps w.desk n (goes_holds n _ c rest q), λ e. keeps w.desk n p)
 
     on_plan : (plan : List (Item K V E)) → c.plan ≡ plan → HoldsAs n (w.desk.holding n) c.plan → OnStep eq After w n c plan
     on_plan [] e p = holds_now w.desk n None (subst (HoldsAs n None) (sym e) refl)

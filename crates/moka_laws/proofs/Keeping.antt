@@ -112,13 +112,11 @@ module _ {K V E : Type 0} where
         turn = answers_quiet (shown form pair)
             (shown_next (λ a. kept a ≡ 0) form pair refl (λ under. refl));
       }
-  hits_quiet c (plan.To_load sought) key seen h = record
-      { left = refl; turn = answers_quiet (answer.Loaded seen.value false) refl }
-  hits_quiet c (plan.To_insert under new) key seen h = record
-      { left = refl; turn = answers_quiet (answer.Loaded seen.value false) refl }
   hits_quiet c (plan.To_own sought) key seen h = record { left = refl; turn = λ e. cc }
   hits_quiet c (plan.To_compute compute) key seen h = record { left = refl; turn = λ e. cc }
   hits_quiet c (plan.To_evict own stamp cause) key seen h = absurd (omega (arith, h))
+  hits_quiet c _ key seen h = record
+      { left = refl; turn = answers_quiet (answer.Loaded seen.value false) refl }
 
   -- a record that is not seen by its replace test is loaded
   unseen_quiet : (c : Call K V E) (d : DeskPart K V E) (aim : Aim K V) (key : K) (found : Stored V) →
@@ -156,9 +154,7 @@ module _ {K V E : Type 0} where
       (record { left = refl; turn = λ e. cc }) (record { left = refl; turn = λ e. cc })
   told_quiet c load told.Nothing p = record { left = refl; turn = λ e. cc }
   told_quiet c load (told.Err error) p = record { left = refl; turn = λ e. cc }
-  told_quiet c load told.Done p = record { left = p; turn = λ e. cc }
-  told_quiet c load (told.Op op) p = record { left = p; turn = λ e. cc }
-  told_quiet c load told.Off p = record { left = p; turn = λ e. cc }
+  told_quiet c load _ p = record { left = p; turn = λ e. cc }
 
   -- a compute answers nothing of that
   computed_not : (a : Answer K V E) → IsComputed a → kept a ≡ 0
@@ -232,10 +228,6 @@ module _ {K V : Type 0} (E : Type 0) where
       by : (b : Bool) → weigh keeping (or_insert_plan {V = V} {E = E} b key value) ≡ 0
       by true = refl
       by false = refl
-  fresh_calm rules (start.Compute key) = refl
-  fresh_calm rules (start.TryCompute key) = refl
-  fresh_calm rules (start.ComputeAlone key) = refl
-  fresh_calm rules (start.Upsert key) = refl
   fresh_calm rules (start.Invalidate key) = by rules.listener
     where
       by : (b : Bool) → weigh keeping (plan.Drain ∷ under_lock {V = V} {E = E} b key
@@ -254,6 +246,7 @@ module _ {K V : Type 0} (E : Type 0) where
           (plan.Get (plan.To_evict key stamp cause) key ∷ [])) ≡ 0
       by true = refl
       by false = refl
+  fresh_calm rules _ = refl
 
 module _ {K V E : Type 0} (s : State K V E) where
   -- what stands under the key is what is taken out
@@ -319,13 +312,6 @@ module _ {K V E : Type 0} (s : State K V E) where
           turn = answers_quiet (shown form None)
               (shown_next (λ a. kept a ≡ 0) form None refl (λ under. refl));
         })
-    misses_by (plan.To_load sought) key none = quiet (plan.Get (plan.To_load sought) key) _ (λ h. h)
-        (record { left = refl; turn = λ e. cc })
-    misses_by (plan.To_own sought) key none = quiet (plan.Get (plan.To_own sought) key) _ (λ h. h)
-        (record { left = refl; turn = λ e. cc })
-    misses_by (plan.To_compute compute) key none =
-        quiet (plan.Get (plan.To_compute compute) key) _ (λ h. h)
-        (record { left = refl; turn = λ e. cc })
     misses_by (plan.To_insert under new) key none = quiet (plan.Get (plan.To_insert under new) key)
         _ (λ h. h)
         (put_plans (λ q. Quiet (goes c q)) c.rules under new _
@@ -333,21 +319,12 @@ module _ {K V E : Type 0} (s : State K V E) where
     misses_by (plan.To_evict own stamp cause) key none = keeps_by
         (plan.Get (plan.To_evict own stamp cause) key)
         (λ h. subst (λ o. IsSomeAnd o (λ p. p.1.stamp ≡ stamp)) none h)
+    misses_by aim key none = quiet (plan.Get aim key) _ (λ h. h)
+        (record { left = refl; turn = λ e. cc })
 
     finds_by : (aim : Aim K V) (key there : K) (seen : Stored V) → s.world.table.stored key ≡ Some
         (there, seen) →
         Decides (plan.Get aim key) (finds_pair c aim there seen)
-    finds_by (plan.To_show form) key there seen some = quiet (plan.Get (plan.To_show form) key) _ (λ h. h)
-        (record { left = refl; turn = λ e. cc })
-    finds_by (plan.To_load sought) key there seen some = quiet (plan.Get (plan.To_load sought) key) _
-        (λ h. h) (record { left = refl; turn = λ e. cc })
-    finds_by (plan.To_insert under new) key there seen some = quiet (plan.Get (plan.To_insert under new) key) _
-        (λ h. h) (record { left = refl; turn = λ e. cc })
-    finds_by (plan.To_own sought) key there seen some = quiet (plan.Get (plan.To_own sought) key) _
-        (λ h. h) (record { left = refl; turn = λ e. cc })
-    finds_by (plan.To_compute compute) key there seen some =
-        quiet (plan.Get (plan.To_compute compute) key) _
-        (λ h. h) (record { left = refl; turn = λ e. cc })
     finds_by (plan.To_evict own stamp cause) key there seen some =
         chosen_by (Decides
         (plan.Get (plan.To_evict own stamp cause) key)) c own stamp cause there seen
@@ -357,46 +334,14 @@ module _ {K V E : Type 0} (s : State K V E) where
         (λ same. quiet (plan.Get (plan.To_evict own stamp cause) key) _
         (λ h. h (subst (λ o. IsSomeAnd o (λ p. p.1.stamp ≡ stamp)) (sym some) same))
         (record { left = refl; turn = λ e. cc }))
+    finds_by aim key there seen some = quiet (plan.Get aim key) _ (λ h. h)
+        (record { left = refl; turn = λ e. cc })
 
     out_by : (removal : Removal K) (key : K) → weigh keeping c.plan ≡ 0 → (eq : K → K → Bool)
         (n : ℕ)
         (rest : List (Item K V E)) →
         Outcomes eq (λ new next. Decides (plan.Out removal key) next) s.world n c
         (plan.Out removal key) rest
-    out_by plan.To_invalidate key p eq n rest = (
-      λ more. undecided (plan.Out plan.To_invalidate key) _ refl
-          (record { left = p; turn = λ e. cc }),
-      λ off none. quiet (plan.Out plan.To_invalidate key) _ (λ h. h)
-          (record { left = refl; turn = λ e. cc }),
-      λ on none. quiet (plan.Out plan.To_invalidate key) _ (λ h. h)
-          (record { left = refl; turn = λ e. cc }),
-      λ k old off some. quiet (plan.Out plan.To_invalidate key) _ (λ h. h)
-          (record { left = refl; turn = λ e. cc }),
-      λ k old on some. quiet (plan.Out plan.To_invalidate key) _ (λ h. h)
-          (record { left = refl; turn = λ e. cc }),
-    )
-    out_by plan.To_remove key p eq n rest = (
-      λ more. undecided (plan.Out plan.To_remove key) _ refl (record { left = p; turn = λ e. cc }),
-      λ off none. quiet (plan.Out plan.To_remove key) _ (λ h. h)
-          (record { left = refl; turn = λ e. cc }),
-      λ on none. quiet (plan.Out plan.To_remove key) _ (λ h. h)
-          (record { left = refl; turn = λ e. cc }),
-      λ k old off some. quiet (plan.Out plan.To_remove key) _ (λ h. h)
-          (record { left = refl; turn = λ e. cc }),
-      λ k old on some. quiet (plan.Out plan.To_remove key) _ (λ h. h)
-          (record { left = refl; turn = λ e. cc }),
-    )
-    out_by (plan.To_remove_as_told own) key p eq n rest = (
-      λ more. undecided (plan.Out (plan.To_remove_as_told own) key) _ refl (record { left = p; turn = λ e. cc }),
-      λ off none. quiet (plan.Out (plan.To_remove_as_told own) key) _ (λ h. h)
-          (record { left = refl; turn = λ e. cc }),
-      λ on none. quiet (plan.Out (plan.To_remove_as_told own) key) _ (λ h. h)
-          (record { left = refl; turn = λ e. cc }),
-      λ k old off some. quiet (plan.Out (plan.To_remove_as_told own) key) _ (λ h. h)
-          (record { left = refl; turn = λ e. cc }),
-      λ k old on some. quiet (plan.Out (plan.To_remove_as_told own) key) _ (λ h. h)
-          (record { left = refl; turn = λ e. cc }),
-    )
     out_by (plan.To_evict_chosen stamp cause) key p eq n rest = (
       λ more. undecided (plan.Out (plan.To_evict_chosen stamp cause) key) _ refl
           (record { left = p; turn = λ e. cc }),
@@ -422,6 +367,18 @@ module _ {K V E : Type 0} (s : State K V E) where
           each = λ h. inl (inr is);
           calm = calm_left next.left is;
         }
+    out_by one key p eq n rest = (
+      λ more. undecided (plan.Out one key) _ refl
+          (record { left = p; turn = λ e. cc }),
+      λ off none. quiet (plan.Out one key) _ (λ h. h)
+          (record { left = refl; turn = λ e. cc }),
+      λ on none. quiet (plan.Out one key) _ (λ h. h)
+          (record { left = refl; turn = λ e. cc }),
+      λ k old off some. quiet (plan.Out one key) _ (λ h. h)
+          (record { left = refl; turn = λ e. cc }),
+      λ k old on some. quiet (plan.Out one key) _ (λ h. h)
+          (record { left = refl; turn = λ e. cc }),
+    )
 
     module _ (eq : K → K → Bool) (n : ℕ) (p : weigh keeping c.plan ≡ 0) where
       abbrev After : Item K V E → World K V E → Next K V E → Type 0
@@ -447,8 +404,6 @@ module _ {K V E : Type 0} (s : State K V E) where
         λ e. quiet (plan.Lock key) _ (λ h. h) (goes_quiet c rest (omega (arith, q))),
         λ e. quiet (plan.Lock key) _ (λ h. h) (record { left = p; turn = λ f. cc }),
       )
-      on_item (plan.Unlock wrote) rest q = quiet (plan.Unlock wrote) _ (λ h. h)
-          (goes_quiet c rest (omega (arith, q)))
       on_item (plan.Notice key old cause upsert) rest q = (
         λ e. quiet (plan.Notice key old cause upsert) _ (λ h. h)
             (goes_quiet c rest (omega (arith, q))),
@@ -468,7 +423,6 @@ module _ {K V E : Type 0} (s : State K V E) where
         λ e. quiet plan.Apply _ (λ h. h) (goes_quiet c rest (omega (arith, q))),
         λ x xs e. quiet plan.Apply _ (λ h. h) (record { left = omega (arith, q); turn = λ f. cc }),
       )
-      on_item plan.End rest q = quiet plan.End _ (λ h. h) (goes_quiet c rest (omega (arith, q)))
       on_item (plan.Get aim key) rest q = (
         λ more. undecided (plan.Get aim key) _ refl (record { left = p; turn = λ f. cc }),
         λ none. misses_by aim key none,
@@ -517,8 +471,6 @@ module _ {K V E : Type 0} (s : State K V E) where
         λ e. quiet (plan.Read_key compute) _ (λ h. h) (record { left = p; turn = λ f. cc }),
         λ with e. quiet (plan.Read_key compute) _ (λ h. h) (read_key_quiet c compute with p),
       )
-      on_item (plan.Settle with) rest q = quiet (plan.Settle with) _ (λ h. h)
-          (goes_quiet c rest (omega (arith, q)))
       on_item (plan.Ask load) rest q = quiet (plan.Ask load) _ (λ h. h)
           (record { left = refl; turn = λ f. cc })
       on_item (plan.Ask_op compute pair) rest q = quiet (plan.Ask_op compute pair) _ (λ h. h)
@@ -554,13 +506,14 @@ module _ {K V E : Type 0} (s : State K V E) where
             (record { left = omega (arith, q); turn = λ f. cc }),
       )
       on_item (plan.Out removal key) rest q = out_by removal key p eq n rest
-      on_item plan.Idle rest q = quiet plan.Idle _ (λ h. h) (goes_quiet c rest (omega (arith, q)))
       on_item (plan.Reply a) rest q =
           quiet (plan.Reply a) _ (λ h. h) (record {
             left = refl;
             turn = answers_quiet a
                 (omega (arith, q));
           })
+      on_item item rest q = quiet item _ (λ h. h)
+          (goes_quiet c rest (omega (arith, q)))
 
     -- of a plan: why its first item keeps the record
     abbrev KeptAt : List (Item K V E) → Type 0

@@ -59,8 +59,7 @@ module _ {K V E : Type 0} (eq : K → K → Bool) where
     drops : (s t : State K V E) (n : ℕ) (c : Call K V E) (m : Mode) (r : Reply K V E) → s.calls n ≡ Some c → c.mode ≡ m → I s →
         Drops s n c m r t → I t
     drops s t n c mode.Mid r live e i h = refused s t _ r i h
-    drops s t n c mode.Fresh r live e i h = becomes (dropped s n c) t _ r (kept.drop s n c live (λ f. cc) i) h
-    drops s t n c mode.Parked r live e i h = becomes (dropped s n c) t _ r (kept.drop s n c live (λ f. cc) i) h
+    drops s t n c _ r live e i h = becomes (dropped s n c) t _ r (kept.drop s n c live (λ f. cc) i) h
 
     -- of a test, or of a call's look-up, either answer keeps it
     either : (t : State K V E) (b : Bool) (P Q : Type 0) → (b ≡ true → P → I t) → (b ≡ false → Q → I t) → MatchBool b P Q → I t
@@ -74,12 +73,9 @@ module _ {K V E : Type 0} (eq : K → K → Bool) where
 
     is_told : (s : State K V E) (n : ℕ) (answer : Told V E) → is_asked s.world.desk n answer ≡ true → I s →
         I (with_desk s (tells s.world.desk n answer))
-    is_told s n (told.Value value) e i = kept.tell s n (told.Value value) e i
-    is_told s n told.Nothing e i = kept.tell s n told.Nothing e i
-    is_told s n (told.Err error) e i = kept.tell s n (told.Err error) e i
     is_told s n told.Done e i = kept.hear s n false e i
-    is_told s n (told.Op op) e i = kept.tell s n (told.Op op) e i
     is_told s n told.Off e i = kept.hear s n true e i
+    is_told s n one e i = kept.tell s n one e i
 
     happens : (P : State K V E → Type 0) (s t : State K V E) (e : Event K V E) (r : Reply K V E) → I s → Happens eq P s e r t → I t
     happens P s t (event.At moment) r i h =

@@ -156,26 +156,8 @@ module _ {K V E : Type 0} where
             λ x xs f. same refl refl refl idle,
             λ x number xs f. same refl refl refl idle,
           )
-      on_item (plan.Ended number) rest e =
-          let idle = idle_by (plan.Ended number) rest e refl in
-          (λ f. same refl refl refl idle, λ f. same refl refl refl idle)
-      on_item plan.Heard rest e =
-          let idle = idle_by plan.Heard rest e refl in
-          (λ f. same refl refl refl idle, λ f. same refl refl refl idle)
-      on_item (plan.Lock key) rest e =
-          let idle = idle_by (plan.Lock key) rest e refl in
-          (λ f. same refl refl refl idle, λ f. same refl refl refl idle)
       on_item (plan.Unlock wrote) rest e =
           same refl refl refl (idle_by (plan.Unlock wrote) rest e refl)
-      on_item (plan.Notice key old cause upsert) rest e =
-          let idle = idle_by (plan.Notice key old cause upsert) rest e refl in
-          (λ f. same refl refl refl idle, λ f. same refl refl refl idle)
-      on_item (plan.Post write) rest e =
-          let idle = idle_by (plan.Post write) rest e refl in
-          (λ f. same refl refl refl idle, λ f. same refl refl refl idle)
-      on_item plan.Turn rest e =
-          let idle = idle_by plan.Turn rest e refl in
-          (λ f. same refl refl refl idle, λ f. same refl refl refl idle)
       on_item plan.Apply rest e =
           let idle = idle_by plan.Apply rest e refl in
           (λ f. same refl refl refl idle, λ x xs f. same refl refl refl idle)
@@ -263,9 +245,6 @@ module _ {K V E : Type 0} where
       on_item (plan.Told_op compute pair) rest e =
           let idle = idle_by (plan.Told_op compute pair) rest e refl in
           (λ none. same refl refl refl idle, λ given some. same refl refl refl idle)
-      on_item (plan.Holds key stamp cause there stored) rest e =
-          let idle = idle_by (plan.Holds key stamp cause there stored) rest e refl in
-          (λ f. same refl refl refl idle, λ f. same refl refl refl idle)
       on_item (plan.Moment (plan.To_store key value)) rest e =
           same refl refl refl (idle_by (plan.Moment (plan.To_store key value)) rest e refl)
       on_item (plan.Moment (plan.To_take_out removal key)) rest e =
@@ -289,6 +268,9 @@ module _ {K V E : Type 0} where
       on_item plan.Idle rest e = same refl refl refl (idle_by plan.Idle rest e refl)
       on_item (plan.Reply a) rest e =
           same refl refl refl (idle_by (plan.Reply a) rest e refl)
+      on_item item rest e =
+          let idle = idle_by item rest e refl in
+          (λ f. same refl refl refl idle, λ f. same refl refl refl idle)
 
       on_plan : (p : List (Item K V E)) → c.plan ≡ p → (p ≡ [] → ⊥) → OnStep eq After w n c p
       on_plan [] e full = absurd (full refl)

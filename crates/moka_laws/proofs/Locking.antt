@@ -233,12 +233,10 @@ module _ {K V E : Type 0} where
 
     reads : (sought : Sought K) (rest : List (Item K V E)) (with : Settled V E) → Now c.plan → Now (plan.Read sought ∷ rest) →
         Leaves w.desk n c w.desk.rules w.desk.locked (after_read c sought (found.ReadSettled with)).left
-    reads sought rest (settled.Ready value) p q = keeps w.desk n c tt (free [] refl q (λ k i. i))
-    reads sought rest (settled.Err error) p q = keeps w.desk n c tt (free [] refl q (λ k i. i))
-    reads sought rest settled.Nothing p q = keeps w.desk n c tt (free [] refl q (λ k i. i))
     reads sought rest settled.NotYet p q = keeps w.desk n c refl p
     reads sought rest settled.Aborted p q = either w.desk n c (c.aborts + 1 == retries) _ _ (keeps w.desk n c tt (free [] refl q (λ k i. i)))
         (keeps w.desk n c refl (free (plan.Own sought ∷ []) refl q (λ k i. i)))
+    reads sought rest _ p q = keeps w.desk n c tt (free [] refl q (λ k i. i))
 
     reads_key : (compute : Compute K) (rest : List (Item K V E)) (with : Settled V E) → Now c.plan →
         Now (plan.Read_key compute ∷ rest) →
@@ -273,9 +271,7 @@ module _ {K V E : Type 0} where
     told load rest (answer.Err error) p q =
         goes_on w.desk n c _
         (free (end_load (settled.Err error) (reply.InitErr error)) refl q (λ k i. i))
-    told load rest answer.Done p q = keeps w.desk n c refl p
-    told load rest (answer.Op op) p q = keeps w.desk n c refl p
-    told load rest answer.Off p q = keeps w.desk n c refl p
+    told load rest _ p q = keeps w.desk n c refl p
 
     told_op : (compute : Compute K) (pair : Option (K × V)) (rest : List (Item K V E))
         (given : Told V E) → Now c.plan → Now (plan.Told_op compute pair ∷ rest) →
@@ -325,9 +321,6 @@ module _ {K V E : Type 0} where
     missed : (aim : Aim K V) (key : K) (rest : List (Item K V E)) → Now (plan.Get aim key ∷ rest) →
         Leaves w.desk n c w.desk.rules w.desk.locked (misses c aim).left
     missed (plan.To_show form) key rest q = keeps w.desk n c tt (free _ refl q (λ k i. i))
-    missed (plan.To_load sought) key rest q = keeps w.desk n c refl (free _ refl q (λ k i. i))
-    missed (plan.To_own sought) key rest q = keeps w.desk n c refl (free _ refl q (λ k i. i))
-    missed (plan.To_compute compute) key rest q = keeps w.desk n c refl (free _ refl q (λ k i. i))
     missed (plan.To_insert there value) key rest q =
         put_plans_by (λ v. Leaves w.desk n c w.desk.rules w.desk.locked (goes c v).left)
         c.rules there value _
@@ -343,6 +336,7 @@ module _ {K V E : Type 0} where
           inside = λ e k f. absurd (q.inside e k f);
         }))
     missed (plan.To_evict there stamp cause) key rest q = kept _ (λ o. o) q
+    missed _ key rest q = keeps w.desk n c refl (free _ refl q (λ k i. i))
 
     -- a record that is not seen by its replace test is loaded
     unseen : (aim : Aim K V) (key : K) (stored : Stored V) (rest : List (Item K V E)) →
@@ -357,32 +351,22 @@ module _ {K V E : Type 0} where
     has_found : (aim : Aim K V) (key k : K) (stored : Stored V) (rest : List (Item K V E)) →
         Now (plan.Get aim key ∷ rest) →
         Leaves w.desk n c w.desk.rules w.desk.locked (finds_pair c aim k stored).left
-    has_found (plan.To_show form) key k stored rest q = keeps w.desk n c refl (free _ refl q (λ l i. i))
-    has_found (plan.To_load sought) key k stored rest q =
-        keeps w.desk n c refl (free _ refl q (λ l i. i))
-    has_found (plan.To_insert under new) key k stored rest q =
-        keeps w.desk n c refl (free _ refl q (λ l i. i))
-    has_found (plan.To_own sought) key k stored rest q =
-        keeps w.desk n c refl (free _ refl q (λ l i. i))
-    has_found (plan.To_compute compute) key k stored rest q =
-        keeps w.desk n c refl (free _ refl q (λ l i. i))
     has_found (plan.To_evict there stamp cause) key k stored rest q =
         chosen_by (λ v. Leaves w.desk n c w.desk.rules w.desk.locked v.left)
         c there stamp cause k stored
         (λ other. kept _ (λ o. o) q)
         (λ same. keeps w.desk n c refl
         (like _ _ q (λ h. refl) (λ o. absurd o) (λ l i. (i.0, refl))))
+    has_found _ key k stored rest q = keeps w.desk n c refl (free _ refl q (λ l i. i))
 
     hit : (aim : Aim K V) (key : K) (stored : Stored V) (rest : List (Item K V E)) → Now c.plan →
         Now (plan.Judge aim key stored ∷ rest) →
         Leaves w.desk n c w.desk.rules w.desk.locked (hits c aim key stored.value).left
-    hit (plan.To_show form) key stored rest p q = keeps w.desk n c tt (free _ refl q (λ k i. i))
-    hit (plan.To_load sought) key stored rest p q = keeps w.desk n c tt (free _ refl q (λ k i. i))
-    hit (plan.To_insert under new) key stored rest p q = keeps w.desk n c tt (free _ refl q (λ k i. i))
     hit (plan.To_own sought) key stored rest p q = keeps w.desk n c refl (free _ refl q (λ k i. i))
     hit (plan.To_compute compute) key stored rest p q =
         keeps w.desk n c refl (free _ refl q (λ k i. i))
     hit (plan.To_evict there stamp cause) key stored rest p q = keeps w.desk n c refl p
+    hit _ key stored rest p q = keeps w.desk n c tt (free _ refl q (λ k i. i))
 
     -- after a removal, the lock is to be freed where a listener is set
     took : (removal : Removal K) (key : K) (rest new : List (Item K V E)) →
@@ -452,7 +436,6 @@ module _ {K V E : Type 0} where
     on_item (plan.Read sought) rest p q = ((λ e. keeps w.desk n c refl p), λ with e. reads sought rest with p q)
     on_item (plan.Read_key compute) rest p q =
         ((λ e. keeps w.desk n c refl p), λ with e. reads_key compute rest with p q)
-    on_item (plan.Settle with) rest p q = goes_on w.desk n c rest (like _ _ q (λ h. omega arith) (λ h. calm_outside rest h) (λ k i. absurd i))
     on_item (plan.Ask load) rest p q = keeps w.desk n c refl (free _ refl q (λ k i. i))
     on_item (plan.Ask_op compute pair) rest p q = keeps w.desk n c refl (free _ refl q (λ k i. i))
     on_item (plan.Told load) rest p q = ((λ e. keeps w.desk n c refl p), λ given e. told load rest given p q)
@@ -538,9 +521,8 @@ module _ {K V E : Type 0} where
           (keeps w.desk n c refl (took removal key rest (plan.Notice key old (cause_handed removal) false ∷ plan.Unlock true ∷ plan.Post (Remove n old.stamp) ∷ plan.Reply _ ∷ []) (λ f. absurd (true_false (sym on ∙ f))) (λ f k i. (i, refl)) q))
           (keeps w.desk n c refl (took removal key rest (plan.Notice key old (cause_handed removal) false ∷ plan.Unlock true ∷ plan.Post (Remove n old.stamp) ∷ end_compute _) (λ f. absurd (true_false (sym on ∙ f))) (λ f k i. (i, refl)) q)),
     )
-    on_item plan.Idle rest p q = goes_on w.desk n c rest
-        (like _ _ q (λ h. omega arith) (λ h. calm_outside rest h) (λ k i. absurd i))
     on_item (plan.Reply a) rest p q = keeps w.desk n c tt (free _ refl q (λ k i. i))
+    on_item _ rest p q = goes_on w.desk n c rest (like _ _ q (λ h. omega arith) (λ h. calm_outside rest h) (λ k i. absurd i))
 
     on_plan : (p : List (Item K V E)) → c.plan ≡ p → Now c.plan → OnStep eq After w n c p
     on_plan [] e q = keeps w.desk n c refl q
@@ -580,14 +562,6 @@ module _ {K V E : Type 0} where
   }
 
   fresh_form : (rules : Rules) (p : List (Item K V E)) → IsFresh rules p → Locks rules.listener None p
-  fresh_form rules p (Disabled a d plain) = starts rules.listener _ refl (λ e. refl)
-  fresh_form rules p (Gets form key d) = starts rules.listener _ refl (λ e. refl)
-  fresh_form rules p (Loads sought d one) = starts rules.listener _ refl (λ e. refl)
-  fresh_form rules p (Owns sought d one) = starts rules.listener _ refl (λ e. refl)
-  fresh_form rules p (Computes compute one) = starts rules.listener _ refl (λ e. refl)
-  fresh_form rules p (Computes_alone key) = starts rules.listener _ refl (λ e. refl)
-  fresh_form rules p (Finds_or_puts key value d) = starts rules.listener _ refl (λ e. refl)
-  fresh_form rules p (Gives_back a d plain) = starts rules.listener _ refl (λ e. refl)
   fresh_form rules p (Puts key value d off) =
       starts rules.listener _ refl (λ e. absurd (true_false (sym e ∙ off)))
   fresh_form rules p (Locks_and_puts key value d on) =
@@ -600,6 +574,7 @@ module _ {K V E : Type 0} where
       starts rules.listener _ refl (λ e. absurd (true_false (sym e ∙ off)))
   fresh_form rules p (Locks_and_evicts key stamp cause on) =
       starts_locked rules.listener _ on (refl, refl, refl)
+  fresh_form rules p _ = starts rules.listener _ refl (λ e. refl)
 
   fresh_locks : (rules : Rules) (start : Start K V) → Locks rules.listener None (plan_of rules start)
   fresh_locks rules start = fresh_form rules (plan_of rules start) (fresh_plan rules start)

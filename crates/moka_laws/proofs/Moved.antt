@@ -25,9 +25,7 @@ put_twice f n v w = λ i m. (at m (n == m)) i
 -- a step that isn't Going has not that reply
 not_going : {K V E : Type 0} (t : Turn K V E) → t ≢ turn.Going → reply_of t ≢ reply.Going
 not_going turn.Going h = absurd (h refl)
-not_going turn.Wait h = λ e. cc
-not_going (turn.Ask ask) h = λ e. cc
-not_going (turn.Answer answer) h = λ e. cc
+not_going _ h = λ e. cc
 
 module _ {K V E : Type 0} (eq : K → K → Bool) where
   pub move_step : MoveIsStep K V E eq

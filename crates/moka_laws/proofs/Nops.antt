@@ -110,12 +110,7 @@ module _ {K V E : Type 0} (eq : K → K → Bool) where
       record { says = unchanged compute.key pair; nop = λ f. refl; next = refl }
   ends_with compute pair (told.Err error) c e =
       record { says = answer.ComputeErr error; nop = λ f. cc; next = refl }
-  ends_with compute pair (told.Op (op.Put value)) c e = absurd (false≢true e)
-  ends_with compute pair (told.Op op.Remove) c e = absurd (false≢true e)
-  ends_with compute pair (told.Value value) c e = absurd (false≢true e)
-  ends_with compute pair told.Nothing c e = absurd (false≢true e)
-  ends_with compute pair told.Done c e = absurd (false≢true e)
-  ends_with compute pair told.Off c e = absurd (false≢true e)
+  ends_with compute pair _ c e = absurd (false≢true e)
 
   module _ (s t : State K V E) (n : ℕ) (c : Call K V E) (compute : Compute K)
       (pair : Option (K × V)) (given : Told V E) (r : Turn K V E) (h : IsReached eq s)

@@ -108,14 +108,8 @@ module _ {K V E : Type 0} where
   tail_none n c p (Settling with a) = refl
 
   pub drained_none : (n : ℕ) (c : Call K V E) (p : List (Item K V E)) → IsDrained p → naming n (plan_left (goes c p).left) ≡ None
-  drained_none n c p (Looking aim key l) = refl
-  drained_none n c p (Owning sought) = refl
-  drained_none n c p (Asking_op compute pair) = refl
-  drained_none n c p (Giving a) = refl
-  drained_none n c p (Removing removal key) = refl
-  drained_none n c p (Locking_out removal key) = refl
-  drained_none n c p (Putting key value rest t) = refl
   drained_none n c p (Locking key value rest t) = refl
+  drained_none n c p _ = refl
 
   pub posted_none : (n : ℕ) (c : Call K V E) (p : List (Item K V E)) → IsPosted p → naming n (plan_left (goes c p).left) ≡ None
   posted_none n c p (Draining rest d) = refl
@@ -125,35 +119,24 @@ module _ {K V E : Type 0} where
   keeps_none n c = kept_next (λ v. naming n (plan_left v.left) ≡ None) c (λ off. refl) (λ on. refl)
 
   pub misses_none : (n : ℕ) (c : Call K V E) (aim : Aim K V) → naming n (plan_left (misses c aim).left) ≡ None
-  misses_none n c (plan.To_show form) = refl
-  misses_none n c (plan.To_load sought) = refl
-  misses_none n c (plan.To_own sought) = refl
-  misses_none n c (plan.To_compute compute) = refl
   misses_none n c (plan.To_insert key value) =
       put_plans (λ p. naming n (plan_left (goes c p).left) ≡ None) c.rules key value
       (plan.Reply (reply.Loaded value true) ∷ []) refl refl
   misses_none n c (plan.To_evict key stamp cause) = keeps_none n c
+  misses_none n c _ = refl
 
   pub finds_none : (n : ℕ) (c : Call K V E) (aim : Aim K V) (there : K) (stored : Stored V) →
       naming n (plan_left (finds_pair c aim there stored).left) ≡ None
-  finds_none n c (plan.To_show form) there stored = refl
-  finds_none n c (plan.To_load sought) there stored = refl
-  finds_none n c (plan.To_insert under new) there stored = refl
-  finds_none n c (plan.To_own sought) there stored = refl
-  finds_none n c (plan.To_compute compute) there stored = refl
   finds_none n c (plan.To_evict key stamp cause) there stored =
       chosen_next (λ v. naming n (plan_left v.left) ≡ None) c key stamp cause there stored
       (λ off. refl)
       (λ on. refl) refl
+  finds_none n c _ there stored = refl
 
   pub hits_none : (n : ℕ) (c : Call K V E) (aim : Aim K V) (there : K) (value : V) → IsLook aim →
       naming n (plan_left (hits c aim there value).left) ≡ None
-  hits_none n c (plan.To_show form) there value l = refl
-  hits_none n c (plan.To_load sought) there value l = refl
-  hits_none n c (plan.To_insert under new) there value l = refl
-  hits_none n c (plan.To_own sought) there value l = refl
-  hits_none n c (plan.To_compute compute) there value l = refl
   hits_none n c (plan.To_evict key stamp cause) there value l = absurd l
+  hits_none n c _ there value l = refl
 
   either_none : (n : ℕ) (b : Bool) (x y : Next K V E) → naming n (plan_left x.left) ≡ None → naming n (plan_left y.left) ≡ None →
       naming n (plan_left (cond b x y).left) ≡ None
@@ -162,11 +145,9 @@ module _ {K V E : Type 0} where
 
   pub read_none : (n : ℕ) (c : Call K V E) (sought : Sought K) (with : Settled V E) → naming n c.plan ≡ None →
       naming n (plan_left (after_read c sought (found.ReadSettled with)).left) ≡ None
-  read_none n c sought (settled.Ready value) h = refl
-  read_none n c sought (settled.Err error) h = refl
-  read_none n c sought settled.Nothing h = refl
   read_none n c sought settled.NotYet h = h
   read_none n c sought settled.Aborted h = either_none n (c.aborts + 1 == retries) _ _ refl refl
+  read_none n c sought _ h = refl
 
   pub read_key_none : (n : ℕ) (c : Call K V E) (compute : Compute K) (with : Settled V E) →
       naming n c.plan ≡ None →
@@ -183,9 +164,7 @@ module _ {K V E : Type 0} where
       None) c.rules load value refl refl refl
   told_none n c load answer.Nothing h = refl
   told_none n c load (answer.Err error) h = refl
-  told_none n c load answer.Done h = h
-  told_none n c load (answer.Op op) h = h
-  told_none n c load answer.Off h = h
+  told_none n c load _ h = h
 
   pub told_op_none : (n : ℕ) (c : Call K V E) (compute : Compute K) (pair : Option (K × V))
       (given : Told V E) → naming n c.plan ≡ None →
@@ -224,21 +203,7 @@ module _ {K V E : Type 0} where
   hears_held n y p (Drained rest (Locking_out removal key)) e = absurd (none_some e)
   hears_held n y p (Drained rest (Putting key value more t)) e = absurd (none_some e)
   hears_held n y p (Drained rest (Locking key value more t)) e = absurd (none_some e)
-  hears_held n y p (Writing key value moment rest t) e = absurd (none_some e)
-  hears_held n y p (Judging aim key stored l) e = absurd (none_some e)
-  hears_held n y p (Reading sought) e = absurd (none_some e)
-  hears_held n y p (Asking load) e = absurd (none_some e)
-  hears_held n y p (Telling load) e = absurd (none_some e)
-  hears_held n y p (Owning_key compute) e = absurd (none_some e)
-  hears_held n y p (Owning_alone key) e = absurd (none_some e)
-  hears_held n y p (Reading_key compute) e = absurd (none_some e)
-  hears_held n y p (Telling_op compute pair) e = absurd (none_some e)
-  hears_held n y p (Choosing key stamp cause) e = absurd (none_some e)
-  hears_held n y p (Finding key stamp cause) e = absurd (none_some e)
-  hears_held n y p (Chosen key stamp cause there stored) e = absurd (none_some e)
-  hears_held n y p (Taking removal key) e = absurd (none_some e)
-  hears_held n y p (Freeing rest t) e = absurd (none_some e)
-  hears_held n y p (Idling rest t) e = absurd (none_some e)
+  hears_held n y p _ e = absurd (none_some e)
   -- ---- notices with the desk
 
 module _ {K V : Type 0} where

@@ -56,9 +56,7 @@ module _ {K V E : Type 0} (s : State K V E) (i : IsBalanced s) where
   stands_counts place.Held x h =
       let one = holder_counts h.0 x h.1 in
       omega (arith, one.1, sum_holds s.world.desk.last (λ n. weigh_call (post_of x) (s.calls n)) h.0 one.0)
-  stands_counts place.Owed x h = h
-  stands_counts place.Logged x h = h
-  stands_counts place.Applied x h = h
+  stands_counts _ x h = h
 
   -- a live call whose plan posts a write holds it
   posts_holds : (n : ℕ) (x : ℕ) (c : Option (Call K V E)) → s.calls n ≡ c → 0 < weigh_call (post_of x) c → Holds s n x
@@ -77,9 +75,7 @@ module _ {K V E : Type 0} (s : State K V E) (i : IsBalanced s) where
   counts_stands place.Held x h =
       let some = sum_has s.world.desk.last (λ n. weigh_call (post_of x) (s.calls n)) h in
       (some.0, posts_holds some.0 x (s.calls some.0) refl some.1)
-  counts_stands place.Owed x h = h
-  counts_stands place.Logged x h = h
-  counts_stands place.Applied x h = h
+  counts_stands _ x h = h
 
   -- where the counts of the places make 1 there is one place
   one_of : (x : ℕ) → (p q : Place) → count place.Held x + (count place.Owed x + count place.Logged x + count place.Applied x) ≡ 1 →
@@ -131,7 +127,5 @@ module _ {K V E : Type 0} (s : State K V E) (i : IsBalanced s) where
       times_contains x s.world.table.committed (by p counts)
     where
       by : (p : Place) → 0 < count p x → 0 < times x s.world.table.committed
-      by place.Held h = omega (arith, i.balance x)
-      by place.Owed h = omega (arith, i.balance x)
-      by place.Logged h = omega (arith, i.balance x)
       by place.Applied h = omega (arith, i.balance x)
+      by _ h = omega (arith, i.balance x)

@@ -213,26 +213,21 @@ module _ {K V E : Type 0} (P R : K → V → Type 0) (q : K) where
 
   said_fair : (removal : Removal K) (a : Answer K V E) → ValueFair R q (value_of a) →
       RestFair (said removal a)
-  said_fair plan.To_invalidate a h = (h, tt)
-  said_fair plan.To_remove a h = (h, tt)
-  said_fair (plan.To_evict_chosen stamp cause) a h = (h, tt)
   said_fair (plan.To_remove_as_told key) a h = (none_fair R q, (h, tt))
+  said_fair _ a h = (h, tt)
 
   -- a removal that found nothing answers no value, and one that took a record out no other
   nothing_fair : (c : Call K V E) (removal : Removal K) →
       RestFair (said removal (nothing_answer removal))
-  nothing_fair c plan.To_invalidate = (none_fair R q, tt)
-  nothing_fair c plan.To_remove = (none_fair R q, tt)
-  nothing_fair c (plan.To_evict_chosen stamp cause) = (none_fair R q, tt)
   nothing_fair c (plan.To_remove_as_told key) = (none_fair R q, (none_fair R q, tt))
+  nothing_fair c _ = (none_fair R q, tt)
 
   removed_fair : (c : Call K V E) (removal : Removal K) (value : V) → R q value →
       RestFair (said removal (removed_answer removal value))
-  removed_fair c plan.To_invalidate value h = (none_fair R q, tt)
   removed_fair c plan.To_remove value h = (one_fair R q value h, tt)
-  removed_fair c (plan.To_evict_chosen stamp cause) value h = (none_fair R q, tt)
   removed_fair c (plan.To_remove_as_told key) value h =
       (none_fair R q, (one_fair R q value h, tt))
+  removed_fair c _ value h = (none_fair R q, tt)
 
   unchanged_fair : (c : Call K V E) (key : K) (pair : Option (K × V)) →
       ValueFair R q (option_map (λ pair. pair.1) pair) →
@@ -255,14 +250,10 @@ module _ {K V E : Type 0} (P R : K → V → Type 0) (q : K) where
   finds_fair : (told : Option (Told V E)) (c : Call K V E) (aim : Aim K V) (there : K)
       (seen : Stored V) → R q seen.value → AimFair P q aim →
       NextFair told (finds_pair c aim there seen)
-  finds_fair told c (plan.To_show form) there seen r h = (((r, h), tt), none_fair R q)
-  finds_fair told c (plan.To_load sought) there seen r h = (((r, h), tt), none_fair R q)
-  finds_fair told c (plan.To_own sought) there seen r h = (((r, h), tt), none_fair R q)
-  finds_fair told c (plan.To_compute compute) there seen r h = (((r, h), tt), none_fair R q)
-  finds_fair told c (plan.To_insert key value) there seen r h = (((r, h), tt), none_fair R q)
   finds_fair told c (plan.To_evict key stamp cause) there seen r h =
       chosen_next (λ v. NextFair told v) c key stamp cause there seen (λ off. (tt, none_fair R q))
       (λ on. ((tt, (none_fair R q, tt)), none_fair R q)) ((h, tt), none_fair R q)
+  finds_fair told c _ there seen r h = (((r, h), tt), none_fair R q)
 
   hits_fair : (told : Option (Told V E)) (c : Call K V E) (aim : Aim K V) (there : K) (value : V) →
       R q value → AimFair P q aim → PlanFair told c.plan →
@@ -272,13 +263,12 @@ module _ {K V E : Type 0} (P R : K → V → Type 0) (q : K) where
     shown_next (λ a. ValueFair R q (value_of a)) form (Some (there, value)) (one_fair R q value r)
         (λ key. one_fair R q value r),
   )
-  hits_fair told c (plan.To_load sought) there value r h p = (tt, one_fair R q value r)
   hits_fair told c (plan.To_own sought) there value r h p =
       ((one_fair R q value r, (one_fair R q value r, tt)), none_fair R q)
-  hits_fair told c (plan.To_insert key unused) there value r h p = (tt, one_fair R q value r)
   hits_fair told c (plan.To_compute compute) there value r h p =
       (((h, one_fair R q value r), tt), none_fair R q)
   hits_fair told c (plan.To_evict key stamp cause) there value r h p = (p, none_fair R q)
+  hits_fair told c _ there value r h p = (tt, one_fair R q value r)
 
   either_fair : (told : Option (Told V E)) (b : Bool) (x y : Next K V E) → NextFair told x →
       NextFair told y → NextFair told (cond b x y)
@@ -288,12 +278,10 @@ module _ {K V E : Type 0} (P R : K → V → Type 0) (q : K) where
   read_fair : (told : Option (Told V E)) (c : Call K V E) (sought : Sought K) (with : Settled V E) →
       sought.load.key ≡ q → ValueFair R q (ready with) → PlanFair told c.plan →
       NextFair told (after_read c sought (found.ReadSettled with))
-  read_fair told c sought (settled.Ready value) h r p = (tt, r)
-  read_fair told c sought (settled.Err error) h r p = (tt, r)
-  read_fair told c sought settled.Nothing h r p = (tt, r)
   read_fair told c sought settled.NotYet h r p = (p, r)
   read_fair told c sought settled.Aborted h r p =
       either_fair told (c.aborts + 1 == retries) _ _ (tt, r) ((h, tt), r)
+  read_fair told c sought _ h r p = (tt, r)
 
   module _ (Q : ℕ → K → Type 0) (eq : K → K → Bool) (ties : Ties P R Q eq) where
     misses_fair : (told : Option (Told V E)) (c : Call K V E) (aim : Aim K V) → AimFair P q aim →
@@ -303,8 +291,6 @@ module _ {K V E : Type 0} (P R : K → V → Type 0) (q : K) where
       shown_next (λ a. ValueFair R q (value_of a)) form None (none_fair R q)
           (λ key. none_fair R q),
     )
-    misses_fair told c (plan.To_load sought) h = ((h, tt), none_fair R q)
-    misses_fair told c (plan.To_own sought) h = ((h, tt), none_fair R q)
     misses_fair told c (plan.To_compute compute) h = (((h, none_fair R q), tt), none_fair R q)
     misses_fair told c (plan.To_insert key value) h =
         let r : ValueFair R q (Some value) = one_fair R q value (own_fair P R q Q eq ties key value h.0 h.1) in
@@ -312,6 +298,7 @@ module _ {K V E : Type 0} (P R : K → V → Type 0) (q : K) where
         (plan.Reply (answer.Loaded value true) ∷ []) ((tt, (h, (r, tt))), none_fair R q)
         ((tt, (tt, (h, (r, tt)))), none_fair R q)
     misses_fair told c (plan.To_evict key stamp cause) h = keeps_fair told c
+    misses_fair told c _ h = ((h, tt), none_fair R q)
 
     told_fair : (o : Option (Told V E)) (c : Call K V E) (load : Load K) (given : Told V E) →
         load.key ≡ q → ((value : V) → value_in given ≡ Some value → P load.key value) →
@@ -325,9 +312,7 @@ module _ {K V E : Type 0} (P R : K → V → Type 0) (q : K) where
         ((none_fair R q, (none_fair R q, tt)), none_fair R q)
     told_fair o c load (told.Err error) is gave p =
         ((none_fair R q, (none_fair R q, tt)), none_fair R q)
-    told_fair o c load told.Done is gave p = (p, none_fair R q)
-    told_fair o c load (told.Op done) is gave p = (p, none_fair R q)
-    told_fair o c load told.Off is gave p = (p, none_fair R q)
+    told_fair o c load _ is gave p = (p, none_fair R q)
 
     puts_fair : (o : Option (Told V E)) (c : Call K V E) (key : K) (pair : Option (K × V))
         (value : V) → P key value → key ≡ q → (b : Bool) →
@@ -365,9 +350,7 @@ module _ {K V E : Type 0} (P R : K → V → Type 0) (q : K) where
     )
     told_op_fair o c compute pair (told.Err error) is r gave p =
         ((none_fair R q, (none_fair R q, tt)), none_fair R q)
-    told_op_fair o c compute pair told.Nothing is r gave p = (p, none_fair R q)
-    told_op_fair o c compute pair told.Done is r gave p = (p, none_fair R q)
-    told_op_fair o c compute pair told.Off is r gave p = (p, none_fair R q)
+    told_op_fair o c compute pair _ is r gave p = (p, none_fair R q)
 
     -- what a step has to show
     record Leaves (d : DeskPart K V E) (n : ℕ) (new : World K V E) (next : Next K V E) : Type 0
@@ -509,12 +492,6 @@ module _ {K V E : Type 0} (P R : K → V → Type 0) (q : K) where
         λ x number xs e. goes_on (plan.Ended number ∷ plan.Post x ∷ plan.Drain ∷ rest) table desk
             refl (tt, (tt, f)),
       )
-      on_item (plan.Ended number) rest is f =
-          (λ e. goes_on rest table desk refl f.1, λ e. still table desk refl (p, none_fair R q))
-      on_item plan.Heard rest is f =
-          (λ e. goes_on rest table desk refl f.1, λ e. still table desk refl (p, none_fair R q))
-      on_item (plan.Lock key) rest is f =
-          (λ e. goes_on rest table desk refl f.1, λ e. still table desk refl (p, none_fair R q))
       on_item (plan.Unlock done) rest is f = goes_on rest table desk refl f.1
       on_item (plan.Notice key old cause upsert) rest is f = (
         λ e. goes_on rest table desk refl f.1,
@@ -525,8 +502,6 @@ module _ {K V E : Type 0} (P R : K → V → Type 0) (q : K) where
         λ e. goes_on (plan.Turn ∷ plan.Apply ∷ plan.End ∷ plan.Post write ∷ rest) table desk refl
             (tt, (tt, (tt, f))),
       )
-      on_item plan.Turn rest is f =
-          (λ e. goes_on rest table desk refl f.1, λ e. still table desk refl (p, none_fair R q))
       on_item plan.Apply rest is f = (
         λ e. goes_on rest table desk refl f.1,
         λ x xs e. goes_on (plan.Apply ∷ rest) table desk refl f,
@@ -639,6 +614,8 @@ module _ {K V E : Type 0} (P R : K → V → Type 0) (q : K) where
               seen key there old f.0 (taken_was (stamp_asked removal) _ (there, old) some)
       on_item plan.Idle rest is f = goes_on rest table desk refl f.1
       on_item (plan.Reply a) rest is f = still table desk refl (tt, f.0)
+      on_item _ rest is f =
+          (λ e. goes_on rest table desk refl f.1, λ e. still table desk refl (p, none_fair R q))
 
       on_plan : (rest : List (Item K V E)) → c.plan ≡ rest → OnStep eq After w n c rest
       on_plan [] is = still table desk refl (p, none_fair R q)
@@ -687,14 +664,11 @@ module _ {K V : Type 0} (E : Type 0) (P R : K → V → Type 0) where
   fresh_fair own rules (start.OrInsert key value) h =
       or_insert_fair key (is_disabled rules) value (h key value refl)
       (own key value (h key value refl))
-  fresh_fair own rules (start.Compute key) h = (refl, tt)
-  fresh_fair own rules (start.TryCompute key) h = (refl, tt)
-  fresh_fair own rules (start.Upsert key) h = (refl, tt)
-  fresh_fair own rules (start.ComputeAlone key) h = (refl, tt)
   fresh_fair own rules (start.Invalidate key) h = (tt, lock_fair key rules.listener _ (refl, tt))
   fresh_fair own rules (start.Remove key) h = (tt, lock_fair key rules.listener _ (refl, tt))
   fresh_fair own rules (start.Evict key stamp cause) h =
       lock_fair key rules.listener _ ((refl, refl), tt)
+  fresh_fair own rules _ h = (refl, tt)
 
 module _ {K V E : Type 0} (P R : K → V → Type 0) where
   -- a call that is told a value for its key

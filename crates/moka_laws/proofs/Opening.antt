@@ -98,9 +98,7 @@ module _ {K V E : Type 0} where
   ends_one settled.Nothing said given e f = sym (ap (ends_load settled.Nothing) (some_same f))
   ends_one (settled.Err error) said given e f =
       sym (ap (ends_load (settled.Err error)) (some_same f))
-  ends_one (settled.Ready value) said given e f = absurd (none_some e)
-  ends_one settled.NotYet said given e f = absurd (none_some e)
-  ends_one settled.Aborted said given e f = absurd (none_some e)
+  ends_one _ said given e f = absurd (none_some e)
 
   ends_not : (p : List (Item K V E)) (with : Settled V E) (said : Answer K V E) (given : Told V E) →
       lates p ≡ 0 → told_as with ≡ Some given → said_of with false ≡ Some said →
@@ -126,17 +124,13 @@ module _ {K V E : Type 0} where
 
   nothing_late : (c : Call K V E) (removal : Removal K) →
       lates (said {V = V} {E = E} removal (nothing_answer removal)) ≡ 0
-  nothing_late c plan.To_invalidate = refl
-  nothing_late c plan.To_remove = refl
-  nothing_late c (plan.To_evict_chosen stamp cause) = refl
   nothing_late c (plan.To_remove_as_told key) = refl
+  nothing_late c _ = refl
 
   removed_late : (c : Call K V E) (removal : Removal K) (value : V) →
       lates (said {V = V} {E = E} removal (removed_answer removal value)) ≡ 0
-  removed_late c plan.To_invalidate value = refl
-  removed_late c plan.To_remove value = refl
-  removed_late c (plan.To_evict_chosen stamp cause) value = refl
   removed_late c (plan.To_remove_as_told key) value = refl
+  removed_late c _ value = refl
 
   goes_not : (c : Call K V E) (rest : List (Item K V E)) → (goes c rest).turn ≡ turn.Ask ask.Init → ⊥
   goes_not c (plan.Reply a ∷ []) e = cc
@@ -185,18 +179,16 @@ module _ {K V E : Type 0} where
 
     misses_leave : (aim : Aim K V) (key : K) → c.plan ≡ plan.Get aim key ∷ [] →
         LooksAtOwn (plan.Get aim key ∷ []) → s.world.table.stored key ≡ None → Leaves s n c (misses c aim)
-    misses_leave (plan.To_show form) key e l none = quiet _ refl (λ f. cc)
-    misses_leave (plan.To_load sought) key e l none = quiet _ refl (λ f. cc)
     misses_leave (plan.To_own sought) key e l none = asks_now sought (inl (
       e ∙ ap (λ k. look (plan.To_own sought) k) l,
       subst (λ k. s.world.table.stored k ≡ None) l none,
     ))
-    misses_leave (plan.To_compute compute) key e l none = quiet _ refl (λ f. cc)
     misses_leave (plan.To_insert there value) key e l none =
         put_plans (λ p. Leaves s n c (goes c p)) c.rules there value _
         (goes_on (plan.Drain ∷ plan.Moment (plan.To_store there value) ∷ _) refl)
         (goes_on (plan.Drain ∷ plan.Lock there ∷ plan.Moment (plan.To_store there value) ∷ _) refl)
     misses_leave (plan.To_evict there stamp cause) key e l none = keeps_quiet
+    misses_leave _ key e l none = quiet _ refl (λ f. cc)
 
     unseen_leave : (aim : Aim K V) (key : K) (stored : Stored V) → c.plan ≡ plan.Judge aim key stored ∷ [] →
         is_seen s.world.desk (replace_of aim) key stored ≡ false → Leaves s n c (misses c aim)
@@ -206,35 +198,25 @@ module _ {K V E : Type 0} where
     unseen_leave _ key stored e unseen = absurd (false≢true (sym unseen))
 
     finds_leave : (aim : Aim K V) (k : K) (stored : Stored V) → Leaves s n c (finds_pair c aim k stored)
-    finds_leave (plan.To_show form) k stored = quiet _ refl (λ e. cc)
-    finds_leave (plan.To_load sought) k stored = quiet _ refl (λ e. cc)
-    finds_leave (plan.To_own sought) k stored = quiet _ refl (λ e. cc)
-    finds_leave (plan.To_compute compute) k stored = quiet _ refl (λ e. cc)
-    finds_leave (plan.To_insert there value) k stored = quiet _ refl (λ e. cc)
     finds_leave (plan.To_evict there stamp cause) k stored =
         chosen_next (Leaves s n c) c there stamp cause k stored (λ off. quiet _ refl (λ e. cc))
         (λ on. quiet _ refl (λ e. cc)) (quiet _ refl (λ e. cc))
+    finds_leave _ k stored = quiet _ refl (λ e. cc)
 
     hits_leave : (aim : Aim K V) (there : K) (value : V) → lates c.plan ≡ 0 →
         Leaves s n c (hits c aim there value)
-    hits_leave (plan.To_show form) there value h = quiet _ refl (λ e. cc)
-    hits_leave (plan.To_load sought) there value h = quiet _ refl (λ e. cc)
-    hits_leave (plan.To_own sought) there value h = quiet _ refl (λ e. cc)
-    hits_leave (plan.To_compute compute) there value h = quiet _ refl (λ e. cc)
-    hits_leave (plan.To_insert under own) there value h = quiet _ refl (λ e. cc)
     hits_leave (plan.To_evict under stamp cause) there value h = parks _ refl h (λ e. cc)
+    hits_leave _ there value h = quiet _ refl (λ e. cc)
 
     read_leave : (sought : Sought K) (with : Settled V E) → lates c.plan ≡ 0 →
         Leaves s n c (after_read c sought (found.ReadSettled with))
-    read_leave sought (settled.Ready value) h = quiet _ refl (λ e. cc)
-    read_leave sought (settled.Err error) h = quiet _ refl (λ e. cc)
-    read_leave sought settled.Nothing h = quiet _ refl (λ e. cc)
     read_leave sought settled.NotYet h = parks _ refl h (λ e. cc)
     read_leave sought settled.Aborted h = by (c.aborts + 1 == retries) refl
       where
         by : (b : Bool) → (c.aborts + 1 == retries) ≡ b → Leaves s n c (after_abort c sought)
         by true is = rw is (quiet _ refl (λ e. cc))
         by false is = rw is (quiet _ refl (λ e. cc))
+    read_leave sought _ h = quiet _ refl (λ e. cc)
 
     read_key_leave : (compute : Compute K) (with : Settled V E) → lates c.plan ≡ 0 →
         Leaves s n c (after_read_key c compute (found.ReadSettled with))
@@ -269,11 +251,8 @@ module _ {K V E : Type 0} where
     told_leave load told.Nothing e took = ends_now settled.Nothing _ load told.Nothing refl e took
     told_leave load (told.Err error) e took =
         ends_now (settled.Err error) _ load (told.Err error) refl e took
-    told_leave load told.Done e took =
+    told_leave load _ e took =
         parks _ refl (ap lates e) (λ f. cc)
-    told_leave load (told.Op op) e took =
-        parks _ refl (ap lates e) (λ f. cc)
-    told_leave load told.Off e took = parks _ refl (ap lates e) (λ f. cc)
 
     told_op_leave : (compute : Compute K) (pair : Option (K × V)) (given : Told V E) →
         c.plan ≡ plan.Told_op compute pair ∷ [] →
@@ -326,7 +305,6 @@ module _ {K V E : Type 0} where
       λ f. goes_on s n c rest h,
       λ f. parks s n c _ refl (ap lates e ∙ omega (arith, h)) (λ g. cc),
     )
-    on_item (plan.Unlock wrote) rest e l h o = goes_on s n c rest h
     on_item (plan.Notice key old cause upsert) rest e l h o =
         (λ f. goes_on s n c rest h, λ f. quiet s n c _ (omega (arith, h)) (λ g. cc))
     on_item (plan.Post write) rest e l h o =
@@ -337,7 +315,6 @@ module _ {K V E : Type 0} where
     )
     on_item plan.Apply rest e l h o =
         (λ f. goes_on s n c rest h, λ x xs f. quiet s n c _ (omega (arith, h)) (λ g. cc))
-    on_item plan.End rest e l h o = goes_on s n c rest h
     on_item (plan.Get aim key) rest e l h o = (
       (λ more. looks_on aim key rest e h o),
       (λ none. misses_leave s n c aim key (e ∙ ap (λ r. plan.Get aim key ∷ r) l)
@@ -392,7 +369,6 @@ module _ {K V E : Type 0} where
       λ none. parks s n c _ refl (ap lates e ∙ omega (arith, h)) (λ g. cc),
       λ with some. read_key_leave s n c compute with (ap lates e ∙ omega (arith, h)),
     )
-    on_item (plan.Settle with) rest e l h o = goes_on s n c rest h
     on_item (plan.Ask load) rest e l h o = record {
       later = refl;
       looks = tt;
@@ -428,8 +404,8 @@ module _ {K V E : Type 0} where
       (λ k old off some. quiet s n c _ (removed_late c removal old.value) (λ g. cc)),
       λ k old on some. quiet s n c _ (removed_late c removal old.value) (λ g. cc),
     )
-    on_item plan.Idle rest e l h o = goes_on s n c rest h
     on_item (plan.Reply a) rest e l h o = quiet s n c _ refl (λ g. cc)
+    on_item _ rest e l h o = goes_on s n c rest h
 
     on_plan : (p : List (Item K V E)) → c.plan ≡ p → IsLast p → lates (behind p) ≡ 0 →
         LooksAtOwn p →

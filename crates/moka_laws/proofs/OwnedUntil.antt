@@ -40,24 +40,16 @@ module _ {K V E : Type 0} (eq : K → K → Bool) (w : World K V E) (n : ℕ) (c
   on_item (plan.Own_alone key) rest own f = absurd (cannot_own rest own f.last f.owning)
   on_item (plan.Settle with) rest own f = inr tt
   on_item plan.Drain rest own f = (λ e. inl refl, λ x xs e. inl refl, λ x number xs e. inl refl)
-  on_item (plan.Ended number) rest own f = (λ e. inl refl, λ e. inl refl)
-  on_item plan.Heard rest own f = (λ e. inl refl, λ e. inl refl)
-  on_item (plan.Lock key) rest own f = (λ e. inl refl, λ e. inl refl)
   on_item (plan.Unlock wrote) rest own f = inl refl
-  on_item (plan.Notice key old cause upsert) rest own f = (λ e. inl refl, λ e. inl refl)
-  on_item (plan.Post write) rest own f = (λ e. inl refl, λ e. inl refl)
-  on_item plan.Turn rest own f = (λ e. inl refl, λ e. inl refl)
   on_item plan.Apply rest own f = (λ e. inl refl, λ x xs e. inl refl)
   on_item plan.End rest own f = inl refl
   on_item (plan.Get aim key) rest own f = (λ e. inl refl, λ e. inl refl, λ k stored e. inl refl)
-  on_item (plan.Judge aim key stored) rest own f = (λ e. inl refl, λ e. inl refl)
   on_item (plan.Read sought) rest own f = (λ e. inl refl, λ with e. inl refl)
   on_item (plan.Read_key compute) rest own f = (λ e. inl refl, λ with e. inl refl)
   on_item (plan.Ask load) rest own f = inl refl
   on_item (plan.Ask_op compute pair) rest own f = inl refl
   on_item (plan.Told load) rest own f = (λ e. inl refl, λ given e. inl refl)
   on_item (plan.Told_op compute pair) rest own f = (λ e. inl refl, λ given e. inl refl)
-  on_item (plan.Holds key stamp cause there stored) rest own f = (λ e. inl refl, λ e. inl refl)
   on_item (plan.Moment (plan.To_store key value)) rest own f = inl refl
   on_item (plan.Moment (plan.To_take_out removal key)) rest own f = inl refl
   on_item (plan.Write key value moment) rest own f =
@@ -71,6 +63,7 @@ module _ {K V E : Type 0} (eq : K → K → Bool) (w : World K V E) (n : ℕ) (c
   )
   on_item plan.Idle rest own f = inl refl
   on_item (plan.Reply answer) rest own f = inl refl
+  on_item _ rest own f = (λ e. inl refl, λ e. inl refl)
 
   owned_step : (p : List (Item K V E)) → is_some (w.desk.owning n) ≡ true →
       Fits (w.desk.owning n) (w.desk.joined n) p → OnStep eq (Owned p) w n c p

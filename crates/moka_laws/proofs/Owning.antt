@@ -43,10 +43,8 @@ use Rattle.moka_laws.proofs.Outcomes.{alone_of, computes_of, Outcomes, OwnsKey, 
 
 -- a kind is equal to itself, and to no other
 kind_self : (a : Kind) → kind_eq a a ≡ true
-kind_self GetWith = refl
-kind_self Optional = refl
-kind_self Try = refl
 kind_self Compute = refl
+kind_self _ = refl
 
 pub kind_one : (a b : Kind) → kind_eq a b ≡ true → a ≡ b
 kind_one GetWith GetWith e = refl
@@ -199,12 +197,11 @@ module _ {K V E : Type 0} where
         Owns owners n (plan_left (misses c aim).left)
     misses_owns c (plan.To_show form) key rest o = owns_none [] refl
     misses_owns c (plan.To_load sought) key rest o = owns_none (plan.Own sought ∷ []) refl
-    misses_owns c (plan.To_own sought) key rest o = record { first = o.first; later = refl }
-    misses_owns c (plan.To_compute compute) key rest o = record { first = o.first; later = refl }
     misses_owns c (plan.To_insert there value) key rest o =
         put_plans (λ p. Owns owners n (plan_left (goes c p).left)) c.rules there value _
         (owns_none _ refl) (owns_none _ refl)
     misses_owns c (plan.To_evict there stamp cause) key rest o = keeps_owns c
+    misses_owns c _ key rest o = record { first = o.first; later = refl }
 
     -- the record that was judged is not seen by its replace test: so the call is to load
     unseen_owns : (c : Call K V E) (d : DeskPart K V E) (aim : Aim K V) (key : K) (stored : Stored V)
@@ -221,12 +218,6 @@ module _ {K V E : Type 0} where
     finds_owns : (c : Call K V E) (aim : Aim K V) (key k : K) (stored : Stored V) (rest : List (Item K V E)) →
         Owns owners n (plan.Get aim key ∷ rest) →
         Owns owners n (plan_left (finds_pair c aim k stored).left)
-    finds_owns c (plan.To_show form) key k stored rest o =
-        owns_none (plan.Judge (plan.To_show form) k stored ∷ []) refl
-    finds_owns c (plan.To_load sought) key k stored rest o =
-        owns_none (plan.Judge (plan.To_load sought) k stored ∷ []) refl
-    finds_owns c (plan.To_insert under new) key k stored rest o =
-        owns_none (plan.Judge (plan.To_insert under new) k stored ∷ []) refl
     finds_owns c (plan.To_own sought) key k stored rest o = record { first = o.first; later = refl }
     finds_owns c (plan.To_compute compute) key k stored rest o =
         record { first = o.first; later = refl }
@@ -234,19 +225,19 @@ module _ {K V E : Type 0} where
         chosen_next (λ v. Owns owners n (plan_left v.left)) c there stamp cause k stored
         (λ off. owns_none [] refl) (λ on. owns_none (plan.Unlock false ∷ plan.Reply _ ∷ []) refl)
         (owns_none (plan.Holds there stamp cause k stored ∷ []) refl)
+    finds_owns c aim key k stored rest o =
+        owns_none (plan.Judge aim k stored ∷ []) refl
 
     hits_owns : (c : Call K V E) (aim : Aim K V) (there : K) (value : V) (stored : Stored V)
         (rest : List (Item K V E)) →
         Owns owners n c.plan → Owns owners n (plan.Judge aim there stored ∷ rest) →
         Owns owners n (plan_left (hits c aim there value).left)
-    hits_owns c (plan.To_show form) there value stored rest p o = owns_none [] refl
-    hits_owns c (plan.To_load sought) there value stored rest p o = owns_none [] refl
-    hits_owns c (plan.To_insert under new) there value stored rest p o = owns_none [] refl
     hits_owns c (plan.To_own sought) there value stored rest p o =
         owns_none (plan.Settle (settled.Ready value) ∷ plan.Reply _ ∷ []) refl
     hits_owns c (plan.To_compute compute) there value stored rest p o =
         record { first = o.first; later = refl }
     hits_owns c (plan.To_evict key stamp cause) there value stored rest p o = p
+    hits_owns c _ there value stored rest p o = owns_none [] refl
 
     either_owns : (b : Bool) (x y : Next K V E) → Owns owners n (plan_left x.left) → Owns owners n (plan_left y.left) →
         Owns owners n (plan_left (cond b x y).left)
@@ -255,11 +246,9 @@ module _ {K V E : Type 0} where
 
     read_owns : (c : Call K V E) (sought : Sought K) (with : Settled V E) → Owns owners n c.plan →
         Owns owners n (plan_left (after_read c sought (found.ReadSettled with)).left)
-    read_owns c sought (settled.Ready value) h = owns_none [] refl
-    read_owns c sought (settled.Err error) h = owns_none [] refl
-    read_owns c sought settled.Nothing h = owns_none [] refl
     read_owns c sought settled.NotYet h = h
     read_owns c sought settled.Aborted h = either_owns (c.aborts + 1 == retries) _ _ (owns_none [] refl) (owns_none (plan.Own sought ∷ []) refl)
+    read_owns c sought _ h = owns_none [] refl
 
     told_owns : (c : Call K V E) (load : Load K) (given : Told V E) → Owns owners n c.plan →
         Owns owners n (plan_left (after_told c load (found.TakeTold (Some given))).left)
@@ -268,9 +257,7 @@ module _ {K V E : Type 0} where
         (owns_none _ refl) (owns_none _ refl) (owns_none _ refl)
     told_owns c load answer.Nothing h = owns_none _ refl
     told_owns c load (answer.Err error) h = owns_none _ refl
-    told_owns c load answer.Done h = h
-    told_owns c load (answer.Op op) h = h
-    told_owns c load answer.Off h = h
+    told_owns c load _ h = h
 
     told_op_owns : (c : Call K V E) (compute : computes.Compute K) (pair : Option (K × V))
         (given : Told V E) → Owns owners n c.plan →
@@ -374,7 +361,6 @@ module _ {K V E : Type 0} (eq : K → K → Bool) where
         (λ e. keeps refl (goes_none _ n c rest o.later), λ e. keeps refl p)
     on_item (plan.Lock key) rest p o =
         (λ e. keeps refl (goes_none _ n c rest o.later), λ e. keeps refl p)
-    on_item (plan.Unlock wrote) rest p o = keeps refl (goes_none _ n c rest o.later)
     on_item (plan.Notice key old cause upsert) rest p o = (
       (λ e. keeps refl (goes_none _ n c rest o.later)),
       λ e. keeps refl (owns_none _ n (plan.Heard ∷ rest) (omega (arith, o.later))),
@@ -467,8 +453,8 @@ module _ {K V E : Type 0} (eq : K → K → Bool) where
           (λ q. plan.Notice key old (cause_handed removal) false ∷ plan.Unlock true ∷ plan.Post (Remove n old.stamp) ∷ q) removal
           (removed_answer removal old.value) (owns_none _ n _ refl) (owns_none _ n _ refl)),
     )
-    on_item plan.Idle rest p o = keeps refl (goes_none _ n c rest o.later)
     on_item (plan.Reply answer) rest p o = keeps refl (owns_none _ n [] refl)
+    on_item _ rest p o = keeps refl (goes_none _ n c rest o.later)
 
     on_plan : (plan : List (Item K V E)) → c.plan ≡ plan → Owns w.desk.owners n c.plan → OnStep eq (Leaves w n) w n c plan
     on_plan [] e p = keeps refl p

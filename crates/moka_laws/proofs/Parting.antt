@@ -93,53 +93,40 @@ module _ {K V E : Type 0} where
 
     misses_parts : (aim : Aim K V) → Parts owed n before (misses c aim)
     misses_parts (plan.To_show form) = clear_parts owed n before (λ x. refl) (λ a e. refl)
-    misses_parts (plan.To_load sought) = clear_parts owed n before (λ x. refl) (λ a e. cc)
-    misses_parts (plan.To_own sought) = clear_parts owed n before (λ x. refl) (λ a e. cc)
-    misses_parts (plan.To_compute compute) = clear_parts owed n before (λ x. refl) (λ a e. cc)
     misses_parts (plan.To_insert key value) =
         put_plans (λ p. Parts owed n before (goes c p)) c.rules key value _
         (clear_parts owed n before (λ x. refl) (λ a e. cc))
         (clear_parts owed n before (λ x. refl) (λ a e. cc))
     misses_parts (plan.To_evict key stamp cause) = keeps_parts
+    misses_parts _ = clear_parts owed n before (λ x. refl) (λ a e. cc)
 
     finds_parts : (aim : Aim K V) (there : K) (stored : Stored V) → Parts owed n before
         (finds_pair c aim there stored)
-    finds_parts (plan.To_show form) there stored = clear_parts owed n before (λ x. refl) (λ a e. cc)
-    finds_parts (plan.To_load sought) there stored = clear_parts owed n before (λ x. refl) (λ a e. cc)
-    finds_parts (plan.To_insert under new) there stored = clear_parts owed n before (λ x. refl) (λ a e. cc)
-    finds_parts (plan.To_own sought) there stored = clear_parts owed n before (λ x. refl) (λ a e. cc)
-    finds_parts (plan.To_compute compute) there stored =
-        clear_parts owed n before (λ x. refl) (λ a e. cc)
     finds_parts (plan.To_evict key stamp cause) there stored =
         chosen_by (Parts owed n before) c key stamp cause there stored (λ other. keeps_parts)
         (λ same. clear_parts owed n before (λ x. refl) (λ a e. cc))
+    finds_parts _ there stored = clear_parts owed n before (λ x. refl) (λ a e. cc)
 
   hits_parts : (owed : ℕ → ℕ) (n : ℕ) (c : Call K V E) (aim : Aim K V) (there : K) (value : V) →
       Parts owed n c.plan
       (hits c aim there value)
-  hits_parts owed n c (plan.To_show form) there value =
-      clear_parts owed n c.plan (λ x. refl) (λ a e. refl)
-  hits_parts owed n c (plan.To_load sought) there value = clear_parts owed n c.plan (λ x. refl)
-      (λ a e. refl)
-  hits_parts owed n c (plan.To_insert under new) there value = clear_parts owed n c.plan (λ x. refl)
-      (λ a e. refl)
   hits_parts owed n c (plan.To_own sought) there value =
       clear_parts owed n c.plan (λ x. refl) (λ a e. cc)
   hits_parts owed n c (plan.To_compute compute) there value =
       clear_parts owed n c.plan (λ x. refl) (λ a e. cc)
   hits_parts owed n c (plan.To_evict key stamp cause) there value = still_parts owed n c.plan _
       (λ x. refl) (λ a e. cc)
+  hits_parts owed n c _ there value =
+      clear_parts owed n c.plan (λ x. refl) (λ a e. refl)
 
   read_parts : (owed : ℕ → ℕ) (n : ℕ) (c : Call K V E) (sought : Sought K) (with : Settled V E) → Parts owed n c.plan (after_read c sought (found.ReadSettled with))
-  read_parts owed n c sought (settled.Ready value) = clear_parts owed n c.plan (λ x. refl) (λ a e. refl)
-  read_parts owed n c sought (settled.Err error) = clear_parts owed n c.plan (λ x. refl) (λ a e. refl)
-  read_parts owed n c sought settled.Nothing = clear_parts owed n c.plan (λ x. refl) (λ a e. refl)
   read_parts owed n c sought settled.NotYet = still_parts owed n c.plan _ (λ x. refl) (λ a e. cc)
   read_parts owed n c sought settled.Aborted = by (c.aborts + 1 == retries) refl
     where
       by : (b : Bool) → (c.aborts + 1 == retries) ≡ b → Parts owed n c.plan (after_abort c sought)
       by true e = rw e (clear_parts owed n c.plan (λ x. refl) (λ a e. refl))
       by false e = rw e (clear_parts owed n c.plan (λ x. refl) (λ a e. cc))
+  read_parts owed n c sought _ = clear_parts owed n c.plan (λ x. refl) (λ a e. refl)
 
   read_key_parts : (owed : ℕ → ℕ) (n : ℕ) (c : Call K V E) (compute : Compute K)
       (with : Settled V E) → Parts owed n c.plan (after_read_key c compute (found.ReadSettled with))
@@ -154,9 +141,7 @@ module _ {K V E : Type 0} where
       (clear_parts owed n c.plan (λ x. refl) (λ a e. cc)) (clear_parts owed n c.plan (λ x. refl) (λ a e. cc))
   told_parts owed n c load answer.Nothing = clear_parts owed n c.plan (λ x. refl) (λ a e. cc)
   told_parts owed n c load (answer.Err error) = clear_parts owed n c.plan (λ x. refl) (λ a e. cc)
-  told_parts owed n c load answer.Done = still_parts owed n c.plan _ (λ x. refl) (λ a e. cc)
-  told_parts owed n c load (answer.Op op) = still_parts owed n c.plan _ (λ x. refl) (λ a e. cc)
-  told_parts owed n c load answer.Off = still_parts owed n c.plan _ (λ x. refl) (λ a e. cc)
+  told_parts owed n c load _ = still_parts owed n c.plan _ (λ x. refl) (λ a e. cc)
 
   told_op_parts : (owed : ℕ → ℕ) (n : ℕ) (c : Call K V E) (compute : Compute K)
       (pair : Option (K × V)) (given : Told V E) →
@@ -222,7 +207,6 @@ module _ {K V E : Type 0} where
       λ free. as_owed refl refl (goes_on (plan.Lock key) rest e),
       λ held. as_owed refl refl (still_parts owes n c.plan _ (λ x. refl) (λ a e. cc)),
     )
-    on_item (plan.Unlock wrote) rest e = as_owed refl refl (goes_on (plan.Unlock wrote) rest e)
     on_item (plan.Notice key old cause upsert) rest e = (
       λ off. as_owed refl refl (goes_on (plan.Notice key old cause upsert) rest e),
       λ on. as_owed refl refl (moves (λ a e. cc) (λ x d. omega (arith, ap (weigh (post_of x)) e))),
@@ -239,7 +223,6 @@ module _ {K V E : Type 0} where
       λ none. as_owed refl refl (goes_on plan.Apply rest e),
       λ y ys some. as_owed refl refl (moves (λ a e. cc) (λ x d. omega (arith, ap (weigh (post_of x)) e))),
     )
-    on_item plan.End rest e = as_owed refl refl (goes_on plan.End rest e)
     on_item (plan.Get aim key) rest e = (
       λ more. as_owed refl refl (still_parts owes n c.plan _ (λ x. refl) (λ a e. cc)),
       λ none. as_owed refl refl (misses_parts owes n c.plan c aim),
@@ -280,7 +263,6 @@ module _ {K V E : Type 0} where
       λ none. as_owed refl refl (still_parts owes n c.plan _ (λ x. refl) (λ a e. cc)),
       λ with some. as_owed refl refl (read_key_parts owes n c compute with),
     )
-    on_item (plan.Settle with) rest e = as_owed refl refl (goes_on (plan.Settle with) rest e)
     on_item (plan.Ask load) rest e = as_owed refl refl (clear_parts owes n c.plan (λ x. refl) (λ a e. cc))
     on_item (plan.Ask_op compute pair) rest e =
         as_owed refl refl (clear_parts owes n c.plan (λ x. refl) (λ a e. cc))
@@ -322,7 +304,6 @@ module _ {K V E : Type 0} where
       where
         out : (x : ℕ) (a : Answer K V E) → weigh (post_of x) (said removal a) ≡ 0
         out x a = weigh_said (post_of x) removal a refl refl
-    on_item plan.Idle rest e = as_owed refl refl (goes_on plan.Idle rest e)
     on_item (plan.Write key value moment) rest e = (
       λ more. as_owed refl refl (still_parts owes n c.plan _ (λ x. refl) (λ a e. cc)),
       λ off old. as_owed refl refl (moves (λ a e. cc)
@@ -333,6 +314,7 @@ module _ {K V E : Type 0} where
           (λ x d. omega (arith, ap (weigh (post_of x)) e, ap (λ b. cond {A = ℕ} b 1 0) (other_number n x d)))),
     )
     on_item (plan.Reply reply) rest e = as_owed refl refl (clear_parts owes n c.plan (λ x. refl) (λ a e. refl))
+    on_item item rest e = as_owed refl refl (goes_on item rest e)
 
     on_plan : (plan : List (Item K V E)) → c.plan ≡ plan → OnStep eq (Leaves w n c.plan) w n c plan
     on_plan [] e = as_owed refl refl (still_parts owes n c.plan _ (λ x. refl) (λ a e. cc))

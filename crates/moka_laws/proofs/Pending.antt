@@ -71,14 +71,8 @@ module _ {K V E : Type 0} where
 
     drained_pends : (c : Call K V E) (p : List (Item K V E)) → IsDrained p → Pends h
         (plan_left (goes c p).left)
-    drained_pends c p (Looking aim key l) = tt
-    drained_pends c p (Owning sought) = tt
-    drained_pends c p (Asking_op compute pair) = tt
-    drained_pends c p (Giving a) = tt
-    drained_pends c p (Putting key value rest t) = tt
-    drained_pends c p (Locking key value rest t) = tt
-    drained_pends c p (Removing removal key) = tt
     drained_pends c p (Locking_out removal key) = tt
+    drained_pends c p _ = tt
 
     posted_pends : (c : Call K V E) (p : List (Item K V E)) → IsPosted p → Pends h
         (plan_left (goes c p).left)
@@ -89,34 +83,23 @@ module _ {K V E : Type 0} where
     keeps_pends c none = kept_next (λ v. Pends h (plan_left v.left)) c (λ off. tt) (λ on. inl none)
 
     misses_pends : (c : Call K V E) (aim : Aim K V) → h ≡ None → Pends h (plan_left (misses c aim).left)
-    misses_pends c (plan.To_show form) none = tt
-    misses_pends c (plan.To_load sought) none = tt
-    misses_pends c (plan.To_own sought) none = tt
-    misses_pends c (plan.To_compute compute) none = tt
     misses_pends c (plan.To_insert key value) none =
         put_plans (λ q. Pends h (plan_left (goes c q).left)) c.rules key value
         (plan.Reply (reply.Loaded value true) ∷ []) tt tt
     misses_pends c (plan.To_evict key stamp cause) none = keeps_pends c none
+    misses_pends c _ none = tt
 
     finds_pends : (c : Call K V E) (aim : Aim K V) (there : K) (stored : Stored V) → h ≡ None →
         Pends h (plan_left (finds_pair c aim there stored).left)
-    finds_pends c (plan.To_show form) there stored none = tt
-    finds_pends c (plan.To_load sought) there stored none = tt
-    finds_pends c (plan.To_insert under new) there stored none = tt
-    finds_pends c (plan.To_own sought) there stored none = tt
-    finds_pends c (plan.To_compute compute) there stored none = tt
     finds_pends c (plan.To_evict key stamp cause) there stored none =
         chosen_next (λ v. Pends h (plan_left v.left)) c key stamp cause there stored (λ off. tt)
         (λ on. inl none) tt
+    finds_pends c _ there stored none = tt
 
     hits_pends : (c : Call K V E) (aim : Aim K V) (there : K) (value : V) → IsLook aim → Pends h
         (plan_left (hits c aim there value).left)
-    hits_pends c (plan.To_show form) there value l = tt
-    hits_pends c (plan.To_load sought) there value l = tt
-    hits_pends c (plan.To_insert under new) there value l = tt
-    hits_pends c (plan.To_own sought) there value l = tt
-    hits_pends c (plan.To_compute compute) there value l = tt
     hits_pends c (plan.To_evict key stamp cause) there value l = absurd l
+    hits_pends c _ there value l = tt
 
     either_pends : (b : Bool) (x y : Next K V E) → Pends h (plan_left x.left) → Pends h
         (plan_left y.left) → Pends h (plan_left (cond b x y).left)
@@ -125,11 +108,9 @@ module _ {K V E : Type 0} where
 
     read_pends : (c : Call K V E) (sought : Sought K) (with : Settled V E) → Pends h c.plan → Pends h
         (plan_left (after_read c sought (found.ReadSettled with)).left)
-    read_pends c sought (settled.Ready value) p = tt
-    read_pends c sought (settled.Err error) p = tt
-    read_pends c sought settled.Nothing p = tt
     read_pends c sought settled.NotYet p = p
     read_pends c sought settled.Aborted p = either_pends (c.aborts + 1 == retries) _ _ tt tt
+    read_pends c sought _ p = tt
 
     read_key_pends : (c : Call K V E) (compute : Compute K) (with : Settled V E) → Pends h c.plan →
         Pends h (plan_left (after_read_key c compute (found.ReadSettled with)).left)
@@ -143,9 +124,7 @@ module _ {K V E : Type 0} where
         (λ q. Pends h (plan_left (goes c q).left)) c.rules load value tt tt tt
     told_pends c load answer.Nothing p = tt
     told_pends c load (answer.Err error) p = tt
-    told_pends c load answer.Done p = p
-    told_pends c load (answer.Op op) p = p
-    told_pends c load answer.Off p = p
+    told_pends c load _ p = p
 
     told_op_pends : (c : Call K V E) (compute : Compute K) (pair : Option (K × V))
         (given : Told V E) → Pends h c.plan →
@@ -373,19 +352,12 @@ module _ {K V E : Type 0} (eq : K → K → Bool) where
 
   used_drained : (n : ℕ) (pending : Option ℕ) (p : List (Item K V E)) → IsDrained p → HoldsAs n
       (Some (holding.Own pending)) p → ⊥
-  used_drained n pending p (Looking aim key l) k = none_some (sym k.0)
-  used_drained n pending p (Owning sought) k = none_some (sym k.0)
-  used_drained n pending p (Asking_op compute pair) k = none_some (sym k.0)
-  used_drained n pending p (Giving a) k = none_some (sym k.0)
-  used_drained n pending p (Putting key value rest t) k = none_some (sym k.0)
-  used_drained n pending p (Locking key value rest t) k = none_some (sym k.0)
-  used_drained n pending p (Removing removal key) k = none_some (sym k.0)
   used_drained n pending p (Locking_out removal key) k = none_some (sym k.0)
+  used_drained n pending p _ k = none_some (sym k.0)
 
   used : (n : ℕ) (pending : Option ℕ) (p : List (Item K V E)) → IsPlan p → HoldsAs n
       (Some (holding.Own pending)) p →
       Pends (Some (holding.Own pending)) p → IsUsed n pending p
-  used n pending p (Posted rest (Draining more d)) k q = absurd (none_some (sym k.0))
   used n pending p (Posted rest (Ended more t)) k q = absurd (used_tail n pending more t k)
   used n pending p (Drained rest d) k q = absurd (used_drained n pending rest d k)
   used n pending p (Posting x rest d) k q = inr (x, refl, k.0)
@@ -396,21 +368,11 @@ module _ {K V E : Type 0} (eq : K → K → Bool) where
   used n pending p (Turning x rest d) k q = inr (x, refl, k.0)
   used n pending p (Applying x rest d) k q = inr (x, refl, k.0)
   used n pending p (Ending x rest d) k q = inr (x, refl, k.0)
-  used n pending p (Judging aim key stored l) k q = absurd (none_some (sym k.0))
-  used n pending p (Reading sought) k q = absurd (none_some (sym k.0))
-  used n pending p (Asking load) k q = absurd (none_some (sym k.0))
-  used n pending p (Telling load) k q = absurd (none_some (sym k.0))
-  used n pending p (Owning_key compute) k q = absurd (none_some (sym k.0))
-  used n pending p (Owning_alone key) k q = absurd (none_some (sym k.0))
-  used n pending p (Reading_key compute) k q = absurd (none_some (sym k.0))
-  used n pending p (Telling_op compute pair) k q = absurd (none_some (sym k.0))
   used n pending p (Writing key value moment rest t) k q = inl (is_pending pending q)
-  used n pending p (Choosing key stamp cause) k q = absurd (none_some (sym k.0))
-  used n pending p (Finding key stamp cause) k q = absurd (none_some (sym k.0))
-  used n pending p (Chosen key stamp cause there stored) k q = absurd (none_some (sym k.0))
   used n pending p (Taking removal key) k q = inl (is_pending pending q)
   used n pending p (Freeing rest t) k q = inl (either_pending pending q)
   used n pending p (Idling rest t) k q = inl (is_pending pending q)
+  used n pending p _ k q = absurd (none_some (sym k.0))
 
   pub places_back : PlacesComeBack K V E eq
   places_back s n h =

@@ -144,37 +144,24 @@ module _ {K V E : Type 0} where
 
   finds_known : (c : Call K V E) (aim : Aim K V) (there : K) (stored : Stored V) → c.aborts < retries →
       KnownIf (finds_pair c aim there stored).left
-  finds_known c (plan.To_show form) there stored y =
-      record { plan = Judging _ there stored tt; young = y }
-  finds_known c (plan.To_load sought) there stored y =
-      record { plan = Judging _ there stored tt; young = y }
-  finds_known c (plan.To_own sought) there stored y =
-      record { plan = Judging _ there stored tt; young = y }
-  finds_known c (plan.To_compute compute) there stored y =
-      record { plan = Judging _ there stored tt; young = y }
-  finds_known c (plan.To_insert key value) there stored y =
-      record { plan = Judging _ there stored tt; young = y }
   finds_known c (plan.To_evict key stamp cause) there stored y =
       chosen_next (λ v. KnownIf v.left) c key stamp cause there stored (λ off. tt)
       (λ on. record { plan = Freeing _ (Answering _); young = y })
       (record { plan = Chosen key stamp cause there stored; young = y })
+  finds_known c _ there stored y =
+      record { plan = Judging _ there stored tt; young = y }
 
   hits_known : (c : Call K V E) (aim : Aim K V) (there : K) (value : V) → IsLook aim →
       c.aborts < retries →
       KnownIf (hits c aim there value).left
-  hits_known c (plan.To_show form) there value l y = tt
-  hits_known c (plan.To_load sought) there value l y = tt
-  hits_known c (plan.To_insert key unused) there value l y = tt
   hits_known c (plan.To_own sought) there value l y =
       record { plan = Posted _ (Ended _ (Settling _ _)); young = y }
   hits_known c (plan.To_compute compute) there value l y =
       record { plan = Drained _ (Asking_op compute (Some (there, value))); young = y }
   hits_known c (plan.To_evict key stamp cause) there value l y = absurd l
+  hits_known c _ there value l y = tt
 
   read_known : (c : Call K V E) (sought : Sought K) (with : Settled V E) → IsKnown c → KnownIf (after_read c sought (found.ReadSettled with)).left
-  read_known c sought (settled.Ready value) h = tt
-  read_known c sought (settled.Err error) h = tt
-  read_known c sought settled.Nothing h = tt
   read_known c sought settled.NotYet h = record { plan = h.plan; young = h.young }
   read_known c sought settled.Aborted h = by (c.aborts + 1 == retries) refl
     where
@@ -185,6 +172,7 @@ module _ {K V E : Type 0} where
         young = grind
             (arith, nat_tests, e, h.young);
       })
+  read_known c sought _ h = tt
 
   told_known : (c : Call K V E) (load : Load K) (given : Told V E) → IsKnown c → KnownIf (after_told c load (found.TakeTold (Some given))).left
   told_known c load (told.Value value) h =
@@ -196,16 +184,12 @@ module _ {K V E : Type 0} where
       record { plan = Posted _ (Ended _ (Settling _ _)); young = h.young }
   told_known c load told.Nothing h =
       record { plan = Posted _ (Ended _ (Settling _ _)); young = h.young }
-  told_known c load told.Done h = record { plan = h.plan; young = h.young }
-  told_known c load (told.Op op) h = record { plan = h.plan; young = h.young }
-  told_known c load told.Off h = record { plan = h.plan; young = h.young }
+  told_known c load _ h = record { plan = h.plan; young = h.young }
 
   -- what is left of a removal
   said_tail : (removal : Removal K) (a : Answer K V E) → IsTail (said removal a)
-  said_tail plan.To_invalidate a = Answering a
-  said_tail plan.To_remove a = Answering a
-  said_tail (plan.To_evict_chosen stamp cause) a = Answering a
   said_tail (plan.To_remove_as_told key) a = Settling _ a
+  said_tail _ a = Answering a
 
   told_op_known : (c : Call K V E) (compute : Compute K) (pair : Option (K × V))
       (given : Told V E) → IsKnown c →

@@ -149,48 +149,28 @@ module _ {K V E : Type 0} where
       (λ on. record { late = refl; posts = λ x. refl; may = omega arith })
 
   pub misses_clear : (c : Call K V E) (aim : Aim K V) → IsClear (misses c aim).left
-  misses_clear c (plan.To_show form) = record { late = refl; posts = λ x. refl; may = omega arith }
-  misses_clear c (plan.To_load sought) = record { late = refl; posts = λ x. refl; may = omega arith }
-  misses_clear c (plan.To_own sought) = record { late = refl; posts = λ x. refl; may = omega arith }
-  misses_clear c (plan.To_compute compute) =
-      record { late = refl; posts = λ x. refl; may = omega arith }
   misses_clear c (plan.To_insert key value) =
       put_plans (λ p. IsClear (goes c p).left) c.rules key value _
       (record { late = refl; posts = λ x. refl; may = omega arith })
       (record { late = refl; posts = λ x. refl; may = omega arith })
   misses_clear c (plan.To_evict key stamp cause) = keeps_clear c
+  misses_clear c _ = record { late = refl; posts = λ x. refl; may = omega arith }
 
   pub finds_clear : (c : Call K V E) (aim : Aim K V) (there : K) (stored : Stored V) →
       IsClear (finds_pair c aim there stored).left
-  finds_clear c (plan.To_show form) there stored = record { late = refl; posts = λ x. refl; may = omega arith }
-  finds_clear c (plan.To_load sought) there stored =
-      record { late = refl; posts = λ x. refl; may = omega arith }
-  finds_clear c (plan.To_insert under new) there stored =
-      record { late = refl; posts = λ x. refl; may = omega arith }
-  finds_clear c (plan.To_own sought) there stored =
-      record { late = refl; posts = λ x. refl; may = omega arith }
-  finds_clear c (plan.To_compute compute) there stored =
-      record { late = refl; posts = λ x. refl; may = omega arith }
   finds_clear c (plan.To_evict key stamp cause) there stored =
       chosen_next (λ v. IsClear v.left) c key stamp cause there stored
       (λ off. record { late = refl; posts = λ x. refl; may = omega arith })
       (λ on. record { late = refl; posts = λ x. refl; may = omega arith })
       (record { late = refl; posts = λ x. refl; may = omega arith })
+  finds_clear c _ there stored = record { late = refl; posts = λ x. refl; may = omega arith }
 
   pub hits_clear : (c : Call K V E) (aim : Aim K V) (there : K) (value : V) → IsClear (Some c) →
       IsClear (hits c aim there value).left
-  hits_clear c (plan.To_show form) there value h =
-      record { late = refl; posts = λ x. refl; may = omega arith }
-  hits_clear c (plan.To_load sought) there value h =
-      record { late = refl; posts = λ x. refl; may = omega arith }
-  hits_clear c (plan.To_insert under new) there value h =
-      record { late = refl; posts = λ x. refl; may = omega arith }
-  hits_clear c (plan.To_own sought) there value h =
-      record { late = refl; posts = λ x. refl; may = omega arith }
-  hits_clear c (plan.To_compute compute) there value h =
-      record { late = refl; posts = λ x. refl; may = omega arith }
   hits_clear c (plan.To_evict key stamp cause) there value h =
       record { late = h.late; posts = h.posts; may = h.may }
+  hits_clear c _ there value h =
+      record { late = refl; posts = λ x. refl; may = omega arith }
 
   either_clear : (b : Bool) (x y : Next K V E) → IsClear x.left → IsClear y.left → IsClear (cond b x y).left
   either_clear true x y h k = h
@@ -198,13 +178,11 @@ module _ {K V E : Type 0} where
 
   pub read_clear : (c : Call K V E) (sought : Sought K) (with : Settled V E) → IsClear (Some c) →
       IsClear (after_read c sought (found.ReadSettled with)).left
-  read_clear c sought (settled.Ready value) h = record { late = refl; posts = λ x. refl; may = omega arith }
-  read_clear c sought (settled.Err error) h = record { late = refl; posts = λ x. refl; may = omega arith }
-  read_clear c sought settled.Nothing h = record { late = refl; posts = λ x. refl; may = omega arith }
   read_clear c sought settled.NotYet h = record { late = h.late; posts = h.posts; may = h.may }
   read_clear c sought settled.Aborted h =
       either_clear (c.aborts + 1 == retries) _ _ (record { late = refl; posts = λ x. refl; may = omega arith })
       (record { late = refl; posts = λ x. refl; may = omega arith })
+  read_clear c sought _ h = record { late = refl; posts = λ x. refl; may = omega arith }
 
   pub told_clear : (c : Call K V E) (load : Load K) (given : Told V E) → IsClear (Some c) →
       IsClear (after_told c load (found.TakeTold (Some given))).left
@@ -216,9 +194,7 @@ module _ {K V E : Type 0} where
   told_clear c load answer.Nothing h = record { late = refl; posts = λ x. refl; may = omega arith }
   told_clear c load (answer.Err error) h =
       record { late = refl; posts = λ x. refl; may = omega arith }
-  told_clear c load (answer.Op op) h = record { late = h.late; posts = h.posts; may = h.may }
-  told_clear c load answer.Done h = record { late = h.late; posts = h.posts; may = h.may }
-  told_clear c load answer.Off h = record { late = h.late; posts = h.posts; may = h.may }
+  told_clear c load _ h = record { late = h.late; posts = h.posts; may = h.may }
 
   pub read_key_clear : (c : Call K V E) (compute : Compute K) (with : Settled V E) →
       IsClear (Some c) →

@@ -566,16 +566,6 @@ module _ {K V : Type 0} (E : Type 0) where
   starts_early : (rules : Rules) (begin : Start K V) (removal : Removal K) (key : K) (n : ℕ) →
       removal_of begin ≡ Some (removal, key) →
       Early removal key n (plan_of {E = E} rules begin)
-  starts_early rules (start.Get k) removal key n e = absurd (none_some e)
-  starts_early rules (start.Insert k value) removal key n e = absurd (none_some e)
-  starts_early rules (start.GetWith k replace) removal key n e = absurd (none_some e)
-  starts_early rules (start.Optional k) removal key n e = absurd (none_some e)
-  starts_early rules (start.Try k) removal key n e = absurd (none_some e)
-  starts_early rules (start.OrInsert k value) removal key n e = absurd (none_some e)
-  starts_early rules (start.Compute k) removal key n e = absurd (none_some e)
-  starts_early rules (start.TryCompute k) removal key n e = absurd (none_some e)
-  starts_early rules (start.ComputeAlone k) removal key n e = absurd (none_some e)
-  starts_early rules (start.Upsert k) removal key n e = absurd (none_some e)
   starts_early rules (start.Invalidate k) removal key n e = by rules.listener
     where
       by : (b : Bool) → Early {V = V} {E = E} removal key n
@@ -598,6 +588,7 @@ module _ {K V : Type 0} (E : Type 0) where
           (under_lock b k (plan.Get (plan.To_evict k stamp cause) k ∷ []))
       by true = same
       by false = same
+  starts_early rules _ removal key n e = absurd (none_some e)
 
 module _ {K V E : Type 0} (eq : K → K → Bool) (laws : IsEquivalence eq) where
   pub removals_answer : RemovalsAnswer K V E eq

@@ -158,49 +158,35 @@ module _ {K V E : Type 0} where
       (λ on. record { swaps = λ x. refl; notice = refl })
 
   misses_clear : (c : Call K V E) (aim : Aim K V) → Clear (misses c aim).left
-  misses_clear c (plan.To_show form) = record { swaps = λ x. refl; notice = refl }
-  misses_clear c (plan.To_load sought) = record { swaps = λ x. refl; notice = refl }
-  misses_clear c (plan.To_own sought) = record { swaps = λ x. refl; notice = refl }
-  misses_clear c (plan.To_compute compute) = record { swaps = λ x. refl; notice = refl }
   misses_clear c (plan.To_insert key value) =
       put_plans (λ p. Clear (goes c p).left) c.rules key value _
       (record { swaps = λ x. refl; notice = refl }) (record { swaps = λ x. refl; notice = refl })
   misses_clear c (plan.To_evict key stamp cause) = keeps_clear c
+  misses_clear c _ = record { swaps = λ x. refl; notice = refl }
 
   finds_clear : (c : Call K V E) (aim : Aim K V) (there : K) (stored : Stored V) →
       Clear (finds_pair c aim there stored).left
-  finds_clear c (plan.To_show form) there stored = record { swaps = λ x. refl; notice = refl }
-  finds_clear c (plan.To_load sought) there stored = record { swaps = λ x. refl; notice = refl }
-  finds_clear c (plan.To_insert under new) there stored = record { swaps = λ x. refl; notice = refl }
-  finds_clear c (plan.To_own sought) there stored = record { swaps = λ x. refl; notice = refl }
-  finds_clear c (plan.To_compute compute) there stored = record { swaps = λ x. refl; notice = refl }
   finds_clear c (plan.To_evict key stamp cause) there stored =
       chosen_next (λ v. Clear v.left) c key stamp cause there stored
       (λ off. record { swaps = λ x. refl; notice = refl })
       (λ on. record { swaps = λ x. refl; notice = refl })
       (record { swaps = λ x. refl; notice = refl })
+  finds_clear c _ there stored = record { swaps = λ x. refl; notice = refl }
 
   hits_clear : (c : Call K V E) (aim : Aim K V) (there : K) (value : V) → IsLook aim →
       Clear (hits c aim there value).left
-  hits_clear c (plan.To_show form) there value l = record { swaps = λ x. refl; notice = refl }
-  hits_clear c (plan.To_load sought) there value l = record { swaps = λ x. refl; notice = refl }
-  hits_clear c (plan.To_insert under new) there value l =
-      record { swaps = λ x. refl; notice = refl }
-  hits_clear c (plan.To_own sought) there value l = record { swaps = λ x. refl; notice = refl }
-  hits_clear c (plan.To_compute compute) there value l = record { swaps = λ x. refl; notice = refl }
   hits_clear c (plan.To_evict key stamp cause) there value l = absurd l
+  hits_clear c _ there value l = record { swaps = λ x. refl; notice = refl }
 
   either_clear : (b : Bool) (x y : Next K V E) → Clear x.left → Clear y.left → Clear (cond b x y).left
   either_clear true x y h k = h
   either_clear false x y h k = k
 
   read_clear : (c : Call K V E) (sought : Sought K) (with : Settled V E) → Clear (Some c) → Clear (after_read c sought (found.ReadSettled with)).left
-  read_clear c sought (settled.Ready value) h = record { swaps = λ x. refl; notice = refl }
-  read_clear c sought (settled.Err error) h = record { swaps = λ x. refl; notice = refl }
-  read_clear c sought settled.Nothing h = record { swaps = λ x. refl; notice = refl }
   read_clear c sought settled.NotYet h = record { swaps = h.swaps; notice = h.notice }
   read_clear c sought settled.Aborted h = either_clear (c.aborts + 1 == retries) _ _ (record { swaps = λ x. refl; notice = refl })
       (record { swaps = λ x. refl; notice = refl })
+  read_clear c sought _ h = record { swaps = λ x. refl; notice = refl }
 
   read_key_clear : (c : Call K V E) (compute : Compute K) (with : Settled V E) → Clear (Some c) →
       Clear (after_read_key c compute (found.ReadSettled with)).left
@@ -215,9 +201,7 @@ module _ {K V E : Type 0} where
       (record { swaps = λ x. refl; notice = refl }) (record { swaps = λ x. refl; notice = refl })
   told_clear c load answer.Nothing h = record { swaps = λ x. refl; notice = refl }
   told_clear c load (answer.Err error) h = record { swaps = λ x. refl; notice = refl }
-  told_clear c load answer.Done h = record { swaps = h.swaps; notice = h.notice }
-  told_clear c load (answer.Op op) h = record { swaps = h.swaps; notice = h.notice }
-  told_clear c load answer.Off h = record { swaps = h.swaps; notice = h.notice }
+  told_clear c load _ h = record { swaps = h.swaps; notice = h.notice }
 
   told_op_clear : (c : Call K V E) (compute : Compute K) (pair : Option (K × V))
       (given : Told V E) → Clear (Some c) →
@@ -318,14 +302,9 @@ module _ {K V E : Type 0} where
   tail_clear p (Settling with a) = (refl, λ x. refl)
 
   drained_clear : (p : List (Item K V E)) → IsDrained p → weigh notice_of p ≡ 0
-  drained_clear p (Looking aim key l) = refl
-  drained_clear p (Owning sought) = refl
-  drained_clear p (Asking_op compute pair) = refl
-  drained_clear p (Giving a) = refl
-  drained_clear p (Removing removal key) = refl
-  drained_clear p (Locking_out removal key) = refl
   drained_clear p (Putting key value rest t) = omega (arith, (tail_clear rest t).0)
   drained_clear p (Locking key value rest t) = omega (arith, (tail_clear rest t).0)
+  drained_clear p _ = refl
 
   posted_clear : (p : List (Item K V E)) → IsPosted p → weigh notice_of p ≡ 0
   posted_clear p (Draining rest d) = omega (arith, drained_clear rest d)
@@ -344,20 +323,9 @@ module _ {K V E : Type 0} where
   plan_opens p (Applying x rest d) h = absurd (omega (arith, posted_clear rest d))
   plan_opens p (Ending x rest d) h = absurd (omega (arith, posted_clear rest d))
   plan_opens p (Writing key value moment rest t) h = absurd (omega (arith, (tail_clear rest t).0))
-  plan_opens p (Judging aim key stored l) h = absurd (omega arith)
-  plan_opens p (Reading sought) h = absurd (omega arith)
-  plan_opens p (Asking load) h = absurd (omega arith)
-  plan_opens p (Telling load) h = absurd (omega arith)
-  plan_opens p (Owning_key compute) h = absurd (omega arith)
-  plan_opens p (Owning_alone key) h = absurd (omega arith)
-  plan_opens p (Reading_key compute) h = absurd (omega arith)
-  plan_opens p (Telling_op compute pair) h = absurd (omega arith)
-  plan_opens p (Choosing key stamp cause) h = absurd (omega arith)
-  plan_opens p (Finding key stamp cause) h = absurd (omega arith)
-  plan_opens p (Chosen key stamp cause there stored) h = absurd (omega arith)
-  plan_opens p (Taking removal key) h = absurd (omega arith)
   plan_opens p (Freeing rest t) h = absurd (omega (arith, (tail_clear rest t).0))
   plan_opens p (Idling rest t) h = absurd (omega (arith, (tail_clear rest t).0))
+  plan_opens p _ h = absurd (omega arith)
 
   pub opens_notice : (p : List (Item K V E)) → OpensNotice p → 0 < weigh notice_of p
   opens_notice (plan.Notice key old cause upsert ∷ rest) h = omega arith

@@ -93,15 +93,12 @@ module _ {K V E : Type 0} where
 
     pub misses_fits : (c : Call K V E) (aim : Aim K V) (key : K) → Fits o j (plan.Get aim key ∷ []) → Fits o j (plan_left (misses c aim).left)
     misses_fits c (plan.To_show form) key f = record { last = tt; owning = omega (arith, f.owning); waiting = f.waiting }
-    misses_fits c (plan.To_load sought) key f = record { last = refl; owning = f.owning; waiting = f.waiting }
-    misses_fits c (plan.To_own sought) key f = record { last = refl; owning = f.owning; waiting = f.waiting }
-    misses_fits c (plan.To_compute compute) key f =
-        record { last = refl; owning = f.owning; waiting = f.waiting }
     misses_fits c (plan.To_insert there value) key f =
         put_plans (λ p. Fits o j (plan_left (goes c p).left)) c.rules there value _
         (record { last = refl; owning = f.owning; waiting = f.waiting })
         (record { last = refl; owning = f.owning; waiting = f.waiting })
     misses_fits c (plan.To_evict there stamp cause) key f = keeps_fits c (sym f.owning) f.waiting
+    misses_fits c _ key f = record { last = refl; owning = f.owning; waiting = f.waiting }
 
     -- a record that is not seen by its replace test is loaded
     pub unseen_fits : (c : Call K V E) (d : DeskPart K V E) (aim : Aim K V) (key : K) (found : Stored V) →
@@ -115,36 +112,24 @@ module _ {K V E : Type 0} where
 
     pub finds_fits : (c : Call K V E) (aim : Aim K V) (key k : K) (stored : Stored V) →
         Fits o j (plan.Get aim key ∷ []) → Fits o j (plan_left (finds_pair c aim k stored).left)
-    finds_fits c (plan.To_show form) key k stored f =
-        record { last = refl; owning = f.owning; waiting = f.waiting }
-    finds_fits c (plan.To_load sought) key k stored f =
-        record { last = refl; owning = f.owning; waiting = f.waiting }
-    finds_fits c (plan.To_insert under new) key k stored f =
-        record { last = refl; owning = f.owning; waiting = f.waiting }
-    finds_fits c (plan.To_own sought) key k stored f =
-        record { last = refl; owning = f.owning; waiting = f.waiting }
-    finds_fits c (plan.To_compute compute) key k stored f =
-        record { last = refl; owning = f.owning; waiting = f.waiting }
     finds_fits c (plan.To_evict there stamp cause) key k stored f =
         chosen_next (λ v. Fits o j (plan_left v.left)) c there stamp cause k stored
         (λ off. record { last = tt; owning = f.owning; waiting = f.waiting })
         (λ on. record { last = refl; owning = f.owning; waiting = f.waiting })
         (record { last = refl; owning = f.owning; waiting = f.waiting })
+    finds_fits c _ key k stored f =
+        record { last = refl; owning = f.owning; waiting = f.waiting }
 
     pub hits_fits : (c : Call K V E) (aim : Aim K V) (key : K) (stored : Stored V) (value : V) →
         Fits o j c.plan → Fits o j (plan.Judge aim key stored ∷ []) →
         Fits o j (plan_left (hits c aim key value).left)
-    hits_fits c (plan.To_show form) key stored value p f =
-        record { last = tt; owning = omega (arith, f.owning); waiting = f.waiting }
-    hits_fits c (plan.To_load sought) key stored value p f =
-        record { last = tt; owning = omega (arith, f.owning); waiting = f.waiting }
-    hits_fits c (plan.To_insert under new) key stored value p f =
-        record { last = tt; owning = omega (arith, f.owning); waiting = f.waiting }
     hits_fits c (plan.To_own sought) key stored value p f =
         record { last = refl; owning = omega (arith, f.owning); waiting = f.waiting }
     hits_fits c (plan.To_compute compute) key stored value p f =
         record { last = refl; owning = omega (arith, f.owning); waiting = f.waiting }
     hits_fits c (plan.To_evict there stamp cause) key stored value p f = p
+    hits_fits c _ key stored value p f =
+        record { last = tt; owning = omega (arith, f.owning); waiting = f.waiting }
 
     pub told_fits : (c : Call K V E) (load : Load K) (given : Told V E) → Fits o j c.plan → Fits o j (plan.Told load ∷ []) →
         Fits o j (plan_left (after_told c load (found.TakeTold (Some given))).left)
@@ -157,9 +142,7 @@ module _ {K V E : Type 0} where
         record { last = refl; owning = omega (arith, f.owning); waiting = f.waiting }
     told_fits c load (answer.Err error) p f =
         record { last = refl; owning = omega (arith, f.owning); waiting = f.waiting }
-    told_fits c load answer.Done p f = p
-    told_fits c load (answer.Op op) p f = p
-    told_fits c load answer.Off p f = p
+    told_fits c load _ p f = p
 
     pub told_op_fits : (c : Call K V E) (compute : Compute K) (pair : Option (K × V))
         (given : Told V E) → Fits o j c.plan → Fits o j (plan.Told_op compute pair ∷ []) →
@@ -178,33 +161,22 @@ module _ {K V E : Type 0} where
   keeps_awaits c = kept_next (λ v. awaited (plan_left v.left) ≡ None) c (λ off. refl) (λ on. refl)
 
   pub misses_awaits : (c : Call K V E) (aim : Aim K V) → awaited (plan_left (misses c aim).left) ≡ None
-  misses_awaits c (plan.To_show form) = refl
-  misses_awaits c (plan.To_load sought) = refl
-  misses_awaits c (plan.To_own sought) = refl
-  misses_awaits c (plan.To_compute compute) = refl
   misses_awaits c (plan.To_insert key value) =
       put_plans (λ p. awaited (plan_left (goes c p).left) ≡ None) c.rules key value _ refl refl
   misses_awaits c (plan.To_evict key stamp cause) = keeps_awaits c
+  misses_awaits c _ = refl
 
   pub finds_awaits : (c : Call K V E) (aim : Aim K V) (k : K) (stored : Stored V) →
       awaited (plan_left (finds_pair c aim k stored).left) ≡ None
-  finds_awaits c (plan.To_show form) k stored = refl
-  finds_awaits c (plan.To_load sought) k stored = refl
-  finds_awaits c (plan.To_insert under new) k stored = refl
-  finds_awaits c (plan.To_own sought) k stored = refl
-  finds_awaits c (plan.To_compute compute) k stored = refl
   finds_awaits c (plan.To_evict key stamp cause) k stored =
       chosen_next (λ v. awaited (plan_left v.left) ≡ None) c key stamp cause k stored (λ off. refl)
       (λ on. refl) refl
+  finds_awaits c _ k stored = refl
 
   pub hits_awaits : (c : Call K V E) (aim : Aim K V) (there : K) (value : V) → IsLook aim →
       awaited (plan_left (hits c aim there value).left) ≡ None
-  hits_awaits c (plan.To_show form) there value l = refl
-  hits_awaits c (plan.To_load sought) there value l = refl
-  hits_awaits c (plan.To_insert under new) there value l = refl
-  hits_awaits c (plan.To_own sought) there value l = refl
-  hits_awaits c (plan.To_compute compute) there value l = refl
   hits_awaits c (plan.To_evict key stamp cause) there value l = absurd l
+  hits_awaits c _ there value l = refl
 
   pub goes_awaits : (c : Call K V E) (rest : List (Item K V E)) → awaited (plan_left (goes c rest).left) ≡ awaited rest
   goes_awaits c (plan.Reply a ∷ []) = refl
@@ -228,42 +200,21 @@ module _ {K V E : Type 0} where
   pub read_fits : (o : Option (Load K)) (j : Option ℕ) (c : Call K V E) (sought : Sought K) (with : Settled V E) →
       Some with ≢ Some settled.NotYet → Fits o j (plan.Read sought ∷ []) →
       Fits o None (plan_left (after_read c sought (found.ReadSettled with)).left)
-  read_fits o j c sought (settled.Ready value) n f = record { last = tt; owning = omega (arith, f.owning); waiting = refl }
-  read_fits o j c sought (settled.Err error) n f = record { last = tt; owning = omega (arith, f.owning); waiting = refl }
-  read_fits o j c sought settled.Nothing n f = record { last = tt; owning = omega (arith, f.owning); waiting = refl }
   read_fits o j c sought settled.NotYet n f = absurd (n refl)
   read_fits o j c sought settled.Aborted n f =
       either_fits o (c.aborts + 1 == retries) _ _ (record { last = tt; owning = omega (arith, f.owning); waiting = refl })
       (record { last = refl; owning = f.owning; waiting = refl })
+  read_fits o j c sought _ n f = record { last = tt; owning = omega (arith, f.owning); waiting = refl }
 
   pub read_key_fits : (o : Option (Load K)) (j : Option ℕ) (c : Call K V E) (compute : Compute K)
       (with : Settled V E) →
       Some with ≢ Some settled.NotYet → Fits o j (plan.Read_key compute ∷ []) →
       Fits o None (plan_left (after_read_key c compute (found.ReadSettled with)).left)
   read_key_fits o j c compute settled.NotYet n f = absurd (n refl)
-  read_key_fits o j c compute (settled.Ready value) n f =
-      record { last = refl; owning = f.owning; waiting = refl }
-  read_key_fits o j c compute (settled.Err error) n f =
-      record { last = refl; owning = f.owning; waiting = refl }
-  read_key_fits o j c compute settled.Nothing n f =
-      record { last = refl; owning = f.owning; waiting = refl }
-  read_key_fits o j c compute settled.Aborted n f =
+  read_key_fits o j c compute _ n f =
       record { last = refl; owning = f.owning; waiting = refl }
 
   fresh_form : (rules : Rules) (p : List (Item K V E)) → IsFresh rules p → Fits None None p
-  fresh_form rules p (Disabled a d plain) = record { last = refl; owning = refl; waiting = refl }
-  fresh_form rules p (Takes_out plan.To_invalidate key off named) =
-      record { last = refl; owning = refl; waiting = refl }
-  fresh_form rules p (Locks_and_takes_out plan.To_invalidate key on named) =
-      record { last = refl; owning = refl; waiting = refl }
-  fresh_form rules p (Takes_out plan.To_remove key off named) =
-      record { last = refl; owning = refl; waiting = refl }
-  fresh_form rules p (Locks_and_takes_out plan.To_remove key on named) =
-      record { last = refl; owning = refl; waiting = refl }
-  fresh_form rules p (Takes_out (plan.To_evict_chosen stamp cause) key off named) =
-      record { last = refl; owning = refl; waiting = refl }
-  fresh_form rules p (Locks_and_takes_out (plan.To_evict_chosen stamp cause) key on named) =
-      record { last = refl; owning = refl; waiting = refl }
   fresh_form rules p (Takes_out (plan.To_remove_as_told own) key off named) = absurd named
   fresh_form rules p (Locks_and_takes_out (plan.To_remove_as_told own) key on named) = absurd named
   fresh_form rules p _ = record { last = refl; owning = refl; waiting = refl }

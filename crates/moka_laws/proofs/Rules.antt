@@ -121,12 +121,10 @@ module _ {K V E : Type 0} (P : Next K V E → Type 0) (c : Call K V E) where
 
 -- no ask of a compute takes such an answer
 abbrev pub IsLost : {V E : Type 0} → Told V E → Type 0
-IsLost (told.Value value) = ⊥
 IsLost told.Nothing = Unit {0}
-IsLost (told.Err error) = ⊥
-IsLost (told.Op op) = ⊥
 IsLost told.Done = Unit {0}
 IsLost told.Off = Unit {0}
+IsLost _ = ⊥
 
 module _ {K V E : Type 0} (P : Next K V E → Type 0) (c : Call K V E) where
   -- what holds of a compute that has read how its owner ended: it begins anew, or waits on
@@ -134,10 +132,7 @@ module _ {K V E : Type 0} (P : Next K V E → Type 0) (c : Call K V E) where
       P (goes c (plan.Own_key compute ∷ [])) →
       P (after_read_key c compute (found.ReadSettled with))
   read_key_next compute settled.NotYet waits anew = waits
-  read_key_next compute (settled.Ready value) waits anew = anew
-  read_key_next compute (settled.Err error) waits anew = anew
-  read_key_next compute settled.Nothing waits anew = anew
-  read_key_next compute settled.Aborted waits anew = anew
+  read_key_next compute _ waits anew = anew
 
   -- what holds of one that stores what it was told, unless the cache is disabled
   puts_next : (compute : Compute K) (pair : Option (K × V)) (value : V) →
@@ -162,10 +157,8 @@ module _ {K V E : Type 0} (P : Next K V E → Type 0) (c : Call K V E) where
       (a : Answer K V E) →
       P (goes c (before (plan.Reply a ∷ []))) → P (goes c (before (end_compute a))) →
       P (goes c (before (said removal a)))
-  said_next before plan.To_invalidate a answers settles = answers
-  said_next before plan.To_remove a answers settles = answers
-  said_next before (plan.To_evict_chosen stamp cause) a answers settles = answers
   said_next before (plan.To_remove_as_told key) a answers settles = settles
+  said_next before _ a answers settles = answers
 
   -- what holds of one that was told what to do: it ends, stores, takes out, or waits on where it was
   -- told what no compute takes
@@ -201,11 +194,8 @@ module _ {K V E : Type 0} (P : Next K V E → Type 0) (c : Call K V E) where
       out locked_out
   told_op_next_by compute pair (told.Err error) keeps fails none free locked out locked_out waits =
       fails error refl
-  told_op_next_by compute pair told.Nothing keeps fails none free locked out locked_out waits =
+  told_op_next_by compute pair _ keeps fails none free locked out locked_out waits =
       waits tt
-  told_op_next_by compute pair told.Done keeps fails none free locked out locked_out waits =
-      waits tt
-  told_op_next_by compute pair told.Off keeps fails none free locked out locked_out waits = waits tt
 
   -- so where whatever the compute answers does for the end
   pub told_op_next : (compute : Compute K) (pair : Option (K × V)) (given : Told V E) →
@@ -232,18 +222,14 @@ module _ {K V E : Type 0} (P : Next K V E → Type 0) (c : Call K V E) where
 
 -- the kind is a load's, and no compute's
 abbrev pub IsLoad : Kind → Type 0
-IsLoad kind.GetWith = Unit {0}
-IsLoad kind.Optional = Unit {0}
-IsLoad kind.Try = Unit {0}
 IsLoad kind.Compute = ⊥
+IsLoad _ = Unit {0}
 
 -- the asks of a compute take this: it is told what to do, or an error, or a value
 abbrev pub IsComputes : Takes → Type 0
-IsComputes takes.Value = Unit {0}
 IsComputes takes.Optional = ⊥
 IsComputes takes.Try = ⊥
-IsComputes takes.Op = Unit {0}
-IsComputes takes.TryOp = Unit {0}
+IsComputes _ = Unit {0}
 
 -- a call was started for this removal, and not told to do it
 abbrev pub IsNamed : {K : Type 0} → Removal K → Type 0
@@ -269,10 +255,8 @@ put_computed E key (Some pair) value = tt
 -- a call that was started for its removal answers at once
 pub said_named : {K V E : Type 0} (removal : Removal K) (a : Answer K V E) → IsNamed removal →
     said removal a ≡ plan.Reply a ∷ []
-said_named plan.To_invalidate a named = refl
-said_named plan.To_remove a named = refl
-said_named (plan.To_evict_chosen stamp cause) a named = refl
 said_named (plan.To_remove_as_told key) a named = absurd named
+said_named _ a named = refl
 
 -- the answer is not how a load ended without a value: neither nothing, nor an error, nor that the
 -- call gave up
@@ -351,10 +335,7 @@ module _ {K V E : Type 0} where
       by : (b : Bool) → is_disabled rules ≡ b → IsFresh rules (or_insert_plan b key value)
       by true e = Gives_back _ e tt
       by false e = Finds_or_puts key value e
-  fresh_plan rules (start.Compute key) = Computes _ tt
-  fresh_plan rules (start.TryCompute key) = Computes _ tt
   fresh_plan rules (start.ComputeAlone key) = Computes_alone key
-  fresh_plan rules (start.Upsert key) = Computes _ tt
   fresh_plan rules (start.Invalidate key) = takes_out rules plan.To_invalidate key tt
   fresh_plan rules (start.Remove key) = takes_out rules plan.To_remove key tt
   fresh_plan rules (start.Evict key stamp cause) = by rules.listener refl
@@ -364,3 +345,4 @@ module _ {K V E : Type 0} where
           (plan.Get (plan.To_evict key stamp cause) key ∷ []))
       by false e = Evicts key stamp cause e
       by true e = Locks_and_evicts key stamp cause e
+  fresh_plan rules _ = Computes _ tt

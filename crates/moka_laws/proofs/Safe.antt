@@ -143,8 +143,6 @@ module _ {K V E : Type 0} (eq : K → K → Bool) (s : State K V E) (well : IsWe
 
   may_item : (item : Item K V E) (rest : List (Item K V E)) → c.plan ≡ item ∷ rest → Stands s.world.desk n (item ∷ rest) → May_for item
   may_item plan.Drain rest e k = none_is _ k.holds.0
-  may_item (plan.Ended number) rest e k = tt
-  may_item plan.Heard rest e k = tt
   may_item (plan.Lock key) rest e k = lock_free _ (s.world.desk.locked n) key rest k.locks
   may_item (plan.Unlock true) rest e k =
       (lock_held _ (s.world.desk.locked n) true rest k.locks, λ not. absurd (false≢true (sym not)))
@@ -158,8 +156,6 @@ module _ {K V E : Type 0} (eq : K → K → Bool) (s : State K V E) (well : IsWe
   may_item plan.Turn rest e k = λ has. k.turns.has has
   may_item plan.Apply rest e k = k.turns.applies k.turns.first
   may_item plan.End rest e k = k.turns.applies k.turns.first
-  may_item (plan.Get aim key) rest e k = tt
-  may_item (plan.Judge aim key stored) rest e k = tt
   may_item (plan.Own sought) rest e k =
       let alone : Fits (s.world.desk.owning n) (s.world.desk.joined n) (plan.Own sought ∷ []) =
       subst (λ v. Fits (s.world.desk.owning n) (s.world.desk.joined n) (plan.Own sought ∷ v)) k.fits.last k.fits in
@@ -187,14 +183,12 @@ module _ {K V E : Type 0} (eq : K → K → Bool) (s : State K V E) (well : IsWe
   may_item (plan.Told load) rest e k = either_asked s.world.desk n (ask_open s.world.desk n load rest k.asks)
   may_item (plan.Told_op compute pair) rest e k =
       either_asked s.world.desk n (op_open s.world.desk n compute pair rest k.asks)
-  may_item (plan.Holds key stamp cause there stored) rest e k = tt
   may_item (plan.Moment change) rest e k =
       let free = is_unused eq s well.holding n c change rest live e in
       (none_is _ free.0, free.1)
-  may_item (plan.Write key value moment) rest e k = tt
-  may_item (plan.Out removal key) rest e k = tt
   may_item plan.Idle rest e k = λ write. idle_free eq n (s.world.desk.holding n) rest write k.holds
   may_item (plan.Reply answer) rest e k = λ write is. none_some (sym k.holds.0 ∙ is)
+  may_item _ rest e k = tt
 
   stands : Stands s.world.desk n c.plan
   stands = record {

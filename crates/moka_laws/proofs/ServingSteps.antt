@@ -65,9 +65,7 @@ module _ {K V E : Type 0} (eq : K → K → Bool) (w : World K V E) (n : ℕ) (c
   takes_told load answer.Nothing p f = goes_free (told_fits _ _ c load answer.Nothing p.fits f) refl
   takes_told load (answer.Err error) p f =
       goes_free (told_fits _ _ c load (answer.Err error) p.fits f) refl
-  takes_told load answer.Done p f = goes_with _ p
-  takes_told load (answer.Op op) p f = goes_with _ p
-  takes_told load answer.Off p f = goes_with _ p
+  takes_told load _ p f = goes_with _ p
 
   takes_told_op : (compute : Compute K) (pair : Option (K × V)) (given : Told V E) → Plans c.plan →
       Fits {V = V} {E = E} (w.desk.owning n) (w.desk.joined n) (plan.Told_op compute pair ∷ []) →
@@ -104,9 +102,6 @@ module _ {K V E : Type 0} (eq : K → K → Bool) (w : World K V E) (n : ℕ) (c
     λ x xs e. goes_with _ (like (plan.Post x ∷ plan.Drain ∷ rest) _ q q.fits.last (omega arith) refl),
     λ x number xs e. goes_with _ (like (plan.Ended number ∷ plan.Post x ∷ plan.Drain ∷ rest) _ q q.fits.last (omega arith) refl),
   )
-  on_item (plan.Ended number) rest p q = (λ e. goes_rest rest (like rest _ q q.fits.last (omega arith) refl), λ e. goes_with _ p)
-  on_item plan.Heard rest p q = (λ e. goes_rest rest (like rest _ q q.fits.last (omega arith) refl), λ e. goes_with _ p)
-  on_item (plan.Lock key) rest p q = (λ e. goes_rest rest (like rest _ q q.fits.last (omega arith) refl), λ e. goes_with _ p)
   on_item (plan.Unlock wrote) rest p q =
       goes_rest rest (like rest _ q q.fits.last (omega arith) refl)
   on_item (plan.Notice key old cause upsert) rest p q = (
@@ -117,7 +112,6 @@ module _ {K V E : Type 0} (eq : K → K → Bool) (w : World K V E) (n : ℕ) (c
     λ e. goes_rest rest (like rest _ q q.fits.last (omega arith) refl),
     λ e. goes_with _ (like (plan.Turn ∷ plan.Apply ∷ plan.End ∷ plan.Post write ∷ rest) _ q q.fits.last (omega arith) refl),
   )
-  on_item plan.Turn rest p q = (λ e. goes_rest rest (like rest _ q q.fits.last (omega arith) refl), λ e. goes_with _ p)
   on_item plan.Apply rest p q = (λ e. goes_rest rest (like rest _ q q.fits.last (omega arith) refl), λ x xs e. goes_with _ q)
   on_item plan.End rest p q = goes_rest rest (like rest _ q q.fits.last (omega arith) refl)
   on_item (plan.Get aim key) rest p q =
@@ -264,6 +258,7 @@ module _ {K V E : Type 0} (eq : K → K → Bool) (w : World K V E) (n : ℕ) (c
   on_item (plan.Reply answer) rest p q =
       let f = alone (plan.Reply answer) rest q.fits.last q in
       goes_free (record { last = tt; owning = omega (arith, f.owning); waiting = f.waiting }) refl
+  on_item _ rest p q = (λ e. goes_rest rest (like rest _ q q.fits.last (omega arith) refl), λ e. goes_with _ p)
 
   pub on_plan : (plan : List (Item K V E)) → c.plan ≡ plan → Fits {E = E} (w.desk.owning n) (w.desk.joined n) c.plan →
       ((o : ℕ) (load : Load K) → w.desk.joined n ≡ Some o → awaited c.plan ≡ Some load → Answered eq w.desk.owning w.desk.settled o load) →

@@ -74,48 +74,37 @@ module _ {K V E : Type 0} where
   keeps_tests c = kept_next (λ v. weigh_call tests v.left ≡ 0) c (λ off. refl) (λ on. refl)
 
   misses_tests : (c : Call K V E) (aim : Aim K V) → weigh_call tests (misses c aim).left ≤ look_tests aim
-  misses_tests c (plan.To_show form) = omega arith
-  misses_tests c (plan.To_load sought) = omega arith
-  misses_tests c (plan.To_own sought) = omega arith
-  misses_tests c (plan.To_compute compute) = omega arith
   misses_tests c (plan.To_insert key value) =
       put_plans (λ p. weigh_call tests (goes c p).left ≤ 0) c.rules key value _ (omega arith)
       (omega arith)
   misses_tests c (plan.To_evict key stamp cause) = omega (arith, keeps_tests c)
+  misses_tests c _ = omega arith
 
   unseen_tests : (c : Call K V E) (d : DeskPart K V E) (aim : Aim K V) (key : K) (stored : Stored V) →
       is_seen d (replace_of aim) key stored ≡ false →
       weigh_call tests (misses c aim).left + cond (is_some (replace_of aim)) 1 0 ≤ look_tests aim
   unseen_tests c d (plan.To_load sought) key stored e = omega (arith, test_once sought.replace)
   unseen_tests c d (plan.To_own sought) key stored e = omega (arith, test_once sought.replace)
-  unseen_tests c d (plan.To_compute compute) key stored e = omega arith
-  unseen_tests c d (plan.To_show form) key stored e = omega arith
   unseen_tests c d (plan.To_insert there value) key stored e = omega (arith, misses_tests c (plan.To_insert there value))
   unseen_tests c d (plan.To_evict there stamp cause) key stored e = omega (arith, keeps_tests c)
+  unseen_tests c d _ key stored e = omega arith
 
   finds_tests : (c : Call K V E) (aim : Aim K V) (there : K) (stored : Stored V) →
       weigh_call tests (finds_pair c aim there stored).left ≤ look_tests aim
-  finds_tests c (plan.To_show form) there stored = omega arith
-  finds_tests c (plan.To_load sought) there stored = omega arith
-  finds_tests c (plan.To_own sought) there stored = omega arith
-  finds_tests c (plan.To_compute compute) there stored = omega arith
-  finds_tests c (plan.To_insert key value) there stored = omega arith
   finds_tests c (plan.To_evict key stamp cause) there stored =
       chosen_next (λ v. weigh_call tests v.left ≤ 0) c key stamp cause there stored
       (λ off. omega arith) (λ on. omega arith) (omega arith)
+  finds_tests c _ there stored = omega arith
 
   read_tests : (c : Call K V E) (sought : Sought K) (with : Settled V E) → 1 ≤ weigh tests c.plan →
       weigh_call tests (after_read c sought (found.ReadSettled with)).left ≤ weigh tests c.plan
-  read_tests c sought (settled.Ready value) h = omega arith
-  read_tests c sought (settled.Err error) h = omega arith
-  read_tests c sought settled.Nothing h = omega arith
-  read_tests c sought settled.NotYet h = omega arith
   read_tests c sought settled.Aborted h = by (c.aborts + 1 == retries) refl
     where
       by : (b : Bool) → (c.aborts + 1 == retries) ≡ b →
           weigh_call tests (after_abort c sought).left ≤ weigh tests c.plan
       by true is = rw is (omega arith)
       by false is = rw is (omega (arith, h))
+  read_tests c sought _ h = omega arith
 
   read_key_tests : (c : Call K V E) (compute : Compute K) (with : Settled V E) →
       weigh_call tests (after_read_key c compute (found.ReadSettled with)).left ≤ weigh tests c.plan
@@ -128,11 +117,7 @@ module _ {K V E : Type 0} where
   told_tests c load (told.Value value) =
       loaded_plans (λ p. weigh_call tests (goes c p).left ≤ weigh tests c.plan) c.rules load value
       (omega arith) (omega arith) (omega arith)
-  told_tests c load told.Nothing = omega arith
-  told_tests c load (told.Err error) = omega arith
-  told_tests c load told.Done = omega arith
-  told_tests c load (told.Op op) = omega arith
-  told_tests c load told.Off = omega arith
+  told_tests c load _ = omega arith
 
   told_op_tests : (c : Call K V E) (compute : Compute K) (pair : Option (K × V))
       (given : Told V E) →
@@ -169,14 +154,12 @@ module _ {K V E : Type 0} where
         (λ f. omega (arith, goes_tests c rest), λ f. omega (arith, ap (weigh tests) e))
     asks_fewer (plan.Lock key) rest e =
         (λ f. omega (arith, goes_tests c rest), λ f. omega (arith, ap (weigh tests) e))
-    asks_fewer (plan.Unlock wrote) rest e = omega (arith, goes_tests c rest)
     asks_fewer (plan.Notice key old cause upsert) rest e =
         (λ f. omega (arith, goes_tests c rest), λ f. omega arith)
     asks_fewer (plan.Post write) rest e = (λ f. omega (arith, goes_tests c rest), λ f. omega arith)
     asks_fewer plan.Turn rest e =
         (λ f. omega (arith, goes_tests c rest), λ f. omega (arith, ap (weigh tests) e))
     asks_fewer plan.Apply rest e = (λ f. omega (arith, goes_tests c rest), λ x xs f. omega arith)
-    asks_fewer plan.End rest e = omega (arith, goes_tests c rest)
     asks_fewer (plan.Get aim key) rest e = (
       (λ more. omega (arith, ap (weigh tests) e)),
       (λ none. omega (arith, misses_tests c aim)),
@@ -189,12 +172,10 @@ module _ {K V E : Type 0} where
       where
         by_hit : (aim : Aim K V) → c.plan ≡ plan.Judge aim key stored ∷ rest →
             Fewer (plan.Judge aim key stored ∷ rest) w (hits c aim key stored.value)
-        by_hit (plan.To_show form) e = omega arith
         by_hit (plan.To_load sought) e = omega (arith, test_once sought.replace)
         by_hit (plan.To_own sought) e = omega (arith, test_once sought.replace)
-        by_hit (plan.To_compute compute) e = omega arith
-        by_hit (plan.To_insert there own) e = omega arith
         by_hit (plan.To_evict there stamp cause) e = omega (arith, ap (weigh tests) e)
+        by_hit _ e = omega arith
     asks_fewer (plan.Own sought) rest e =
         (λ able none. omega arith, λ disabled none. omega arith, λ owner some. omega arith)
     asks_fewer (plan.Own_key compute) rest e =
@@ -213,7 +194,6 @@ module _ {K V E : Type 0} where
       λ none. omega (arith, ap (weigh tests) e),
       λ with some. omega (arith, ap (weigh tests) e, read_key_tests c compute with),
     )
-    asks_fewer (plan.Settle with) rest e = omega (arith, goes_tests c rest)
     asks_fewer (plan.Ask load) rest e = omega arith
     asks_fewer (plan.Ask_op compute pair) rest e = omega arith
     asks_fewer (plan.Told load) rest e = (
@@ -244,8 +224,8 @@ module _ {K V E : Type 0} where
       where
         out : (a : Answer K V E) → weigh tests (said removal a) ≡ 0
         out a = weigh_said tests removal a refl refl
-    asks_fewer plan.Idle rest e = omega (arith, goes_tests c rest)
     asks_fewer (plan.Reply a) rest e = omega arith
+    asks_fewer _ rest e = omega (arith, goes_tests c rest)
 
     tests_fewer : (p : List (Item K V E)) → c.plan ≡ p → OnStep eq (Fewer p) w n c p
     tests_fewer [] e = omega (arith, ap (weigh tests) e)
@@ -283,32 +263,22 @@ module _ {K V E : Type 0} where
 
   finds_count : (c : Call K V E) (aim : Aim K V) (there : K) (stored : Stored V) →
       Counts c 0 (finds_pair c aim there stored)
-  finds_count c (plan.To_show form) there stored = as_often c _ _ refl refl
-  finds_count c (plan.To_load sought) there stored = as_often c _ _ refl refl
-  finds_count c (plan.To_own sought) there stored = as_often c _ _ refl refl
-  finds_count c (plan.To_compute compute) there stored = as_often c _ _ refl refl
-  finds_count c (plan.To_insert key value) there stored = as_often c _ _ refl refl
   finds_count c (plan.To_evict key stamp cause) there stored =
       chosen_by (Counts c 0) c key stamp cause there stored
       (λ other. goes_counts c (kept_rest c.rules.listener)) (λ same. as_often c _ _ refl refl)
+  finds_count c _ there stored = as_often c _ _ refl refl
 
   hits_count : (c : Call K V E) (aim : Aim K V) (there : K) (value : V) →
       Counts c 0 (hits c aim there value)
-  hits_count c (plan.To_show form) there value = λ d e. absurd (none_some e)
-  hits_count c (plan.To_load sought) there value = λ d e. absurd (none_some e)
   hits_count c (plan.To_own sought) there value = as_often c _ _ refl refl
   hits_count c (plan.To_compute compute) there value = as_often c _ _ refl refl
-  hits_count c (plan.To_insert key own) there value = λ d e. absurd (none_some e)
   hits_count c (plan.To_evict key stamp cause) there value = as_often c _ _ refl refl
+  hits_count c _ there value = λ d e. absurd (none_some e)
 
   told_count : (c : Call K V E) (load : Load K) (given : Told V E) →
       Counts c 0 (after_told c load (found.TakeTold (Some given)))
   told_count c load (told.Value value) = goes_counts c (loaded c.rules load value)
-  told_count c load told.Nothing = as_often c _ _ refl refl
-  told_count c load (told.Err error) = as_often c _ _ refl refl
-  told_count c load told.Done = as_often c _ _ refl refl
-  told_count c load (told.Op op) = as_often c _ _ refl refl
-  told_count c load told.Off = as_often c _ _ refl refl
+  told_count c load _ = as_often c _ _ refl refl
 
   told_op_count : (c : Call K V E) (compute : Compute K) (pair : Option (K × V))
       (given : Told V E) → Counts c 0 (after_told_op c compute pair (found.TakeTold (Some given)))
@@ -323,15 +293,13 @@ module _ {K V E : Type 0} where
   -- an owner that was dropped is counted, and no other
   read_counts : (c : Call K V E) (sought : Sought K) (with : Settled V E) →
       Counts c (cond (is_aborted with) 1 0) (after_read c sought (found.ReadSettled with))
-  read_counts c sought (settled.Ready value) = λ d e. absurd (none_some e)
-  read_counts c sought (settled.Err error) = λ d e. absurd (none_some e)
-  read_counts c sought settled.Nothing = λ d e. absurd (none_some e)
   read_counts c sought settled.NotYet = as_often c _ _ refl refl
   read_counts c sought settled.Aborted = by (c.aborts + 1 == retries) refl
     where
       by : (b : Bool) → (c.aborts + 1 == retries) ≡ b → Counts c 1 (after_abort c sought)
       by true is = rw is (λ d e. absurd (none_some e))
       by false is = rw is (λ d e. sym (ap (λ (v : Call K V E). v.aborts) (some_same e)))
+  read_counts c sought _ = λ d e. absurd (none_some e)
 
   -- a compute counts none
   read_key_counts : (c : Call K V E) (compute : Compute K) (with : Settled V E) →
@@ -353,14 +321,7 @@ module _ {K V E : Type 0} where
       λ x xs e. as_often c _ _ refl refl,
       λ x number xs e. as_often c _ _ refl refl,
     )
-    counts (plan.Ended number) rest = (λ e. goes_counts c rest, λ e. as_often c _ _ refl refl)
-    counts plan.Heard rest = (λ e. goes_counts c rest, λ e. as_often c _ _ refl refl)
-    counts (plan.Lock key) rest = (λ e. goes_counts c rest, λ e. as_often c _ _ refl refl)
     counts (plan.Unlock wrote) rest = goes_counts c rest
-    counts (plan.Notice key old cause upsert) rest =
-        (λ e. goes_counts c rest, λ e. as_often c _ _ refl refl)
-    counts (plan.Post write) rest = (λ e. goes_counts c rest, λ e. as_often c _ _ refl refl)
-    counts plan.Turn rest = (λ e. goes_counts c rest, λ e. as_often c _ _ refl refl)
     counts plan.Apply rest = (λ e. goes_counts c rest, λ x xs e. as_often c _ _ refl refl)
     counts plan.End rest = goes_counts c rest
     counts (plan.Get aim key) rest = (
@@ -417,6 +378,7 @@ module _ {K V E : Type 0} where
     )
     counts plan.Idle rest = goes_counts c rest
     counts (plan.Reply a) rest = λ d e. absurd (none_some e)
+    counts _ rest = (λ e. goes_counts c rest, λ e. as_often c _ _ refl refl)
 
     counts_plan : (p : List (Item K V E)) → OnStep eq (Counted p) w n c p
     counts_plan [] = as_often c _ _ refl refl
@@ -495,8 +457,7 @@ module _ {K V E : Type 0} (eq : K → K → Bool) where
 
       by : (how : Mode) → Drops u m c how r v → Alone n u v
       by mode.Mid h = refused_alone n u v _ r h
-      by mode.Fresh h = becomes_alone n u (dropped u m c) v _ r gone h
-      by mode.Parked h = becomes_alone n u (dropped u m c) v _ r gone h
+      by _ h = becomes_alone n u (dropped u m c) v _ r gone h
 
   -- of a test, or of a call's look-up, either answer leaves it alone
   either_alone : (n : ℕ) (u v : State K V E) (b : Bool) (P Q : Type 0) → (P → Alone n u v) → (Q → Alone n u v) →
@@ -535,12 +496,8 @@ module _ {K V E : Type 0} (eq : K → K → Bool) where
       (refused_alone n u v _ r) h
     where
       telling : (given : Told V E) → Alone n u (with_desk u (tells u.world.desk m given))
-      telling (told.Value value) = record { call = inl refl; last = omega arith }
-      telling told.Nothing = record { call = inl refl; last = omega arith }
-      telling (told.Err error) = record { call = inl refl; last = omega arith }
-      telling told.Done = record { call = inl refl; last = omega arith }
-      telling (told.Op op) = record { call = inl refl; last = omega arith }
       telling told.Off = record { call = inl refl; last = omega arith }
+      telling _ = record { call = inl refl; last = omega arith }
   event_alone n u v (event.Drop m) r l alone h =
       looked_alone n u v (u.calls m) _ (λ c. Drops u m c c.mode r v) (refused_alone n u v _ r)
       (λ c d. drops_alone n m u v c c.mode r d) h

@@ -318,12 +318,9 @@ module _ {K V E : Type 0} where
         both (told_call w call given) (apart_in w h) (loads_in w h) (locks_in w h)
 
     pub told_sound : TellingKeepsSound K V E eq
-    told_sound w call (answer.Value value) h = told_call_sound w call (answer.Value value) h
-    told_sound w call answer.Nothing h = told_call_sound w call answer.Nothing h
-    told_sound w call (answer.Err error) h = told_call_sound w call (answer.Err error) h
     told_sound w call answer.Done h = heard_sound w call false h
-    told_sound w call (answer.Op op) h = told_call_sound w call (answer.Op op) h
     told_sound w call answer.Off h = heard_sound w call true h
+    told_sound w call one h = told_call_sound w call one h
 
     pub entered_sound : EnteringKeepsSound K V E eq
     entered_sound w n h = both (record w { last = n }) (apart_in w h) (loads_in w h) (locks_in w h)
@@ -387,7 +384,6 @@ module _ {K V E : Type 0} where
     visit_sound laws w (visit.OpenNotice call key value stamp modified cause upsert) h may =
         opened_sound w call key value (cause_of w stamp modified cause upsert) h
     visit_sound laws w (visit.StampMoment call) h may = stamped_sound w call (is_none_of (w.holding call) may.0) may.1 h
-    visit_sound laws w (visit.Judge replace key stored) h may = both (makes eq w (visit.Judge replace key stored)) (apart_in w h) (loads_in w h) (locks_in w h)
     visit_sound laws w (visit.Holds key stored cause) h may = h
     visit_sound laws w (visit.WaitOrOwn call key kind) h may =
         let load : Load K = record { key = key; kind = kind } in
@@ -397,9 +393,6 @@ module _ {K V E : Type 0} where
         alone_sound laws w call load (is_none_of (w.owning call) may.0) (w.owners load) refl h
     visit_sound laws w (visit.ReadSettled call) h may = read_sound w call h
     visit_sound laws w (visit.Settle call with) h may = both (makes eq w (visit.Settle call with)) (apart_in w h) (without_call (load_eq eq) w.owners w.owning call (loads_in w h)) (locks_in w h)
-    visit_sound laws w (visit.OpenAsk call takes) h may = both (makes eq w (visit.OpenAsk call takes)) (apart_in w h) (loads_in w h) (locks_in w h)
-    visit_sound laws w (visit.TakeTold call) h may = both (makes eq w (visit.TakeTold call)) (apart_in w h) (loads_in w h) (locks_in w h)
     visit_sound laws w (visit.PostWrite call write) h may = posted_sound w call write may h
-    visit_sound laws w (visit.TakeTurn call) h may = both (makes eq w (visit.TakeTurn call)) (apart_in w h) (loads_in w h) (locks_in w h)
     visit_sound laws w (visit.ApplyOne call) h may = applied_sound w call h
-    visit_sound laws w (visit.EndTurn call) h may = both (makes eq w (visit.EndTurn call)) (apart_in w h) (loads_in w h) (locks_in w h)
+    visit_sound laws w one h may = both (makes eq w one) (apart_in w h) (loads_in w h) (locks_in w h)

@@ -61,10 +61,8 @@ computed_is _ is = absurd is
 -- the owner of a load says so
 load_says : {K V E : Type 0} (k : Kind) (with : Settled V E) (reply : Turn K V E) → IsLoad k →
     Says with reply → SaysAs k with reply
-load_says kind.GetWith with reply one says = says
-load_says kind.Optional with reply one says = says
-load_says kind.Try with reply one says = says
 load_says kind.Compute with reply one says = absurd one
+load_says _ with reply one says = says
 
 module _ {K V E : Type 0} where
   -- the owner of a load answers how it ends that, and the owner of a compute what it did
@@ -87,18 +85,14 @@ module _ {K V E : Type 0} where
   nothing_says : (owned : Option (Load K)) (removal : Removal K) (key : K) (c : Call K V E) →
       ItemFits {V = V} {E = E} owned (plan.Out removal key) →
       PlanSays owned (said removal (nothing_answer removal))
-  nothing_says owned plan.To_invalidate key c f = tt
-  nothing_says owned plan.To_remove key c f = tt
-  nothing_says owned (plan.To_evict_chosen stamp cause) key c f = tt
   nothing_says owned (plan.To_remove_as_told own) key c f = inr (f, refl, tt)
+  nothing_says owned _ key c f = tt
 
   removed_says : (owned : Option (Load K)) (removal : Removal K) (key : K) (c : Call K V E)
       (value : V) → ItemFits {V = V} {E = E} owned (plan.Out removal key) →
       PlanSays owned (said removal (removed_answer removal value))
-  removed_says owned plan.To_invalidate key c value f = tt
-  removed_says owned plan.To_remove key c value f = tt
-  removed_says owned (plan.To_evict_chosen stamp cause) key c value f = tt
   removed_says owned (plan.To_remove_as_told own) key c value f = inr (f, refl, tt)
+  removed_says owned _ key c value f = tt
 
   -- where what the call of this number answers comes from
   pub data Source (d : DeskPart K V E) (n : ℕ) (c : Call K V E) : Answer K V E → Type 0 where
@@ -169,27 +163,21 @@ module _ {K V E : Type 0} where
     misses_says : (aim : Aim K V) → Still (misses c aim)
     misses_says (plan.To_show form) = plainly (shown form None) _ refl refl
         (shown_next IsPlain form None tt (λ key. tt))
-    misses_says (plan.To_load sought) = on _ (λ b e. cc) tt
-    misses_says (plan.To_own sought) = on _ (λ b e. cc) tt
-    misses_says (plan.To_compute compute) = on _ (λ b e. cc) tt
     misses_says (plan.To_insert key value) =
         let after : List (Item K V E) = plan.Reply (answer.Loaded value true) ∷ [] in
         put_plans (λ p. Still (goes c p)) c.rules key value after
         (goes_says (plan.Drain ∷ plan.Moment (plan.To_store key value) ∷ after) tt)
         (goes_says (plan.Drain ∷ plan.Lock key ∷ plan.Moment (plan.To_store key value) ∷ after) tt)
     misses_says (plan.To_evict key stamp cause) = keeps_says
+    misses_says _ = on _ (λ b e. cc) tt
 
     finds_says : (aim : Aim K V) (there : K) (stored : Stored V) →
         Still (finds_pair c aim there stored)
-    finds_says (plan.To_show form) there stored = on _ (λ b e. cc) tt
-    finds_says (plan.To_load sought) there stored = on _ (λ b e. cc) tt
-    finds_says (plan.To_own sought) there stored = on _ (λ b e. cc) tt
-    finds_says (plan.To_compute compute) there stored = on _ (λ b e. cc) tt
-    finds_says (plan.To_insert key value) there stored = on _ (λ b e. cc) tt
     finds_says (plan.To_evict key stamp cause) there stored =
         chosen_next Still c key stamp cause there stored
         (λ off. plainly answer.Kept _ refl refl tt) (λ is_on. on _ (λ b e. cc) tt)
         (on _ (λ b e. cc) tt)
+    finds_says _ there stored = on _ (λ b e. cc) tt
 
     hits_says : (aim : Aim K V) (there : K) (value : V) (stored : Stored V) →
         PlanSays (d.owning n) c.plan →
@@ -199,14 +187,12 @@ module _ {K V E : Type 0} where
     hits_says (plan.To_show form) there value stored p f one =
         plainly (shown form (Some (there, value))) _ refl refl
         (shown_next IsPlain form (Some (there, value)) tt (λ key. tt))
-    hits_says (plan.To_load sought) there value stored p f one =
-        plainly (answer.Loaded value false) _ refl refl tt
     hits_says (plan.To_own sought) there value stored p f one = on _ (λ b e. cc)
         (inl ((false, refl), ends_own IsLoad (d.owning n) sought.load.kind f one))
     hits_says (plan.To_compute compute) there value stored p f one = on _ (λ b e. cc) tt
-    hits_says (plan.To_insert key own) there value stored p f one =
-        plainly (answer.Loaded value false) _ refl refl tt
     hits_says (plan.To_evict key stamp cause) there value stored p f one = on _ (λ b e. cc) p
+    hits_says _ there value stored p f one =
+        plainly (answer.Loaded value false) _ refl refl tt
 
     -- what an owner settled is answered
     heard : (sought : Sought K) (with : Settled V E) (a : Answer K V E) →
@@ -257,9 +243,7 @@ module _ {K V E : Type 0} where
         (on _ (λ b e. cc) (inl ((true, refl), own)))
     told_says load told.Nothing own p = on _ (λ b e. cc) (inl ((false, refl), own))
     told_says load (told.Err error) own p = on _ (λ b e. cc) (inl ((false, refl), own))
-    told_says load told.Done own p = on _ (λ b e. cc) p
-    told_says load (told.Op op) own p = on _ (λ b e. cc) p
-    told_says load told.Off own p = on _ (λ b e. cc) p
+    told_says load _ own p = on _ (λ b e. cc) p
 
     told_op_says : (compute : Compute K) (pair : Option (K × V)) (given : Told V E) →
         OwnsKind (d.owning n) kind.Compute → PlanSays (d.owning n) c.plan →
@@ -317,15 +301,11 @@ module _ {K V E : Type 0} where
       λ x xs f. on w.desk n c _ (λ b h. cc) q,
       λ x number xs f. on w.desk n c _ (λ b h. cc) q,
     )
-    on_item (plan.Ended number) rest e l q f t = (λ g. passes rest q, λ g. parks)
-    on_item plan.Heard rest e l q f t = (λ g. passes rest q, λ g. parks)
-    on_item (plan.Lock key) rest e l q f t = (λ g. passes rest q, λ g. parks)
     on_item (plan.Unlock wrote) rest e l q f t = passes rest q
     on_item (plan.Notice key old cause upsert) rest e l q f t =
         (λ g. passes rest q, λ g. on w.desk n c _ (λ b h. cc) q)
     on_item (plan.Post write) rest e l q f t =
         (λ g. passes rest q, λ g. on w.desk n c _ (λ b h. cc) q)
-    on_item plan.Turn rest e l q f t = (λ g. passes rest q, λ g. parks)
     on_item plan.Apply rest e l q f t =
         (λ g. passes rest q, λ x xs f. on w.desk n c _ (λ b h. cc) q)
     on_item plan.End rest e l q f t = passes rest q
@@ -396,6 +376,7 @@ module _ {K V E : Type 0} where
     )
     on_item plan.Idle rest e l q f t = passes rest q
     on_item (plan.Reply a) rest e l q f t = plainly w.desk n c a _ refl refl q
+    on_item _ rest e l q f t = (λ g. passes rest q, λ g. parks)
 
     on_plan : (q : List (Item K V E)) → c.plan ≡ q → IsLast q → PlanSays (w.desk.owning n) q →
         AllFit (w.desk.owning n) q → AllTake (w.desk.asks n) (w.desk.told n) q →
@@ -557,26 +538,17 @@ module _ {K V E : Type 0} (eq : K → K → Bool) where
       said_of {K = K} with fresh ≡ Some answer.Nothing →
       with ≡ settled.Nothing
   said_nothing settled.Nothing fresh e = refl
-  said_nothing (settled.Ready value) fresh e = cc
-  said_nothing (settled.Err error) fresh e = cc
-  said_nothing settled.NotYet fresh e = cc
-  said_nothing settled.Aborted fresh e = cc
+  said_nothing _ fresh e = cc
 
   said_error : (with : Settled V E) (fresh : Bool) (error : E) →
       said_of {K = K} with fresh ≡ Some (answer.InitErr error) → with ≡ settled.Err error
-  said_error settled.Nothing fresh error e = cc
-  said_error (settled.Ready value) fresh error e = cc
-  said_error (settled.Err other) fresh error e = cc
-  said_error settled.NotYet fresh error e = cc
   said_error settled.Aborted fresh error e = cc
+  said_error _ fresh error e = cc
 
   said_not : (with : Settled V E) (fresh : Bool) →
       said_of {K = K} with fresh ≡ Some answer.RetriesExhausted → ⊥
-  said_not settled.Nothing fresh e = cc
-  said_not (settled.Ready value) fresh e = cc
-  said_not (settled.Err error) fresh e = cc
-  said_not settled.NotYet fresh e = cc
   said_not settled.Aborted fresh e = cc
+  said_not _ fresh e = cc
 
   module _ (s : State K V E) (n : ℕ) (c : Call K V E) where
     nothing_from : (a : Answer K V E) → Source s.world.desk n c a → a ≡ answer.Nothing →

@@ -36,10 +36,9 @@ now_times n xs = omega (arith, times_last n n xs, ap (λ b. cond {A = ℕ} b 1 0
 module _ {K V : Type 0} where
   -- what an operation needs: a write's record has the number of its call, which has committed none
   abbrev Suits : ℕ → TablePart K V → TableOp K V → Type 0
-  Suits n t (op.Get key) = Unit {0}
   Suits n t (op.InsertOrModify key stored) = (stored.stamp ≡ n) × (times n t.committed ≡ 0)
   Suits n t (op.InsertIfAbsent key stored) = ⊥
-  Suits n t (op.RemoveIf key stamp) = Unit {0}
+  Suits n t _ = Unit {0}
 
 module _ {K V E : Type 0} where
   -- what an access needs
@@ -50,7 +49,6 @@ module _ {K V E : Type 0} where
   item_fits : (n : ℕ) (t : TablePart K V) (item : Item K V E) (rest : List (Item K V E)) →
       times n t.committed + weigh may_write (item ∷ rest) ≤ 1 → Fits n t (access_for n item)
   item_fits n t (plan.Write key value moment) rest h = (refl, omega (arith, h))
-  item_fits n t (plan.Moment change) rest h = tt
   item_fits n t _ rest h = tt
 
   plan_fits : (n : ℕ) (t : TablePart K V) (rules : Rules) (mode : Mode) (p : List (Item K V E))

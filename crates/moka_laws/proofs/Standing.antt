@@ -135,23 +135,16 @@ module _ {K V E : Type 0} where
   keeps_calm c = kept_next (λ v. weigh_call chosen v.left ≡ 0) c (λ off. refl) (λ on. refl)
 
   misses_calm : (c : Call K V E) (aim : Aim K V) → weigh_call chosen (misses c aim).left ≡ 0
-  misses_calm c (plan.To_show form) = refl
-  misses_calm c (plan.To_load sought) = refl
-  misses_calm c (plan.To_own sought) = refl
-  misses_calm c (plan.To_compute compute) = refl
   misses_calm c (plan.To_insert key value) =
       put_plans (λ p. weigh_call chosen (goes c p).left ≡ 0) c.rules key value _ refl refl
   misses_calm c (plan.To_evict key stamp cause) = keeps_calm c
+  misses_calm c _ = refl
 
   hits_calm : (c : Call K V E) (aim : Aim K V) (there : K) (value : V) → weigh chosen c.plan ≡ 0 →
       weigh_call chosen
       (hits c aim there value).left ≡ 0
-  hits_calm c (plan.To_show form) there value p = refl
-  hits_calm c (plan.To_load sought) there value p = refl
-  hits_calm c (plan.To_insert under new) there value p = refl
-  hits_calm c (plan.To_own sought) there value p = refl
-  hits_calm c (plan.To_compute compute) there value p = refl
   hits_calm c (plan.To_evict key stamp cause) there value p = p
+  hits_calm c _ there value p = refl
 
   either_calm : (b : Bool) (x y : Next K V E) → weigh_call chosen x.left ≡ 0 →
       weigh_call chosen y.left ≡ 0 → weigh_call chosen (cond b x y).left ≡ 0
@@ -160,11 +153,9 @@ module _ {K V E : Type 0} where
 
   read_calm : (c : Call K V E) (sought : Sought K) (with : Settled V E) → weigh chosen c.plan ≡ 0 →
       weigh_call chosen (after_read c sought (found.ReadSettled with)).left ≡ 0
-  read_calm c sought (settled.Ready value) p = refl
-  read_calm c sought (settled.Err error) p = refl
-  read_calm c sought settled.Nothing p = refl
   read_calm c sought settled.NotYet p = p
   read_calm c sought settled.Aborted p = either_calm (c.aborts + 1 == retries) _ _ refl refl
+  read_calm c sought _ p = refl
 
   read_key_calm : (c : Call K V E) (compute : Compute K) (with : Settled V E) →
       weigh chosen c.plan ≡ 0 →
@@ -179,9 +170,7 @@ module _ {K V E : Type 0} where
       (λ q. weigh_call chosen (goes c q).left ≡ 0) c.rules load value refl refl refl
   told_calm c load told.Nothing p = refl
   told_calm c load (told.Err error) p = refl
-  told_calm c load told.Done p = p
-  told_calm c load (told.Op op) p = p
-  told_calm c load told.Off p = p
+  told_calm c load _ p = p
 
   told_op_calm : (c : Call K V E) (compute : Compute K) (pair : Option (K × V)) (given : Told V E) →
       weigh chosen c.plan ≡ 0 →
@@ -210,16 +199,12 @@ module _ {K V E : Type 0} where
         ((own : K) → locked_key (plan.Get aim key ∷ rest) ≡ Some own → Inside own
         (plan.Get aim key ∷ rest)) →
         StandsIf w.table.stored (finds_pair c aim there seen).left
-    finds_on (plan.To_show form) key there seen rest e some inside = inl refl
-    finds_on (plan.To_load sought) key there seen rest e some inside = inl refl
-    finds_on (plan.To_insert under new) key there seen rest e some inside = inl refl
-    finds_on (plan.To_own sought) key there seen rest e some inside = inl refl
-    finds_on (plan.To_compute compute) key there seen rest e some inside = inl refl
     finds_on (plan.To_evict own stamp cause) key there seen rest e some inside =
         chosen_by (λ v. StandsIf w.table.stored v.left) c own stamp cause there seen
         (λ other. calm_if w.table.stored (keeps c).left (keeps_calm c))
         (λ same. inr (subst (λ k. At w.table.stored k stamp) (inside key refl).0
         (subst (λ o. IsSomeAnd o (λ pair. pair.1.stamp ≡ stamp)) (sym some) same)))
+    finds_on _ key there seen rest e some inside = inl refl
 
     on_calm : (item : Item K V E) (rest : List (Item K V E)) → c.plan ≡ item ∷ rest →
         weigh chosen c.plan ≡ 0 → weigh chosen (item ∷ rest) ≡ 0 →
@@ -233,7 +218,6 @@ module _ {K V E : Type 0} where
     on_calm (plan.Ended number) rest e p q i = (λ f. goes_on _ rest (omega (arith, q)), λ f. inl p)
     on_calm plan.Heard rest e p q i = (λ f. goes_on _ rest (omega (arith, q)), λ f. inl p)
     on_calm (plan.Lock key) rest e p q i = (λ f. goes_on _ rest (omega (arith, q)), λ f. inl p)
-    on_calm (plan.Unlock wrote) rest e p q i = goes_on _ rest (omega (arith, q))
     on_calm (plan.Notice key old cause upsert) rest e p q i =
         (λ f. goes_on _ rest (omega (arith, q)), λ f. inl (omega (arith, q)))
     on_calm (plan.Post write) rest e p q i =
@@ -244,7 +228,6 @@ module _ {K V E : Type 0} where
       λ x xs f. inl
           (omega (arith, q)),
     )
-    on_calm plan.End rest e p q i = goes_on _ rest (omega (arith, q))
     on_calm (plan.Get aim key) rest e p q i = (
       λ more. inl p,
       λ none. calm_if _ (misses c aim).left (misses_calm c aim),
@@ -275,7 +258,6 @@ module _ {K V E : Type 0} where
       λ with f. calm_if _ _
           (read_key_calm c compute with p),
     )
-    on_calm (plan.Settle with) rest e p q i = goes_on _ rest (omega (arith, q))
     on_calm (plan.Ask load) rest e p q i = inl refl
     on_calm (plan.Ask_op compute pair) rest e p q i = inl refl
     on_calm (plan.Told load) rest e p q i = (
@@ -314,8 +296,8 @@ module _ {K V E : Type 0} where
       where
         out : (a : Answer K V E) → weigh chosen (said removal a) ≡ 0
         out a = weigh_said chosen removal a refl refl
-    on_calm plan.Idle rest e p q i = goes_on _ rest (omega (arith, q))
     on_calm (plan.Reply a) rest e p q i = tt
+    on_calm _ rest e p q i = goes_on _ rest (omega (arith, q))
 
     on_standing : (p : List (Item K V E)) → c.plan ≡ p → StandingAt w.table.stored p →
         OnStep eq After w n c p
@@ -429,10 +411,6 @@ module _ {K V : Type 0} (E : Type 0) where
       by : (b : Bool) → weigh chosen (or_insert_plan {V = V} {E = E} b key value) ≡ 0
       by true = refl
       by false = refl
-  fresh_calm rules (start.Compute key) = refl
-  fresh_calm rules (start.TryCompute key) = refl
-  fresh_calm rules (start.ComputeAlone key) = refl
-  fresh_calm rules (start.Upsert key) = refl
   fresh_calm rules (start.Invalidate key) = by rules.listener
     where
       by : (b : Bool) → weigh chosen (plan.Drain ∷ under_lock {V = V} {E = E} b key
@@ -451,6 +429,7 @@ module _ {K V : Type 0} (E : Type 0) where
           (plan.Get (plan.To_evict key stamp cause) key ∷ [])) ≡ 0
       by true = refl
       by false = refl
+  fresh_calm rules _ = refl
 
 -- ---- of a state
 

@@ -73,10 +73,8 @@ put_stores E key (Some pair) value = refl
 
 -- 1 where a call was started to take a record out so
 abbrev for_out : {K : Type 0} → Removal K → ℕ
-for_out plan.To_invalidate = 1
-for_out plan.To_remove = 1
-for_out (plan.To_evict_chosen stamp cause) = 1
 for_out (plan.To_remove_as_told key) = 0
+for_out _ = 1
 
 module _ {K V E : Type 0} where
   -- the item makes a write; it answers that a value was stored
@@ -144,31 +142,19 @@ module _ {K V E : Type 0} where
         shown_next {V = V} {E = E} (λ a. stored a ≡ 0) form None refl (λ under. refl),
       );
     }
-    misses_says c (plan.To_load sought) key t = record
-        { left = omega arith; plain = refl; now = λ b e. cc }
-    misses_says c (plan.To_own sought) key t = record
-        { left = omega arith; plain = refl; now = λ b e. cc }
-    misses_says c (plan.To_compute compute) key t = record
-        { left = omega arith; plain = refl; now = λ b e. cc }
     misses_says c (plan.To_insert under new) key t =
         put_plans (λ q. Says k (goes c q)) c.rules under new _
         (record { left = omega arith; plain = refl; now = λ b e. cc })
         (record { left = omega arith; plain = refl; now = λ b e. cc })
     misses_says c (plan.To_evict own stamp cause) key t = absurd (omega (arith, t))
+    misses_says c _ key t = record
+        { left = omega arith; plain = refl; now = λ b e. cc }
 
     finds_says : (c : Call K V E) (aim : Aim K V) (key there : K) (found : Stored V) → takes
         (plan.Get aim key) ≡ 0 → Says k (finds_pair c aim there found)
-    finds_says c (plan.To_show form) key there found t = record
-        { left = omega arith; plain = refl; now = λ b e. cc }
-    finds_says c (plan.To_load sought) key there found t = record
-        { left = omega arith; plain = refl; now = λ b e. cc }
-    finds_says c (plan.To_insert under new) key there found t = record
-        { left = omega arith; plain = refl; now = λ b e. cc }
-    finds_says c (plan.To_own sought) key there found t = record
-        { left = omega arith; plain = refl; now = λ b e. cc }
-    finds_says c (plan.To_compute compute) key there found t = record
-        { left = omega arith; plain = refl; now = λ b e. cc }
     finds_says c (plan.To_evict own stamp cause) key there found t = absurd (omega (arith, t))
+    finds_says c _ key there found t = record
+        { left = omega arith; plain = refl; now = λ b e. cc }
 
     hits_says : (c : Call K V E) (aim : Aim K V) (key : K) (found : Stored V) → takes
         (plan.Judge aim key found) ≡ 0 → Says k (hits c aim key found.value)
@@ -182,25 +168,18 @@ module _ {K V E : Type 0} where
             shown_next {V = V} {E = E} (λ a. stored a ≡ 0) form (Some (key, found.value)) refl (λ under. refl),
           );
         }
-    hits_says c (plan.To_load sought) key found t =
-        record {
-          left = omega arith;
-          plain = refl;
-          now = λ b e. omega
-              (arith, ap stored (same_answer (reply.Loaded found.value false) b e));
-        }
-    hits_says c (plan.To_insert under new) key found t =
-        record {
-          left = omega arith;
-          plain = refl;
-          now = λ b e. omega
-              (arith, ap stored (same_answer (reply.Loaded found.value false) b e));
-        }
     hits_says c (plan.To_own sought) key found t = record
         { left = omega arith; plain = refl; now = λ b e. cc }
     hits_says c (plan.To_compute compute) key found t = record
         { left = omega arith; plain = refl; now = λ b e. cc }
     hits_says c (plan.To_evict own stamp cause) key found t = absurd (omega (arith, t))
+    hits_says c _ key found t =
+        record {
+          left = omega arith;
+          plain = refl;
+          now = λ b e. omega
+              (arith, ap stored (same_answer (reply.Loaded found.value false) b e));
+        }
 
     -- a record that is not seen by its replace test is loaded
     unseen_says : (c : Call K V E) (d : DeskPart K V E) (aim : Aim K V) (key : K) (found : Stored V) →
@@ -265,10 +244,7 @@ module _ {K V E : Type 0} where
         record { left = omega arith; plain = refl; now = λ b e. cc }
     told_says c load (answer.Err error) able p =
         record { left = omega arith; plain = refl; now = λ b e. cc }
-    told_says c load answer.Done able p = record { left = p.says; plain = p.plain; now = λ b e. cc }
-    told_says c load (answer.Op op) able p =
-        record { left = p.says; plain = p.plain; now = λ b e. cc }
-    told_says c load answer.Off able p = record { left = p.says; plain = p.plain; now = λ b e. cc }
+    told_says c load _ able p = record { left = p.says; plain = p.plain; now = λ b e. cc }
 
     told_op_says : (c : Call K V E) (compute : Compute K) (pair : Option (K × V))
         (given : Told V E) → is_disabled c.rules ≡ false → Stores k c.plan →
@@ -331,8 +307,6 @@ module _ {K V E : Type 0} where
       λ e. goes_says _ c rest (omega (arith, q.says)) (omega (arith, q.plain)),
       λ e. record { left = p.says; plain = p.plain; now = λ b e. cc },
     )
-    on_item (plan.Unlock wrote) rest l p q = goes_says _ c rest (omega (arith, q.says))
-        (omega (arith, q.plain))
     on_item (plan.Notice key old cause upsert) rest l p q = (
       λ e. goes_says _ c rest (omega (arith, q.says)) (omega (arith, q.plain)),
       λ e. record { left = omega (arith, q.says); plain = omega (arith, q.plain); now = λ b e. cc },
@@ -354,8 +328,6 @@ module _ {K V E : Type 0} where
             λ b e. cc;
       },
     )
-    on_item plan.End rest l p q = goes_says _ c rest (omega (arith, q.says))
-        (omega (arith, q.plain))
     on_item (plan.Get aim key) rest l p q = (
       λ more. record { left = p.says; plain = p.plain; now = λ b e. cc },
       λ none. misses_says _ c aim key (omega (arith, q.plain)),
@@ -395,8 +367,6 @@ module _ {K V E : Type 0} where
       λ e. record { left = p.says; plain = p.plain; now = λ b e. cc },
       λ with e. read_key_says _ c compute with p,
     )
-    on_item (plan.Settle with) rest l p q = goes_says _ c rest (omega (arith, q.says))
-        (omega (arith, q.plain))
     on_item (plan.Ask load) rest l p q = record
         { left = omega arith; plain = refl; now = λ b e. cc }
     on_item (plan.Ask_op compute pair) rest l p q = record
@@ -448,8 +418,6 @@ module _ {K V E : Type 0} where
     on_item (plan.Out plan.To_remove key) rest l p q = absurd (omega (arith, q.plain))
     on_item (plan.Out (plan.To_evict_chosen stamp cause) key) rest l p q =
         absurd (omega (arith, q.plain))
-    on_item plan.Idle rest l p q = goes_says _ c rest (omega (arith, q.says))
-        (omega (arith, q.plain))
     on_item (plan.Reply a) rest l p q =
         let alone = subst (λ v. weigh says (plan.Reply a ∷ v) ≤ weigh makes
         (plan.Reply a ∷ v) + times n w.table.committed) l q.says in
@@ -459,6 +427,8 @@ module _ {K V E : Type 0} where
           now = λ b e. omega
               (arith, alone, ap stored (same_answer a b e));
         }
+    on_item _ rest l p q = goes_says _ c rest (omega (arith, q.says))
+        (omega (arith, q.plain))
 
     on_plan : (plan : List (Item K V E)) → c.plan ≡ plan → IsLast c.plan → Stores
         (times n w.table.committed) c.plan → OnStep eq After w n c plan
@@ -592,14 +562,11 @@ module _ {K V E : Type 0} (eq : K → K → Bool) where
   fresh_stores rules (start.OrInsert key value) a able e =
       subst (λ b. Stores {K = K} {V = V} {E = E} 0 (or_insert_plan b key value)) (sym able)
       (record { says = omega arith; plain = refl })
-  fresh_stores rules (start.Compute key) a able e = record { says = omega arith; plain = refl }
-  fresh_stores rules (start.TryCompute key) a able e = record { says = omega arith; plain = refl }
-  fresh_stores rules (start.ComputeAlone key) a able e = record { says = omega arith; plain = refl }
-  fresh_stores rules (start.Upsert key) a able e = record { says = omega arith; plain = refl }
   fresh_stores rules (start.Get key) a able e = absurd (false≢true e)
   fresh_stores rules (start.Invalidate key) a able e = absurd (false≢true e)
   fresh_stores rules (start.Remove key) a able e = absurd (false≢true e)
   fresh_stores rules (start.Evict key stamp cause) a able e = absurd (false≢true e)
+  fresh_stores rules _ a able e = record { says = omega arith; plain = refl }
 
   -- an answer that says so counts
   says_counts : (s : Start K V) (a : Answer K V E) → says_stored s a ≡ true → stored a ≡ 1

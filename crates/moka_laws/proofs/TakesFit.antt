@@ -51,26 +51,20 @@ ToldFits takes (Some given) = does_take takes given ≡ true
 
 -- a load's ask takes no answer that tells what to do, and a compute's none that it loses
 pub load_takes_no_op : (k : Kind) → IsLoad k → takes_op (takes_of k) ≡ true → ⊥
-load_takes_no_op kind.GetWith one e = false≢true e
-load_takes_no_op kind.Optional one e = false≢true e
-load_takes_no_op kind.Try one e = false≢true e
 load_takes_no_op kind.Compute one e = one
+load_takes_no_op _ one e = false≢true e
 
 compute_takes_some : (takes : Takes) → IsComputes takes → takes_nothing takes ≡ true → ⊥
-compute_takes_some takes.Value one e = false≢true e
 compute_takes_some takes.Optional one e = one
 compute_takes_some takes.Try one e = one
-compute_takes_some takes.Op one e = false≢true e
-compute_takes_some takes.TryOp one e = false≢true e
+compute_takes_some _ one e = false≢true e
 
 pub compute_loses_none : {V E : Type 0} (takes : Takes) (given : Told V E) → IsComputes takes →
     does_take takes given ≡ true → IsLost given → ⊥
-compute_loses_none takes (told.Value value) one e lost = lost
 compute_loses_none takes told.Nothing one e lost = compute_takes_some takes one e
-compute_loses_none takes (told.Err error) one e lost = lost
-compute_loses_none takes (told.Op op) one e lost = lost
 compute_loses_none takes told.Done one e lost = false≢true e
 compute_loses_none takes told.Off one e lost = false≢true e
+compute_loses_none takes _ one e lost = lost
 
 -- what an open ask takes fits the item that takes it
 taken_fits : {V E : Type 0} (asked : Option Takes) (takes : Takes) (tells : Told V E) →
@@ -123,47 +117,40 @@ module _ {K V E : Type 0} where
         ItemTakes asked given (plan.Get aim key) →
         AllTake asked given (plan_left (misses c aim).left)
     misses_take c (plan.To_show form) key f = tt
-    misses_take c (plan.To_load sought) key f = (f, tt)
-    misses_take c (plan.To_own sought) key f = (f, tt)
-    misses_take c (plan.To_compute compute) key f = (f, tt)
     misses_take c (plan.To_insert there value) key f =
         put_plans (λ p. AllTake asked given (plan_left (goes c p).left)) c.rules there value _
         (tt, (tt, (tt, tt))) (tt, (tt, (tt, (tt, tt))))
     misses_take c (plan.To_evict there stamp cause) key f = keeps_take c
+    misses_take c _ key f = (f, tt)
 
     unseen_take : (c : Call K V E) (aim : Aim K V) (key : K) (stored : Stored V) →
         ItemTakes asked given (plan.Judge aim key stored) →
         AllTake asked given (plan_left (misses c aim).left)
-    unseen_take c (plan.To_show form) key stored f = misses_take c (plan.To_show form) key tt
     unseen_take c (plan.To_load sought) key stored f = misses_take c (plan.To_load sought) key f
     unseen_take c (plan.To_own sought) key stored f = misses_take c (plan.To_own sought) key f
     unseen_take c (plan.To_compute compute) key stored f =
         misses_take c (plan.To_compute compute) key f
-    unseen_take c (plan.To_insert there value) key stored f =
-        misses_take c (plan.To_insert there value) key tt
     unseen_take c (plan.To_evict there stamp cause) key stored f = keeps_take c
+    unseen_take c aim key stored f = misses_take c aim key tt
 
     finds_take : (c : Call K V E) (aim : Aim K V) (key k : K) (stored : Stored V) →
         ItemTakes asked given (plan.Get aim key) →
         AllTake asked given (plan_left (finds_pair c aim k stored).left)
-    finds_take c (plan.To_show form) key k stored f = (tt, tt)
     finds_take c (plan.To_load sought) key k stored f = (f, tt)
     finds_take c (plan.To_own sought) key k stored f = (f, tt)
     finds_take c (plan.To_compute compute) key k stored f = (f, tt)
-    finds_take c (plan.To_insert there value) key k stored f = (tt, tt)
     finds_take c (plan.To_evict there stamp cause) key k stored f =
         chosen_next (λ v. AllTake asked given (plan_left v.left)) c there stamp cause k stored
         (λ off. tt) (λ on. (tt, (tt, tt))) (tt, tt)
+    finds_take c _ key k stored f = (tt, tt)
 
     hits_take : (c : Call K V E) (aim : Aim K V) (there : K) (value : V) (stored : Stored V) →
         AllTake asked given c.plan → ItemTakes asked given (plan.Judge aim there stored) →
         AllTake asked given (plan_left (hits c aim there value).left)
-    hits_take c (plan.To_show form) there value stored p f = tt
-    hits_take c (plan.To_load sought) there value stored p f = tt
     hits_take c (plan.To_own sought) there value stored p f = (tt, (tt, tt))
     hits_take c (plan.To_compute compute) there value stored p f = (f, tt)
-    hits_take c (plan.To_insert under own) there value stored p f = tt
     hits_take c (plan.To_evict key stamp cause) there value stored p f = p
+    hits_take c _ there value stored p f = tt
 
     either_take : (b : Bool) (x y : Next K V E) → AllTake asked given (plan_left x.left) →
         AllTake asked given (plan_left y.left) →
@@ -174,12 +161,10 @@ module _ {K V E : Type 0} where
     read_take : (c : Call K V E) (sought : Sought K) (with : Settled V E) →
         AllTake asked given c.plan → IsLoad sought.load.kind →
         AllTake asked given (plan_left (after_read c sought (found.ReadSettled with)).left)
-    read_take c sought (settled.Ready value) p one = tt
-    read_take c sought (settled.Err error) p one = tt
-    read_take c sought settled.Nothing p one = tt
     read_take c sought settled.NotYet p one = p
     read_take c sought settled.Aborted p one =
         either_take (c.aborts + 1 == retries) _ _ tt (one, tt)
+    read_take c sought _ p one = tt
 
     told_take : (c : Call K V E) (load : Load K) (tells : Told V E) → IsLoad load.kind →
         does_take (takes_of load.kind) tells ≡ true →
@@ -187,11 +172,10 @@ module _ {K V E : Type 0} where
     told_take c load (told.Value value) one e =
         loaded_plans (λ p. AllTake asked given (plan_left (goes c p).left)) c.rules load value
         (tt, (tt, tt)) (tt, (tt, (tt, (tt, tt)))) (tt, (tt, (tt, (tt, (tt, tt)))))
-    told_take c load told.Nothing one e = (tt, (tt, tt))
-    told_take c load (told.Err error) one e = (tt, (tt, tt))
     told_take c load told.Done one e = absurd (false≢true e)
     told_take c load (told.Op op) one e = absurd (load_takes_no_op load.kind one e)
     told_take c load told.Off one e = absurd (false≢true e)
+    told_take c load _ one e = (tt, (tt, tt))
 
     told_op_take : (c : Call K V E) (compute : Compute K) (pair : Option (K × V))
         (tells : Told V E) → IsComputes compute.takes → does_take compute.takes tells ≡ true →
@@ -209,10 +193,8 @@ module _ {K V E : Type 0} where
         (λ lost. absurd (compute_loses_none compute.takes tells one e lost))
 
     said_take : (removal : Removal K) (a : Answer K V E) → AllTake asked given (said removal a)
-    said_take plan.To_invalidate a = (tt, tt)
-    said_take plan.To_remove a = (tt, tt)
-    said_take (plan.To_evict_chosen stamp cause) a = (tt, tt)
     said_take (plan.To_remove_as_told key) a = (tt, (tt, tt))
+    said_take _ a = (tt, tt)
 
     tells_take : (tells : Told V E) (p : List (Item K V E)) →
         option_map_or (λ a. does_take a tells) asked false ≡ true →
@@ -222,8 +204,6 @@ module _ {K V E : Type 0} where
         ((q.0.0, tt, taken_fits asked (takes_of load.kind) tells e q.0.1), tells_take tells rest e q.1)
     tells_take tells (plan.Told_op compute pair ∷ rest) e q =
         ((q.0.0, tt, taken_fits asked compute.takes tells e q.0.1), tells_take tells rest e q.1)
-    tells_take tells (plan.Get (plan.To_show plan.As_value) key ∷ rest) e q =
-        (tt, tells_take tells rest e q.1)
     tells_take tells (plan.Get aim key ∷ rest) e q =
         (q.0, tells_take tells rest e q.1)
     tells_take tells (plan.Judge aim key stored ∷ rest) e q =
@@ -301,14 +281,12 @@ module _ {K V E : Type 0} where
     on_item plan.Heard rest q = (λ e. goes_on rest refl refl q.1, λ e. as_was refl refl p)
     on_item (plan.Lock key) rest q =
         (λ e. goes_on rest refl refl q.1, λ e. as_was refl refl p)
-    on_item (plan.Unlock wrote) rest q = goes_on rest refl refl q.1
     on_item (plan.Notice key old cause upsert) rest q =
         (λ e. goes_on rest refl refl q.1, λ e. as_was refl refl (tt, q.1))
     on_item (plan.Post write) rest q =
         (λ e. goes_on rest refl refl q.1, λ e. as_was refl refl (tt, (tt, (tt, q))))
     on_item plan.Turn rest q = (λ e. goes_on rest refl refl q.1, λ e. as_was refl refl p)
     on_item plan.Apply rest q = (λ e. goes_on rest refl refl q.1, λ x xs e. as_was refl refl q)
-    on_item plan.End rest q = goes_on rest refl refl q.1
     on_item (plan.Get aim key) rest q = (
       (λ more. as_was refl refl p),
       (λ none. as_was refl refl (misses_take _ _ c aim key q.0)),
@@ -344,7 +322,6 @@ module _ {K V E : Type 0} where
           (read_key_next (λ v. AllTake (w.desk.asks n) (w.desk.told n) (plan_left v.left)) c compute
           with p (q.0, tt)),
     )
-    on_item (plan.Settle with) rest q = goes_on rest refl refl q.1
     on_item (plan.Ask load) rest q =
         asks_now (Some (takes_of load.kind)) (put_here w.desk.asks n _)
         (λ m h. put_there w.desk.asks n _ m h) refl ((q.0, refl, tt), tt)
@@ -380,8 +357,8 @@ module _ {K V E : Type 0} where
       (λ k old off some. as_was refl refl (tt, said_take _ _ removal _)),
       λ k old on some. as_was refl refl (tt, (tt, (tt, said_take _ _ removal _))),
     )
-    on_item plan.Idle rest q = goes_on rest refl refl q.1
     on_item (plan.Reply a) rest q = as_was refl refl tt
+    on_item _ rest q = goes_on rest refl refl q.1
 
     on_plan : (q : List (Item K V E)) → c.plan ≡ q → OnStep eq (Leaves w n) w n c q
     on_plan [] e = as_was refl refl p

@@ -57,7 +57,6 @@ module _ {K V E : Type 0} where
   TurnsFirst [] = Unit {0}
   TurnsFirst (plan.Turn ∷ rest) = InTurn rest
   TurnsFirst (plan.Apply ∷ rest) = InTurn rest
-  TurnsFirst (plan.End ∷ rest) = weigh of_turn rest ≡ 0
   TurnsFirst (_ ∷ rest) = weigh of_turn rest ≡ 0
 
   -- The turn is the call's exactly where it is in one.
@@ -119,33 +118,22 @@ module _ {K V E : Type 0} where
   keeps_calm c = kept_next (λ v. weigh of_turn (plan_left v.left) ≡ 0) c (λ off. refl) (λ on. refl)
 
   misses_calm : (c : Call K V E) (aim : Aim K V) → weigh of_turn (plan_left (misses c aim).left) ≡ 0
-  misses_calm c (plan.To_show form) = refl
-  misses_calm c (plan.To_load sought) = refl
-  misses_calm c (plan.To_own sought) = refl
-  misses_calm c (plan.To_compute compute) = refl
   misses_calm c (plan.To_insert key value) =
       put_plans (λ p. weigh of_turn (plan_left (goes c p).left) ≡ 0) c.rules key value _ refl refl
   misses_calm c (plan.To_evict key stamp cause) = keeps_calm c
+  misses_calm c _ = refl
 
   finds_calm : (c : Call K V E) (aim : Aim K V) (there : K) (stored : Stored V) →
       weigh of_turn (plan_left (finds_pair c aim there stored).left) ≡ 0
-  finds_calm c (plan.To_show form) there stored = refl
-  finds_calm c (plan.To_load sought) there stored = refl
-  finds_calm c (plan.To_insert under new) there stored = refl
-  finds_calm c (plan.To_own sought) there stored = refl
-  finds_calm c (plan.To_compute compute) there stored = refl
   finds_calm c (plan.To_evict key stamp cause) there stored =
       chosen_by (λ v. weigh of_turn (plan_left v.left) ≡ 0) c key stamp cause there stored
       (λ other. keeps_calm c) (λ same. refl)
+  finds_calm c _ there stored = refl
 
   hits_calm : (c : Call K V E) (aim : Aim K V) (there : K) (value : V) → weigh of_turn c.plan ≡ 0 →
       weigh of_turn (plan_left (hits c aim there value).left) ≡ 0
-  hits_calm c (plan.To_show form) there value h = refl
-  hits_calm c (plan.To_load sought) there value h = refl
-  hits_calm c (plan.To_insert under new) there value h = refl
-  hits_calm c (plan.To_own sought) there value h = refl
-  hits_calm c (plan.To_compute compute) there value h = refl
   hits_calm c (plan.To_evict key stamp cause) there value h = h
+  hits_calm c _ there value h = refl
 
   either_calm : (b : Bool) (x y : Next K V E) → weigh of_turn (plan_left x.left) ≡ 0 → weigh of_turn (plan_left y.left) ≡ 0 →
       weigh of_turn (plan_left (cond b x y).left) ≡ 0
@@ -154,11 +142,9 @@ module _ {K V E : Type 0} where
 
   read_calm : (c : Call K V E) (sought : Sought K) (with : Settled V E) → weigh of_turn c.plan ≡ 0 →
       weigh of_turn (plan_left (after_read c sought (found.ReadSettled with)).left) ≡ 0
-  read_calm c sought (settled.Ready value) h = refl
-  read_calm c sought (settled.Err error) h = refl
-  read_calm c sought settled.Nothing h = refl
   read_calm c sought settled.NotYet h = h
   read_calm c sought settled.Aborted h = either_calm (c.aborts + 1 == retries) _ _ refl refl
+  read_calm c sought _ h = refl
 
   read_key_calm : (c : Call K V E) (compute : Compute K) (with : Settled V E) →
       weigh of_turn c.plan ≡ 0 →
@@ -175,9 +161,7 @@ module _ {K V E : Type 0} where
       0) c.rules load value refl refl refl
   told_calm c load answer.Nothing h = refl
   told_calm c load (answer.Err error) h = refl
-  told_calm c load answer.Done h = h
-  told_calm c load (answer.Op op) h = h
-  told_calm c load answer.Off h = h
+  told_calm c load _ h = h
 
   told_op_calm : (c : Call K V E) (compute : Compute K) (pair : Option (K × V)) (given : Told V E) →
       weigh of_turn c.plan ≡ 0 →
@@ -235,7 +219,6 @@ module _ {K V E : Type 0} where
     on_item (plan.Lock key) rest e q =
         let c_calm : weigh of_turn c.plan ≡ 0 = omega (arith, ap (weigh of_turn) e, q.first) in
         (λ free. calm _ n (goes_calm c rest q.first) q.has, λ held. calm _ n c_calm q.has)
-    on_item (plan.Unlock wrote) rest e q = calm _ n (goes_calm c rest q.first) q.has
     on_item (plan.Notice key old cause upsert) rest e q = (
       λ off. calm _ n (goes_calm c rest q.first) q.has,
       λ on. calm _ n
@@ -302,7 +285,6 @@ module _ {K V E : Type 0} where
           λ none. calm _ n c_calm q.has,
           λ with some. calm _ n (read_key_calm c compute with c_calm) q.has,
         )
-    on_item (plan.Settle with) rest e q = calm _ n (goes_calm c rest q.first) q.has
     on_item (plan.Ask load) rest e q = calm _ n refl q.has
     on_item (plan.Ask_op compute pair) rest e q = calm _ n refl q.has
     on_item (plan.Told load) rest e q =
@@ -334,8 +316,8 @@ module _ {K V E : Type 0} where
           (λ k old off some. calm _ n (said_next (λ v. weigh of_turn (plan_left v.left) ≡ 0) c (λ q. plan.Post (Remove n old.stamp) ∷ q) removal (removed_answer removal old.value) refl refl) q.has),
           λ k old on some. calm _ n (said_next (λ v. weigh of_turn (plan_left v.left) ≡ 0) c (λ q. plan.Notice key old (cause_handed removal) false ∷ plan.Unlock true ∷ plan.Post (Remove n old.stamp) ∷ q) removal (removed_answer removal old.value) refl refl) q.has,
         )
-    on_item plan.Idle rest e q = calm _ n (goes_calm c rest q.first) q.has
     on_item (plan.Reply answer) rest e q = calm _ n refl q.has
+    on_item _ rest e q = calm _ n (goes_calm c rest q.first) q.has
 
     on_plan : (plan : List (Item K V E)) → c.plan ≡ plan → TurnFits w.desk.turn n c.plan → OnStep eq Leaves w n c plan
     on_plan [] e f = calm _ n (ap (weigh of_turn) e) (λ h. subst InTurn e (f.has h))

@@ -124,14 +124,9 @@ module _ {K V E : Type 0} where
   tail_role p (Settling with a) = refl
 
   pub drained_role : (p : List (Item K V E)) → IsDrained p → awaited p ≡ None
-  drained_role p (Looking aim key l) = refl
-  drained_role p (Owning sought) = refl
-  drained_role p (Asking_op compute pair) = refl
-  drained_role p (Giving a) = refl
-  drained_role p (Removing removal key) = refl
-  drained_role p (Locking_out removal key) = refl
   drained_role p (Putting key value rest t) = tail_role rest t
   drained_role p (Locking key value rest t) = tail_role rest t
+  drained_role p _ = refl
 
   pub posted_role : (p : List (Item K V E)) → IsPosted p → awaited p ≡ None
   posted_role p (Draining rest d) = drained_role rest d
@@ -149,20 +144,11 @@ module _ {K V E : Type 0} where
   plan_role p (Turning x rest d) = inr (posted_role rest d)
   plan_role p (Applying x rest d) = inr (posted_role rest d)
   plan_role p (Ending x rest d) = inr (posted_role rest d)
-  plan_role p (Judging aim key stored l) = inr refl
-  plan_role p (Asking load) = inr refl
-  plan_role p (Telling load) = inr refl
-  plan_role p (Owning_key compute) = inr refl
-  plan_role p (Owning_alone key) = inr refl
   plan_role p (Reading_key compute) = inl refl
-  plan_role p (Telling_op compute pair) = inr refl
-  plan_role p (Choosing key stamp cause) = inr refl
-  plan_role p (Finding key stamp cause) = inr refl
-  plan_role p (Chosen key stamp cause there stored) = inr refl
-  plan_role p (Taking removal key) = inr refl
   plan_role p (Freeing rest t) = inr (tail_role rest t)
   plan_role p (Idling rest t) = inr (tail_role rest t)
   plan_role p (Writing key value moment rest t) = inr (tail_role rest t)
+  plan_role p _ = inr refl
 
   role_alone : (o : Option (Load K)) (j : Option ℕ) (p : List (Item K V E)) → Fits o j p → OneRole p → is_some o ≡ true → is_some j ≡ false
   role_alone o j p f (inl none) own = let one = ap (λ b. cond {A = ℕ} b 1 0) own in absurd (omega (arith, f.owning))

@@ -126,14 +126,8 @@ module _ {K V E : Type 0} where
   drained_last : (p : List (Item K V E)) → IsDrained p → (with : Settled V E)
       (rest : List (Item K V E)) → p ≡ plan.Settle with ∷ rest →
       (a : Answer K V E) × (rest ≡ plan.Reply a ∷ [])
-  drained_last p (Looking aim key l) with rest e = (answer.Done, cc)
-  drained_last p (Owning sought) with rest e = (answer.Done, cc)
-  drained_last p (Asking_op compute found) with rest e = (answer.Done, cc)
-  drained_last p (Giving a) with rest e = (answer.Done, cc)
-  drained_last p (Putting key value after t) with rest e = (answer.Done, cc)
-  drained_last p (Locking key value after t) with rest e = (answer.Done, cc)
-  drained_last p (Removing removal key) with rest e = (answer.Done, cc)
   drained_last p (Locking_out removal key) with rest e = (answer.Done, cc)
+  drained_last p _ with rest e = (answer.Done, cc)
 
   -- nothing but an answer stands behind a settlement
   settle_last : (p : List (Item K V E)) → IsPlan p → (with : Settled V E)
@@ -203,8 +197,6 @@ module _ {K V E : Type 0} (eq : K → K → Bool) where
       by : (b : Bool) → (locked_by eq d call key b).last ≡ d.last
       by true = refl
       by false = refl
-  visit_last d (visit.UnlockKey call true) = refl
-  visit_last d (visit.UnlockKey call false) = refl
   visit_last d _ = refl
 
   access_last : (n : ℕ) (w new : World K V E) (a : Access K V E) (g : Got K V E) →

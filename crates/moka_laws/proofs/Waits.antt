@@ -52,55 +52,39 @@ module _ {K V E : Type 0} where
   keeps_on c = kept_next GoesOn c (λ off e. cc) (λ on e. cc)
 
   misses_on : (c : Call K V E) (aim : Aim K V) → GoesOn (misses c aim)
-  misses_on c (plan.To_show form) = λ e. cc
-  misses_on c (plan.To_load sought) = λ e. cc
-  misses_on c (plan.To_own sought) = λ e. cc
-  misses_on c (plan.To_compute compute) = λ e. cc
   misses_on c (plan.To_insert key value) =
       let after : List (Item K V E) = plan.Reply (reply.Loaded value true) ∷ [] in
       put_plans (λ p. GoesOn (goes c p)) c.rules key value after
       (goes_on c (plan.Drain ∷ plan.Moment (plan.To_store key value) ∷ after))
       (goes_on c (plan.Drain ∷ plan.Lock key ∷ plan.Moment (plan.To_store key value) ∷ after))
   misses_on c (plan.To_evict key stamp cause) = keeps_on c
+  misses_on c _ = λ e. cc
 
   finds_on : (c : Call K V E) (aim : Aim K V) (k : K) (stored : Stored V) →
       GoesOn (finds_pair c aim k stored)
-  finds_on c (plan.To_show form) k stored = λ e. cc
-  finds_on c (plan.To_load sought) k stored = λ e. cc
-  finds_on c (plan.To_insert under new) k stored = λ e. cc
-  finds_on c (plan.To_own sought) k stored = λ e. cc
-  finds_on c (plan.To_compute compute) k stored = λ e. cc
   finds_on c (plan.To_evict key stamp cause) k stored =
       chosen_next GoesOn c key stamp cause k stored (λ off e. cc) (λ on e. cc) (λ e. cc)
+  finds_on c _ k stored = λ e. cc
 
   hits_on : (c : Call K V E) (aim : Aim K V) (there : K) (value : V) → IsLook aim →
       GoesOn (hits c aim there value)
-  hits_on c (plan.To_show form) there value l = λ e. cc
-  hits_on c (plan.To_load sought) there value l = λ e. cc
-  hits_on c (plan.To_insert under new) there value l = λ e. cc
-  hits_on c (plan.To_own sought) there value l = λ e. cc
-  hits_on c (plan.To_compute compute) there value l = λ e. cc
   hits_on c (plan.To_evict key stamp cause) there value l = absurd l
+  hits_on c _ there value l = λ e. cc
 
   read_on : (c : Call K V E) (sought : Sought K) (with : Settled V E) → Some with ≢ Some settled.NotYet →
       GoesOn (after_read c sought (found.ReadSettled with))
-  read_on c sought (settled.Ready value) h = λ e. cc
-  read_on c sought (settled.Err error) h = λ e. cc
-  read_on c sought settled.Nothing h = λ e. cc
   read_on c sought settled.NotYet h = absurd (h refl)
   read_on c sought settled.Aborted h = by (c.aborts + 1 == retries) refl
     where
       by : (b : Bool) → (c.aborts + 1 == retries) ≡ b → GoesOn (after_abort c sought)
       by true e = rw e (λ e. cc)
       by false e = rw e (λ e. cc)
+  read_on c sought _ h = λ e. cc
 
   read_key_on : (c : Call K V E) (compute : Compute K) (with : Settled V E) →
       Some with ≢ Some settled.NotYet → GoesOn (after_read_key c compute (found.ReadSettled with))
   read_key_on c compute settled.NotYet h = absurd (h refl)
-  read_key_on c compute (settled.Ready value) h = λ e. cc
-  read_key_on c compute (settled.Err error) h = λ e. cc
-  read_key_on c compute settled.Nothing h = λ e. cc
-  read_key_on c compute settled.Aborted h = λ e. cc
+  read_key_on c compute _ h = λ e. cc
 
   tells_on : (c : Call K V E) (load : Load K) (given : Told V E) → IsLoad load.kind →
       does_take (takes_of load.kind) given ≡ true →
@@ -111,11 +95,10 @@ module _ {K V E : Type 0} where
       (goes_on c (plan.Drain ∷ plan.Moment (plan.To_store load.key value) ∷ after))
       (goes_on c (plan.Drain ∷ plan.Lock load.key ∷ plan.Moment (plan.To_store load.key value)
       ∷ after))
-  tells_on c load answer.Nothing one is = λ e. cc
-  tells_on c load (answer.Err error) one is = λ e. cc
   tells_on c load answer.Done one is = absurd (false≢true is)
   tells_on c load (answer.Op op) one is = absurd (load_takes_no_op load.kind one is)
   tells_on c load answer.Off one is = absurd (false≢true is)
+  tells_on c load _ one is = λ e. cc
 
   tells_on_op : (c : Call K V E) (compute : Compute K) (pair : Option (K × V)) (given : Told V E) →
       IsComputes compute.takes → does_take compute.takes given ≡ true →
@@ -181,7 +164,6 @@ module _ {K V E : Type 0} where
         (λ e. never w c (λ q. false≢true (sym e ∙ q)) (goes_on c rest), λ e. always w c e)
     on_item (plan.Lock key) rest p t l =
         (λ e. never w c (λ q. false≢true (sym q ∙ e)) (goes_on c rest), λ e. always w c e)
-    on_item (plan.Unlock wrote) rest p t l = never w c (λ q. q) (goes_on c rest)
     on_item (plan.Notice key old cause upsert) rest p t l =
         (λ e. never w c (λ q. q) (goes_on c rest), λ e. never w c (λ q. q) (λ e. cc))
     on_item (plan.Post write) rest p t l =
@@ -190,7 +172,6 @@ module _ {K V E : Type 0} where
         (λ e. never w c (λ q. false≢true (sym q ∙ e)) (goes_on c rest), λ e. always w c e)
     on_item plan.Apply rest p t l =
         (λ e. never w c (λ q. q) (goes_on c rest), λ x xs e. never w c (λ q. q) (λ e. cc))
-    on_item plan.End rest p t l = never w c (λ q. q) (goes_on c rest)
     on_item (plan.Get aim key) rest p t l = (
       (λ more. never w c (λ q. q) (λ e. cc)),
       (λ none. never w c (λ q. q) (misses_on c aim)),
@@ -226,7 +207,6 @@ module _ {K V E : Type 0} where
       λ with e. never w c (not_none _ e)
           (read_key_on c compute with (settlement_ready w.desk n with has e)),
     )
-    on_item (plan.Settle with) rest p t l = never w c (λ q. q) (goes_on c rest)
     on_item (plan.Ask load) rest p t l = never w c (λ q. q) (λ e. cc)
     on_item (plan.Ask_op compute pair) rest p t l = never w c (λ q. q) (λ e. cc)
     on_item (plan.Told load) rest p t l = (
@@ -259,8 +239,8 @@ module _ {K V E : Type 0} where
       (λ k old off some. never w c (λ q. q) (λ e. cc)),
       λ k old on some. never w c (λ q. q) (λ e. cc),
     )
-    on_item plan.Idle rest p t l = never w c (λ q. q) (goes_on c rest)
     on_item (plan.Reply answer) rest p t l = never w c (λ q. q) (λ e. cc)
+    on_item _ rest p t l = never w c (λ q. q) (goes_on c rest)
 
 module _ {K V E : Type 0} (eq : K → K → Bool) where
   -- a call that a look-up gives is the one that another gives

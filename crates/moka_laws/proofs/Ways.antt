@@ -39,12 +39,8 @@ use Rattle.moka_laws.proofs.Safe.{in_well, may_step}
 
 judge_few : {K V : Type 0} (owed most aborts : ℕ) (aim : Aim K V) →
     judge_steps owed most aborts aim ≤ 8 * owed + most + 406
-judge_few owed most aborts (plan.To_show form) = omega arith
-judge_few owed most aborts (plan.To_load sought) = omega arith
-judge_few owed most aborts (plan.To_own sought) = omega arith
-judge_few owed most aborts (plan.To_compute compute) = omega arith
-judge_few owed most aborts (plan.To_insert key value) = omega arith
 judge_few owed most aborts (plan.To_evict key stamp cause) = omega arith
+judge_few owed most aborts _ = omega arith
 
 -- to begin anew once an owner has ended, or to wait on
 read_key_few : (ended : Bool) (owed most : ℕ) → read_key_steps ended owed most ≤ 8 * owed + most + 6
@@ -67,15 +63,13 @@ module _ {K V E : Type 0} (owed most aborts left : ℕ) (within : left ≤ most)
       IsDrained p → steps_of owed most aborts room l ended p ≤ 8 * owed + 2 * most + 408
   drained_steps room l ended p h (Looking aim key look) =
       omega (arith, h, judge_few owed most aborts aim)
-  drained_steps room l ended p h (Owning sought) = omega (arith, h)
   drained_steps room l ended p h (Asking_op compute pair) = omega arith
   drained_steps room l ended p h (Giving a) = omega arith
-  drained_steps room l ended p h (Removing removal key) = omega (arith, h)
-  drained_steps room l ended p h (Locking_out removal key) = omega (arith, h)
   drained_steps room l ended p h (Putting key value rest t) =
       omega (arith, put_steps (most + growth) (most + growth) rest t)
   drained_steps room l ended p h (Locking key value rest t) =
       omega (arith, put_steps (most + growth) (most + growth) rest t)
+  drained_steps room l ended p h _ = omega (arith, h)
 
   posted_steps : (room : Bool) (l : ℕ) (ended : Bool) (p : List (Item K V E)) → IsPosted p →
       steps_of owed most aborts room l ended p ≤ 16 * owed + 2 * most + 409
@@ -102,21 +96,14 @@ module _ {K V E : Type 0} (owed most aborts left : ℕ) (within : left ≤ most)
       omega (arith, post_worst room, posted_steps false most true rest d)
   few_steps room ended p (Judging aim key stored look) =
       omega (arith, judge_few owed most aborts aim)
-  few_steps room ended p (Reading sought) = omega arith
-  few_steps room ended p (Asking load) = omega arith
-  few_steps room ended p (Telling load) = omega arith
-  few_steps room ended p (Owning_key compute) = omega arith
-  few_steps room ended p (Owning_alone key) = omega arith
   few_steps room ended p (Reading_key compute) = omega (arith, read_key_few ended owed most)
-  few_steps room ended p (Telling_op compute pair) = omega arith
   few_steps room ended p (Writing key value moment rest t) =
       omega (arith, within, put_steps (most + growth) (most + growth) rest t)
-  few_steps room ended p (Choosing key stamp cause) = omega arith
   few_steps room ended p (Finding key stamp cause) = omega (arith, within)
-  few_steps room ended p (Chosen key stamp cause there stored) = omega arith
   few_steps room ended p (Taking removal key) = omega (arith, within)
   few_steps room ended p (Freeing rest t) = omega (arith, tail_steps false most true rest t)
   few_steps room ended p (Idling rest t) = omega (arith, tail_steps false most true rest t)
+  few_steps room ended p _ = omega arith
 
 -- ---- what each access does to it
 
@@ -346,9 +333,7 @@ module _ {K V E : Type 0} (eq : K → K → Bool) where
 
   is_going : (t : Turn K V E) → reply.Going ≡ reply_of t → t ≡ turn.Going
   is_going turn.Going e = refl
-  is_going turn.Wait e = cc
-  is_going (turn.Ask a) e = cc
-  is_going (turn.Answer a) e = cc
+  is_going _ e = cc
 
   -- the event was a step of the live call, which leaves it going
   going_event : (s t : State K V E) (n : ℕ) → Happens eq (IsLawful eq) s (event.Step n) reply.Going t →

@@ -31,7 +31,5 @@ module _ {K V E : Type 0} where
   -- what is left of a removal weighs nothing, if answers and ends don't
   pub weigh_said : (f : Item K V E → ℕ) (removal : Removal K) (a : Answer K V E) →
       f (plan.Reply a) ≡ 0 → f (plan.Settle settled.Nothing) ≡ 0 → weigh f (said removal a) ≡ 0
-  weigh_said f plan.To_invalidate a h k = omega (arith, h)
-  weigh_said f plan.To_remove a h k = omega (arith, h)
-  weigh_said f (plan.To_evict_chosen stamp cause) a h k = omega (arith, h)
   weigh_said f (plan.To_remove_as_told key) a h k = omega (arith, h, k)
+  weigh_said f _ a h k = omega (arith, h)

@@ -67,10 +67,8 @@ module _ {K V E : Type 0} (key : K) (Other : Type 0) (May : Answer K V E → Typ
 
   -- so does what is left of a removal
   said_suits : (removal : Removal K) (a : Answer K V E) → May a → AllSuit Suits (said removal a)
-  said_suits plan.To_invalidate a may = (may, tt)
-  said_suits plan.To_remove a may = (may, tt)
-  said_suits (plan.To_evict_chosen stamp cause) a may = (may, tt)
   said_suits (plan.To_remove_as_told under) a may = (tt, (may, tt))
+  said_suits _ a may = (may, tt)
 
   module _ (c : Call K V E) where
     misses_suit : (aim : Aim K V) → SuitsAim aim → Leaves Suits May (misses c aim)
@@ -121,9 +119,7 @@ module _ {K V E : Type 0} (key : K) (Other : Type 0) (May : Answer K V E → Typ
       )
   told_suits compute pair (told.Err error) p is tells =
       on (Suits key Other May) May _ (λ b e. cc) (tt, (follows (told.Err error) _ tells refl, tt))
-  told_suits compute pair told.Nothing p is tells = on (Suits key Other May) May _ (λ b e. cc) p
-  told_suits compute pair told.Done p is tells = on (Suits key Other May) May _ (λ b e. cc) p
-  told_suits compute pair told.Off p is tells = on (Suits key Other May) May _ (λ b e. cc) p
+  told_suits compute pair _ p is tells = on (Suits key Other May) May _ (λ b e. cc) p
 
   module _ (eq : K → K → Bool) (w : World K V E) (n : ℕ) (p : AllSuit (Suits key Other May) c.plan)
       (reads : (compute : Compute K) (pair : Option (K × V)) (rest : List (Item K V E)) (given : Told V E) → c.plan ≡ plan.Told_op compute pair ∷ rest → w.desk.told n ≡ Some given → such given)
@@ -143,14 +139,12 @@ module _ {K V E : Type 0} (key : K) (Other : Type 0) (May : Answer K V E → Typ
     on_item (plan.Ended number) rest e q = (λ f. goes_suits (Suits key Other May) May (λ a may. may) c rest q.1, λ f. parks)
     on_item plan.Heard rest e q = (λ f. goes_suits (Suits key Other May) May (λ a may. may) c rest q.1, λ f. parks)
     on_item (plan.Lock under) rest e q = (λ f. goes_suits (Suits key Other May) May (λ a may. may) c rest q.1, λ f. parks)
-    on_item (plan.Unlock wrote) rest e q = goes_suits (Suits key Other May) May (λ a may. may) c rest q.1
     on_item (plan.Notice under old cause upsert) rest e q =
         (λ f. goes_suits (Suits key Other May) May (λ a may. may) c rest q.1, λ f. on (Suits key Other May) May _ (λ b g. cc) (tt, q.1))
     on_item (plan.Post write) rest e q =
         (λ f. goes_suits (Suits key Other May) May (λ a may. may) c rest q.1, λ f. on (Suits key Other May) May _ (λ b g. cc) (tt, (tt, (tt, q))))
     on_item plan.Turn rest e q = (λ f. goes_suits (Suits key Other May) May (λ a may. may) c rest q.1, λ f. parks)
     on_item plan.Apply rest e q = (λ f. goes_suits (Suits key Other May) May (λ a may. may) c rest q.1, λ x xs f. on (Suits key Other May) May _ (λ b g. cc) q)
-    on_item plan.End rest e q = goes_suits (Suits key Other May) May (λ a may. may) c rest q.1
     on_item (plan.Get aim under) rest e q = (
       (λ more. on (Suits key Other May) May _ (λ b g. cc) p),
       (λ none. misses_suit key Other May c aim q.0),
@@ -181,7 +175,6 @@ module _ {K V E : Type 0} (key : K) (Other : Type 0) (May : Answer K V E → Typ
       λ none. parks,
       λ with some. read_key_next (Leaves (Suits key Other May) May) c compute with parks (on (Suits key Other May) May _ (λ b g. cc) (q.0, tt)),
     )
-    on_item (plan.Settle with) rest e q = goes_suits (Suits key Other May) May (λ a may. may) c rest q.1
     on_item (plan.Ask load) rest e q = absurd q.0
     on_item (plan.Ask_op compute pair) rest e q = on (Suits key Other May) May _ (λ b g. cc) (q.0, tt)
     on_item (plan.Told load) rest e q = absurd q.0
@@ -205,8 +198,8 @@ module _ {K V E : Type 0} (key : K) (Other : Type 0) (May : Answer K V E → Typ
       (λ k old off some. on (Suits key Other May) May _ (λ b g. cc) (tt, said_suits key Other May removal _ (q.0.0 old.value))),
       λ k old is_on some. on (Suits key Other May) May _ (λ b g. cc) (tt, (tt, (tt, said_suits key Other May removal _ (q.0.0 old.value)))),
     )
-    on_item plan.Idle rest e q = goes_suits (Suits key Other May) May (λ a may. may) c rest q.1
     on_item (plan.Reply a) rest e q = answers_so (Suits key Other May) May a _ refl refl q.0
+    on_item _ rest e q = goes_suits (Suits key Other May) May (λ a may. may) c rest q.1
 
     on_plan : (q : List (Item K V E)) → c.plan ≡ q → AllSuit (Suits key Other May) q → OnStep eq After w n c q
     on_plan [] e q = parks

@@ -125,9 +125,7 @@ module _ {K V E : Type 0} (kind : Kind) (Judged : Type 0) (May : Answer K V E �
       (on (Suits kind Judged May) May _ (λ b e. cc) (tt, (tt, (tt, (tt, (may, tt))))))
   told_suits load (told.Err error) p is = on (Suits kind Judged May) May _ (λ b e. cc) (tt, (says.told (told.Err error) _ is refl, tt))
   told_suits load told.Nothing p is = on (Suits kind Judged May) May _ (λ b e. cc) (tt, (says.told told.Nothing _ is refl, tt))
-  told_suits load (told.Op op) p is = on (Suits kind Judged May) May _ (λ b e. cc) p
-  told_suits load told.Done p is = on (Suits kind Judged May) May _ (λ b e. cc) p
-  told_suits load told.Off p is = on (Suits kind Judged May) May _ (λ b e. cc) p
+  told_suits load _ p is = on (Suits kind Judged May) May _ (λ b e. cc) p
 
   -- what follows from how its owner ended
   read_suits : (sought : Sought K) (with : Settled V E) → AllSuit (Suits kind Judged May) c.plan → sought.load.kind ≡ kind → given ≡ read with → may_end kind with ≡ true
@@ -149,11 +147,10 @@ module _ {K V E : Type 0} (kind : Kind) (Judged : Type 0) (May : Answer K V E �
     where
       by : (g : Got K V E) → ((k : K) (stored : Stored V) → g ≡ looked k stored → Judged → May (answer.Loaded stored.value false))
           → Leaves (Suits kind Judged May) May (next_of n (record c { plan = plan.Get aim key ∷ rest }) g)
-      by (got.Table look.Going) finds = on (Suits kind Judged May) May _ (λ b e. cc) p
       by (got.Table (look.Decided table.None)) finds = misses_suit kind Judged May (record c { plan = plan.Get aim key ∷ rest }) aim p.0
       by (got.Table (look.Decided (table.Some k stored))) finds =
           finds_suit kind Judged May (record c { plan = plan.Get aim key ∷ rest }) aim k stored (finds k stored refl) p.0
-      by (got.Desk f) finds = on (Suits kind Judged May) May _ (λ b e. cc) p
+      by _ finds = on (Suits kind Judged May) May _ (λ b e. cc) p
 
   module _ (eq : K → K → Bool) (w : World K V E) (n : ℕ) (p : AllSuit (Suits kind Judged May) c.plan)
       (acts : looks_first c.plan ≡ false)
@@ -176,14 +173,12 @@ module _ {K V E : Type 0} (kind : Kind) (Judged : Type 0) (May : Answer K V E �
     on_item (plan.Ended number) rest e q = (λ f. goes_suits (Suits kind Judged May) May (λ a may. may) c rest q.1, λ f. parks)
     on_item plan.Heard rest e q = (λ f. goes_suits (Suits kind Judged May) May (λ a may. may) c rest q.1, λ f. parks)
     on_item (plan.Lock key) rest e q = (λ f. goes_suits (Suits kind Judged May) May (λ a may. may) c rest q.1, λ f. parks)
-    on_item (plan.Unlock wrote) rest e q = goes_suits (Suits kind Judged May) May (λ a may. may) c rest q.1
     on_item (plan.Notice key old cause upsert) rest e q =
         (λ f. goes_suits (Suits kind Judged May) May (λ a may. may) c rest q.1, λ f. on (Suits kind Judged May) May _ (λ b g. cc) (tt, q.1))
     on_item (plan.Post write) rest e q =
         (λ f. goes_suits (Suits kind Judged May) May (λ a may. may) c rest q.1, λ f. on (Suits kind Judged May) May _ (λ b g. cc) (tt, (tt, (tt, q))))
     on_item plan.Turn rest e q = (λ f. goes_suits (Suits kind Judged May) May (λ a may. may) c rest q.1, λ f. parks)
     on_item plan.Apply rest e q = (λ f. goes_suits (Suits kind Judged May) May (λ a may. may) c rest q.1, λ x xs f. on (Suits kind Judged May) May _ (λ b g. cc) q)
-    on_item plan.End rest e q = goes_suits (Suits kind Judged May) May (λ a may. may) c rest q.1
     on_item (plan.Get aim key) rest e q = absurd (false≢true (sym acts ∙ ap looks_first e))
     on_item (plan.Judge aim key stored) rest e q =
         ((λ seen. hits_suit kind Judged May c aim key stored.value (q.0.1 (sees aim key stored rest e seen)) q.0.0), λ unseen. misses_suit kind Judged May c aim q.0.0)
@@ -200,7 +195,6 @@ module _ {K V E : Type 0} (kind : Kind) (Judged : Type 0) (May : Answer K V E �
           read_suits sought with p q.0 ends.0 (subst (λ k. may_end k with ≡ true) q.0 ends.1),
     )
     on_item (plan.Read_key compute) rest e q = absurd q.0
-    on_item (plan.Settle with) rest e q = goes_suits (Suits kind Judged May) May (λ a may. may) c rest q.1
     on_item (plan.Ask load) rest e q = on (Suits kind Judged May) May _ (λ b g. cc) (tt, tt)
     on_item (plan.Ask_op compute pair) rest e q = absurd q.0
     on_item (plan.Told load) rest e q = (λ none. parks, λ gave some. told_suits load gave p (tells load rest gave e some))
@@ -215,8 +209,8 @@ module _ {K V E : Type 0} (kind : Kind) (Judged : Type 0) (May : Answer K V E �
       λ k old is_on some. on (Suits kind Judged May) May _ (λ b g. cc) (tt, (tt, (tt, q.1))),
     )
     on_item (plan.Out removal key) rest e q = absurd q.0
-    on_item plan.Idle rest e q = goes_suits (Suits kind Judged May) May (λ a may. may) c rest q.1
     on_item (plan.Reply a) rest e q = answers_so (Suits kind Judged May) May a _ refl refl q.0
+    on_item _ rest e q = goes_suits (Suits kind Judged May) May (λ a may. may) c rest q.1
 
     on_plan : (q : List (Item K V E)) → c.plan ≡ q → AllSuit (Suits kind Judged May) q → OnStep eq After w n c q
     on_plan [] e q = parks
