@@ -30,7 +30,7 @@ use Rattle.moka_laws.proofs.Rules.{put_plans, loaded_plans, kept_next, chosen_ne
 use Rattle.moka_laws.proofs.Counting.{none_some, put_cases}
 use Rattle.moka_laws.proofs.Kept.{IsKept, in_reached}
 use Rattle.moka_laws.proofs.StepCases.{OnStep, step_cases}
-use Rattle.moka_laws.proofs.Outcomes.{Outcomes, outcomes}
+use Rattle.moka_laws.proofs.Outcomes.{Outcomes, outcomes, passes_by}
 
 kept_or : {A : Type 0} (b : Bool) (x y : A) (P : A → Type 0) → P x → P y → P (cond b x y)
 kept_or true x y P p q = p
@@ -172,13 +172,10 @@ module _ {K V E : Type 0} where
   module _ (eq : K → K → Bool) (w : World K V E) (n : ℕ) (c : Call K V E) (d : HasAnswers w.desk) where
     on_item : (item : Item K V E) (rest : List (Item K V E)) → EndsWell (item ∷ rest) → EndsWell c.plan → Outcomes eq Leaves w n c item rest
     on_item plan.Drain rest h p = (λ e. ((goes_well c rest h), d), (λ x xs e. (h, d)), λ x number xs e. (h, d))
-    on_item (plan.Unlock wrote) rest h p = (goes_well c rest h, d)
     on_item (plan.Notice key old cause upsert) rest h p =
         ((λ e. (goes_well c rest h, d)), λ e. (h, d))
     on_item (plan.Post write) rest h p = (λ e. ((goes_well c rest h), d), λ e. (h, d))
-    on_item plan.Turn rest h p = (λ e. ((goes_well c rest h), d), λ e. (p, d))
     on_item plan.Apply rest h p = (λ e. ((goes_well c rest h), d), λ x xs e. (h, d))
-    on_item plan.End rest h p = ((goes_well c rest h), d)
     on_item (plan.Get aim key) rest h p = (
       (λ more. (p, d)),
       (λ none. (misses_well c aim, d)),
@@ -233,9 +230,9 @@ module _ {K V E : Type 0} where
         d,
       ),
     )
-    on_item plan.Idle rest h p = (goes_well c rest h, d)
     on_item (plan.Reply answer) rest h p = (tt, d)
-    on_item _ rest h p = ((λ e. (goes_well c rest h, d)), λ e. (p, d))
+    on_item item rest h p = passes_by eq Leaves w n c item rest tt
+        (λ b a. (goes_well c rest h, rw (a.settled, a.told) d)) (p, d)
 
     on_plan : (plan : List (Item K V E)) → c.plan ≡ plan → EndsWell c.plan → OnStep eq Leaves w n c plan
     on_plan [] e p = (p, d)

@@ -45,7 +45,7 @@ use Rattle.moka_laws.proofs.Safe.{in_well}
 use Rattle.moka_laws.proofs.Starting.{begins_so, follow_start}
 use Rattle.moka_laws.proofs.Steady.{step_calls, step_last}
 use Rattle.moka_laws.proofs.StepCases.{OnStep, step_cases}
-use Rattle.moka_laws.proofs.Outcomes.{Outcomes, outcomes}
+use Rattle.moka_laws.proofs.Outcomes.{Outcomes, outcomes, passes_on}
 use Rattle.moka_hist.specs.declared.entries.CompResult.{CompResult}
 use Rattle.moka_hist.specs.declared.loads.Compute.{Compute}
 use Rattle.moka_hist.specs.declared.visits.Takes.{Takes}
@@ -332,14 +332,10 @@ module _ {K V E : Type 0} (begin : Start K V) where
       λ x xs f. on _ (λ b g. cc) (tt, q),
       λ x number xs f. on _ (λ b g. cc) (tt, (tt, q)),
     )
-    on_item (plan.Ended number) rest e q = (λ f. goes_suits c rest q.1, λ f. parks)
-    on_item plan.Heard rest e q = (λ f. goes_suits c rest q.1, λ f. parks)
-    on_item (plan.Lock key) rest e q = (λ f. goes_suits c rest q.1, λ f. parks)
     on_item (plan.Notice key old cause upsert) rest e q =
         (λ f. goes_suits c rest q.1, λ f. on _ (λ b g. cc) (tt, q.1))
     on_item (plan.Post write) rest e q =
         (λ f. goes_suits c rest q.1, λ f. on _ (λ b g. cc) (tt, (tt, (tt, q))))
-    on_item plan.Turn rest e q = (λ f. goes_suits c rest q.1, λ f. parks)
     on_item plan.Apply rest e q = (λ f. goes_suits c rest q.1, λ x xs f. on _ (λ b g. cc) q)
     on_item (plan.Get aim key) rest e q = (
       (λ more. on _ (λ b g. cc) p),
@@ -407,7 +403,8 @@ module _ {K V E : Type 0} (begin : Start K V) where
           (tt, (tt, (tt, said_suits removal _ (q.0.0 old.value)))),
     )
     on_item (plan.Reply a) rest e q = answers_so a _ refl refl q.0
-    on_item _ rest e q = goes_suits c rest q.1
+    on_item item rest e q =
+        passes_on eq After w n c item rest tt (λ d. goes_suits c rest q.1) parks
 
     pub on_plan : (q : List (Item K V E)) → c.plan ≡ q → AllSuit q → OnStep eq After w n c q
     on_plan [] e q = parks

@@ -25,7 +25,7 @@ use Rattle.moka_laws.proofs.Rules.{said_next}
 use Rattle.moka_laws.proofs.Outcomes.{taken_out}
 use Rattle.moka_laws.proofs.Posts.{once, among, among_owed, post_of, may_write, late, late_call, late_goes, late_none, posts_none, IsClear, keeps_clear, misses_clear, finds_clear, hits_clear, read_clear, told_clear, read_key_clear, told_op_clear}
 use Rattle.moka_laws.proofs.StepCases.{OnStep}
-use Rattle.moka_laws.proofs.Outcomes.{Outcomes, outcomes}
+use Rattle.moka_laws.proofs.Outcomes.{Outcomes, outcomes, passes_by}
 
 -- a number stands once more in a list with one more
 pub times_first : (x y : ℕ) (ys : List ℕ) → times x (y ∷ ys) ≡ once x y + times x ys
@@ -150,20 +150,6 @@ module _ {K V E : Type 0} where
         balance = λ x. omega (arith, ap (among_owed x) some, times_first x (number_of y) (map (λ o. number_of o.write) ys));
       },
     )
-    on_item (plan.Ended number) rest e t sp = (
-      λ ended. goes_on w n c (plan.Ended number) rest refl refl (λ x. refl) t (λ x. refl) (omega arith),
-      λ runs. stays_put w n (plan.Ended number ∷ rest) w.stay c e t sp mode.Parked turn.Wait,
-    )
-    on_item plan.Heard rest e t sp = (
-      λ ended. goes_on w n c plan.Heard rest refl refl (λ x. refl) t (λ x. refl) (omega arith),
-      λ runs. stays_put w n (plan.Heard ∷ rest) w.stay c e t sp mode.Parked turn.Wait,
-    )
-    on_item (plan.Lock key) rest e t sp = (
-      λ free. goes_on w n c (plan.Lock key) rest refl refl (λ x. refl) (late_none rest t) (λ x. refl) (omega arith),
-      λ held. stays_put w n (plan.Lock key ∷ rest) w.stay c e t sp mode.Parked turn.Wait,
-    )
-    on_item (plan.Unlock wrote) rest e t sp =
-        goes_on w n c (plan.Unlock wrote) rest refl refl (λ x. refl) t (λ x. refl) (omega arith)
     on_item (plan.Notice key old cause upsert) rest e t sp = (
       λ off. goes_on w n c (plan.Notice key old cause upsert) rest refl refl (λ x. refl) t
           (λ x. refl) (omega arith),
@@ -185,10 +171,6 @@ module _ {K V E : Type 0} where
         balance = λ x. omega arith;
       },
     )
-    on_item plan.Turn rest e t sp = (
-      λ free. goes_on w n c plan.Turn rest refl refl (λ x. refl) t (λ x. refl) (omega arith),
-      λ taken. stays_put w n (plan.Turn ∷ rest) w.stay c e t sp mode.Parked turn.Wait,
-    )
     on_item plan.Apply rest e t sp = (
       λ none. goes_on w n c plan.Apply rest refl refl (λ x. refl) t (λ x. refl) (omega arith),
       λ y ys some. record {
@@ -199,7 +181,6 @@ module _ {K V E : Type 0} where
         balance = λ x. omega (arith, ap (among x) some, times_first x (number_of y) (map number_of ys), among_last x y w.desk.applied);
       },
     )
-    on_item plan.End rest e t sp = goes_on w n c plan.End rest refl refl (λ x. refl) t (λ x. refl) (omega arith)
     on_item (plan.Get aim key) rest e t sp = (
       λ more. stays_put w n (plan.Get aim key ∷ rest) _ c e t sp mode.Mid turn.Going,
       λ none. clears w n (plan.Get aim key ∷ rest) refl refl (λ x. refl) (misses_clear c aim)
@@ -398,7 +379,18 @@ module _ {K V E : Type 0} where
       others = λ m h. refl;
       balance = λ x. omega (arith, posts_none x rest t);
     }
-    on_item item rest e t sp = goes_on w n c item rest refl refl (λ x. refl) (late_none rest t) (λ x. refl) (omega arith)
+    on_item (plan.Settle with) rest e t sp = goes_on w n c (plan.Settle with) rest refl refl
+        (λ x. refl) (late_none rest t) (λ x. refl) (omega arith)
+    on_item (plan.Lock key) rest e t sp = (
+      λ free. goes_on w n c (plan.Lock key) rest refl refl (λ x. refl) (late_none rest t) (λ x. refl) (omega arith),
+      λ held. stays_put w n (plan.Lock key ∷ rest) w.stay c e t sp mode.Parked turn.Wait,
+    )
+    on_item plan.Idle rest e t sp = goes_on w n c plan.Idle rest refl refl (λ x. refl)
+        (late_none rest t) (λ x. refl) (omega arith)
+    on_item item rest e t sp = passes_by eq (Balances w n (item ∷ rest)) w n c item rest tt
+        (λ d a. goes_on w n c item rest a.last refl (λ x. rw (a.owed, a.log, a.applied) refl) t
+        (λ x. refl) (omega arith))
+        (stays_put w n (item ∷ rest) w.stay c e t sp mode.Parked turn.Wait)
 
     pub on_plan : (plan : List (Item K V E)) → c.plan ≡ plan → late plan ≡ 0 → times n w.table.committed + weigh may_write plan ≤ 1 →
         OnStep eq (Balances w n plan) w n c plan

@@ -39,7 +39,7 @@ use Rattle.moka_laws.proofs.Rules.{chosen_next, kept_next, loaded_plans_by, IsFr
 use Rattle.moka_laws.proofs.Kept.{IsKept, in_reached}
 use Rattle.moka_laws.proofs.Steady.{step_rules}
 use Rattle.moka_laws.proofs.StepCases.{OnStep, step_cases}
-use Rattle.moka_laws.proofs.Outcomes.{Outcomes, outcomes}
+use Rattle.moka_laws.proofs.Outcomes.{Outcomes, outcomes, passes_on}
 use Rattle.moka_hist.specs.declared.loads.Compute.{Compute}
 use Rattle.moka_hist.specs.Computing.{after_told_op, after_read_key}
 
@@ -156,21 +156,6 @@ module _ {K V E : Type 0} where
       λ x xs e. record { empty = empty; calm = omega (arith, q) },
       λ x number xs e. record { empty = empty; calm = omega (arith, q) },
     )
-    on_item (plan.Ended number) rest q = (
-      λ e. goes_on rest empty (omega (arith, q)),
-      λ e. record
-          { empty = empty; calm = p },
-    )
-    on_item plan.Heard rest q = (
-      λ e. goes_on rest empty (omega (arith, q)),
-      λ e. record
-          { empty = empty; calm = p },
-    )
-    on_item (plan.Lock key) rest q = (
-      λ e. goes_on rest empty (omega (arith, q)),
-      λ e. record
-          { empty = empty; calm = p },
-    )
     on_item (plan.Notice key old cause upsert) rest q = (
       λ e. goes_on rest empty (omega (arith, q)),
       λ e. record
@@ -180,11 +165,6 @@ module _ {K V E : Type 0} where
       λ e. goes_on rest empty (omega (arith, q)),
       λ e. record
           { empty = empty; calm = omega (arith, q) },
-    )
-    on_item plan.Turn rest q = (
-      λ e. goes_on rest empty (omega (arith, q)),
-      λ e. record
-          { empty = empty; calm = p },
     )
     on_item plan.Apply rest q = (
       λ e. goes_on rest empty (omega (arith, q)),
@@ -274,7 +254,8 @@ module _ {K V E : Type 0} where
         nothing k old some = none_some (sym (ap (taken_by (stamp_asked removal))
             (empty.stored key)) ∙ some)
     on_item (plan.Reply a) rest q = record { empty = empty; calm = refl }
-    on_item _ rest q = goes_on rest empty (omega (arith, q))
+    on_item item rest q = passes_on eq Leaves w n c item rest tt
+        (λ d. goes_on rest empty (omega (arith, q))) (record { empty = empty; calm = p })
 
     on_plan : (plan : List (Item K V E)) → c.plan ≡ plan → OnStep eq Leaves w n c plan
     on_plan [] e = record { empty = empty; calm = p }

@@ -41,7 +41,7 @@ use Rattle.moka_laws.proofs.Roles.{Fits, owners}
 use Rattle.moka_laws.proofs.Serving.{at_most_one}
 use Rattle.moka_laws.proofs.Served.{IsServed, served_kept}
 use Rattle.moka_laws.proofs.StepCases.{OnStep, step_cases}
-use Rattle.moka_laws.proofs.Outcomes.{Outcomes, outcomes, computes_of}
+use Rattle.moka_laws.proofs.Outcomes.{Outcomes, outcomes, computes_of, passes_by}
 use Rattle.moka_hist.specs.declared.loads.Compute.{Compute}
 use Rattle.moka_hist.specs.Computing.{after_read_key, after_told_op}
 use Rattle.moka_hist.specs.declared.replies.Answer.{Answer}
@@ -309,7 +309,6 @@ module _ {K V E : Type 0} where
       λ x xs e. as_was refl (tt, q),
       λ x number xs e. as_was refl (tt, (tt, q)),
     )
-    on_item (plan.Unlock wrote) rest q t f = goes_on rest refl q.1
     on_item (plan.Notice key old cause upsert) rest q t f =
         (λ e. goes_on rest refl q.1, λ e. as_was refl (tt, q.1))
     on_item (plan.Post write) rest q t f = (
@@ -318,7 +317,6 @@ module _ {K V E : Type 0} where
     )
     on_item plan.Apply rest q t f =
         (λ e. goes_on rest refl q.1, λ x xs e. as_was refl q)
-    on_item plan.End rest q t f = goes_on rest refl q.1
     on_item (plan.Get aim key) rest q t f = (
       (λ more. as_was refl p),
       (λ none. as_was refl (misses_fit _ c aim key q.0)),
@@ -392,10 +390,9 @@ module _ {K V E : Type 0} where
       (λ k old off some. as_was refl (tt, said_fits _ removal key _ q.0)),
       λ k old on some. as_was refl (tt, (tt, (tt, said_fits _ removal key _ q.0))),
     )
-    on_item plan.Idle rest q t f = goes_on rest refl q.1
     on_item (plan.Reply a) rest q t f = as_was refl tt
-    on_item _ rest q t f =
-        (λ e. goes_on rest refl q.1, λ e. as_was refl p)
+    on_item item rest q t f = passes_by eq (Leaves w n) w n c item rest tt
+        (λ d a. goes_on rest a.owning q.1) (as_was refl p)
 
     on_plan : (q : List (Item K V E)) → c.plan ≡ q → AllTake (w.desk.asks n) (w.desk.told n) q →
         Fits (w.desk.owning n) (w.desk.joined n) q → OnStep eq (Leaves w n) w n c q

@@ -34,7 +34,7 @@ use Rattle.moka_laws.proofs.Roles.{Fits, awaited, owners}
 use Rattle.moka_laws.proofs.Safe.{IsWell, well_kept, in_well}
 use Rattle.moka_laws.proofs.Served.{enough, enough_own, joined_numbered}
 use Rattle.moka_laws.proofs.StepCases.{OnStep, step_cases}
-use Rattle.moka_laws.proofs.Outcomes.{Outcomes, outcomes, computes_of}
+use Rattle.moka_laws.proofs.Outcomes.{Outcomes, outcomes, computes_of, passes_by}
 use Rattle.moka_laws.proofs.Unread.{tail_role, drained_role, posted_role}
 
 no_load : {L : Type 0} (o : Option L) → 0 ≡ cond {A = ℕ} (is_some o) 1 0 → o ≡ None
@@ -138,9 +138,7 @@ module _ {K V E : Type 0} where
 
       on_item : (item : Item K V E) (rest : List (Item K V E)) → Outcomes eq (Leaves w) w m c item rest
       on_item plan.Drain rest = (λ e. same refl refl refl, λ x xs e. same refl refl refl, λ x number xs e. same refl refl refl)
-      on_item (plan.Unlock wrote) rest = same refl refl refl
       on_item plan.Apply rest = (λ e. same refl refl refl, λ x xs e. same refl refl refl)
-      on_item plan.End rest = same refl refl refl
       on_item (plan.Get aim key) rest = (
         (λ more. same refl refl refl),
         (λ none. same refl refl refl),
@@ -211,9 +209,12 @@ module _ {K V E : Type 0} where
         (λ k old off some. same refl refl refl),
         λ k old on some. same refl refl refl,
       )
-      on_item plan.Idle rest = same refl refl refl
       on_item (plan.Reply a) rest = same refl refl refl
-      on_item _ rest = (λ e. same refl refl refl, λ e. same refl refl refl)
+      on_item (plan.Notice key old cause upsert) rest =
+          (λ e. same refl refl refl, λ e. same refl refl refl)
+      on_item (plan.Post write) rest = (λ e. same refl refl refl, λ e. same refl refl refl)
+      on_item item rest = passes_by eq (Leaves w) w m c item rest tt
+          (λ d a. same a.last a.joined a.settled) (same refl refl refl)
 
       on_plan : (plan : List (Item K V E)) → OnStep eq (Leaves w) w m c plan
       on_plan [] = same refl refl refl

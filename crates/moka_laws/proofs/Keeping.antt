@@ -38,7 +38,7 @@ use Rattle.moka_laws.proofs.Weights.{weigh, weigh_call}
 use Rattle.moka_laws.proofs.Rules.{shown_next, chosen_by, kept_next, loaded_plans, put_plans, read_key_next, told_op_next_by, IsComputed, unchanged_computed, put_computed}
 use Rattle.moka_laws.proofs.Kept as events
 use Rattle.moka_laws.proofs.StepCases.{OnStep, more_step, step_cases}
-use Rattle.moka_laws.proofs.Outcomes.{Outcomes, outcomes}
+use Rattle.moka_laws.proofs.Outcomes.{Outcomes, outcomes, passes_on}
 use Rattle.moka_hist.specs.declared.loads.Compute.{Compute}
 use Rattle.moka_hist.specs.Computing.{after_told_op, after_read_key}
 use Rattle.moka_hist.specs.Entries.{unchanged, put_answer}
@@ -392,18 +392,6 @@ module _ {K V E : Type 0} (s : State K V E) where
         λ x number xs e. quiet plan.Drain _ (λ h. h)
             (record { left = omega (arith, q); turn = λ f. cc }),
       )
-      on_item (plan.Ended number) rest q = (
-        λ e. quiet (plan.Ended number) _ (λ h. h) (goes_quiet c rest (omega (arith, q))),
-        λ e. quiet (plan.Ended number) _ (λ h. h) (record { left = p; turn = λ f. cc }),
-      )
-      on_item plan.Heard rest q = (
-        λ e. quiet plan.Heard _ (λ h. h) (goes_quiet c rest (omega (arith, q))),
-        λ e. quiet plan.Heard _ (λ h. h) (record { left = p; turn = λ f. cc }),
-      )
-      on_item (plan.Lock key) rest q = (
-        λ e. quiet (plan.Lock key) _ (λ h. h) (goes_quiet c rest (omega (arith, q))),
-        λ e. quiet (plan.Lock key) _ (λ h. h) (record { left = p; turn = λ f. cc }),
-      )
       on_item (plan.Notice key old cause upsert) rest q = (
         λ e. quiet (plan.Notice key old cause upsert) _ (λ h. h)
             (goes_quiet c rest (omega (arith, q))),
@@ -414,10 +402,6 @@ module _ {K V E : Type 0} (s : State K V E) where
         λ e. quiet (plan.Post write) _ (λ h. h) (goes_quiet c rest (omega (arith, q))),
         λ e. quiet (plan.Post write) _ (λ h. h)
             (record { left = omega (arith, q); turn = λ f. cc }),
-      )
-      on_item plan.Turn rest q = (
-        λ e. quiet plan.Turn _ (λ h. h) (goes_quiet c rest (omega (arith, q))),
-        λ e. quiet plan.Turn _ (λ h. h) (record { left = p; turn = λ f. cc }),
       )
       on_item plan.Apply rest q = (
         λ e. quiet plan.Apply _ (λ h. h) (goes_quiet c rest (omega (arith, q))),
@@ -512,8 +496,9 @@ module _ {K V E : Type 0} (s : State K V E) where
             turn = answers_quiet a
                 (omega (arith, q));
           })
-      on_item item rest q = quiet item _ (λ h. h)
-          (goes_quiet c rest (omega (arith, q)))
+      on_item item rest q = passes_on eq (After item) s.world n c item rest tt
+          (λ d. quiet item _ (λ h. h) (goes_quiet c rest (omega (arith, q))))
+          (quiet item _ (λ h. h) (record { left = p; turn = λ f. cc }))
 
     -- of a plan: why its first item keeps the record
     abbrev KeptAt : List (Item K V E) → Type 0

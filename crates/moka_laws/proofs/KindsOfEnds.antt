@@ -35,7 +35,7 @@ use Rattle.moka_laws.proofs.Safe.{IsWell, well_kept}
 use Rattle.moka_laws.proofs.Served.{joined_numbered}
 use Rattle.moka_laws.proofs.Serving.{no_load}
 use Rattle.moka_laws.proofs.StepCases.{OnStep, step_cases}
-use Rattle.moka_laws.proofs.Outcomes.{Outcomes, outcomes, computes_of}
+use Rattle.moka_laws.proofs.Outcomes.{Outcomes, outcomes, computes_of, passes_by}
 
 -- an owner of any kind may be dropped
 aborted_ends : (V E : Type 0) (k : Kind) → may_end {V = V} {E = E} k settled.Aborted ≡ true
@@ -156,12 +156,9 @@ module _ {K V E : Type 0} where
             λ x xs f. same refl refl refl idle,
             λ x number xs f. same refl refl refl idle,
           )
-      on_item (plan.Unlock wrote) rest e =
-          same refl refl refl (idle_by (plan.Unlock wrote) rest e refl)
       on_item plan.Apply rest e =
           let idle = idle_by plan.Apply rest e refl in
           (λ f. same refl refl refl idle, λ x xs f. same refl refl refl idle)
-      on_item plan.End rest e = same refl refl refl (idle_by plan.End rest e refl)
       on_item (plan.Get aim key) rest e =
           let idle = idle_by (plan.Get aim key) rest e refl in (
             λ more. same refl refl refl idle,
@@ -265,12 +262,21 @@ module _ {K V E : Type 0} where
             (λ k old off some. same refl refl refl idle),
             λ k old on some. same refl refl refl idle,
           )
-      on_item plan.Idle rest e = same refl refl refl (idle_by plan.Idle rest e refl)
       on_item (plan.Reply a) rest e =
           same refl refl refl (idle_by (plan.Reply a) rest e refl)
+      on_item (plan.Notice key old cause upsert) rest e =
+          let idle = idle_by (plan.Notice key old cause upsert) rest e refl in
+          (λ f. same refl refl refl idle, λ f. same refl refl refl idle)
+      on_item (plan.Post write) rest e =
+          let idle = idle_by (plan.Post write) rest e refl in
+          (λ f. same refl refl refl idle, λ f. same refl refl refl idle)
+      on_item (plan.Holds key stamp cause there stored) rest e =
+          let idle = idle_by (plan.Holds key stamp cause there stored) rest e refl in
+          (λ f. same refl refl refl idle, λ f. same refl refl refl idle)
       on_item item rest e =
           let idle = idle_by item rest e refl in
-          (λ f. same refl refl refl idle, λ f. same refl refl refl idle)
+          passes_by eq After w n c item rest tt
+          (λ d a. same a.joined a.settled a.last idle) (same refl refl refl idle)
 
       on_plan : (p : List (Item K V E)) → c.plan ≡ p → (p ≡ [] → ⊥) → OnStep eq After w n c p
       on_plan [] e full = absurd (full refl)

@@ -48,7 +48,7 @@ use Rattle.moka_laws.proofs.Counting.{none_some, some_same, put_cases, put_here,
 use Rattle.moka_laws.proofs.Owning.{and_left}
 use Rattle.moka_laws.proofs.Rules.{shown_next, chosen_next, kept_next, loaded_plans, put_plans, read_key_next}
 use Rattle.moka_laws.proofs.StepCases.{OnStep, step_cases}
-use Rattle.moka_laws.proofs.Outcomes.{Outcomes, computes_of, outcomes}
+use Rattle.moka_laws.proofs.Outcomes.{Outcomes, computes_of, outcomes, passes_by}
 use Rattle.moka_laws.proofs.StartedOnce.{started_once}
 use Rattle.moka_laws.proofs.Giving.{GivesOnly, IsKeptGiving, along, goings}
 
@@ -492,7 +492,6 @@ module _ {K V E : Type 0} (P R : K → V → Type 0) (q : K) where
         λ x number xs e. goes_on (plan.Ended number ∷ plan.Post x ∷ plan.Drain ∷ rest) table desk
             refl (tt, (tt, f)),
       )
-      on_item (plan.Unlock done) rest is f = goes_on rest table desk refl f.1
       on_item (plan.Notice key old cause upsert) rest is f = (
         λ e. goes_on rest table desk refl f.1,
         λ e. still table desk refl ((tt, f.1), one_fair R q old.value f.0),
@@ -506,7 +505,6 @@ module _ {K V E : Type 0} (P R : K → V → Type 0) (q : K) where
         λ e. goes_on rest table desk refl f.1,
         λ x xs e. goes_on (plan.Apply ∷ rest) table desk refl f,
       )
-      on_item plan.End rest is f = goes_on rest table desk refl f.1
       on_item (plan.Get aim key) rest is f = (
         λ more. still table desk refl (p, none_fair R q),
         λ none. still table desk refl (misses_fair (w.desk.told n) c aim f.0.1),
@@ -612,10 +610,10 @@ module _ {K V E : Type 0} (P R : K → V → Type 0) (q : K) where
               R q old.value
           out there old some =
               seen key there old f.0 (taken_was (stamp_asked removal) _ (there, old) some)
-      on_item plan.Idle rest is f = goes_on rest table desk refl f.1
       on_item (plan.Reply a) rest is f = still table desk refl (tt, f.0)
-      on_item _ rest is f =
-          (λ e. goes_on rest table desk refl f.1, λ e. still table desk refl (p, none_fair R q))
+      on_item item rest is f = passes_by eq After w n c item rest tt
+          (λ d a. goes_on rest table (rw (a.owners, a.joined, a.settled) desk) a.told f.1)
+          (still table desk refl (p, none_fair R q))
 
       on_plan : (rest : List (Item K V E)) → c.plan ≡ rest → OnStep eq After w n c rest
       on_plan [] is = still table desk refl (p, none_fair R q)

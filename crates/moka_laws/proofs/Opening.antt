@@ -39,7 +39,7 @@ use Rattle.moka_laws.proofs.Roles.{IsLast}
 use Rattle.moka_laws.proofs.Rules.{put_plans, loaded_plans, kept_next, chosen_next, IsFresh, Disabled, fresh_plan, read_key_next, told_op_next_by, IsComputed, unchanged_computed, put_computed}
 use Rattle.moka_laws.proofs.Served.{in_served}
 use Rattle.moka_laws.proofs.StepCases.{OnStep, step_cases}
-use Rattle.moka_laws.proofs.Outcomes.{Outcomes, outcomes}
+use Rattle.moka_laws.proofs.Outcomes.{Outcomes, outcomes, passes_on}
 use Rattle.moka_hist.specs.declared.loads.Compute.{Compute}
 use Rattle.moka_hist.specs.Computing.{after_told_op, after_read_key}
 
@@ -293,26 +293,10 @@ module _ {K V E : Type 0} where
       λ x xs f. quiet s n c _ (omega (arith, h)) (λ g. cc),
       λ x number xs f. quiet s n c _ (omega (arith, h)) (λ g. cc),
     )
-    on_item (plan.Ended number) rest e l h o = (
-      λ f. goes_on s n c rest h,
-      λ f. parks s n c _ refl (ap lates e ∙ omega (arith, h)) (λ g. cc),
-    )
-    on_item plan.Heard rest e l h o = (
-      λ f. goes_on s n c rest h,
-      λ f. parks s n c _ refl (ap lates e ∙ omega (arith, h)) (λ g. cc),
-    )
-    on_item (plan.Lock key) rest e l h o = (
-      λ f. goes_on s n c rest h,
-      λ f. parks s n c _ refl (ap lates e ∙ omega (arith, h)) (λ g. cc),
-    )
     on_item (plan.Notice key old cause upsert) rest e l h o =
         (λ f. goes_on s n c rest h, λ f. quiet s n c _ (omega (arith, h)) (λ g. cc))
     on_item (plan.Post write) rest e l h o =
         (λ f. goes_on s n c rest h, λ f. quiet s n c _ (omega (arith, h)) (λ g. cc))
-    on_item plan.Turn rest e l h o = (
-      λ f. goes_on s n c rest h,
-      λ f. parks s n c _ refl (ap lates e ∙ omega (arith, h)) (λ g. cc),
-    )
     on_item plan.Apply rest e l h o =
         (λ f. goes_on s n c rest h, λ x xs f. quiet s n c _ (omega (arith, h)) (λ g. cc))
     on_item (plan.Get aim key) rest e l h o = (
@@ -405,7 +389,10 @@ module _ {K V E : Type 0} where
       λ k old on some. quiet s n c _ (removed_late c removal old.value) (λ g. cc),
     )
     on_item (plan.Reply a) rest e l h o = quiet s n c _ refl (λ g. cc)
-    on_item _ rest e l h o = goes_on s n c rest h
+    on_item (plan.Settle with) rest e l h o = goes_on s n c rest h
+    on_item item rest e l h o = passes_on eq After s.world n c item rest tt
+        (λ d. goes_on s n c rest h)
+        (parks s n c _ refl (ap lates e ∙ omega (arith, h)) (λ g. cc))
 
     on_plan : (p : List (Item K V E)) → c.plan ≡ p → IsLast p → lates (behind p) ≡ 0 →
         LooksAtOwn p →

@@ -63,6 +63,38 @@ computes_of key = record { key = key; kind = kind.Compute }
 abbrev pub alone_of : {K : Type 0} → K → Compute K
 alone_of key = record { key = key; takes = takes.TryOp }
 
+module _ {K V E : Type 0} where
+  -- an item with which a call goes on with the rest, or waits
+  abbrev pub IsPassing : Item K V E → Type 0
+  IsPassing (plan.Ended number) = Unit {0}
+  IsPassing plan.Turn = Unit {0}
+  IsPassing plan.End = Unit {0}
+  IsPassing (plan.Settle with) = Unit {0}
+  IsPassing (plan.Lock key) = Unit {0}
+  IsPassing (plan.Unlock wrote) = Unit {0}
+  IsPassing plan.Heard = Unit {0}
+  IsPassing plan.Idle = Unit {0}
+  IsPassing _ = ⊥
+
+  -- such an item by which no call ends what it owns
+  abbrev pub IsPassingBy : Item K V E → Type 0
+  IsPassingBy (plan.Settle with) = ⊥
+  IsPassingBy item = IsPassing item
+
+  -- what such an item leaves alone of the desk
+  pub record LeavesAlone (old new : DeskPart K V E) : Type 0 where
+    pub owed : new.owed ≡ old.owed
+    pub log : new.log ≡ old.log
+    pub applied : new.applied ≡ old.applied
+    pub last : new.last ≡ old.last
+    pub owners : new.owners ≡ old.owners
+    pub owning : new.owning ≡ old.owning
+    pub joined : new.joined ≡ old.joined
+    pub readers : new.readers ≡ old.readers
+    pub settled : new.settled ≡ old.settled
+    pub asks : new.asks ≡ old.asks
+    pub told : new.told ≡ old.told
+
 module _ {K V E : Type 0} (eq : K → K → Bool) where
   abbrev pub on_desk : World K V E → DeskPart K V E → World K V E
   on_desk w d = record w { desk = d }
@@ -474,3 +506,31 @@ module _ {K V E : Type 0} (eq : K → K → Bool) where
   )
   outcomes M w n c plan.Idle rest o = o
   outcomes M w n c (plan.Reply answer) rest o = o
+
+  module _ (M : World K V E → Next K V E → Type 0) (w : World K V E) (n : ℕ) (c : Call K V E) where
+    -- what holds wherever the call goes on or waits holds of each outcome of such an item
+    pub passes_on : (item : Item K V E) (rest : List (Item K V E)) → IsPassing item →
+        ((d : DeskPart K V E) → M (on_desk w d) (goes c rest)) → M w (waits c) →
+        Outcomes M w n c item rest
+    passes_on (plan.Ended number) rest one on waits = (λ e. on w.desk, λ e. waits)
+    passes_on plan.Turn rest one on waits = (λ e. on _, λ e. waits)
+    passes_on (plan.Lock key) rest one on waits = (λ e. on _, λ e. waits)
+    passes_on plan.Heard rest one on waits = (λ e. on w.desk, λ e. waits)
+    passes_on plan.End rest one on waits = on _
+    passes_on (plan.Settle with) rest one on waits = on _
+    passes_on (plan.Unlock wrote) rest one on waits = on _
+    passes_on plan.Idle rest one on waits = on _
+    passes_on _ rest one on waits = absurd one
+
+    -- so where it is known what the item leaves alone
+    pub passes_by : (item : Item K V E) (rest : List (Item K V E)) → IsPassingBy item →
+        ((d : DeskPart K V E) → LeavesAlone w.desk d → M (on_desk w d) (goes c rest)) →
+        M w (waits c) → Outcomes M w n c item rest
+    passes_by (plan.Ended number) rest one on waits = (λ e. on w.desk search, λ e. waits)
+    passes_by plan.Turn rest one on waits = (λ e. on _ search, λ e. waits)
+    passes_by (plan.Lock key) rest one on waits = (λ e. on _ search, λ e. waits)
+    passes_by plan.Heard rest one on waits = (λ e. on w.desk search, λ e. waits)
+    passes_by plan.End rest one on waits = on _ search
+    passes_by (plan.Unlock wrote) rest one on waits = on _ search
+    passes_by plan.Idle rest one on waits = on _ search
+    passes_by _ rest one on waits = absurd one

@@ -11,7 +11,7 @@ use Rattle.moka_hist.specs.declared.events.Event.TheVariants as event
 use Rattle.moka_hist.specs.declared.replies.Reply.TheVariants as reply
 use Rattle.moka_laws.specs.Computes.{IsSettling, OneComputeActs, OwnedUntilSettled, OwnsComputes}
 use Rattle.moka_laws.proofs.Computed.{acting_own, others_own}
-use Rattle.moka_laws.proofs.Outcomes.{Outcomes, outcomes}
+use Rattle.moka_laws.proofs.Outcomes.{Outcomes, outcomes, passes_by}
 use Rattle.moka_laws.proofs.Owning.{plan_left}
 use Rattle.moka_laws.proofs.OwnersOwn.{computes_one}
 use Rattle.moka_laws.proofs.Reached.{run_reached, event_reached}
@@ -40,9 +40,7 @@ module _ {K V E : Type 0} (eq : K → K → Bool) (w : World K V E) (n : ℕ) (c
   on_item (plan.Own_alone key) rest own f = absurd (cannot_own rest own f.last f.owning)
   on_item (plan.Settle with) rest own f = inr tt
   on_item plan.Drain rest own f = (λ e. inl refl, λ x xs e. inl refl, λ x number xs e. inl refl)
-  on_item (plan.Unlock wrote) rest own f = inl refl
   on_item plan.Apply rest own f = (λ e. inl refl, λ x xs e. inl refl)
-  on_item plan.End rest own f = inl refl
   on_item (plan.Get aim key) rest own f = (λ e. inl refl, λ e. inl refl, λ k stored e. inl refl)
   on_item (plan.Read sought) rest own f = (λ e. inl refl, λ with e. inl refl)
   on_item (plan.Read_key compute) rest own f = (λ e. inl refl, λ with e. inl refl)
@@ -61,9 +59,13 @@ module _ {K V E : Type 0} (eq : K → K → Bool) (w : World K V E) (n : ℕ) (c
     λ k old off some. inl refl,
     λ k old on some. inl refl,
   )
-  on_item plan.Idle rest own f = inl refl
   on_item (plan.Reply answer) rest own f = inl refl
-  on_item _ rest own f = (λ e. inl refl, λ e. inl refl)
+  on_item (plan.Notice key old cause upsert) rest own f = (λ e. inl refl, λ e. inl refl)
+  on_item (plan.Post write) rest own f = (λ e. inl refl, λ e. inl refl)
+  on_item (plan.Judge aim key stored) rest own f = (λ e. inl refl, λ e. inl refl)
+  on_item (plan.Holds key stamp cause there stored) rest own f = (λ e. inl refl, λ e. inl refl)
+  on_item item rest own f = passes_by eq (Owned (item ∷ rest)) w n c item rest tt
+      (λ d a. inl (ap (λ o. o n) a.owning)) (inl refl)
 
   owned_step : (p : List (Item K V E)) → is_some (w.desk.owning n) ≡ true →
       Fits (w.desk.owning n) (w.desk.joined n) p → OnStep eq (Owned p) w n c p

@@ -44,7 +44,7 @@ use Rattle.moka_laws.proofs.Between.{run_more}
 use Rattle.moka_laws.proofs.OnePlace.{contains_times}
 use Rattle.moka_laws.proofs.Kept.{IsKept, IsStable, in_reached, runs}
 use Rattle.moka_laws.proofs.StepCases.{OnStep, step_cases}
-use Rattle.moka_laws.proofs.Outcomes.{Outcomes, outcomes, computes_of}
+use Rattle.moka_laws.proofs.Outcomes.{Outcomes, outcomes, computes_of, passes_by}
 use Rattle.moka_hist.specs.declared.loads.Compute.{Compute}
 use Rattle.moka_hist.specs.Computing.{after_told_op, after_read_key}
 
@@ -195,18 +195,6 @@ module _ {K V E : Type 0} where
             (λ x d. omega (arith, ap (weigh (post_of x)) e, ap (among_owed x) some, times_first x (number_of y) (map (λ o. number_of o.write) ys)));
       },
     )
-    on_item (plan.Ended number) rest e = (
-      λ ended. as_owed refl refl (goes_on (plan.Ended number) rest e),
-      λ runs. as_owed refl refl (still_parts owes n c.plan _ (λ x. refl) (λ a e. cc)),
-    )
-    on_item plan.Heard rest e = (
-      λ ended. as_owed refl refl (goes_on plan.Heard rest e),
-      λ runs. as_owed refl refl (still_parts owes n c.plan _ (λ x. refl) (λ a e. cc)),
-    )
-    on_item (plan.Lock key) rest e = (
-      λ free. as_owed refl refl (goes_on (plan.Lock key) rest e),
-      λ held. as_owed refl refl (still_parts owes n c.plan _ (λ x. refl) (λ a e. cc)),
-    )
     on_item (plan.Notice key old cause upsert) rest e = (
       λ off. as_owed refl refl (goes_on (plan.Notice key old cause upsert) rest e),
       λ on. as_owed refl refl (moves (λ a e. cc) (λ x d. omega (arith, ap (weigh (post_of x)) e))),
@@ -214,10 +202,6 @@ module _ {K V E : Type 0} where
     on_item (plan.Post write) rest e = (
       λ room. as_owed refl refl (goes_on (plan.Post write) rest e),
       λ full. as_owed refl refl (moves (λ a e. cc) (λ x d. omega (arith, ap (weigh (post_of x)) e))),
-    )
-    on_item plan.Turn rest e = (
-      λ free. as_owed refl refl (goes_on plan.Turn rest e),
-      λ taken. as_owed refl refl (still_parts owes n c.plan _ (λ x. refl) (λ a e. cc)),
     )
     on_item plan.Apply rest e = (
       λ none. as_owed refl refl (goes_on plan.Apply rest e),
@@ -314,7 +298,10 @@ module _ {K V E : Type 0} where
           (λ x d. omega (arith, ap (weigh (post_of x)) e, ap (λ b. cond {A = ℕ} b 1 0) (other_number n x d)))),
     )
     on_item (plan.Reply reply) rest e = as_owed refl refl (clear_parts owes n c.plan (λ x. refl) (λ a e. refl))
-    on_item item rest e = as_owed refl refl (goes_on item rest e)
+    on_item (plan.Settle with) rest e = as_owed refl refl (goes_on (plan.Settle with) rest e)
+    on_item item rest e = passes_by eq (Leaves w n c.plan) w n c item rest tt
+        (λ d a. as_owed a.owed a.last (goes_on item rest e))
+        (as_owed refl refl (still_parts owes n c.plan _ (λ x. refl) (λ a e. cc)))
 
     on_plan : (plan : List (Item K V E)) → c.plan ≡ plan → OnStep eq (Leaves w n c.plan) w n c plan
     on_plan [] e = as_owed refl refl (still_parts owes n c.plan _ (λ x. refl) (λ a e. cc))

@@ -14,7 +14,7 @@ use Rattle.moka_hist.specs.declared.visits.Found.TheVariants as found
 use Rattle.moka_laws.proofs.Rules.{loaded_plans, told_op_next}
 use Rattle.moka_laws.proofs.Weights.{weigh}
 use Rattle.moka_laws.proofs.StepCases.{OnStep}
-use Rattle.moka_laws.proofs.Outcomes.{Outcomes, outcomes, computes_of}
+use Rattle.moka_laws.proofs.Outcomes.{Outcomes, outcomes, computes_of, passes_by}
 use Rattle.moka_laws.proofs.Answering.{HasAnswers, settlement_ready}
 use Rattle.moka_laws.proofs.Owning.{plan_left}
 use Rattle.moka_laws.proofs.Roles.{IsLast, owners, Fits, awaited, goes_fits, keeps_fits, misses_fits, unseen_fits, finds_fits, hits_fits, told_fits, read_fits, read_key_fits, goes_awaits, keeps_awaits, misses_awaits, finds_awaits, hits_awaits}
@@ -102,8 +102,6 @@ module _ {K V E : Type 0} (eq : K → K → Bool) (w : World K V E) (n : ℕ) (c
     λ x xs e. goes_with _ (like (plan.Post x ∷ plan.Drain ∷ rest) _ q q.fits.last (omega arith) refl),
     λ x number xs e. goes_with _ (like (plan.Ended number ∷ plan.Post x ∷ plan.Drain ∷ rest) _ q q.fits.last (omega arith) refl),
   )
-  on_item (plan.Unlock wrote) rest p q =
-      goes_rest rest (like rest _ q q.fits.last (omega arith) refl)
   on_item (plan.Notice key old cause upsert) rest p q = (
     λ e. goes_rest rest (like rest _ q q.fits.last (omega arith) refl),
     λ e. goes_with _ (like (plan.Heard ∷ rest) _ q q.fits.last (omega arith) refl),
@@ -113,7 +111,6 @@ module _ {K V E : Type 0} (eq : K → K → Bool) (w : World K V E) (n : ℕ) (c
     λ e. goes_with _ (like (plan.Turn ∷ plan.Apply ∷ plan.End ∷ plan.Post write ∷ rest) _ q q.fits.last (omega arith) refl),
   )
   on_item plan.Apply rest p q = (λ e. goes_rest rest (like rest _ q q.fits.last (omega arith) refl), λ x xs e. goes_with _ q)
-  on_item plan.End rest p q = goes_rest rest (like rest _ q q.fits.last (omega arith) refl)
   on_item (plan.Get aim key) rest p q =
       let f = alone (plan.Get aim key) rest q.fits.last q in (
         λ more. goes_with _ p,
@@ -254,11 +251,13 @@ module _ {K V E : Type 0} (eq : K → K → Bool) (w : World K V E) (n : ℕ) (c
         λ k old on some. goes_free (record { last = refl; owning = f.owning; waiting = f.waiting })
             refl,
       )
-  on_item plan.Idle rest p q = goes_rest rest (like rest _ q q.fits.last (omega arith) refl)
   on_item (plan.Reply answer) rest p q =
       let f = alone (plan.Reply answer) rest q.fits.last q in
       goes_free (record { last = tt; owning = omega (arith, f.owning); waiting = f.waiting }) refl
-  on_item _ rest p q = (λ e. goes_rest rest (like rest _ q q.fits.last (omega arith) refl), λ e. goes_with _ p)
+  on_item item rest p q = passes_by eq Leaves w n c item rest tt
+      (λ d a. rw (a.owners, a.owning, a.joined, a.readers, a.settled, a.last)
+      (goes_rest rest (like rest _ q q.fits.last (omega arith) refl)))
+      (goes_with _ p)
 
   pub on_plan : (plan : List (Item K V E)) → c.plan ≡ plan → Fits {E = E} (w.desk.owning n) (w.desk.joined n) c.plan →
       ((o : ℕ) (load : Load K) → w.desk.joined n ≡ Some o → awaited c.plan ≡ Some load → Answered eq w.desk.owning w.desk.settled o load) →

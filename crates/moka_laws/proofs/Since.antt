@@ -46,7 +46,7 @@ use Rattle.moka_laws.proofs.Rules.{put_plans, loaded_plans, kept_next, chosen_by
 use Rattle.moka_laws.proofs.Starting.{begins_so}
 use Rattle.moka_laws.proofs.Steady.{step_calls, step_last}
 use Rattle.moka_laws.proofs.StepCases.{OnStep, step_cases}
-use Rattle.moka_laws.proofs.Outcomes.{Outcomes, outcomes}
+use Rattle.moka_laws.proofs.Outcomes.{Outcomes, outcomes, passes_on}
 use Rattle.moka_hist.specs.declared.loads.Compute.{Compute}
 use Rattle.moka_hist.specs.Computing.{after_told_op, after_read_key}
 
@@ -148,17 +148,9 @@ module _ {K V E : Type 0} where
         Outcomes eq (Fewer (item ∷ rest)) w n c item rest
     asks_fewer plan.Drain rest e =
         (λ f. omega (arith, goes_tests c rest), λ x xs f. omega arith, λ x number xs f. omega arith)
-    asks_fewer (plan.Ended number) rest e =
-        (λ f. omega (arith, goes_tests c rest), λ f. omega (arith, ap (weigh tests) e))
-    asks_fewer plan.Heard rest e =
-        (λ f. omega (arith, goes_tests c rest), λ f. omega (arith, ap (weigh tests) e))
-    asks_fewer (plan.Lock key) rest e =
-        (λ f. omega (arith, goes_tests c rest), λ f. omega (arith, ap (weigh tests) e))
     asks_fewer (plan.Notice key old cause upsert) rest e =
         (λ f. omega (arith, goes_tests c rest), λ f. omega arith)
     asks_fewer (plan.Post write) rest e = (λ f. omega (arith, goes_tests c rest), λ f. omega arith)
-    asks_fewer plan.Turn rest e =
-        (λ f. omega (arith, goes_tests c rest), λ f. omega (arith, ap (weigh tests) e))
     asks_fewer plan.Apply rest e = (λ f. omega (arith, goes_tests c rest), λ x xs f. omega arith)
     asks_fewer (plan.Get aim key) rest e = (
       (λ more. omega (arith, ap (weigh tests) e)),
@@ -225,7 +217,8 @@ module _ {K V E : Type 0} where
         out : (a : Answer K V E) → weigh tests (said removal a) ≡ 0
         out a = weigh_said tests removal a refl refl
     asks_fewer (plan.Reply a) rest e = omega arith
-    asks_fewer _ rest e = omega (arith, goes_tests c rest)
+    asks_fewer item rest e = passes_on eq (Fewer (item ∷ rest)) w n c item rest tt
+        (λ d. omega (arith, goes_tests c rest)) (omega (arith, ap (weigh tests) e))
 
     tests_fewer : (p : List (Item K V E)) → c.plan ≡ p → OnStep eq (Fewer p) w n c p
     tests_fewer [] e = omega (arith, ap (weigh tests) e)
@@ -321,9 +314,7 @@ module _ {K V E : Type 0} where
       λ x xs e. as_often c _ _ refl refl,
       λ x number xs e. as_often c _ _ refl refl,
     )
-    counts (plan.Unlock wrote) rest = goes_counts c rest
     counts plan.Apply rest = (λ e. goes_counts c rest, λ x xs e. as_often c _ _ refl refl)
-    counts plan.End rest = goes_counts c rest
     counts (plan.Get aim key) rest = (
       (λ more. as_often c _ _ refl refl),
       (λ none. misses_count c aim),
@@ -352,7 +343,6 @@ module _ {K V E : Type 0} where
     )
     counts (plan.Read_key compute) rest =
         (λ none. as_often c _ _ refl refl, λ with some. read_key_counts c compute with)
-    counts (plan.Settle with) rest = goes_counts c rest
     counts (plan.Ask load) rest = as_often c _ _ refl refl
     counts (plan.Ask_op compute pair) rest = as_often c _ _ refl refl
     counts (plan.Told load) rest =
@@ -376,9 +366,12 @@ module _ {K V E : Type 0} where
       (λ k old off some. as_often c _ _ refl refl),
       λ k old on some. as_often c _ _ refl refl,
     )
-    counts plan.Idle rest = goes_counts c rest
     counts (plan.Reply a) rest = λ d e. absurd (none_some e)
-    counts _ rest = (λ e. goes_counts c rest, λ e. as_often c _ _ refl refl)
+    counts (plan.Notice key old cause upsert) rest =
+        (λ e. goes_counts c rest, λ e. as_often c _ _ refl refl)
+    counts (plan.Post write) rest = (λ e. goes_counts c rest, λ e. as_often c _ _ refl refl)
+    counts item rest = passes_on eq (Counted (item ∷ rest)) w n c item rest tt
+        (λ d. goes_counts c rest) (as_often c _ _ refl refl)
 
     counts_plan : (p : List (Item K V E)) → OnStep eq (Counted p) w n c p
     counts_plan [] = as_often c _ _ refl refl

@@ -37,7 +37,7 @@ use Rattle.moka_laws.proofs.Roles.{IsLast}
 use Rattle.moka_laws.proofs.Rules.{IsPlain, shown_next, put_plans, loaded_plans, kept_next, chosen_next, IsFresh, Disabled, Gives_back, fresh_plan, read_key_next, told_op_next_by, IsLoad, IsComputed, unchanged_computed, put_computed}
 use Rattle.moka_laws.proofs.Safe.{IsWell, well_kept}
 use Rattle.moka_laws.proofs.StepCases.{OnStep, step_cases}
-use Rattle.moka_laws.proofs.Outcomes.{Outcomes, outcomes, computes_of}
+use Rattle.moka_laws.proofs.Outcomes.{Outcomes, outcomes, computes_of, passes_by}
 use Rattle.moka_hist.specs.declared.loads.Compute.{Compute}
 use Rattle.moka_hist.specs.Computing.{after_told_op, after_read_key}
 use Rattle.moka_hist.specs.Entries.{unchanged}
@@ -301,14 +301,12 @@ module _ {K V E : Type 0} where
       λ x xs f. on w.desk n c _ (λ b h. cc) q,
       λ x number xs f. on w.desk n c _ (λ b h. cc) q,
     )
-    on_item (plan.Unlock wrote) rest e l q f t = passes rest q
     on_item (plan.Notice key old cause upsert) rest e l q f t =
         (λ g. passes rest q, λ g. on w.desk n c _ (λ b h. cc) q)
     on_item (plan.Post write) rest e l q f t =
         (λ g. passes rest q, λ g. on w.desk n c _ (λ b h. cc) q)
     on_item plan.Apply rest e l q f t =
         (λ g. passes rest q, λ x xs f. on w.desk n c _ (λ b h. cc) q)
-    on_item plan.End rest e l q f t = passes rest q
     on_item (plan.Get aim key) rest e l q f t = (
       (λ more. on w.desk n c _ (λ b h. cc) p),
       (λ none. misses_says w.desk n c aim),
@@ -374,9 +372,9 @@ module _ {K V E : Type 0} where
       (λ k old off some. on w.desk n c _ (λ b h. cc) (removed_says _ removal key c old.value f.0)),
       λ k old is_on some. on w.desk n c _ (λ b h. cc) (removed_says _ removal key c old.value f.0),
     )
-    on_item plan.Idle rest e l q f t = passes rest q
     on_item (plan.Reply a) rest e l q f t = plainly w.desk n c a _ refl refl q
-    on_item _ rest e l q f t = (λ g. passes rest q, λ g. parks)
+    on_item item rest e l q f t = passes_by eq After w n c item rest tt
+        (λ d a. subst (λ o. Leaves w.desk n c o (goes c rest)) (sym a.owning) (passes rest q)) parks
 
     on_plan : (q : List (Item K V E)) → c.plan ≡ q → IsLast q → PlanSays (w.desk.owning n) q →
         AllFit (w.desk.owning n) q → AllTake (w.desk.asks n) (w.desk.told n) q →

@@ -50,7 +50,7 @@ use Rattle.moka_laws.proofs.SoundReached.{IsSound, sound_kept}
 use Rattle.moka_laws.proofs.Steady.{step_calls, step_rules}
 use Rattle.moka_laws.proofs.Kept.{IsKept, in_reached}
 use Rattle.moka_laws.proofs.StepCases.{OnStep, step_cases}
-use Rattle.moka_laws.proofs.Outcomes.{Outcomes, outcomes}
+use Rattle.moka_laws.proofs.Outcomes.{Outcomes, outcomes, passes_on}
 use Rattle.moka_hist.specs.declared.loads.Compute.{Compute}
 use Rattle.moka_hist.specs.Computing.{after_told_op, after_read_key}
 
@@ -215,14 +215,10 @@ module _ {K V E : Type 0} where
       λ x xs f. inl (omega (arith, q)),
       λ x number xs f. inl (omega (arith, q)),
     )
-    on_calm (plan.Ended number) rest e p q i = (λ f. goes_on _ rest (omega (arith, q)), λ f. inl p)
-    on_calm plan.Heard rest e p q i = (λ f. goes_on _ rest (omega (arith, q)), λ f. inl p)
-    on_calm (plan.Lock key) rest e p q i = (λ f. goes_on _ rest (omega (arith, q)), λ f. inl p)
     on_calm (plan.Notice key old cause upsert) rest e p q i =
         (λ f. goes_on _ rest (omega (arith, q)), λ f. inl (omega (arith, q)))
     on_calm (plan.Post write) rest e p q i =
         (λ f. goes_on _ rest (omega (arith, q)), λ f. inl (omega (arith, q)))
-    on_calm plan.Turn rest e p q i = (λ f. goes_on _ rest (omega (arith, q)), λ f. inl p)
     on_calm plan.Apply rest e p q i = (
       λ f. goes_on _ rest (omega (arith, q)),
       λ x xs f. inl
@@ -297,7 +293,8 @@ module _ {K V E : Type 0} where
         out : (a : Answer K V E) → weigh chosen (said removal a) ≡ 0
         out a = weigh_said chosen removal a refl refl
     on_calm (plan.Reply a) rest e p q i = tt
-    on_calm _ rest e p q i = goes_on _ rest (omega (arith, q))
+    on_calm item rest e p q i =
+        passes_on eq After w n c item rest tt (λ d. goes_on _ rest (omega (arith, q))) (inl p)
 
     on_standing : (p : List (Item K V E)) → c.plan ≡ p → StandingAt w.table.stored p →
         OnStep eq After w n c p

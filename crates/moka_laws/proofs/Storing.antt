@@ -43,7 +43,7 @@ use Rattle.moka_laws.proofs.Starting.{begins_so, from_start}
 use Rattle.moka_laws.proofs.Steady.{rules_stable, step_calls, step_commits, step_last, step_rules}
 use Rattle.moka_laws.proofs.Kept.{IsStable}
 use Rattle.moka_laws.proofs.StepCases.{OnStep, step_cases}
-use Rattle.moka_laws.proofs.Outcomes.{Outcomes, outcomes}
+use Rattle.moka_laws.proofs.Outcomes.{Outcomes, outcomes, passes_on}
 use Rattle.moka_hist.specs.declared.loads.Compute.{Compute}
 use Rattle.moka_hist.specs.Computing.{after_told_op, after_read_key}
 
@@ -295,18 +295,6 @@ module _ {K V E : Type 0} where
             λ b e. cc;
       },
     )
-    on_item (plan.Ended number) rest l p q = (
-      λ e. goes_says _ c rest (omega (arith, q.says)) (omega (arith, q.plain)),
-      λ e. record { left = p.says; plain = p.plain; now = λ b e. cc },
-    )
-    on_item plan.Heard rest l p q = (
-      λ e. goes_says _ c rest (omega (arith, q.says)) (omega (arith, q.plain)),
-      λ e. record { left = p.says; plain = p.plain; now = λ b e. cc },
-    )
-    on_item (plan.Lock key) rest l p q = (
-      λ e. goes_says _ c rest (omega (arith, q.says)) (omega (arith, q.plain)),
-      λ e. record { left = p.says; plain = p.plain; now = λ b e. cc },
-    )
     on_item (plan.Notice key old cause upsert) rest l p q = (
       λ e. goes_says _ c rest (omega (arith, q.says)) (omega (arith, q.plain)),
       λ e. record { left = omega (arith, q.says); plain = omega (arith, q.plain); now = λ b e. cc },
@@ -314,10 +302,6 @@ module _ {K V E : Type 0} where
     on_item (plan.Post write) rest l p q = (
       λ e. goes_says _ c rest (omega (arith, q.says)) (omega (arith, q.plain)),
       λ e. record { left = omega (arith, q.says); plain = omega (arith, q.plain); now = λ b e. cc },
-    )
-    on_item plan.Turn rest l p q = (
-      λ e. goes_says _ c rest (omega (arith, q.says)) (omega (arith, q.plain)),
-      λ e. record { left = p.says; plain = p.plain; now = λ b e. cc },
     )
     on_item plan.Apply rest l p q = (
       λ e. goes_says _ c rest (omega (arith, q.says)) (omega (arith, q.plain)),
@@ -427,8 +411,9 @@ module _ {K V E : Type 0} where
           now = λ b e. omega
               (arith, alone, ap stored (same_answer a b e));
         }
-    on_item _ rest l p q = goes_says _ c rest (omega (arith, q.says))
-        (omega (arith, q.plain))
+    on_item item rest l p q = passes_on eq After w n c item rest tt
+        (λ d. goes_says _ c rest (omega (arith, q.says)) (omega (arith, q.plain)))
+        (record { left = p.says; plain = p.plain; now = λ b e. cc })
 
     on_plan : (plan : List (Item K V E)) → c.plan ≡ plan → IsLast c.plan → Stores
         (times n w.table.committed) c.plan → OnStep eq After w n c plan

@@ -38,7 +38,7 @@ use Rattle.moka_laws.proofs.Counting.{some_same, none_some, put_cases, put_here,
 use Rattle.moka_laws.proofs.Kept.{IsKept, in_reached}
 use Rattle.moka_laws.proofs.Owning.{plan_left}
 use Rattle.moka_laws.proofs.StepCases.{OnStep, step_cases}
-use Rattle.moka_laws.proofs.Outcomes.{Outcomes, outcomes}
+use Rattle.moka_laws.proofs.Outcomes.{Outcomes, outcomes, passes_by}
 
 -- an open ask takes this, and what was told to a closed one is what that takes
 abbrev pub AskFits : Takes → Option Takes → Type 0
@@ -276,16 +276,10 @@ module _ {K V E : Type 0} where
       λ x xs e. as_was refl refl (tt, q),
       λ x number xs e. as_was refl refl (tt, (tt, q)),
     )
-    on_item (plan.Ended number) rest q =
-        (λ e. goes_on rest refl refl q.1, λ e. as_was refl refl p)
-    on_item plan.Heard rest q = (λ e. goes_on rest refl refl q.1, λ e. as_was refl refl p)
-    on_item (plan.Lock key) rest q =
-        (λ e. goes_on rest refl refl q.1, λ e. as_was refl refl p)
     on_item (plan.Notice key old cause upsert) rest q =
         (λ e. goes_on rest refl refl q.1, λ e. as_was refl refl (tt, q.1))
     on_item (plan.Post write) rest q =
         (λ e. goes_on rest refl refl q.1, λ e. as_was refl refl (tt, (tt, (tt, q))))
-    on_item plan.Turn rest q = (λ e. goes_on rest refl refl q.1, λ e. as_was refl refl p)
     on_item plan.Apply rest q = (λ e. goes_on rest refl refl q.1, λ x xs e. as_was refl refl q)
     on_item (plan.Get aim key) rest q = (
       (λ more. as_was refl refl p),
@@ -358,7 +352,9 @@ module _ {K V E : Type 0} where
       λ k old on some. as_was refl refl (tt, (tt, (tt, said_take _ _ removal _))),
     )
     on_item (plan.Reply a) rest q = as_was refl refl tt
-    on_item _ rest q = goes_on rest refl refl q.1
+    on_item (plan.Settle with) rest q = goes_on rest refl refl q.1
+    on_item item rest q = passes_by eq (Leaves w n) w n c item rest tt
+        (λ d a. goes_on rest a.asks a.told q.1) (as_was refl refl p)
 
     on_plan : (q : List (Item K V E)) → c.plan ≡ q → OnStep eq (Leaves w n) w n c q
     on_plan [] e = as_was refl refl p
