@@ -35,7 +35,7 @@ use Rattle.moka_hist.specs.declared.visits.Settled.TheVariants as settled
 use Rattle.moka_laws.specs.Removals.{IsKept, IsToKeep, KeepsByCause, KeptByCause}
 use Rattle.moka_laws.proofs.Counting.{differ_not, none_some, some_same, put_cases, put_here}
 use Rattle.moka_laws.proofs.Weights.{weigh, weigh_call}
-use Rattle.moka_laws.proofs.Rules.{shown_next, chosen_by, kept_next, loaded_plans, put_plans, read_key_next, told_op_next_by, IsComputed, unchanged_computed, put_computed}
+use Rattle.moka_laws.proofs.Rules.{IsAtOnce, IsFresh, Disabled, Gives_back, fresh_plan, shown_next, chosen_by, kept_next, loaded_plans, put_plans, read_key_next, told_op_next_by, IsComputed, unchanged_computed, put_computed}
 use Rattle.moka_laws.proofs.Kept as events
 use Rattle.moka_laws.proofs.StepCases.{OnStep, more_step, step_cases}
 use Rattle.moka_laws.proofs.Outcomes.{Outcomes, outcomes, passes_on}
@@ -198,55 +198,15 @@ module _ {K V E : Type 0} where
 
 -- ---- fresh calls
 
-module _ {K : Type 0} (V E : Type 0) where
-  load_calm : (b : Bool) (sought : Sought K) →
-      weigh keeping (load_plan {V = V} {E = E} b sought) ≡ 0
-  load_calm true sought = refl
-  load_calm false sought = refl
+module _ {K V E : Type 0} where
+  once_kept : (a : Answer K V E) → IsAtOnce a → kept a ≡ 0
+  once_kept answer.Kept once = absurd once
+  once_kept _ once = refl
 
-module _ {K V : Type 0} (E : Type 0) where
-  fresh_calm : (rules : Rules) (start : Start K V) →
-      weigh keeping (plan_of {E = E} rules start) ≡ 0
-  fresh_calm rules (start.Get key) = by (is_disabled rules)
-    where
-      by : (b : Bool) → weigh keeping (get_plan {V = V} {E = E} b key) ≡ 0
-      by true = refl
-      by false = refl
-  fresh_calm rules (start.Insert key value) = by (is_disabled rules)
-    where
-      by : (b : Bool) → weigh keeping (insert_plan {E = E} b rules key value) ≡ 0
-      by true = refl
-      by false = put_plans (λ p. weigh keeping p ≡ 0) rules key value
-          (plan.Reply answer.Done ∷ []) refl refl
-  fresh_calm rules (start.GetWith key replace) =
-      load_calm V E (is_disabled rules) (seek kind.GetWith key replace)
-  fresh_calm rules (start.Optional key) =
-      load_calm V E (is_disabled rules) (seek kind.Optional key None)
-  fresh_calm rules (start.Try key) = load_calm V E (is_disabled rules) (seek kind.Try key None)
-  fresh_calm rules (start.OrInsert key value) = by (is_disabled rules)
-    where
-      by : (b : Bool) → weigh keeping (or_insert_plan {V = V} {E = E} b key value) ≡ 0
-      by true = refl
-      by false = refl
-  fresh_calm rules (start.Invalidate key) = by rules.listener
-    where
-      by : (b : Bool) → weigh keeping (plan.Drain ∷ under_lock {V = V} {E = E} b key
-          (plan.Moment (plan.To_take_out plan.To_invalidate key) ∷ [])) ≡ 0
-      by true = refl
-      by false = refl
-  fresh_calm rules (start.Remove key) = by rules.listener
-    where
-      by : (b : Bool) → weigh keeping (plan.Drain ∷ under_lock {V = V} {E = E} b key
-          (plan.Moment (plan.To_take_out plan.To_remove key) ∷ [])) ≡ 0
-      by true = refl
-      by false = refl
-  fresh_calm rules (start.Evict key stamp cause) = by rules.listener
-    where
-      by : (b : Bool) → weigh keeping (under_lock {V = V} {E = E} b key
-          (plan.Get (plan.To_evict key stamp cause) key ∷ [])) ≡ 0
-      by true = refl
-      by false = refl
-  fresh_calm rules _ = refl
+  form_calm : (rules : Rules) (p : List (Item K V E)) → IsFresh rules p → weigh keeping p ≡ 0
+  form_calm rules p (Disabled a d once) = omega (arith, once_kept a once)
+  form_calm rules p (Gives_back a d once) = omega (arith, once_kept a once)
+  form_calm rules p _ = refl
 
 module _ {K V E : Type 0} (s : State K V E) where
   -- what stands under the key is what is taken out
@@ -581,7 +541,7 @@ module _ {K V E : Type 0} (eq : K → K → Bool) where
     start = λ s start i n c live.
         put_cases s.calls (s.world.desk.last + 1) (Some (fresh_call s.world.desk.rules start)) n
         (Some c) (Calm c.plan) live
-        (λ here is. subst CalmIf is (inl (fresh_calm E s.world.desk.rules start)))
+        (λ here is. subst CalmIf is (inl (form_calm s.world.desk.rules _ (fresh_plan s.world.desk.rules start))))
         (λ there is. i n c is);
     step = calm_step;
     tell = λ s n given asked i. i;

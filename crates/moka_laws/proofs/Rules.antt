@@ -266,10 +266,29 @@ IsPlain (answer.InitErr error) = ⊥
 IsPlain answer.RetriesExhausted = ⊥
 IsPlain _ = Unit {0}
 
+-- the answer is one that a disabled cache gives at once: that nothing was found, or as if stored
+abbrev pub IsAtOnce : {K V E : Type 0} → Answer K V E → Type 0
+IsAtOnce (answer.Found value) = Unit {0}
+IsAtOnce answer.Done = Unit {0}
+IsAtOnce (answer.Loaded value fresh) = Unit {0}
+IsAtOnce _ = ⊥
+
+pub once_plain : {K V E : Type 0} (a : Answer K V E) → IsAtOnce a → IsPlain a
+once_plain answer.Nothing once = absurd once
+once_plain (answer.InitErr error) once = absurd once
+once_plain answer.RetriesExhausted once = absurd once
+once_plain _ once = tt
+
+-- a start names this removal
+abbrev pub IsStarted : {K : Type 0} → Removal K → Type 0
+IsStarted plan.To_invalidate = Unit {0}
+IsStarted plan.To_remove = Unit {0}
+IsStarted _ = ⊥
+
 module _ {K V E : Type 0} where
   -- the plans that fresh calls have by these rules
   pub data IsFresh (rules : Rules) : List (Item K V E) → Type 0 where
-    Disabled : (a : Answer K V E) → is_disabled rules ≡ true → IsPlain a →
+    Disabled : (a : Answer K V E) → is_disabled rules ≡ true → IsAtOnce a →
         IsFresh rules (plan.Reply a ∷ [])
     Gets : (form : Shown K) (key : K) → is_disabled rules ≡ false →
         IsFresh rules (plan.Drain ∷ plan.Get (plan.To_show form) key ∷ [])
@@ -282,7 +301,7 @@ module _ {K V E : Type 0} where
     Computes_alone : (key : K) → IsFresh rules (plan.Own_alone key ∷ [])
     Finds_or_puts : (key : K) (value : V) → is_disabled rules ≡ false →
         IsFresh rules (plan.Drain ∷ plan.Get (plan.To_insert key value) key ∷ [])
-    Gives_back : (a : Answer K V E) → is_disabled rules ≡ true → IsPlain a →
+    Gives_back : (a : Answer K V E) → is_disabled rules ≡ true → IsAtOnce a →
         IsFresh rules (plan.Drain ∷ plan.Reply a ∷ [])
     Puts : (key : K) (value : V) → is_disabled rules ≡ false → rules.listener ≡ false →
         IsFresh rules (plan.Drain ∷ plan.Moment (plan.To_store key value)
@@ -291,17 +310,17 @@ module _ {K V E : Type 0} where
         IsFresh rules
         (plan.Drain ∷ plan.Lock key ∷ plan.Moment (plan.To_store key value)
         ∷ plan.Reply answer.Done ∷ [])
-    Takes_out : (removal : Removal K) (key : K) → rules.listener ≡ false → IsNamed removal →
+    Takes_out : (removal : Removal K) (key : K) → rules.listener ≡ false → IsStarted removal →
         IsFresh rules (plan.Drain ∷ plan.Moment (plan.To_take_out removal key) ∷ [])
     Locks_and_takes_out : (removal : Removal K) (key : K) → rules.listener ≡ true →
-        IsNamed removal →
+        IsStarted removal →
         IsFresh rules (plan.Drain ∷ plan.Lock key ∷ plan.Moment (plan.To_take_out removal key) ∷ [])
     Evicts : (key : K) (stamp : _) (cause : Cause) → rules.listener ≡ false →
         IsFresh rules (plan.Get (plan.To_evict key stamp cause) key ∷ [])
     Locks_and_evicts : (key : K) (stamp : _) (cause : Cause) → rules.listener ≡ true →
         IsFresh rules (plan.Lock key ∷ plan.Get (plan.To_evict key stamp cause) key ∷ [])
 
-  takes_out : (rules : Rules) (removal : Removal K) (key : K) → IsNamed removal →
+  takes_out : (rules : Rules) (removal : Removal K) (key : K) → IsStarted removal →
       IsFresh rules (take_out rules removal key)
   takes_out rules removal key named =
       locked_by (IsFresh rules) rules.listener key (plan.Moment (plan.To_take_out removal key) ∷ [])

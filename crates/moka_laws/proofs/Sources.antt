@@ -34,7 +34,7 @@ use Rattle.moka_laws.proofs.TakesFit.{ItemTakes, AllTake}
 use Rattle.moka_laws.proofs.Kept.{IsKept, in_reached}
 use Rattle.moka_laws.proofs.Owning.{plan_left}
 use Rattle.moka_laws.proofs.Roles.{IsLast}
-use Rattle.moka_laws.proofs.Rules.{IsPlain, shown_next, put_plans, loaded_plans, kept_next, chosen_next, IsFresh, Disabled, Gives_back, fresh_plan, read_key_next, told_op_next_by, IsLoad, IsComputed, unchanged_computed, put_computed}
+use Rattle.moka_laws.proofs.Rules.{IsPlain, once_plain, shown_next, put_plans, loaded_plans, kept_next, chosen_next, IsFresh, Disabled, Gives_back, fresh_plan, read_key_next, told_op_next_by, IsLoad, IsComputed, unchanged_computed, put_computed}
 use Rattle.moka_laws.proofs.Safe.{IsWell, well_kept}
 use Rattle.moka_laws.proofs.StepCases.{OnStep, step_cases}
 use Rattle.moka_laws.proofs.Outcomes.{Outcomes, outcomes, computes_of, passes_by}
@@ -108,8 +108,8 @@ module _ {K V E : Type 0} where
 
   fresh_says : (owned : Option (Load K)) (rules : Rules) (p : List (Item K V E)) →
       IsFresh rules p → PlanSays owned p
-  fresh_says owned rules p (Disabled a d plain) = plain
-  fresh_says owned rules p (Gives_back a d plain) = plain
+  fresh_says owned rules p (Disabled a d once) = once_plain a once
+  fresh_says owned rules p (Gives_back a d once) = once_plain a once
   fresh_says owned rules p _ = tt
 
   -- what a step has to show

@@ -45,7 +45,7 @@ use Rattle.moka_laws.proofs.Weights.{weigh, weigh_call, weigh_goes, weigh_said}
 use Rattle.moka_laws.proofs.Locking.{IsLocking, Inside, key_locked}
 use Rattle.moka_laws.proofs.Ordering.{one_lock}
 use Rattle.moka_laws.proofs.Owning.{plan_left}
-use Rattle.moka_laws.proofs.Rules.{put_plans, chosen_by, kept_next, loaded_plans, put_plans, read_key_next, told_op_next}
+use Rattle.moka_laws.proofs.Rules.{IsFresh, Takes_out, Locks_and_takes_out, fresh_plan, put_plans, chosen_by, kept_next, loaded_plans, put_plans, read_key_next, told_op_next}
 use Rattle.moka_laws.proofs.SoundReached.{IsSound, sound_kept}
 use Rattle.moka_laws.proofs.Steady.{step_calls, step_rules}
 use Rattle.moka_laws.proofs.Kept.{IsKept, in_reached}
@@ -379,54 +379,12 @@ module _ {K V E : Type 0} where
 
 -- ---- fresh calls
 
-module _ {K : Type 0} (V E : Type 0) where
-  load_calm : (b : Bool) (sought : Sought K) → weigh chosen (load_plan {V = V} {E = E} b sought) ≡ 0
-  load_calm true sought = refl
-  load_calm false sought = refl
-
-module _ {K V : Type 0} (E : Type 0) where
-  fresh_calm : (rules : Rules) (start : Start K V) →
-      weigh chosen (plan_of {E = E} rules start) ≡ 0
-  fresh_calm rules (start.Get key) = by (is_disabled rules)
-    where
-      by : (b : Bool) → weigh chosen (get_plan {V = V} {E = E} b key) ≡ 0
-      by true = refl
-      by false = refl
-  fresh_calm rules (start.Insert key value) = by (is_disabled rules)
-    where
-      by : (b : Bool) → weigh chosen (insert_plan {E = E} b rules key value) ≡ 0
-      by true = refl
-      by false = put_plans (λ p. weigh chosen p ≡ 0) rules key value
-          (plan.Reply answer.Done ∷ []) refl refl
-  fresh_calm rules (start.GetWith key replace) =
-      load_calm V E (is_disabled rules) (seek kind.GetWith key replace)
-  fresh_calm rules (start.Optional key) =
-      load_calm V E (is_disabled rules) (seek kind.Optional key None)
-  fresh_calm rules (start.Try key) = load_calm V E (is_disabled rules) (seek kind.Try key None)
-  fresh_calm rules (start.OrInsert key value) = by (is_disabled rules)
-    where
-      by : (b : Bool) → weigh chosen (or_insert_plan {V = V} {E = E} b key value) ≡ 0
-      by true = refl
-      by false = refl
-  fresh_calm rules (start.Invalidate key) = by rules.listener
-    where
-      by : (b : Bool) → weigh chosen (plan.Drain ∷ under_lock {V = V} {E = E} b key
-          (plan.Moment (plan.To_take_out plan.To_invalidate key) ∷ [])) ≡ 0
-      by true = refl
-      by false = refl
-  fresh_calm rules (start.Remove key) = by rules.listener
-    where
-      by : (b : Bool) → weigh chosen (plan.Drain ∷ under_lock {V = V} {E = E} b key
-          (plan.Moment (plan.To_take_out plan.To_remove key) ∷ [])) ≡ 0
-      by true = refl
-      by false = refl
-  fresh_calm rules (start.Evict key stamp cause) = by rules.listener
-    where
-      by : (b : Bool) → weigh chosen (under_lock {V = V} {E = E} b key
-          (plan.Get (plan.To_evict key stamp cause) key ∷ [])) ≡ 0
-      by true = refl
-      by false = refl
-  fresh_calm rules _ = refl
+module _ {K V E : Type 0} where
+  form_calm : (rules : Rules) (p : List (Item K V E)) → IsFresh rules p → weigh chosen p ≡ 0
+  form_calm rules p (Takes_out (plan.To_evict_chosen stamp cause) key off started) = absurd started
+  form_calm rules p (Locks_and_takes_out (plan.To_evict_chosen stamp cause) key on started) =
+      absurd started
+  form_calm rules p _ = refl
 
 -- ---- of a state
 
@@ -508,7 +466,7 @@ module _ {K V E : Type 0} (eq : K → K → Bool) (laws : IsEquivalence eq) wher
           put_cases s.calls (s.world.desk.last + 1) (Some (fresh_call s.world.desk.rules start)) n
           (Some c) (Stands s.world.table.stored c.plan) live
           (λ here is. subst (StandsIf s.world.table.stored) is
-          (inl (fresh_calm E s.world.desk.rules start))) (λ there is. i.stands on n c is);
+          (inl (form_calm s.world.desk.rules _ (fresh_plan s.world.desk.rules start)))) (λ there is. i.stands on n c is);
     };
     step = standing_step;
     tell = λ s n given asked i. record {

@@ -547,11 +547,11 @@ module _ {K V E : Type 0} (eq : K → K → Bool) where
   fresh_stores rules (start.OrInsert key value) a able e =
       subst (λ b. Stores {K = K} {V = V} {E = E} 0 (or_insert_plan b key value)) (sym able)
       (record { says = omega arith; plain = refl })
-  fresh_stores rules (start.Get key) a able e = absurd (false≢true e)
-  fresh_stores rules (start.Invalidate key) a able e = absurd (false≢true e)
-  fresh_stores rules (start.Remove key) a able e = absurd (false≢true e)
-  fresh_stores rules (start.Evict key stamp cause) a able e = absurd (false≢true e)
-  fresh_stores rules _ a able e = record { says = omega arith; plain = refl }
+  fresh_stores rules (start.Compute key) a able e = record { says = omega arith; plain = refl }
+  fresh_stores rules (start.TryCompute key) a able e = record { says = omega arith; plain = refl }
+  fresh_stores rules (start.ComputeAlone key) a able e = record { says = omega arith; plain = refl }
+  fresh_stores rules (start.Upsert key) a able e = record { says = omega arith; plain = refl }
+  fresh_stores rules _ a able e = absurd (false≢true e)
 
   -- an answer that says so counts
   says_counts : (s : Start K V) (a : Answer K V E) → says_stored s a ≡ true → stored a ≡ 1
