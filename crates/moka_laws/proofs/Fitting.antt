@@ -31,7 +31,7 @@ use Rattle.moka_hist.specs.declared.visits.Takes.{Takes}
 use Rattle.moka_hist.specs.declared.visits.Found.TheVariants as found
 use Rattle.moka_hist.specs.declared.accesses.Turn.{Turn}
 use Rattle.moka_hist.specs.declared.accesses.Turn.TheVariants as turn
-use Rattle.moka_laws.proofs.Rules.{put_plans, loaded_plans, kept_next, chosen_next, IsFresh, Takes_out, Locks_and_takes_out, Disabled, fresh_plan, read_key_next, told_op_next_by, IsLoad, IsComputes}
+use Rattle.moka_laws.proofs.Rules.{put_plans, loaded_plans, kept_next, chosen_next, IsFresh, Takes_out, Locks_and_takes_out, fresh_plan, read_key_next, told_op_next_by, IsLoad, IsComputes}
 use Rattle.moka_laws.proofs.TakesFit.{ItemTakes, AllTake, ToldFits, IsTaking, taking_kept, load_takes_no_op, compute_loses_none}
 use Rattle.moka_laws.proofs.Counting.{some_same, none_some, put_cases, put_here, put_there}
 use Rattle.moka_laws.proofs.Weights.{weigh}

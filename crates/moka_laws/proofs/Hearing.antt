@@ -27,7 +27,7 @@ use Rattle.moka_laws.proofs.Counting.{none_some, some_same, put_cases, put_here,
 use Rattle.moka_laws.proofs.Kept.{IsStable, runs}
 use Rattle.moka_laws.proofs.Weights.{weigh}
 use Rattle.moka_laws.proofs.Owning.{plan_left}
-use Rattle.moka_laws.proofs.Plans.{Asking_op, Owning_key, Owning_alone, Reading_key, Telling_op, IsTail, Answering, Settling, Looking, Owning, Giving, Putting, Removing, Locking_out, Draining, Ended, Locking, IsPlan, Posted, Drained, Posting, Hearing, Noticing, Listening, Unlocking, Turning, Applying, Ending, Judging, Reading, Asking, Telling, Writing, Choosing, Finding, Chosen, Taking, Freeing, Idling}
+use Rattle.moka_laws.proofs.Plans.{Asking_op, Reading_key, IsTail, Answering, Settling, Looking, Owning, Giving, Putting, Removing, Locking_out, Draining, Ended, Locking, IsPlan, Posted, Drained, Posting, Hearing, Noticing, Listening, Unlocking, Turning, Applying, Ending, Reading, Writing, Freeing, Idling}
 use Rattle.moka_laws.proofs.Reading.{OwnerOf, joins, joins_self, reader_joins}
 use Rattle.moka_laws.proofs.Reached.{step_reached}
 use Rattle.moka_laws.proofs.Roles.{Fits, awaited, owners}

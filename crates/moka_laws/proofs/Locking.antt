@@ -32,7 +32,7 @@ use Rattle.moka_laws.proofs.Weights.{weigh}
 use Rattle.moka_laws.proofs.Balance.{IsBalanced}
 use Rattle.moka_laws.proofs.Balanced.{balanced_kept, next_free}
 use Rattle.moka_laws.proofs.Owning.{plan_left}
-use Rattle.moka_laws.proofs.Rules.{put_plans_by, Computes, Computes_alone, Finds_or_puts, Gives_back, loaded_plans_by, kept_next, chosen_by, IsFresh, Disabled, Gets, Loads, Owns, Puts, Locks_and_puts, Takes_out, Locks_and_takes_out, Evicts, Locks_and_evicts, fresh_plan, read_key_next, told_op_next}
+use Rattle.moka_laws.proofs.Rules.{put_plans_by, loaded_plans_by, kept_next, chosen_by, IsFresh, Puts, Locks_and_puts, Takes_out, Locks_and_takes_out, Evicts, Locks_and_evicts, fresh_plan, read_key_next, told_op_next}
 use Rattle.moka_laws.proofs.Kept.{IsKept, in_reached}
 use Rattle.moka_laws.proofs.StepCases.{OnStep, step_cases}
 use Rattle.moka_laws.proofs.Outcomes.{Outcomes, outcomes}

@@ -21,7 +21,7 @@ use Rattle.moka_hist.specs.declared.visits.Settled.TheVariants as settled
 use Rattle.moka_hist.specs.declared.visits.Found.TheVariants as found
 use Rattle.moka_laws.specs.Missing.{waits_for}
 use Rattle.moka_laws.proofs.Counting.{none_some}
-use Rattle.moka_laws.proofs.Rules.{put_plans, loaded_plans, kept_next, chosen_next, IsFresh, Takes_out, Locks_and_takes_out, Disabled, fresh_plan, told_op_next}
+use Rattle.moka_laws.proofs.Rules.{put_plans, loaded_plans, kept_next, chosen_next, IsFresh, Takes_out, Locks_and_takes_out, fresh_plan, told_op_next}
 use Rattle.moka_laws.proofs.Weights.{weigh}
 use Rattle.moka_laws.proofs.Owning.{plan_left}
 use Rattle.moka_laws.proofs.Outcomes.{computes_of}

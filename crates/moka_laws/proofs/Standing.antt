@@ -18,14 +18,10 @@ use Rattle.moka_hist.specs.Run.{fresh_call}
 use Rattle.moka_hist.specs.declared.accesses.Got.{Got}
 use Rattle.moka_hist.specs.declared.accesses.Got.TheVariants as got
 use Rattle.moka_hist.specs.declared.accesses.Turn.{Turn}
-use Rattle.moka_hist.specs.declared.events.Start.{Start}
-use Rattle.moka_hist.specs.declared.events.Start.TheVariants as start
 use Rattle.moka_hist.specs.declared.events.Told.{Told}
 use Rattle.moka_hist.specs.declared.events.Told.TheVariants as told
 use Rattle.moka_hist.specs.declared.loads.Load.{Load}
 use Rattle.moka_hist.specs.declared.loads.Sought.{Sought}
-use Rattle.moka_hist.specs.declared.loads.Kind.TheVariants as kind
-use Rattle.moka_hist.specs.declared.replies.Answer.TheVariants as answer
 use Rattle.moka_hist.specs.declared.records.Mode.{Mode}
 use Rattle.moka_hist.specs.declared.records.Stored.{Stored}
 use Rattle.moka_hist.specs.declared.rules.Rules.{Rules}

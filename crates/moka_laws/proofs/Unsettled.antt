@@ -28,7 +28,7 @@ use Rattle.moka_hist.specs.declared.visits.Visit.TheVariants as visit
 use Rattle.moka_laws.proofs.Counting.{none_some, put_cases, put_here, put_there}
 use Rattle.moka_laws.proofs.Kept.{IsKept}
 use Rattle.moka_laws.proofs.Owning.{plan_left}
-use Rattle.moka_laws.proofs.Plans.{Settling, IsDrained, Looking, Owning, Asking_op, Giving, Putting, Locking, Removing, Locking_out, Ended, IsPlan, Posted, Drained, IsKnown, known_kept}
+use Rattle.moka_laws.proofs.Plans.{Settling, IsDrained, Locking_out, Ended, IsPlan, Posted, Drained, IsKnown, known_kept}
 use Rattle.moka_laws.proofs.Roles.{Fits}
 use Rattle.moka_laws.proofs.Served.{IsServed}
 

@@ -31,7 +31,7 @@ use Rattle.moka_bound.proofs.Size.{access_size}
 use Rattle.moka_laws.specs.Bounded.{LogsHaveRoom, StepsAreBounded, StepEventsAreBounded}
 use Rattle.moka_laws.proofs.Counting.{none_some, put_here, same_number}
 use Rattle.moka_laws.proofs.Kept.{IsKept, in_reached}
-use Rattle.moka_laws.proofs.Plans.{IsTail, Answering, Settling, IsDrained, Looking, Owning, Giving, Putting, Removing, Locking_out, IsPosted, Draining, Ended, Locking, IsPlan, Posted, Drained, Posting, Hearing, Noticing, Listening, Unlocking, Turning, Applying, Ending, Judging, Reading, Asking, Telling, Writing, Choosing, Finding, Chosen, Taking, Freeing, Idling, Asking_op, Owning_key, Owning_alone, Reading_key, Telling_op, calls_known}
+use Rattle.moka_laws.proofs.Plans.{IsTail, Answering, Settling, IsDrained, Looking, Giving, Putting, IsPosted, Draining, Ended, Locking, IsPlan, Posted, Drained, Posting, Hearing, Noticing, Listening, Unlocking, Turning, Applying, Ending, Judging, Writing, Finding, Taking, Freeing, Idling, Asking_op, Reading_key, calls_known}
 use Rattle.moka_laws.proofs.Reached.{step_reached, steps_reached}
 use Rattle.moka_laws.proofs.Safe.{in_well, may_step}
 
