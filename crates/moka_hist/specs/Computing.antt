@@ -46,7 +46,14 @@ module _ {K V E : Type 0} where
   -- however the owner ended, the compute begins anew
   abbrev pub after_read_key : Call K V E → Compute K → Found V E → Next K V E
   after_read_key c compute (found.ReadSettled settled.NotYet) = waits c
-  after_read_key c compute (found.ReadSettled _) = goes c (plan.Own_key compute ∷ [])
+  after_read_key c compute (found.ReadSettled (settled.Ready value)) =
+      goes c (plan.Own_key compute ∷ [])
+  after_read_key c compute (found.ReadSettled (settled.Err error)) =
+      goes c (plan.Own_key compute ∷ [])
+  after_read_key c compute (found.ReadSettled settled.Nothing) =
+      goes c (plan.Own_key compute ∷ [])
+  after_read_key c compute (found.ReadSettled settled.Aborted) =
+      goes c (plan.Own_key compute ∷ [])
   after_read_key c compute _ = waits c
 
   abbrev pub after_ask_op : Call K V E → Compute K → Option (K × V) → Found V E → Next K V E
@@ -75,4 +82,9 @@ module _ {K V E : Type 0} where
       goes c (take_out c.rules (plan.To_remove_as_told compute.key) compute.key)
   after_told_op c compute pair (found.TakeTold (Some (told.Err error))) =
       goes c (end_compute (answer.ComputeErr error))
+  after_told_op c compute pair (found.TakeTold None) = waits c
+  -- no ask of a compute takes these
+  after_told_op c compute pair (found.TakeTold (Some told.Nothing)) = waits c
+  after_told_op c compute pair (found.TakeTold (Some told.Done)) = waits c
+  after_told_op c compute pair (found.TakeTold (Some told.Off)) = waits c
   after_told_op c compute pair _ = waits c

@@ -1,5 +1,5 @@
 -- Holding a key's lock, and telling the listener of a record that was replaced.
-use Rattle.std.specs.Prelude.{List, ◌∷◌, true, Some, None}
+use Rattle.std.specs.Prelude.{List, ◌∷◌, true, false, Some, None}
 use Rattle.moka_hist.specs.State.{Call}
 use Rattle.moka_hist.specs.Plan.{Item}
 use Rattle.moka_hist.specs.Plan as plan
@@ -13,6 +13,7 @@ module _ {K V E : Type 0} where
   -- the lock is waited for while another call holds it
   abbrev pub after_lock : Call K V E → List (Item K V E) → Found V E → Next K V E
   after_lock c rest (found.LockKey true) = goes c rest
+  after_lock c rest (found.LockKey false) = waits c
   after_lock c rest _ = waits c
 
   abbrev pub after_unlock : Call K V E → List (Item K V E) → Found V E → Next K V E
@@ -29,4 +30,5 @@ module _ {K V E : Type 0} where
   -- a notice that runs is waited for
   abbrev pub after_hearing : Call K V E → List (Item K V E) → Found V E → Next K V E
   after_hearing c rest (found.NoticeEnded true) = goes c rest
+  after_hearing c rest (found.NoticeEnded false) = waits c
   after_hearing c rest _ = waits c

@@ -1,5 +1,5 @@
 -- One load for many callers: owning, waiting, asking, settling.
-use Rattle.std.specs.Prelude.{ℕ, ◌+◌, ◌==◌, Bool, true, false, cond, List, [], ◌∷◌, Some}
+use Rattle.std.specs.Prelude.{ℕ, ◌+◌, ◌==◌, Bool, true, false, cond, List, [], ◌∷◌, Some, None}
 use Rattle.moka_hist.specs.State.{Call}
 use Rattle.moka_hist.specs.Plan.{Item, look, loaded, end_load, is_disabled}
 use Rattle.moka_hist.specs.Plan as plan
@@ -45,6 +45,7 @@ module _ {K V E : Type 0} where
       goes c (plan.Reply (answer.InitErr error) ∷ [])
   after_read c sought (found.ReadSettled settled.Nothing) = goes c (plan.Reply answer.Nothing ∷ [])
   after_read c sought (found.ReadSettled settled.Aborted) = after_abort c sought
+  after_read c sought (found.ReadSettled settled.NotYet) = waits c
   after_read c sought _ = waits c
 
   abbrev pub after_ask : Call K V E → Load K → Found V E → Next K V E
@@ -58,6 +59,11 @@ module _ {K V E : Type 0} where
       goes c (end_load (settled.Err error) (answer.InitErr error))
   after_told c load (found.TakeTold (Some told.Nothing)) =
       goes c (end_load settled.Nothing answer.Nothing)
+  after_told c load (found.TakeTold None) = waits c
+  -- no ask of a load takes these
+  after_told c load (found.TakeTold (Some (told.Op op))) = waits c
+  after_told c load (found.TakeTold (Some told.Done)) = waits c
+  after_told c load (found.TakeTold (Some told.Off)) = waits c
   after_told c load _ = waits c
 
   abbrev pub after_settle : Call K V E → List (Item K V E) → Found V E → Next K V E

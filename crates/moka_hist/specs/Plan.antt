@@ -208,6 +208,32 @@ held_by (Reply answer ∷ rest) = held_by rest
 
 -- the notice that the call of this number is hearing: its own, or that of an owed write
 abbrev pub hearing : {K V E : Type 0} → ℕ → List (Item K V E) → Option ℕ
-hearing n (Heard ∷ rest) = Some n
+hearing n [] = None
+hearing n (Drain ∷ rest) = None
 hearing n (Ended notice ∷ rest) = Some notice
-hearing n _ = None
+hearing n (Post held ∷ rest) = None
+hearing n (Turn ∷ rest) = None
+hearing n (Apply ∷ rest) = None
+hearing n (End ∷ rest) = None
+hearing n (Get aim key ∷ rest) = None
+hearing n (Judge aim key stored ∷ rest) = None
+hearing n (Own sought ∷ rest) = None
+hearing n (Read sought ∷ rest) = None
+hearing n (Settle with ∷ rest) = None
+hearing n (Ask load ∷ rest) = None
+hearing n (Told load ∷ rest) = None
+hearing n (Own_key compute ∷ rest) = None
+hearing n (Own_alone key ∷ rest) = None
+hearing n (Read_key compute ∷ rest) = None
+hearing n (Ask_op compute found ∷ rest) = None
+hearing n (Told_op compute found ∷ rest) = None
+hearing n (Holds key stamp cause there found ∷ rest) = None
+hearing n (Lock key ∷ rest) = None
+hearing n (Unlock wrote ∷ rest) = None
+hearing n (Notice key old cause upsert ∷ rest) = None
+hearing n (Heard ∷ rest) = Some n
+hearing n (Moment change ∷ rest) = None
+hearing n (Write key value moment ∷ rest) = None
+hearing n (Out removal key ∷ rest) = None
+hearing n (Idle ∷ rest) = None
+hearing n (Reply answer ∷ rest) = None

@@ -32,6 +32,7 @@ module _ {K V E : Type 0} where
   -- the turn is waited for while another call has it
   abbrev pub after_turn : Call K V E → List (Item K V E) → Found V E → Next K V E
   after_turn c rest (found.TakeTurn true) = goes c rest
+  after_turn c rest (found.TakeTurn false) = waits c
   after_turn c rest _ = waits c
 
   -- one write a step, until the log is empty

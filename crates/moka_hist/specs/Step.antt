@@ -112,7 +112,8 @@ module _ {K V E : Type 0} where
   after_table n c (plan.Out removal key) rest turn = after_out n c removal key turn
   after_table n c _ rest turn = waits c
 
-  -- how a call goes on after its visit
+  -- How a call goes on after its visit. In each of these functions the last row is of what another
+  -- visit finds: no run comes to it.
   abbrev pub after_visit : Call K V E → Item K V E → List (Item K V E) → Found V E → Next K V E
   after_visit c plan.Drain rest f = after_drain c rest f
   after_visit c (plan.Ended number) rest f = after_hearing c rest f

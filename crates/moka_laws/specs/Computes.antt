@@ -31,7 +31,15 @@ computed_key (start.Compute key) = Some key
 computed_key (start.TryCompute key) = Some key
 computed_key (start.ComputeAlone key) = Some key
 computed_key (start.Upsert key) = Some key
-computed_key _ = None
+computed_key (start.Get key) = None
+computed_key (start.Insert key value) = None
+computed_key (start.GetWith key replace) = None
+computed_key (start.Optional key) = None
+computed_key (start.Try key) = None
+computed_key (start.OrInsert key value) = None
+computed_key (start.Invalidate key) = None
+computed_key (start.Remove key) = None
+computed_key (start.Evict key stamp cause) = None
 
 -- ---- one at a time
 
@@ -185,7 +193,12 @@ module _ {K V E : Type 0} (n : ℕ) where
 abbrev pub leaves_map : {V E : Type 0} → Told V E → Bool
 leaves_map (told.Op op.Nop) = true
 leaves_map (told.Err error) = true
-leaves_map _ = false
+leaves_map (told.Op (op.Put value)) = false
+leaves_map (told.Op op.Remove) = false
+leaves_map (told.Value value) = false
+leaves_map told.Nothing = false
+leaves_map told.Done = false
+leaves_map told.Off = false
 
 -- from a told nop or error on no step of the call changes the map: neither that which takes it, nor
 -- a later one

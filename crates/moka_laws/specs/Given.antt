@@ -1,5 +1,5 @@
 -- What is given to the cache, and that it stores and hands out nothing else.
-use Rattle.std.specs.Prelude.{◌≡◌, ℕ, Bool, true, List, ◌∷◌, Option, Some, None, ◌⊎◌}
+use Rattle.std.specs.Prelude.{◌≡◌, ℕ, Bool, true, List, [], ◌∷◌, Option, Some, None, ◌⊎◌}
 use Rattle.std.specs.Option.{option_and_then, option_map}
 use Rattle.moka_hist.specs.State.{State, fresh}
 use Rattle.moka_hist.specs.Plan.{Item}
@@ -28,19 +28,60 @@ use Rattle.moka_hist.specs.declared.rules.Rules.{Rules}
 abbrev pub brought : {K V : Type 0} → Start K V → Option (K × V)
 brought (start.Insert key value) = Some (key, value)
 brought (start.OrInsert key value) = Some (key, value)
-brought _ = None
+brought (start.Get key) = None
+brought (start.GetWith key replace) = None
+brought (start.Optional key) = None
+brought (start.Try key) = None
+brought (start.Compute key) = None
+brought (start.TryCompute key) = None
+brought (start.Upsert key) = None
+brought (start.ComputeAlone key) = None
+brought (start.Invalidate key) = None
+brought (start.Remove key) = None
+brought (start.Evict key stamp cause) = None
 
 -- the value that an initializer gives, if any
 abbrev pub value_in : {V E : Type 0} → Told V E → Option V
 value_in (told.Value value) = Some value
+value_in (told.Op op.Nop) = None
 value_in (told.Op (op.Put value)) = Some value
-value_in _ = None
+value_in (told.Op op.Remove) = None
+value_in told.Nothing = None
+value_in (told.Err error) = None
+value_in told.Done = None
+value_in told.Off = None
 
 -- the key of a call that has asked its initializer
 abbrev pub asked_key : {K V E : Type 0} → List (Item K V E) → Option K
+asked_key [] = None
+asked_key (plan.Drain ∷ rest) = None
+asked_key (plan.Ended notice ∷ rest) = None
+asked_key (plan.Post held ∷ rest) = None
+asked_key (plan.Turn ∷ rest) = None
+asked_key (plan.Apply ∷ rest) = None
+asked_key (plan.End ∷ rest) = None
+asked_key (plan.Get aim key ∷ rest) = None
+asked_key (plan.Judge aim key stored ∷ rest) = None
+asked_key (plan.Own sought ∷ rest) = None
+asked_key (plan.Read sought ∷ rest) = None
+asked_key (plan.Settle with ∷ rest) = None
+asked_key (plan.Ask load ∷ rest) = None
 asked_key (plan.Told load ∷ rest) = Some load.key
+asked_key (plan.Own_key compute ∷ rest) = None
+asked_key (plan.Own_alone key ∷ rest) = None
+asked_key (plan.Read_key compute ∷ rest) = None
+asked_key (plan.Ask_op compute found ∷ rest) = None
 asked_key (plan.Told_op compute found ∷ rest) = Some compute.key
-asked_key _ = None
+asked_key (plan.Holds key stamp cause there found ∷ rest) = None
+asked_key (plan.Lock key ∷ rest) = None
+asked_key (plan.Unlock wrote ∷ rest) = None
+asked_key (plan.Notice key old cause upsert ∷ rest) = None
+asked_key (plan.Heard ∷ rest) = None
+asked_key (plan.Moment change ∷ rest) = None
+asked_key (plan.Write key value moment ∷ rest) = None
+asked_key (plan.Out removal key ∷ rest) = None
+asked_key (plan.Idle ∷ rest) = None
+asked_key (plan.Reply answer ∷ rest) = None
 
 module _ {K V E : Type 0} where
   -- The event gives the cache the value for the key: it starts a call with both, or answers what a
@@ -99,15 +140,28 @@ module _ {K V E : Type 0} where
   value_of (answer.Found found) = found
   value_of (answer.Loaded value fresh) = Some value
   value_of (answer.Computed done) = value_done done
-  value_of _ = None
+  value_of answer.Done = None
+  value_of answer.Nothing = None
+  value_of (answer.InitErr error) = None
+  value_of (answer.ComputeErr error) = None
+  value_of answer.RetriesExhausted = None
+  value_of answer.Evicted = None
+  value_of answer.Kept = None
 
   -- the value that a call hands out by this reply, if any: to its caller as it answers, to its
   -- initializer as it asks for a compute, or to the listener
   abbrev pub handed : Reply K V E → Option V
   handed (reply.Answer answer) = value_of answer
+  handed (reply.Ask ask.Init) = None
   handed (reply.Ask (ask.Compute found)) = option_map (λ pair. pair.1) found
   handed (reply.Ask (ask.Listener key value cause)) = Some value
-  handed _ = None
+  handed reply.At = None
+  handed (reply.Call number) = None
+  handed reply.Going = None
+  handed reply.Wait = None
+  handed reply.Told = None
+  handed reply.Dropped = None
+  handed (reply.Refused why) = None
 
   -- one of the events, by its reply, has started the call of this number so
   abbrev pub HasStarted : ℕ → List (Event K V E) → List (Reply K V E) → Start K V → Type 0

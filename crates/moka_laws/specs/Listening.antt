@@ -1,7 +1,7 @@
 -- Key locks, notices and open asks in every reached state.
-use Rattle.std.specs.Prelude.{◌≡◌, ◌≢◌, ◌⊎◌, ℕ, Bool, true, List, ◌∷◌, map, Option, Some, None, IsSome, Contains}
+use Rattle.std.specs.Prelude.{◌≡◌, ◌≢◌, ◌⊎◌, ℕ, Bool, true, List, [], ◌∷◌, map, Option, Some, None, IsSome, Contains}
 use Rattle.moka_hist.specs.State.{Call, State}
-use Rattle.moka_hist.specs.Plan.{Change, Item, hearing}
+use Rattle.moka_hist.specs.Plan.{Aim, Change, Item, hearing}
 use Rattle.moka_hist.specs.Plan as plan
 use Rattle.moka_hist.specs.Notices.{LocksAreHeld, NoticesAreInOrder, NoticesAreSettled}
 use Rattle.moka_hist.specs.Places.{Initializes}
@@ -28,17 +28,48 @@ module _ {K V : Type 0} where
   changed_key (plan.To_store key value) = key
   changed_key (plan.To_take_out removal key) = key
 
+  -- the key that a look is made at under the key's lock: that of a record which was chosen to leave
+  abbrev pub locked_by : Aim K V → K → Option K
+  locked_by (plan.To_show form) at = None
+  locked_by (plan.To_load sought) at = None
+  locked_by (plan.To_own sought) at = None
+  locked_by (plan.To_insert key value) at = None
+  locked_by (plan.To_compute compute) at = None
+  locked_by (plan.To_evict key stamp cause) at = Some at
+
 module _ {K V E : Type 0} where
   -- the key that the plan is to write or to take out, to look up for that, or to tell the listener
   -- of
   abbrev pub locked_key : List (Item K V E) → Option K
-  locked_key (plan.Get (plan.To_evict key stamp cause) at ∷ rest) = Some at
-  locked_key (plan.Holds key stamp cause there stored ∷ rest) = Some key
+  locked_key [] = None
+  locked_key (plan.Drain ∷ rest) = None
+  locked_key (plan.Ended notice ∷ rest) = None
+  locked_key (plan.Post held ∷ rest) = None
+  locked_key (plan.Turn ∷ rest) = None
+  locked_key (plan.Apply ∷ rest) = None
+  locked_key (plan.End ∷ rest) = None
+  locked_key (plan.Get aim at ∷ rest) = locked_by aim at
+  locked_key (plan.Judge aim key stored ∷ rest) = None
+  locked_key (plan.Own sought ∷ rest) = None
+  locked_key (plan.Read sought ∷ rest) = None
+  locked_key (plan.Settle with ∷ rest) = None
+  locked_key (plan.Ask load ∷ rest) = None
+  locked_key (plan.Told load ∷ rest) = None
+  locked_key (plan.Own_key compute ∷ rest) = None
+  locked_key (plan.Own_alone key ∷ rest) = None
+  locked_key (plan.Read_key compute ∷ rest) = None
+  locked_key (plan.Ask_op compute found ∷ rest) = None
+  locked_key (plan.Told_op compute found ∷ rest) = None
+  locked_key (plan.Holds key stamp cause there found ∷ rest) = Some key
+  locked_key (plan.Lock key ∷ rest) = None
+  locked_key (plan.Unlock wrote ∷ rest) = None
+  locked_key (plan.Notice key old cause upsert ∷ rest) = Some key
+  locked_key (plan.Heard ∷ rest) = None
   locked_key (plan.Moment change ∷ rest) = Some (changed_key change)
   locked_key (plan.Write key value moment ∷ rest) = Some key
   locked_key (plan.Out removal key ∷ rest) = Some key
-  locked_key (plan.Notice key old cause upsert ∷ rest) = Some key
-  locked_key _ = None
+  locked_key (plan.Idle ∷ rest) = None
+  locked_key (plan.Reply answer ∷ rest) = None
 
 -- in every reached state under a listener a call holds the lock of the key that it is to write or
 -- to take out, to look up for that, or to tell of

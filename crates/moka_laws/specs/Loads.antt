@@ -50,7 +50,14 @@ pub record Says {K V E : Type 0} (with : Settled V E) (reply : Turn K V E) : Typ
 abbrev pub is_computed : {K V E : Type 0} → Answer K V E → Bool
 is_computed (answer.Computed done) = true
 is_computed (answer.ComputeErr error) = true
-is_computed _ = false
+is_computed answer.Done = false
+is_computed (answer.Found found) = false
+is_computed (answer.Loaded value fresh) = false
+is_computed answer.Nothing = false
+is_computed (answer.InitErr error) = false
+is_computed answer.RetriesExhausted = false
+is_computed answer.Evicted = false
+is_computed answer.Kept = false
 
 -- the reply answers as a compute does that ended so: for those that wait, with nothing
 pub record SaysComputed {K V E : Type 0} (with : Settled V E) (reply : Turn K V E) : Type 0 where
@@ -202,8 +209,35 @@ is_aborted settled.Aborted = true
 module _ {K V E : Type 0} where
   -- the plan reads first how its owner ended
   abbrev pub is_reading : List (Item K V E) → Bool
+  is_reading [] = false
+  is_reading (plan.Drain ∷ rest) = false
+  is_reading (plan.Ended notice ∷ rest) = false
+  is_reading (plan.Post held ∷ rest) = false
+  is_reading (plan.Turn ∷ rest) = false
+  is_reading (plan.Apply ∷ rest) = false
+  is_reading (plan.End ∷ rest) = false
+  is_reading (plan.Get aim key ∷ rest) = false
+  is_reading (plan.Judge aim key stored ∷ rest) = false
+  is_reading (plan.Own sought ∷ rest) = false
   is_reading (plan.Read sought ∷ rest) = true
-  is_reading _ = false
+  is_reading (plan.Settle with ∷ rest) = false
+  is_reading (plan.Ask load ∷ rest) = false
+  is_reading (plan.Told load ∷ rest) = false
+  is_reading (plan.Own_key compute ∷ rest) = false
+  is_reading (plan.Own_alone key ∷ rest) = false
+  is_reading (plan.Read_key compute ∷ rest) = false
+  is_reading (plan.Ask_op compute found ∷ rest) = false
+  is_reading (plan.Told_op compute found ∷ rest) = false
+  is_reading (plan.Holds key stamp cause there found ∷ rest) = false
+  is_reading (plan.Lock key ∷ rest) = false
+  is_reading (plan.Unlock wrote ∷ rest) = false
+  is_reading (plan.Notice key old cause upsert ∷ rest) = false
+  is_reading (plan.Heard ∷ rest) = false
+  is_reading (plan.Moment change ∷ rest) = false
+  is_reading (plan.Write key value moment ∷ rest) = false
+  is_reading (plan.Out removal key ∷ rest) = false
+  is_reading (plan.Idle ∷ rest) = false
+  is_reading (plan.Reply answer ∷ rest) = false
 
   -- 1 where the call of this number reads with its next step that its owner was dropped
   abbrev pub reads_aborted : ℕ → State K V E → Call K V E → ℕ
@@ -212,8 +246,35 @@ module _ {K V E : Type 0} where
 
   -- 1 where the plan asks its replace test first: where it has one, and judges a record
   abbrev pub test_asked : List (Item K V E) → ℕ
+  test_asked [] = 0
+  test_asked (plan.Drain ∷ rest) = 0
+  test_asked (plan.Ended notice ∷ rest) = 0
+  test_asked (plan.Post held ∷ rest) = 0
+  test_asked (plan.Turn ∷ rest) = 0
+  test_asked (plan.Apply ∷ rest) = 0
+  test_asked (plan.End ∷ rest) = 0
+  test_asked (plan.Get aim key ∷ rest) = 0
   test_asked (plan.Judge aim key stored ∷ rest) = cond (is_some (replace_of aim)) 1 0
-  test_asked _ = 0
+  test_asked (plan.Own sought ∷ rest) = 0
+  test_asked (plan.Read sought ∷ rest) = 0
+  test_asked (plan.Settle with ∷ rest) = 0
+  test_asked (plan.Ask load ∷ rest) = 0
+  test_asked (plan.Told load ∷ rest) = 0
+  test_asked (plan.Own_key compute ∷ rest) = 0
+  test_asked (plan.Own_alone key ∷ rest) = 0
+  test_asked (plan.Read_key compute ∷ rest) = 0
+  test_asked (plan.Ask_op compute found ∷ rest) = 0
+  test_asked (plan.Told_op compute found ∷ rest) = 0
+  test_asked (plan.Holds key stamp cause there found ∷ rest) = 0
+  test_asked (plan.Lock key ∷ rest) = 0
+  test_asked (plan.Unlock wrote ∷ rest) = 0
+  test_asked (plan.Notice key old cause upsert ∷ rest) = 0
+  test_asked (plan.Heard ∷ rest) = 0
+  test_asked (plan.Moment change ∷ rest) = 0
+  test_asked (plan.Write key value moment ∷ rest) = 0
+  test_asked (plan.Out removal key ∷ rest) = 0
+  test_asked (plan.Idle ∷ rest) = 0
+  test_asked (plan.Reply answer ∷ rest) = 0
 
   -- 1 where the call asks its replace test with its next step
   abbrev pub asks_test : State K V E → Call K V E → ℕ

@@ -20,7 +20,10 @@ pub record Leads {K V E : Type 0} (eq : K → K → Bool) (s t : State K V E) : 
 abbrev pub LeavesAlone : {K V E : Type 0} → ℕ → Event K V E → Type 0
 LeavesAlone n (event.Step call) = call ≢ n
 LeavesAlone n (event.Poll call) = call ≢ n
-LeavesAlone n _ = Unit {0}
+LeavesAlone n (event.At moment) = Unit {0}
+LeavesAlone n (event.Start start) = Unit {0}
+LeavesAlone n (event.Tell call answer) = Unit {0}
+LeavesAlone n (event.Drop call) = Unit {0}
 
 -- The way from the first state to the second by steps of the live call of this number, and by
 -- events between them that leave it alone; and how often something has happened at those steps,

@@ -32,7 +32,16 @@ abbrev pub kind_loaded : {K V : Type 0} → Start K V → Option Kind
 kind_loaded (start.GetWith key replace) = Some kind.GetWith
 kind_loaded (start.Optional key) = Some kind.Optional
 kind_loaded (start.Try key) = Some kind.Try
-kind_loaded _ = None
+kind_loaded (start.Get key) = None
+kind_loaded (start.Insert key value) = None
+kind_loaded (start.OrInsert key value) = None
+kind_loaded (start.Compute key) = None
+kind_loaded (start.TryCompute key) = None
+kind_loaded (start.Upsert key) = None
+kind_loaded (start.ComputeAlone key) = None
+kind_loaded (start.Invalidate key) = None
+kind_loaded (start.Remove key) = None
+kind_loaded (start.Evict key stamp cause) = None
 
 module _ {K V E : Type 0} where
   -- what an access gave by which a call reads that its owner ended so
