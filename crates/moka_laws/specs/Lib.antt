@@ -18,3 +18,4 @@ pub mod Removals
 pub mod Computes
 pub mod Given
 pub mod Leaving
+pub mod Laws

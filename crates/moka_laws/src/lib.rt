@@ -11,6 +11,7 @@ mod computes;
 mod given;
 mod held;
 mod lawful;
+mod laws;
 mod listening;
 mod loads;
 mod missing;
@@ -35,6 +36,7 @@ pub use held::{calls_may_leave, held_are_known, writes_name_old};
 pub use lawful::{
     event_is_lawful, lawful_run_goes_on, reached_is_lawful, run_is_lawful, steps_are_lawful,
 };
+pub use laws::laws_of_reached;
 pub use listening::{
     asks_are_live, asks_are_one, keys_are_locked, locks_are_held, locks_are_one,
     notices_are_in_order, notices_are_settled, notices_tell_left, off_was_told,

@@ -1,0 +1,95 @@
+//! The laws of this crate, as one.
+
+ghost use Rattle.moka_laws.specs.Laws.{LawsOfReached};
+
+/// All laws at once: each field of the record is the law of the function of its name.
+pub fn laws_of_reached<K: Eq, V, E>()
+    ensures laws { LawsOfReached K V E K.eq }
+{
+    crate::fresh_is_reached::<K, V, E>();
+    crate::reached_by_event::<K, V, E>();
+    crate::reached_by_step::<K, V, E>();
+    crate::reached_by_steps::<K, V, E>();
+    crate::reached_by_run::<K, V, E>();
+    crate::live_was_started::<K, V, E>();
+    crate::run_goes_on::<K, V, E>();
+    crate::runs_are_ways::<K, V, E>();
+    crate::fresh_is_sound::<K, V, E>();
+    crate::visits_keep_sound::<K, V, E>();
+    crate::leaving_keeps_sound::<K, V, E>();
+    crate::deciding_keeps_sound::<K, V, E>();
+    crate::telling_keeps_sound::<K, V, E>();
+    crate::entering_keeps_sound::<K, V, E>();
+    crate::clock_keeps_sound::<K, V, E>();
+    crate::reached_is_sound::<K, V, E>();
+    crate::reached_is_lawful::<K, V, E>();
+    crate::steps_are_lawful::<K, V, E>();
+    crate::event_is_lawful::<K, V, E>();
+    crate::run_is_lawful::<K, V, E>();
+    crate::lawful_run_goes_on::<K, V, E>();
+    crate::stored_under_own_keys::<K, V, E>();
+    crate::reached_by_lawful_run::<K, V, E>();
+    crate::held_are_known::<K, V, E>();
+    crate::calls_may_leave::<K, V, E>();
+    crate::writes_name_old::<K, V, E>();
+    crate::stored_is_given::<K, V, E>();
+    crate::handed_is_given::<K, V, E>();
+    crate::stored_is_committed::<K, V, E>();
+    crate::answered_is_posted::<K, V, E>();
+    crate::posted_stays::<K, V, E>();
+    crate::insert_then_get::<K, V, E>();
+    crate::move_is_step::<K, V, E>();
+    crate::moves_are_steps::<K, V, E>();
+    crate::polled_is_poll::<K, V, E>();
+    crate::calls_are_safe::<K, V, E>();
+    crate::live_calls_go_on::<K, V, E>();
+    crate::waits_by_cause::<K, V, E>();
+    crate::turn_is_held::<K, V, E>();
+    crate::waiters_have_owners::<K, V, E>();
+    crate::missing_can_come::<K, V, E>();
+    crate::logs_have_room::<K, V, E>();
+    crate::steps_are_bounded::<K, V, E>();
+    crate::step_events_are_bounded::<K, V, E>();
+    crate::readers_are_counted::<K, V, E>();
+    crate::nothing_unread_is_kept::<K, V, E>();
+    crate::waiters_answer_settled::<K, V, E>();
+    crate::owners_answer_settled::<K, V, E>();
+    crate::nothing_by_cause::<K, V, E>();
+    crate::error_by_cause::<K, V, E>();
+    crate::exhausted_at_last::<K, V, E>();
+    crate::own_ends_are_told::<K, V, E>();
+    crate::opened_by_owners::<K, V, E>();
+    crate::aborts_are_counted::<K, V, E>();
+    crate::tests_are_two::<K, V, E>();
+    crate::settlements_fit::<K, V, E>();
+    crate::answers_fit::<K, V, E>();
+    crate::shapes_fit::<K, V, E>();
+    crate::computes_are_one::<K, V, E>();
+    crate::acting_computes_own::<K, V, E>();
+    crate::one_compute_acts::<K, V, E>();
+    crate::owned_until_settled::<K, V, E>();
+    crate::waits_are_apart::<K, V, E>();
+    crate::alone_waits_for_nobody::<K, V, E>();
+    crate::asks_carry_found::<K, V, E>();
+    crate::nops_change_nothing::<K, V, E>();
+    crate::nops_answer_asked::<K, V, E>();
+    crate::computes_answer_told::<K, V, E>();
+    crate::disabled_stores_nothing::<K, V, E>();
+    crate::places_come_back::<K, V, E>();
+    crate::removals_answer::<K, V, E>();
+    crate::remove_answers_taken::<K, V, E>();
+    crate::evicted_is_out::<K, V, E>();
+    crate::kept_by_cause::<K, V, E>();
+    crate::missed_by_cause::<K, V, E>();
+    crate::chosen_stands::<K, V, E>();
+    crate::stamps_are_one::<K, V, E>();
+    crate::notices_are_settled::<K, V, E>();
+    crate::locks_are_held::<K, V, E>();
+    crate::keys_are_locked::<K, V, E>();
+    crate::locks_are_one::<K, V, E>();
+    crate::notices_are_in_order::<K, V, E>();
+    crate::asks_are_one::<K, V, E>();
+    crate::notices_tell_left::<K, V, E>();
+    crate::asks_are_live::<K, V, E>();
+    crate::off_was_told::<K, V, E>();
+}
