@@ -7,8 +7,10 @@ pub fn logs_have_room<K: Eq, V, E>()
     ensures room { LogsHaveRoom K V E K.eq }
 {}
 
-/// Cites the law that from a reached state on fewer steps of one call, one after the other, leave
-/// it going than the bound says.
+/// From a reached state on, a call that is stepped alone replies other than Going after fewer steps
+/// than `64 * (4 + 128 + 3 * peak + owed + logged)`. There `peak` is the most keys that were ever
+/// stored, and the other two count the writes that are owed and logged as the first of these steps
+/// is made.
 pub fn steps_are_bounded<K: Eq, V, E>()
     ensures bounded { StepsAreBounded K V E K.eq }
 {}
