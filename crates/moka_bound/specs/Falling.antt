@@ -21,7 +21,8 @@ module _ {K V E : Type 0} where
     pub size : work.size ≡ w.desk.size
     pub ended : work.ended ≡ is_some (settlement_for w.desk n)
 
-  -- by how much an access that gave this may raise what a later operation may need
+  -- by how much an access that gave this may raise what a later operation may need: only one that
+  -- may add a key does
   abbrev pub raised : Access K V E → Got K V E → ℕ
   raised (step.On_table (op.InsertOrModify key stored)) (got.Table (table.Decided answer)) = growth
   raised (step.On_table (op.InsertIfAbsent key stored)) (got.Table (table.Decided answer)) = growth

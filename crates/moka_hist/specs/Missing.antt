@@ -8,7 +8,8 @@ use Rattle.moka_hist.specs.Visits.{is_free_for, is_running, is_unlocked_for, set
 module _ {K V E : Type 0} where
   -- what the item needs is missing: the turn or the key's lock, which another call has; how the
   -- owner ended, which it has not; the answer to the own ask, which is open; how the listener
-  -- answered the own notice or that of an owed write, which it still hears
+  -- answered the own notice or that of an owed write, which it still hears. No other item can miss
+  -- what it needs.
   abbrev pub IsMissing : DeskPart K V E → ℕ → Item K V E → Type 0
   IsMissing w n plan.Turn = is_free_for w n ≡ false
   IsMissing w n (plan.Read sought) = IsNone (settlement_for w n)

@@ -26,7 +26,7 @@ module _ {K V E : Type 0} where
   WriteAt s place.Logged write = Contains s.world.desk.log write
   WriteAt s place.Applied write = Contains s.world.desk.applied write
 
-  -- the plan is about to open its notice
+  -- the plan is about to open its notice: that item alone does
   abbrev pub OpensNotice : List (Item K V E) → Type 0
   OpensNotice (plan.Notice key old cause upsert ∷ rest) = Unit {0}
   OpensNotice _ = ⊥
@@ -70,7 +70,8 @@ module _ {K V E : Type 0} where
     pub logged : (w : Write) → WriteAt s place.Logged w ⊎ WriteAt s place.Applied w →
         is_running s.world.desk (number_of w) ≢ true
 
-  -- the plan is past its locking and before its freeing, where a listener is set
+  -- the plan is past its locking and before its freeing, where a listener is set: these items alone
+  -- stand there
   abbrev pub IsUnderLock : List (Item K V E) → Type 0
   IsUnderLock (plan.Moment change ∷ rest) = Unit {0}
   IsUnderLock (plan.Write key value moment ∷ rest) = Unit {0}

@@ -39,7 +39,7 @@ module _ {K V E : Type 0} where
     pub once_logged : times number (map number_of s.world.desk.log) ≤ 1
     pub once_applied : times number (map number_of s.world.desk.applied) ≤ 1
 
-  -- the plan waits for the answer to an ask of the load
+  -- the plan waits for the answer to an ask of the load: these two items alone do
   abbrev pub AsksFor : List (Item K V E) → Load K → Type 0
   AsksFor (plan.Told asked ∷ []) load = load ≡ asked
   AsksFor (plan.Told_op compute found ∷ []) load =

@@ -104,7 +104,7 @@ module _ {K V E : Type 0} where
   want_for true (On_table operation) = want.Table
   want_for begun (On_desk made) = want.Desk made
 
-  -- how a call goes on after a step of its table operation
+  -- how a call goes on after a step of its table operation; no other item has one
   abbrev pub after_table : ℕ → Call K V E → Item K V E → List (Item K V E) → TableTurn K V →
       Next K V E
   after_table n c (plan.Get aim key) rest turn = after_get c aim turn

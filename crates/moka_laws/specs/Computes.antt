@@ -78,7 +78,7 @@ OneComputeActs K V E eq =
     Step eq s m reply t → Acts s reply t → m ≡ n
 
 module _ {K V E : Type 0} where
-  -- the plan settles next
+  -- the plan settles next: that item alone does
   abbrev pub IsSettling : List (Item K V E) → Type 0
   IsSettling (plan.Settle with ∷ rest) = Unit {0}
   IsSettling _ = ⊥
@@ -227,7 +227,8 @@ out_answer key None = unchanged key None
 out_answer key (Some pair) = removed_value key pair.1.value
 
 -- What a compute answers that asked with the pair and was told this. A nop answers what it was
--- asked with; whether a put replaced goes by that too; and a remove answers what the table had.
+-- asked with; whether a put replaced goes by that too; and a remove answers what the table had. No
+-- ask of a compute takes any other answer.
 abbrev pub SaysTold : {K V E : Type 0} → (K → K → Bool) → State K V E → ℕ → K → Option (K × V) →
     Told V E → Answer K V E → Type 0
 SaysTold eq s n key pair (told.Op op.Nop) a = a ≡ unchanged key pair

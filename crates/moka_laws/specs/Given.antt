@@ -85,7 +85,8 @@ asked_key (plan.Reply answer ∷ rest) = None
 
 module _ {K V E : Type 0} where
   -- The event gives the cache the value for the key: it starts a call with both, or answers what a
-  -- call of that key has asked. One that is refused gives nothing.
+  -- call of that key has asked. One that is refused gives nothing, and no other event
+  -- gives anything.
   abbrev pub Gives : State K V E → Event K V E → Reply K V E → K → V → Type 0
   Gives s (event.Start start) (reply.Call n) key value = brought start ≡ Some (key, value)
   Gives s (event.Tell n answer) reply.Told key value =

@@ -14,7 +14,7 @@ use Rattle.moka_hist.specs.declared.loads.Load.{Load}
 use Rattle.moka_hist.specs.declared.records.Mode.TheVariants as mode
 
 module _ {K V E : Type 0} where
-  -- the plan applies the log, and then ends the turn
+  -- the plan applies the log, and then ends the turn, and nothing else
   abbrev pub IsApplying : List (Item K V E) → Type 0
   IsApplying (plan.Apply ∷ rest) = IsApplying rest
   IsApplying (plan.End ∷ rest) = Unit {0}
@@ -43,7 +43,7 @@ module _ {K V E : Type 0} where
     pub joined : s.world.desk.joined n ≡ Some owner
     pub served : OwnsAlike eq s owner load ⊎ IsSome (s.world.desk.settled owner)
 
-  -- the load whose owner the item waits for
+  -- the load whose owner the item waits for; these two items alone wait for one
   abbrev pub waits_for : Item K V E → Option (Load K)
   waits_for (plan.Read sought) = Some sought.load
   waits_for (plan.Read_key compute) = Some (record { key = compute.key; kind = kind.Compute })
@@ -52,7 +52,8 @@ module _ {K V E : Type 0} where
   -- What the item may miss can still come: from the call that has the turn, which applies the log;
   -- from the owner, which owns an equal load; from the call that holds the key's lock, which is
   -- live and frees it; as the answer to the own ask, which is open; or as the listener's answer to
-  -- the own notice or to that of an owed write, which it would take.
+  -- the own notice or to that of an owed write, which it would take. Other
+  -- items miss nothing.
   abbrev pub CanCome : (K → K → Bool) → State K V E → ℕ → Item K V E → Type 0
   CanCome eq s n plan.Turn = (holder : ℕ) × (s.world.desk.turn ≡ Some holder) × AppliesLog s holder
   CanCome eq s n (plan.Read sought) =

@@ -157,14 +157,15 @@ EvictedIsOut K V E eq =
 
 module _ {K V E : Type 0} where
   -- nothing is left but to answer that the record was kept: once the lock is freed, or the clock is
-  -- read
+  -- read; such a plan is one of these two
   abbrev pub IsToKeep : List (Item K V E) → Type 0
   IsToKeep (plan.Unlock false ∷ plan.Reply answer.Kept ∷ []) = Unit {0}
   IsToKeep (plan.Idle ∷ plan.Reply answer.Kept ∷ []) = Unit {0}
   IsToKeep _ = ⊥
 
   -- why the record is kept: at the look, and where it was to be taken out, the record that was
-  -- chosen stands under the key no longer; where it was judged the cause didn't hold
+  -- chosen stands under the key no longer; where it was judged the cause didn't hold. No other item
+  -- decides that.
   abbrev pub IsKept : State K V E → Item K V E → Type 0
   IsKept s (plan.Get (plan.To_evict key stamp cause) at) = StandsAs s at stamp → ⊥
   IsKept s (plan.Holds key stamp cause there found) =
