@@ -16,7 +16,10 @@ pub enum Ask<K, V> {
 /// What a call answers in the end.
 #[derive(Clone, PartialEq, Debug, Drop)]
 pub enum Answer<K, V, E> {
+    /// The call has done what it was started for, and has nothing to tell: an insert has stored its
+    /// value, and after an invalidation no record stands that it was to take out.
     Done,
+    /// What a look or a removal found under the key, if anything.
     Found(Option<V>),
     /// The value of a load; `fresh` where this call's own initializer gave it.
     Loaded { value: V, fresh: bool },

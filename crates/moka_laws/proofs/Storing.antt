@@ -29,7 +29,7 @@ use Rattle.moka_hist.specs.declared.replies.Answer.TheVariants as reply
 use Rattle.moka_hist.specs.declared.visits.Settled.{Settled}
 use Rattle.moka_hist.specs.declared.visits.Settled.TheVariants as settled
 use Rattle.moka_hist.specs.declared.visits.Found.TheVariants as found
-use Rattle.moka_laws.specs.Answered.{has_stored, StoredIsCommitted, says_stored}
+use Rattle.moka_laws.specs.Answered.{StoredIsCommitted, has_put, is_done, is_fresh, says_stored}
 use Rattle.moka_laws.proofs.Counting.{differ, none_some, some_same, put_cases, put_here, put_there, same_number}
 use Rattle.moka_laws.proofs.Weights.{weigh, weigh_call}
 use Rattle.moka_laws.proofs.Balance.{times_last}
@@ -38,7 +38,7 @@ use Rattle.moka_laws.proofs.Owning.{plan_left}
 use Rattle.moka_laws.proofs.Roles.{IsLast}
 use Rattle.moka_laws.proofs.Safe.{IsWell, in_well, well_kept}
 use Rattle.moka_laws.proofs.Rules.{shown_next, put_plans, loaded_plans_by, put_plans, read_key_next, told_op_next_by}
-use Rattle.moka_hist.specs.Entries.{unchanged, put_answer}
+use Rattle.moka_hist.specs.Entries.{unchanged, put_answer, removed_value}
 use Rattle.moka_laws.proofs.Starting.{begins_so, from_start}
 use Rattle.moka_laws.proofs.Steady.{rules_stable, step_calls, step_commits, step_last, step_rules}
 use Rattle.moka_laws.proofs.Kept.{IsStable}
@@ -47,29 +47,45 @@ use Rattle.moka_laws.proofs.Outcomes.{Outcomes, outcomes, passes_on}
 use Rattle.moka_hist.specs.declared.loads.Compute.{Compute}
 use Rattle.moka_hist.specs.Computing.{after_told_op, after_read_key}
 
--- 1 where the answer of an insert, a load or a compute says that a value was stored
-abbrev stored : {K V E : Type 0} → Answer K V E → ℕ
-stored reply.Done = 1
-stored (reply.Loaded value fresh) = cond fresh 1 0
-stored (reply.Computed done) = cond (has_stored done) 1 0
-stored _ = 0
+-- 1 where the answer of a call that was started for this says that it has stored a value
+abbrev stored : {K V E : Type 0} → Start K V → Answer K V E → ℕ
+stored begun a = cond (says_stored begun a) 1 0
 
-counts : (fresh : Bool) → fresh ≡ true → cond {A = ℕ} fresh 1 0 ≡ 1
-counts fresh e = ap (λ b. cond {A = ℕ} b 1 0) e
+counts : (says : Bool) → says ≡ true → cond {A = ℕ} says 1 0 ≡ 1
+counts says e = ap (λ b. cond {A = ℕ} b 1 0) e
+
+at_most_once : (says : Bool) → cond {A = ℕ} says 1 0 ≤ 1
+at_most_once true = omega arith
+at_most_once false = omega arith
+
+stores_once : {K V E : Type 0} (begun : Start K V) (a : Answer K V E) → stored begun a ≤ 1
+stores_once begun a = at_most_once (says_stored begun a)
+
+-- an answer that no call gives which has stored a value counts nothing, whatever its call
+stores_none : {K V E : Type 0} (begun : Start K V) (a : Answer K V E) → is_done a ≡ false →
+    is_fresh a ≡ false → has_put a ≡ false → stored begun a ≡ 0
+stores_none begun a done fresh put = ap (λ b. cond {A = ℕ} b 1 0) (by begun)
+  where
+    by : (begun : Start _ _) → says_stored begun a ≡ false
+    by (start.Insert key value) = done
+    by (start.GetWith key replace) = fresh
+    by (start.Optional key) = fresh
+    by (start.Try key) = fresh
+    by (start.OrInsert key value) = fresh
+    by (start.Compute key) = put
+    by (start.TryCompute key) = put
+    by (start.ComputeAlone key) = put
+    by (start.Upsert key) = put
+    by _ = refl
 
 same_answer : {K V E : Type 0} (a b : Answer K V E) → ◌≡◌ {A = Turn K V E} (turns.Answer a)
     (turns.Answer b) → a ≡ b
 same_answer a b e = cc
 
-unchanged_stores : {K V : Type 0} (E : Type 0) (key : K) (pair : Option (K × V)) →
-    stored (unchanged {E = E} key pair) ≡ 0
-unchanged_stores E key None = refl
-unchanged_stores E key (Some pair) = refl
-
-put_stores : {K V : Type 0} (E : Type 0) (key : K) (pair : Option (K × V)) (value : V) →
-    stored (put_answer {E = E} key pair value) ≡ 1
-put_stores E key None value = refl
-put_stores E key (Some pair) value = refl
+unchanged_stores : {K V : Type 0} (E : Type 0) (begun : Start K V) (key : K)
+    (pair : Option (K × V)) → stored begun (unchanged {E = E} key pair) ≡ 0
+unchanged_stores E begun key None = stores_none begun _ refl refl refl
+unchanged_stores E begun key (Some pair) = stores_none begun _ refl refl refl
 
 -- 1 where a call was started to take a record out so
 abbrev for_out : {K : Type 0} → Removal K → ℕ
@@ -77,15 +93,11 @@ for_out (plan.To_remove_as_told key) = 0
 for_out _ = 1
 
 module _ {K V E : Type 0} where
-  -- the item makes a write; it answers that a value was stored
+  -- the item makes a write
   abbrev makes : Item K V E → ℕ
   makes (plan.Moment (plan.To_store key value)) = 1
   makes (plan.Write key value moment) = 1
   makes _ = 0
-
-  abbrev says : Item K V E → ℕ
-  says (plan.Reply a) = stored a
-  says _ = 0
 
   -- the item takes a record out, or is to, for which the call was started
   abbrev takes : Item K V E → ℕ
@@ -95,6 +107,12 @@ module _ {K V E : Type 0} where
   takes (plan.Judge (plan.To_evict key stamp cause) at found) = 1
   takes (plan.Holds key stamp cause there found) = 1
   takes _ = 0
+
+module _ {K V E : Type 0} (begun : Start K V) where
+  -- the item answers that a value was stored
+  abbrev says : Item K V E → ℕ
+  says (plan.Reply a) = stored begun a
+  says _ = 0
 
   -- the plan, once so often was committed: it says that a value was stored only where it has made a
   -- write or is to make one, and it takes nothing out
@@ -107,7 +125,7 @@ module _ {K V E : Type 0} where
   record Says (committed : ℕ) (next : Next K V E) : Type 0 where
     left : weigh_call says next.left ≤ weigh_call makes next.left + committed
     plain : weigh_call takes next.left ≡ 0
-    now : (a : Answer K V E) → next.turn ≡ turns.Answer a → stored a ≤ committed
+    now : (a : Answer K V E) → next.turn ≡ turns.Answer a → stored begun a ≤ committed
 
   module _ (k : ℕ) where
     goes_says : (c : Call K V E) (rest : List (Item K V E)) → weigh says rest ≤ weigh makes rest + k →
@@ -116,7 +134,7 @@ module _ {K V E : Type 0} where
       left = omega arith;
       plain = refl;
       now = λ b e. omega
-          (arith, h, ap stored (same_answer a b e));
+          (arith, h, ap (stored begun) (same_answer a b e));
     }
     goes_says c (plan.Reply a ∷ x ∷ rest) h t = record { left = h; plain = t; now = λ b e. cc }
     goes_says c [] h t = record { left = h; plain = t; now = λ b e. cc }
@@ -131,32 +149,35 @@ module _ {K V E : Type 0} where
       now = λ b e. absurd (going b e);
     }
 
-    misses_says : (c : Call K V E) (aim : Aim K V) (key : K) → takes (plan.Get aim key) ≡ 0 → Says k
+    misses_says : (c : Call K V E) (aim : Aim K V) (key : K) → takes {E = E} (plan.Get aim key) ≡ 0 → Says k
         (misses c aim)
     misses_says c (plan.To_show form) key t = record {
       left = omega arith;
       plain = refl;
       now = λ b e. omega (
         arith,
-        ap stored (same_answer (shown form None) b e),
-        shown_next {V = V} {E = E} (λ a. stored a ≡ 0) form None refl (λ under. refl),
+        ap (stored begun) (same_answer (shown form None) b e),
+        shown_next {V = V} {E = E} (λ a. stored begun a ≡ 0) form None
+        (stores_none {E = E} begun (reply.Found None) refl refl refl)
+        (λ under. unchanged_stores E begun under None),
       );
     }
     misses_says c (plan.To_insert under new) key t =
+        let once = stores_once {E = E} begun (reply.Loaded new true) in
         put_plans (λ q. Says k (goes c q)) c.rules under new _
-        (record { left = omega arith; plain = refl; now = λ b e. cc })
-        (record { left = omega arith; plain = refl; now = λ b e. cc })
+        (record { left = omega (arith, once); plain = refl; now = λ b e. cc })
+        (record { left = omega (arith, once); plain = refl; now = λ b e. cc })
     misses_says c (plan.To_evict own stamp cause) key t = absurd (omega (arith, t))
     misses_says c _ key t = record
         { left = omega arith; plain = refl; now = λ b e. cc }
 
-    finds_says : (c : Call K V E) (aim : Aim K V) (key there : K) (found : Stored V) → takes
+    finds_says : (c : Call K V E) (aim : Aim K V) (key there : K) (found : Stored V) → takes {E = E}
         (plan.Get aim key) ≡ 0 → Says k (finds_pair c aim there found)
     finds_says c (plan.To_evict own stamp cause) key there found t = absurd (omega (arith, t))
     finds_says c _ key there found t = record
         { left = omega arith; plain = refl; now = λ b e. cc }
 
-    hits_says : (c : Call K V E) (aim : Aim K V) (key : K) (found : Stored V) → takes
+    hits_says : (c : Call K V E) (aim : Aim K V) (key : K) (found : Stored V) → takes {E = E}
         (plan.Judge aim key found) ≡ 0 → Says k (hits c aim key found.value)
     hits_says c (plan.To_show form) key found t =
         record {
@@ -164,12 +185,15 @@ module _ {K V E : Type 0} where
           plain = refl;
           now = λ b e. omega (
             arith,
-            ap stored (same_answer (shown form (Some (key, found.value))) b e),
-            shown_next {V = V} {E = E} (λ a. stored a ≡ 0) form (Some (key, found.value)) refl (λ under. refl),
+            ap (stored begun) (same_answer (shown form (Some (key, found.value))) b e),
+            shown_next {V = V} {E = E} (λ a. stored begun a ≡ 0) form (Some (key, found.value))
+            (stores_none {E = E} begun (reply.Found (Some found.value)) refl refl refl)
+            (λ under. unchanged_stores E begun under (Some (key, found.value))),
           );
         }
-    hits_says c (plan.To_own sought) key found t = record
-        { left = omega arith; plain = refl; now = λ b e. cc }
+    hits_says c (plan.To_own sought) key found t =
+        let none = stores_none {E = E} begun (reply.Loaded found.value false) refl refl refl in
+        record { left = omega (arith, none); plain = refl; now = λ b e. cc }
     hits_says c (plan.To_compute compute) key found t = record
         { left = omega arith; plain = refl; now = λ b e. cc }
     hits_says c (plan.To_evict own stamp cause) key found t = absurd (omega (arith, t))
@@ -178,7 +202,7 @@ module _ {K V E : Type 0} where
           left = omega arith;
           plain = refl;
           now = λ b e. omega
-              (arith, ap stored (same_answer (reply.Loaded found.value false) b e));
+              (arith, ap (stored begun) (same_answer (reply.Loaded found.value false) b e), stores_none {E = E} begun (reply.Loaded found.value false) refl refl refl);
         }
 
     -- a record that is not seen by its replace test is loaded
@@ -197,21 +221,21 @@ module _ {K V E : Type 0} where
           left = omega arith;
           plain = refl;
           now = λ b e. omega
-              (arith, ap stored (same_answer (reply.Loaded value false) b e));
+              (arith, ap (stored begun) (same_answer (reply.Loaded value false) b e), stores_none {E = E} begun (reply.Loaded value false) refl refl refl);
         }
     read_says c sought (settled.Err error) p =
         record {
           left = omega arith;
           plain = refl;
           now = λ b e. omega
-              (arith, ap stored (same_answer (reply.InitErr error) b e));
+              (arith, ap (stored begun) (same_answer (reply.InitErr error) b e), stores_none {E = E} begun (reply.InitErr error) refl refl refl);
         }
     read_says c sought settled.Nothing p =
         record {
           left = omega arith;
           plain = refl;
           now = λ b e. omega
-              (arith, ap stored (same_answer reply.Nothing b e));
+              (arith, ap (stored begun) (same_answer reply.Nothing b e), stores_none {E = E} begun reply.Nothing refl refl refl);
         }
     read_says c sought settled.NotYet p = record { left = p.says; plain = p.plain; now = λ b e. cc }
     read_says c sought settled.Aborted p = by (c.aborts + 1 == retries) refl
@@ -221,7 +245,7 @@ module _ {K V E : Type 0} where
           left = omega arith;
           plain = refl;
           now = λ b e. omega
-              (arith, ap stored (same_answer reply.RetriesExhausted b e));
+              (arith, ap (stored begun) (same_answer reply.RetriesExhausted b e), stores_none {E = E} begun reply.RetriesExhausted refl refl refl);
         })
         by false e = rw e (record { left = omega arith; plain = refl; now = λ b e. cc })
 
@@ -236,14 +260,17 @@ module _ {K V E : Type 0} where
         Stores k c.plan →
         Says k (after_told c load (found.TakeTold (Some given)))
     told_says c load (answer.Value value) able p =
+        let once = stores_once {E = E} begun (reply.Loaded value true) in
         loaded_plans_by (λ q. Says k (goes c q)) c.rules load value
         (λ disabled. absurd (false≢true (sym able ∙ disabled)))
-        (λ e off. record { left = omega arith; plain = refl; now = λ b e. cc })
-        (λ e on. record { left = omega arith; plain = refl; now = λ b e. cc })
+        (λ e off. record { left = omega (arith, once); plain = refl; now = λ b e. cc })
+        (λ e on. record { left = omega (arith, once); plain = refl; now = λ b e. cc })
     told_says c load answer.Nothing able p =
-        record { left = omega arith; plain = refl; now = λ b e. cc }
+        let none = stores_none {E = E} begun reply.Nothing refl refl refl in
+        record { left = omega (arith, none); plain = refl; now = λ b e. cc }
     told_says c load (answer.Err error) able p =
-        record { left = omega arith; plain = refl; now = λ b e. cc }
+        let none = stores_none {E = E} begun (reply.InitErr error) refl refl refl in
+        record { left = omega (arith, none); plain = refl; now = λ b e. cc }
     told_says c load _ able p = record { left = p.says; plain = p.plain; now = λ b e. cc }
 
     told_op_says : (c : Call K V E) (compute : Compute K) (pair : Option (K × V))
@@ -251,19 +278,23 @@ module _ {K V E : Type 0} where
         Says k (after_told_op c compute pair (found.TakeTold (Some given)))
     told_op_says c compute pair given able p = told_op_next_by (Says k) c compute pair given
         (record {
-          left = omega (arith, unchanged_stores E compute.key pair);
+          left = omega (arith, unchanged_stores E begun compute.key pair);
           plain = refl;
           now = λ b e. cc;
         })
-        (λ error f. record { left = omega arith; plain = refl; now = λ b e. cc })
+        (λ error f. record {
+          left = omega (arith, stores_none {E = E} begun (reply.ComputeErr error) refl refl refl);
+          plain = refl;
+          now = λ b e. cc;
+        })
         (λ value disabled. absurd (false≢true (sym able ∙ disabled)))
         (λ value yes off. record {
-          left = omega (arith, put_stores E compute.key pair value);
+          left = omega (arith, stores_once begun (put_answer {E = E} compute.key pair value));
           plain = refl;
           now = λ b e. cc;
         })
         (λ value yes on. record {
-          left = omega (arith, put_stores E compute.key pair value);
+          left = omega (arith, stores_once begun (put_answer {E = E} compute.key pair value));
           plain = refl;
           now = λ b e. cc;
         })
@@ -333,14 +364,14 @@ module _ {K V E : Type 0} where
       ),
       λ owner e. record { left = omega arith; plain = refl; now = λ b e. cc },
     )
-    on_item (plan.Own_alone key) rest l p q = (
+    on_item (plan.Own_alone key) rest l p q = let none = unchanged_stores E begun key None in (
       (
         (λ yes e. record { left = omega arith; plain = refl; now = λ b e. cc }),
         λ no e. record { left = omega arith; plain = refl; now = λ b e. cc },
       ),
       λ owner e. (
-        (λ able. record { left = omega arith; plain = refl; now = λ b e. cc }),
-        λ not. record { left = omega arith; plain = refl; now = λ b e. cc },
+        (λ able. record { left = omega (arith, none); plain = refl; now = λ b e. cc }),
+        λ not. record { left = omega (arith, none); plain = refl; now = λ b e. cc },
       ),
     )
     on_item (plan.Read sought) rest l p q = (
@@ -393,11 +424,25 @@ module _ {K V E : Type 0} where
         one = omega (arith, times_last n n w.table.committed, ap (λ b. cond {A = ℕ} b 1 0) (same_number n))
     on_item (plan.Out (plan.To_remove_as_told own) key) rest l p q = (
       (λ more. record { left = p.says; plain = p.plain; now = λ b e. cc }),
-      (λ off none. record { left = omega arith; plain = refl; now = λ b e. cc }),
-      (λ on none. record { left = omega arith; plain = refl; now = λ b e. cc }),
-      (λ k old off some. record { left = omega arith; plain = refl; now = λ b e. cc }),
-      λ k old on some. record { left = omega arith; plain = refl; now = λ b e. cc },
+      (λ off none. record { left = omega (arith, missed); plain = refl; now = λ b e. cc }),
+      (λ on none. record { left = omega (arith, missed); plain = refl; now = λ b e. cc }),
+      (λ k old off some. record {
+        left = omega (arith, taken old);
+        plain = refl;
+        now = λ b e. cc;
+      }),
+      λ k old on some. record {
+        left = omega (arith, taken old);
+        plain = refl;
+        now = λ b e. cc;
+      },
     )
+      where
+        missed : stored begun (unchanged {E = E} own None) ≡ 0
+        missed = unchanged_stores E begun own None
+
+        taken : (old : Stored V) → stored begun (removed_value {E = E} own old.value) ≡ 0
+        taken old = stores_none {E = E} begun (removed_value own old.value) refl refl refl
     on_item (plan.Out plan.To_invalidate key) rest l p q = absurd (omega (arith, q.plain))
     on_item (plan.Out plan.To_remove key) rest l p q = absurd (omega (arith, q.plain))
     on_item (plan.Out (plan.To_evict_chosen stamp cause) key) rest l p q =
@@ -409,7 +454,7 @@ module _ {K V E : Type 0} where
           left = omega arith;
           plain = refl;
           now = λ b e. omega
-              (arith, alone, ap stored (same_answer a b e));
+              (arith, alone, ap (stored begun) (same_answer a b e));
         }
     on_item item rest l p q = passes_on eq After w n c item rest tt
         (λ d. goes_says _ c rest (omega (arith, q.says)) (omega (arith, q.plain)))
@@ -421,13 +466,14 @@ module _ {K V E : Type 0} where
     on_plan (item ∷ rest) e l p = outcomes eq After w n c item rest
         (on_item item rest (subst IsLast e l) p (subst (Stores (times n w.table.committed)) e p))
 
-module _ {K V E : Type 0} (eq : K → K → Bool) (n : ℕ) where
-  -- the call of this number, an insert or a load on a cache that is not disabled, stores a value
+module _ {K V E : Type 0} (eq : K → K → Bool) (begun : Start K V) (n : ℕ) where
+  -- the call of this number, started so on a cache that is not disabled, stores a value where it says
+  -- so
   record IsSaying (s : State K V E) : Type 0 where
     well : IsWell eq s
     able : is_disabled s.world.desk.rules ≡ false
     born : n ≤ s.world.desk.last
-    says : (c : Call K V E) → s.calls n ≡ Some c → Stores (times n s.world.table.committed) c.plan
+    says : (c : Call K V E) → s.calls n ≡ Some c → Stores begun (times n s.world.table.committed) c.plan
 
   last_of : (s : State K V E) (c : Call K V E) → IsWell eq s → s.calls n ≡ Some c → IsLast c.plan
   last_of s c well live = subst (λ v. IsLast (plan_left v)) live (well.served.fits n).last
@@ -438,15 +484,15 @@ module _ {K V E : Type 0} (eq : K → K → Bool) (n : ℕ) where
 
   -- what a step of this call leaves
   own_step : (s t : State K V E) (turn : Turn K V E) → IsSaying s → (step : Step eq s n turn t) →
-      ((c : Call K V E) → t.calls n ≡ Some c → Stores (times n t.world.table.committed) c.plan) ×
-      ((a : Answer K V E) → turn ≡ turns.Answer a → stored a ≤ times n t.world.table.committed)
+      ((c : Call K V E) → t.calls n ≡ Some c → Stores begun (times n t.world.table.committed) c.plan) ×
+      ((a : Answer K V E) → turn ≡ turns.Answer a → stored begun a ≤ times n t.world.table.committed)
   own_step s t turn i step =
-      step_cases eq (λ w next. Says (times n w.table.committed) next)
-      (λ v r. ((c : Call K V E) → v.calls n ≡ Some c → Stores
+      step_cases eq (λ w next. Says begun (times n w.table.committed) next)
+      (λ v r. ((c : Call K V E) → v.calls n ≡ Some c → Stores begun
       (times n v.world.table.committed) c.plan) ×
-      ((a : Answer K V E) → r ≡ turns.Answer a → stored a ≤
+      ((a : Answer K V E) → r ≡ turns.Answer a → stored begun a ≤
       times n v.world.table.committed)) s t n turn step
-      (on_plan eq s.world n step.call (able_call s step.call i step.live) step.call.plan refl
+      (on_plan begun eq s.world n step.call (able_call s step.call i step.live) step.call.plan refl
       (last_of s step.call i.well step.live)
       (i.says step.call step.live))
       (λ w next l. (
@@ -454,7 +500,7 @@ module _ {K V E : Type 0} (eq : K → K → Bool) (n : ℕ) where
             let is : next.left ≡ Some c = sym (put_here s.calls n next.left) ∙ live in
             record {
               says = subst
-                  (λ v. weigh_call says v ≤
+                  (λ v. weigh_call (says begun) v ≤
                   weigh_call makes v + times n w.table.committed) is l.left;
               plain = subst (λ v. weigh_call takes v ≡ 0) is l.plain;
             },
@@ -470,11 +516,11 @@ module _ {K V E : Type 0} (eq : K → K → Bool) (n : ℕ) where
     says = by (m == n) refl;
   }
     where
-      by : (b : Bool) → (m == n) ≡ b → (c : Call K V E) → t.calls n ≡ Some c → Stores
+      by : (b : Bool) → (m == n) ≡ b → (c : Call K V E) → t.calls n ≡ Some c → Stores begun
           (times n t.world.table.committed) c.plan
       by true e = (own_step s t turn i (subst (λ v. Step eq s v turn t) (eqb-true m n e) step)).0
       by false e = λ c live.
-          subst (λ v. Stores v c.plan) (sym (step_commits eq s t m n turn e step))
+          subst (λ v. Stores begun v c.plan) (sym (step_commits eq s t m n turn e step))
           (i.says c (sym (step_calls eq s t m n turn e step) ∙ live))
 
   -- another call is started
@@ -519,33 +565,35 @@ module _ {K V E : Type 0} (eq : K → K → Bool) (n : ℕ) where
       able = i.able;
       born = i.born;
       says = λ d lives. put_cases s.calls m None n (Some d)
-          (Stores (times n s.world.table.committed) d.plan) lives
+          (Stores begun (times n s.world.table.committed) d.plan) lives
           (λ here is. absurd (none_some is)) (λ there is. i.says d is);
     };
   }
 
 module _ {K V E : Type 0} (eq : K → K → Bool) where
-  load_stores : (rules : Rules) (sought : Sought K) → is_disabled rules ≡ false →
-      Stores {K = K} {V = V} {E = E} 0 (load_plan (is_disabled rules) sought)
-  load_stores rules sought able =
-      subst (λ b. Stores {K = K} {V = V} {E = E} 0 (load_plan b sought)) (sym able)
+  load_stores : (begun : Start K V) (rules : Rules) (sought : Sought K) → is_disabled rules ≡ false →
+      Stores {E = E} begun 0 (load_plan (is_disabled rules) sought)
+  load_stores begun rules sought able =
+      subst (λ b. Stores {E = E} begun 0 (load_plan b sought)) (sym able)
       (record { says = omega arith; plain = refl })
 
   -- what an insert or a load is to do on a cache that is not disabled
   fresh_stores : (rules : Rules) (s : Start K V) (a : Answer K V E) → is_disabled rules ≡ false →
-      says_stored s a ≡ true → Stores {K = K} {V = V} {E = E} 0 (plan_of rules s)
+      says_stored s a ≡ true → Stores {E = E} s 0 (plan_of rules s)
   fresh_stores rules (start.Insert key value) a able e =
-      subst (λ b. Stores {K = K} {V = V} {E = E} 0 (insert_plan b rules key value)) (sym able)
-      (put_plans (Stores {K = K} {V = V} {E = E} 0) rules key value (plan.Reply reply.Done ∷ [])
+      subst (λ b. Stores {E = E} (start.Insert key value) 0 (insert_plan b rules key value))
+      (sym able)
+      (put_plans (Stores {E = E} (start.Insert key value) 0) rules key value (plan.Reply reply.Done ∷ [])
       (record { says = omega arith; plain = refl })
       (record { says = omega arith; plain = refl }))
   fresh_stores rules (start.GetWith key replace) a able e =
-      load_stores rules (seek kind.GetWith key replace) able
+      load_stores (start.GetWith key replace) rules (seek kind.GetWith key replace) able
   fresh_stores rules (start.Optional key) a able e =
-      load_stores rules (seek kind.Optional key None) able
-  fresh_stores rules (start.Try key) a able e = load_stores rules (seek kind.Try key None) able
+      load_stores (start.Optional key) rules (seek kind.Optional key None) able
+  fresh_stores rules (start.Try key) a able e =
+      load_stores (start.Try key) rules (seek kind.Try key None) able
   fresh_stores rules (start.OrInsert key value) a able e =
-      subst (λ b. Stores {K = K} {V = V} {E = E} 0 (or_insert_plan b key value)) (sym able)
+      subst (λ b. Stores {E = E} (start.OrInsert key value) 0 (or_insert_plan b key value)) (sym able)
       (record { says = omega arith; plain = refl })
   fresh_stores rules (start.Compute key) a able e = record { says = omega arith; plain = refl }
   fresh_stores rules (start.TryCompute key) a able e = record { says = omega arith; plain = refl }
@@ -553,32 +601,14 @@ module _ {K V E : Type 0} (eq : K → K → Bool) where
   fresh_stores rules (start.Upsert key) a able e = record { says = omega arith; plain = refl }
   fresh_stores rules _ a able e = absurd (false≢true e)
 
-  -- an answer that says so counts
-  says_counts : (s : Start K V) (a : Answer K V E) → says_stored s a ≡ true → stored a ≡ 1
-  says_counts (start.Insert key value) reply.Done e = refl
-  says_counts (start.Insert key value) (reply.Loaded v fresh) e = absurd (false≢true e)
-  says_counts (start.GetWith key replace) (reply.Loaded value fresh) e = counts fresh e
-  says_counts (start.GetWith key replace) reply.Done e = absurd (false≢true e)
-  says_counts (start.Optional key) (reply.Loaded value fresh) e = counts fresh e
-  says_counts (start.Optional key) reply.Done e = absurd (false≢true e)
-  says_counts (start.Try key) (reply.Loaded value fresh) e = counts fresh e
-  says_counts (start.Try key) reply.Done e = absurd (false≢true e)
-  says_counts (start.OrInsert key own) (reply.Loaded value fresh) e = counts fresh e
-  says_counts (start.OrInsert key own) reply.Done e = absurd (false≢true e)
-  says_counts (start.Compute key) (reply.Computed done) e = counts (has_stored done) e
-  says_counts (start.TryCompute key) (reply.Computed done) e = counts (has_stored done) e
-  says_counts (start.ComputeAlone key) (reply.Computed done) e = counts (has_stored done) e
-  says_counts (start.Upsert key) (reply.Computed done) e = counts (has_stored done) e
-  says_counts _ _ e = absurd (false≢true e)
-
   pub stored_committed : StoredIsCommitted K V E eq
   stored_committed s t start n a w able step says =
-      let i : IsSaying eq n s = subst (λ v. IsSaying eq v s) (sym (begins_so eq start n s w).0)
-      (from_start eq start n s w (IsSaying eq (w.before.world.desk.last + 1))
-      (saying_stable eq (w.before.world.desk.last + 1)) begun) in
-      let enough : stored a ≤ times n t.world.table.committed =
-      (own_step eq n s t (turns.Answer a) i step).1 a refl in
-      times_contains n t.world.table.committed (omega (arith, enough, says_counts start a says))
+      let i : IsSaying eq start n s = subst (λ v. IsSaying eq start v s) (sym (begins_so eq start n s w).0)
+      (from_start eq start n s w (IsSaying eq start (w.before.world.desk.last + 1))
+      (saying_stable eq start (w.before.world.desk.last + 1)) begun) in
+      let enough : stored start a ≤ times n t.world.table.committed =
+      (own_step eq start n s t (turns.Answer a) i step).1 a refl in
+      times_contains n t.world.table.committed (omega (arith, enough, counts (says_stored start a) says))
     where
       new : ℕ
       new = w.before.world.desk.last + 1
@@ -589,7 +619,7 @@ module _ {K V E : Type 0} (eq : K → K → Bool) where
           w.before.world.desk.rules) (rules_stable eq w.before.world.desk.rules) refl)) ∙
           able
 
-      begun : IsSaying eq (w.before.world.desk.last + 1) (started w.before start)
+      begun : IsSaying eq start (w.before.world.desk.last + 1) (started w.before start)
       begun = record {
         well = (well_kept eq).start w.before start (in_well eq w.before w.reached);
         able = was_able;
@@ -598,7 +628,7 @@ module _ {K V E : Type 0} (eq : K → K → Bool) where
             let is : fresh_call w.before.world.desk.rules start ≡ c = some_same
             (sym (put_here w.before.calls (w.before.world.desk.last + 1) _) ∙ live) in
             let f = fresh_stores w.before.world.desk.rules start a was_able says in
-            subst (λ (d : Call K V E). Stores
+            subst (λ (d : Call K V E). Stores start
             (times (w.before.world.desk.last + 1) w.before.world.table.committed) d.plan) is
             (record { says = omega (arith, f.says); plain = f.plain });
       }

@@ -25,19 +25,62 @@ has_stored (done.Removed entry) = false
 has_stored (done.Unchanged entry) = false
 has_stored (done.StillNone key) = false
 
--- the answer of a call that was started for this says that it has stored a value: an insert's, a
--- load's whose own initializer gave the value, an or_insert's that found none, and a compute's
-abbrev pub says_stored : {K V E : Type 0} → Start K V → Answer K V E → Bool
-says_stored (start.Insert key value) answer.Done = true
-says_stored (start.GetWith key replace) (answer.Loaded value fresh) = fresh
-says_stored (start.Optional key) (answer.Loaded value fresh) = fresh
-says_stored (start.Try key) (answer.Loaded value fresh) = fresh
-says_stored (start.OrInsert key own) (answer.Loaded value fresh) = fresh
-says_stored (start.Compute key) (answer.Computed done) = has_stored done
-says_stored (start.TryCompute key) (answer.Computed done) = has_stored done
-says_stored (start.ComputeAlone key) (answer.Computed done) = has_stored done
-says_stored (start.Upsert key) (answer.Computed done) = has_stored done
-says_stored _ _ = false
+module _ {K V E : Type 0} where
+  -- the answer says that the call is done; that its own initializer, or it itself, gave the value;
+  -- that the compute has stored one
+  abbrev pub is_done : Answer K V E → Bool
+  is_done answer.Done = true
+  is_done (answer.Found found) = false
+  is_done (answer.Loaded value fresh) = false
+  is_done answer.Nothing = false
+  is_done (answer.InitErr error) = false
+  is_done (answer.Computed done) = false
+  is_done (answer.ComputeErr error) = false
+  is_done answer.RetriesExhausted = false
+  is_done answer.Evicted = false
+  is_done answer.Kept = false
+
+  abbrev pub is_fresh : Answer K V E → Bool
+  is_fresh answer.Done = false
+  is_fresh (answer.Found found) = false
+  is_fresh (answer.Loaded value fresh) = fresh
+  is_fresh answer.Nothing = false
+  is_fresh (answer.InitErr error) = false
+  is_fresh (answer.Computed done) = false
+  is_fresh (answer.ComputeErr error) = false
+  is_fresh answer.RetriesExhausted = false
+  is_fresh answer.Evicted = false
+  is_fresh answer.Kept = false
+
+  abbrev pub has_put : Answer K V E → Bool
+  has_put answer.Done = false
+  has_put (answer.Found found) = false
+  has_put (answer.Loaded value fresh) = false
+  has_put answer.Nothing = false
+  has_put (answer.InitErr error) = false
+  has_put (answer.Computed done) = has_stored done
+  has_put (answer.ComputeErr error) = false
+  has_put answer.RetriesExhausted = false
+  has_put answer.Evicted = false
+  has_put answer.Kept = false
+
+  -- The answer of a call that was started for this says that it has stored a value: an insert's that
+  -- is done, a load's whose own initializer gave the value, an or_insert's that found none, and a
+  -- compute's that stored. That a call is done says so of an insert alone.
+  abbrev pub says_stored : Start K V → Answer K V E → Bool
+  says_stored (start.Get key) a = false
+  says_stored (start.Insert key value) a = is_done a
+  says_stored (start.GetWith key replace) a = is_fresh a
+  says_stored (start.Optional key) a = is_fresh a
+  says_stored (start.Try key) a = is_fresh a
+  says_stored (start.OrInsert key value) a = is_fresh a
+  says_stored (start.Compute key) a = has_put a
+  says_stored (start.TryCompute key) a = has_put a
+  says_stored (start.Upsert key) a = has_put a
+  says_stored (start.ComputeAlone key) a = has_put a
+  says_stored (start.Invalidate key) a = false
+  says_stored (start.Remove key) a = false
+  says_stored (start.Evict key stamp cause) a = false
 
 -- the write of this number is in the log, or applied
 abbrev pub IsPosted : {K V E : Type 0} → State K V E → ℕ → Type 0
