@@ -21,7 +21,8 @@ use Rattle.moka_hist.specs.declared.visits.Found.{Found}
 use Rattle.moka_hist.specs.declared.visits.Found.TheVariants as found
 use Rattle.moka_hist.specs.declared.visits.Visit.{Visit}
 use Rattle.moka_hist.specs.declared.visits.Visit.TheVariants as visit
-use Rattle.moka_shapes.specs.Computes.{ComputesTell, Follows, is_alone, key_computed, other_goes, taken}
+use Rattle.moka_shapes.specs.Computes.{ComputesTell, Follows, is_alone, other_goes, taken}
+use Rattle.moka_laws.specs.Computes.{computed_key}
 use Rattle.moka_kept.specs.Paths.{EndedWith, LeadsWith}
 use Rattle.moka_kept.specs.Taking.{Answered, Taken, taken_in, taken_made}
 use Rattle.moka_cache.specs.Asked.{TellsDone, TellsPut, ToldSuch}
@@ -92,7 +93,7 @@ module _ {K V E : Type 0} (eq : K → K → Bool) (such : Taken V E → Type 0) 
       (Contains-append_cases path (end.given ∷ []) (taken t) there)
 
 module _ {K V E : Type 0} (eq : K → K → Bool) (law : ComputesTell K V E eq) (such : Taken V E → Type 0) (rules : Rules) (begin : Start K V) (key : K)
-    (computes : key_computed begin ≡ Some key) (n : ℕ) (said : Answer K V E) where
+    (computes : computed_key begin ≡ Some key) (n : ℕ) (said : Answer K V E) where
   answers_such : EndedWith eq such n (fresh_call rules begin) (answers said) → AnswersSuch (λ t. such (Answered t)) begin key said
   answers_such end =
       let path : List (Got K V E) = what_gave end.came.0 in
@@ -176,7 +177,7 @@ module _ {K V E : Type 0} (such : Result (Op V) E → Type 0) (key : K) (said : 
 -- ---- of states
 
 module _ {A K V E O : Type 0} (eq : K → K → Bool) (law : ComputesTell K V E eq) (such : Told V E → Type 0) (rules : Rules) (start : A → Start K V) (key : A → K)
-    (computes : (begin : A) → key_computed (start begin) ≡ Some (key begin)) (output : Option K → Answer K V E → Option O)
+    (computes : (begin : A) → computed_key (start begin) ≡ Some (key begin)) (output : Option K → Answer K V E → Option O)
     (states : (begin : A) (named : Option K) (said : Answer K V E) → AnswersSuch such (start begin) (key begin) said → IsSome (output named said)) where
   tells_such : (made : Stage A K V E) (begin : A) → made ≡ stage.Fresh begin → Tells eq such (called rules start) output made
   tells_such made begin is named said by =

@@ -30,7 +30,8 @@ use Rattle.moka_laws.proofs.Outcomes.{Outcomes, computes_of, outcomes}
 use Rattle.moka_laws.proofs.Owning.{plan_left}
 use Rattle.moka_laws.proofs.Rules.{put_plans, read_key_next}
 use Rattle.moka_laws.proofs.StepCases.{OnStep, by_plan}
-use Rattle.moka_shapes.specs.Computes.{Answers, ComputesTell, Follows, key_computed, other_goes, taken}
+use Rattle.moka_shapes.specs.Computes.{Answers, ComputesTell, Follows, other_goes, taken}
+use Rattle.moka_laws.specs.Computes.{computed_key}
 use Rattle.moka_shapes.proofs.Leaving.{AllSuit, Leaves, answers_so, goes_suits, on}
 
 -- ---- what suits a compute of the key, which is told such, and may answer so
@@ -252,7 +253,7 @@ module _ {K V E : Type 0} (eq : K → K → Bool) (key : K) (Other : Type 0) (Ma
 -- ---- as a compute is started
 
 module _ {K V E : Type 0} (eq : K → K → Bool) (rules : Rules) (key : K) (path : List (Got K V E)) where
-  fresh_suits : (begin : Start K V) → key_computed begin ≡ Some key → AllSuit (Suits key (Contains path other_goes) (Answers begin key path)) (plan_of rules begin)
+  fresh_suits : (begin : Start K V) → computed_key begin ≡ Some key → AllSuit (Suits key (Contains path other_goes) (Answers begin key path)) (plan_of rules begin)
   fresh_suits (start.Compute under) is = (some_same is, tt)
   fresh_suits (start.TryCompute under) is = (some_same is, tt)
   fresh_suits (start.Upsert under) is = (some_same is, tt)

@@ -16,17 +16,11 @@ use Rattle.moka_hist.specs.declared.replies.Answer.{Answer}
 use Rattle.moka_hist.specs.declared.replies.Answer.TheVariants as answer
 use Rattle.moka_hist.specs.declared.rules.Rules.{Rules}
 use Rattle.moka_hist.specs.declared.visits.Found.TheVariants as found
+use Rattle.moka_laws.specs.Computes.{computed_key}
 use Rattle.moka_laws.specs.Shapes.{MayGive, MayLead}
 
--- the key whose computes a call that is started for this takes part in, if it does
-abbrev pub key_computed : {K V : Type 0} → Start K V → Option K
-key_computed (start.Compute key) = Some key
-key_computed (start.TryCompute key) = Some key
-key_computed (start.ComputeAlone key) = Some key
-key_computed (start.Upsert key) = Some key
-key_computed _ = None
-
--- it asks nothing where another compute of the key goes
+-- a call that is started for this asks nothing where another compute of the key goes: that is of one
+-- start alone
 abbrev pub is_alone : {K V : Type 0} → Start K V → Bool
 is_alone (start.ComputeAlone key) = true
 is_alone _ = false
@@ -67,6 +61,6 @@ module _ {K V E : Type 0} where
 abbrev pub ComputesTell : (K V E : Type 0) → (K → K → Bool) → Type 0
 ComputesTell K V E eq =
     (rules : Rules) (begin : Start K V) (key : K) (n : ℕ) (path : List (Got K V E))
-    (d : Call K V E) (given : Got K V E) (said : Answer K V E) → key_computed begin ≡ Some key →
+    (d : Call K V E) (given : Got K V E) (said : Answer K V E) → computed_key begin ≡ Some key →
     MayLead eq n (fresh_call rules begin) path d → MayGive eq n d given →
     (next_of n d given).turn ≡ turn.Answer said → Answers begin key (path ++ given ∷ []) said
