@@ -1,4 +1,4 @@
--- What a call takes of who is asked.
+-- What a call takes of who is asked. A call takes no answer of a form that its relation has no row for.
 use Rattle.std.specs.Prelude.{◌≡◌, Bool, false, List, [], ◌∷◌, Option, Some, None, Result, Ok, Err}
 use Rattle.moka_hist.specs.declared.entries.Entry.{Entry}
 use Rattle.moka_hist.specs.declared.events.Op.{Op}

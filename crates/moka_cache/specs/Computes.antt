@@ -21,12 +21,12 @@ module _ {C : Type 0} where
   MayGive gives (stage.Started compute) output = gives compute output
   MayGive gives stage.Over output = ⊥
 
-  -- it gave its output: it was started, and is over
+  -- it gave its output: it was started, and is over; nothing else says so
   abbrev pub Ended : ComputeStage C → ComputeStage C → Type 0
   Ended (stage.Started compute) stage.Over = Unit {0}
   Ended _ _ = ⊥
 
-  -- a poll of it was pending: it was started, and still goes
+  -- a poll of it was pending: it was started, and still goes; nothing else says so
   abbrev pub Pends : (C → C → Type 0) → ComputeStage C → ComputeStage C → Type 0
   Pends pends (stage.Started old) (stage.Started new) = pends old new
   Pends pends _ _ = ⊥

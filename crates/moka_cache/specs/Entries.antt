@@ -1,4 +1,5 @@
--- What the states answer whose answers are entries, or what a compute has done.
+-- What the states answer whose answers are entries, or what a compute has done. The last row of each
+-- function stands for the answers that carry none.
 use Rattle.std.specs.Prelude.{false, Option, Some, None, Result, Ok, Err}
 use Rattle.std.specs.Option.{option_map}
 use Rattle.moka_hist.specs.declared.entries.CompResult.{CompResult}

@@ -1,4 +1,4 @@
--- What a load answers.
+-- What a load answers. The last row of each function stands for the answers that no such load gives.
 use Rattle.std.specs.Prelude.{Option, Some, None, Result, Ok, Err}
 use Rattle.moka_hist.specs.declared.replies.Answer.{Answer}
 use Rattle.moka_hist.specs.declared.replies.Answer.TheVariants as answer
@@ -14,14 +14,14 @@ module _ {K V E : Type 0} where
   loaded_in answer.RetriesExhausted = Some (Err (record {}))
   loaded_in _ = None
 
-  -- the same of a load that may find nothing
+  -- what a load that may find nothing tells: the value, that there is none, or that it gave up
   abbrev pub optionally_loaded_in : Answer K V E → Option (Result (Option V) RetriesExhausted)
   optionally_loaded_in (answer.Loaded value fresh) = Some (Ok (Some value))
   optionally_loaded_in answer.Nothing = Some (Ok None)
   optionally_loaded_in answer.RetriesExhausted = Some (Err (record {}))
   optionally_loaded_in _ = None
 
-  -- the same of a load that may fail
+  -- what a load that may fail tells: the value, the error, or that it gave up
   abbrev pub try_loaded_in : Answer K V E → Option (Result V (LoadError E))
   try_loaded_in (answer.Loaded value fresh) = Some (Ok value)
   try_loaded_in (answer.InitErr gave) = Some (Err (error.Init gave))

@@ -34,7 +34,7 @@ module _ {A K V E : Type 0} where
   MayPoll stage.Spent = Unit {0}
   MayPoll stage.Answered = ⊥
 
-  -- it has no number yet, and what it begins with is so
+  -- it has no number yet, and what it begins with is so; a state with a number is not such
   abbrev pub BeginsWith : Stage A K V E → (A → Type 0) → Type 0
   BeginsWith (stage.Fresh begin) holds = holds begin
   BeginsWith _ holds = ⊥
@@ -74,13 +74,14 @@ module _ {A K V E : Type 0} where
   AnswersWith eq such begins stage.Spent answer = ⊥
   AnswersWith eq such begins stage.Answered answer = ⊥
 
-  -- why a poll of the state is pending
+  -- why a poll of the state is pending: only one whose call has a number can be
   abbrev pub StagePends : {Q : Type 0} → (K → K → Bool) → (Q → Q → Type 0) → (ℕ → Type 0) → Q
       → Stage A K V E → Type 0
   StagePends eq pends unheard asked (stage.Running flow) = Pends eq pends unheard asked flow
   StagePends eq pends unheard asked _ = ⊥
 
-  -- the state's call came, from where it was, to where who is asked is to be asked
+  -- the state's call came, from where it was, to where who is asked is to be asked; it
+  -- has a number then
   abbrev pub StageAsks : (K → K → Bool) → (Taken V E → Type 0) → Stage A K V E → Type 0
   StageAsks eq such (stage.Running flow) = CameToAsk eq such flow
   StageAsks eq such _ = ⊥

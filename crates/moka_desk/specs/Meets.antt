@@ -16,7 +16,7 @@ Tests true answer P Q = IsTrue answer ↔ P
 Tests false answer P Q = (P → IsTrue answer) × (IsTrue answer → Q)
 
 -- A desk without a history can tell whether it has this: all but that no write of the call's number
--- was applied, and that no notice was opened for it.
+-- was applied, and that no notice was opened for it. These two needs alone ask for that.
 abbrev pub is_recalled : {K : Type 0} → Need K → Bool
 is_recalled need.StampMoment = false
 is_recalled need.OpenNotice = false

@@ -50,7 +50,7 @@ module _ {K V E : Type 0} where
   opened_in w = filter_map w.notices w.opened
 
   -- the notice that the visit is to open, as it waits: with the cause that it would be opened with
-  -- now
+  -- now; no other visit opens one
   abbrev pub waiting : DeskPart K V E → Visit K V E → Option (Notice K V)
   waiting w (visit.OpenNotice call key value stamp modified cause upsert) =
       Some (record {

@@ -45,7 +45,7 @@ module _ {K V : Type 0} where
   abbrev pub looking : K → List (Event K V ℕ)
   looking key = event.Start (start.Get key) ∷ event.Poll 2 ∷ []
 
--- the value that a lookup answers, where it answers one
+-- the value that a lookup answers, where it answers one: this reply alone does
 abbrev pub found_in : {K V E : Type 0} → Reply K V E → Option V
 found_in (reply.Answer (answer.Found found)) = found
 found_in _ = None
