@@ -3,7 +3,7 @@ ghost use Rattle.std.specs.Prelude.{◌≡◌, ◌≢◌, ℕ, ◌<◌, ◌≤�
 ghost use Rattle.std.specs.Prelude.{Option, Some, None, IsSome, is_some};
 ghost use Rattle.std.proofs.Common.{arith};
 ghost use Rattle.std.specs.HashMap.{hash_map_len, spare};
-ghost use Rattle.moka_hist.specs.Finite.{IsExact, put_key};
+ghost use Rattle.moka_hist.specs.Finite.{put_key};
 ghost use Rattle.moka_hist.specs.Tables.{answer_of, taken_by};
 ghost use Rattle.moka_hist.specs.declared.tables.TableOp.{TableOp};
 ghost use Rattle.moka_table.specs.declared.plain.PlainCall.{PlainCall};
@@ -14,6 +14,7 @@ ghost use Rattle.moka_table.specs.Plain.{map_of, peak_of, plain_first, plain_lef
 use crate::{EntryList, Table};
 use moka_hist::{Stored, TableAnswer, TableOp, TableTurn};
 use moka_room::map_room;
+use moka_values::Exact;
 use std::alloc::{AllocError, Global};
 use std::cmp;
 use std::collections::HashMap;
@@ -33,7 +34,7 @@ pub struct PlainCall<K, V> {
     operation: Option<TableOp<K, V>>,
 }
 
-impl<K: Eq + Hash + Clone + Drop, V: Clone + Drop> PlainTable<K, V> {
+impl<K: Eq + Hash + Exact, V: Exact> PlainTable<K, V> {
     /// A table without keys. It takes no memory.
     pub fn new(alloc: Global) -> Self
         ensures empty { IsEmptyTable (plain_table K.eq) result }
@@ -46,8 +47,6 @@ impl<K: Eq + Hash + Clone + Drop, V: Clone + Drop> PlainTable<K, V> {
 
     // What the map has at the key, as clones. Where it has nothing there it takes no memory.
     fn look(&self, key: &K) -> Result<TableAnswer<K, V>, AllocError>
-        requires keys { IsExact K.is_clone }
-        requires values { IsExact V.is_clone }
         ensures answer { IfOk result (λ a. a ≡ answer_of (map_of K.eq self.now key.now)) }
         ensures absent { map_of K.eq self.now key.now ≡ None → IsOk result }
     {
@@ -88,7 +87,6 @@ impl<K: Eq + Hash + Clone + Drop, V: Clone + Drop> PlainTable<K, V> {
 
     // A clone of the key, and room for it.
     fn place_for(&mut self, key: &K) -> Result<K, AllocError>
-        requires keys { IsExact K.is_clone }
         ensures place { IfOk result (λ place. place ≡ key.now) }
         ensures room { OnOk result (0 < spare self.new.pairs) }
         ensures map { SameMap (map_of K.eq self.old) (map_of K.eq self.new) }
@@ -127,11 +125,9 @@ impl<K: Eq + Hash + Clone + Drop, V: Clone + Drop> PlainTable<K, V> {
     }
 }
 
-impl<K: Eq + Hash + Clone + Drop, V: Clone + Drop> PlainTable<K, V> {
+impl<K: Eq + Hash + Exact, V: Exact> PlainTable<K, V> {
     // The one step of a look. Without memory the call is as before.
     fn step_look(&self, call: &mut PlainCall<K, V>, key: K) -> Result<TableTurn<K, V>, AllocError>
-        requires keys { IsExact K.is_clone }
-        requires values { IsExact V.is_clone }
         ensures ok { IfOk result (λ t.
             t ≡ TableTurn.Decided (answer_of (map_of K.eq self.now key))) }
         ensures absent { map_of K.eq self.now key ≡ None → IsOk result }
@@ -153,7 +149,6 @@ impl<K: Eq + Hash + Clone + Drop, V: Clone + Drop> PlainTable<K, V> {
         key: K,
         stored: Stored<V>,
     ) -> Result<TableTurn<K, V>, AllocError>
-        requires keys { IsExact K.is_clone }
         ensures moves { IfOk result (λ turn. Moves K.eq (TableOp.InsertOrModify key stored)
             (map_of K.eq self.old) (hash_map_len self.old.pairs) turn
             (map_of K.eq self.new) (hash_map_len self.new.pairs)) }
@@ -181,8 +176,6 @@ impl<K: Eq + Hash + Clone + Drop, V: Clone + Drop> PlainTable<K, V> {
         key: K,
         stored: Stored<V>,
     ) -> Result<TableTurn<K, V>, AllocError>
-        requires keys { IsExact K.is_clone }
-        requires values { IsExact V.is_clone }
         ensures moves { IfOk result (λ turn. Moves K.eq (TableOp.InsertIfAbsent key stored)
             (map_of K.eq self.old) (hash_map_len self.old.pairs) turn
             (map_of K.eq self.new) (hash_map_len self.new.pairs)) }
@@ -210,7 +203,6 @@ impl<K: Eq + Hash + Clone + Drop, V: Clone + Drop> PlainTable<K, V> {
         key: K,
         stored: Stored<V>,
     ) -> Result<TableTurn<K, V>, AllocError>
-        requires keys { IsExact K.is_clone }
         requires absent { map_of K.eq self.old key ≡ None }
         ensures moves { IfOk result (λ turn. Moves K.eq (TableOp.InsertIfAbsent key stored)
             (map_of K.eq self.old) (hash_map_len self.old.pairs) turn
@@ -247,7 +239,7 @@ impl<K: Eq + Hash + Clone + Drop, V: Clone + Drop> PlainTable<K, V> {
     }
 }
 
-impl<K: Eq + Hash + Clone + Drop, V: Clone + Drop> Table<K, V> for PlainTable<K, V> {
+impl<K: Eq + Hash + Exact, V: Exact> Table<K, V> for PlainTable<K, V> {
     type Call = PlainCall<K, V>;
 
     ghost map = { λ t. map_of K.eq t };
@@ -286,8 +278,6 @@ impl<K: Eq + Hash + Clone + Drop, V: Clone + Drop> Table<K, V> for PlainTable<K,
     }
 
     fn step(&mut self, call: &mut PlainCall<K, V>) -> Result<TableTurn<K, V>, AllocError>
-        requires keys { IsExact K.is_clone }
-        requires values { IsExact V.is_clone }
         requires fits { call.old.operation ≢ None }
         // What it gives, and what the table is after it.
         ensures moves { IfOk result (λ turn. (o : TableOp K V) → call.old.operation ≡ Some o
@@ -331,7 +321,7 @@ impl<K: Eq + Hash + Clone + Drop, V: Clone + Drop> Table<K, V> for PlainTable<K,
     fn pairs(&self, alloc: Global) -> Result<EntryList<K, V>, AllocError> {
         let mut pairs = Vec::with_capacity(alloc, self.pairs.len())?;
         for pair in self.pairs.values() {
-            pairs.push((pair.0.clone()?, pair.1.clone()?))?;
+            pairs.push(copied(pair)?)?;
         }
         Ok(EntryList::from_vec(pairs))
     }
@@ -341,12 +331,16 @@ impl<K: Eq + Hash + Clone + Drop, V: Clone + Drop> Table<K, V> for PlainTable<K,
     }
 }
 
-fn cloned_pair<K: Clone, V: Clone>(pair: &(K, Stored<V>)) -> Result<TableAnswer<K, V>, AllocError>
-    requires keys { IsExact K.is_clone }
-    requires values { IsExact V.is_clone }
+// A copy of the pair.
+fn copied<K: Exact, V: Exact>(pair: &(K, Stored<V>)) -> Result<(K, Stored<V>), AllocError>
+    ensures { IfOk result (λ copy. copy ≡ pair.now) }
+{
+    Ok((pair.0.clone()?, pair.1.clone()?))
+}
+
+fn cloned_pair<K: Exact, V: Exact>(pair: &(K, Stored<V>)) -> Result<TableAnswer<K, V>, AllocError>
     ensures { IfOk result (λ a. a ≡ answer_of (Some pair.now)) }
 {
-    let key = pair.0.clone()?;
-    let stored = pair.1.clone()?;
+    let (key, stored) = copied(pair)?;
     Ok(TableAnswer::Some { key, stored })
 }

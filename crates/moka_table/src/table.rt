@@ -1,12 +1,12 @@
 //! What a cache needs of a table.
 ghost use Rattle.std.specs.Prelude.{◌≡◌, ℕ, ◌<◌, ◌≤◌, max, Option, Some, IfOk, OnErr};
-ghost use Rattle.moka_hist.specs.Finite.{IsExact};
 ghost use Rattle.moka_hist.specs.declared.tables.TableOp.{TableOp};
 ghost use Rattle.moka_hist.specs.declared.tables.TableTurn.{TableTurn};
 ghost use Rattle.moka_table.specs.Map.{Pairs, SameMap, Moves, ListsPairs, most_steps};
 
 use crate::EntryList;
 use moka_hist::{TableOp, TableTurn};
+use moka_values::Exact;
 use std::alloc::{AllocError, Global};
 use std::hash::Hash;
 
@@ -15,7 +15,7 @@ use std::hash::Hash;
 /// A step is undecided, which leaves the map, or it decides with the map's answer at that step and
 /// makes its change. Steps of different calls may be mixed freely: what fits a table still fits it
 /// after the steps of others, and then decides within `most_steps` steps of its own.
-pub trait Table<K: Eq + Hash + Clone, V: Clone> {
+pub trait Table<K: Eq + Hash + Exact, V: Exact> {
     /// An operation that was begun.
     type Call;
 
@@ -52,8 +52,6 @@ pub trait Table<K: Eq + Hash + Clone, V: Clone> {
 
     /// Makes one step of a call that fits. After want of memory map and call are as before.
     fn step(&mut self, call: &mut Self::Call) -> Result<TableTurn<K, V>, AllocError>
-        requires keys { IsExact K.is_clone }
-        requires values { IsExact V.is_clone }
         requires fits { fits self.old call.old }
         // What it gives, and what the table is after it.
         ensures moves { IfOk result (λ turn. (o : TableOp K V) → operation_of call.old ≡ Some o
@@ -80,8 +78,6 @@ pub trait Table<K: Eq + Hash + Clone, V: Clone> {
 
     /// Lists each pair of the map once, in any order.
     fn pairs(&self, alloc: Global) -> Result<EntryList<K, V>, AllocError>
-        requires keys { IsExact K.is_clone }
-        requires values { IsExact V.is_clone }
         ensures { IfOk result (λ pairs. ListsPairs K.eq pairs (map self.now)) };
 
     /// How many keys there are.
