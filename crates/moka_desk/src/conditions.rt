@@ -5,9 +5,10 @@ ghost use Rattle.std.specs.Prelude.{◌≡◌, ◌||◌, true, false, Some, None
 use crate::Desk;
 use moka_hist::{Holding, Kind, Load, Write};
 use moka_needs::{Ending, Need};
+use moka_values::Exact;
 use std::hash::Hash;
 
-impl<K: Eq + Hash + Clone + Drop, V: Drop, E: Drop> Desk<K, V, E> {
+impl<K: Eq + Hash + Exact, V: Drop, E: Drop> Desk<K, V, E> {
     ghost use Rattle.moka_hist.specs.State.{DeskPart};
     ghost use Rattle.moka_hist.specs.Conditions.{HasUnsettled, HoldsNoWrite, HoldsWrite, IsUnused, MayLeave, MayVisit};
     ghost use Rattle.moka_needs.specs.Needs.{need_of, IsOfCall};

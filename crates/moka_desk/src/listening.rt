@@ -9,11 +9,11 @@ use crate::notices::Heard;
 use moka_engine::{chosen_holds, remove_cause, upsert_cause};
 use moka_hist::{Cause, Times};
 use moka_sync::CallList;
+use moka_values::Exact;
 use std::alloc::AllocError;
 use std::hash::Hash;
 
-impl<K: Eq + Hash + Clone + Drop, V: Drop, E: Drop> Desk<K, V, E> {
-    ghost use Rattle.moka_hist.specs.Finite.{IsExact};
+impl<K: Eq + Hash + Exact, V: Drop, E: Drop> Desk<K, V, E> {
     ghost use Rattle.moka_hist.specs.State.{DeskPart};
     ghost use Rattle.moka_hist.specs.Telling.{heard, MayEnd};
     ghost use Rattle.moka_hist.specs.Causes.{chosen_holds};
@@ -31,7 +31,6 @@ impl<K: Eq + Hash + Clone + Drop, V: Drop, E: Drop> Desk<K, V, E> {
     /// Takes the key's lock for the call, which holds none. Answers false where another call holds
     /// it; the call waits for it then.
     pub fn lock_key(&mut self, call: u64, key: &K) -> Result<bool, AllocError>
-        requires keys { IsExact K.is_clone }
         requires free { Can K.eq self.old (visit.LockKey call key.now) }
         ensures finds { IfOk result (λ locked. Finds K.eq self.old (visit.LockKey call key.now)
             (found.LockKey locked)) }

@@ -6,11 +6,11 @@ ghost use Rattle.moka_sync.specs.Waiting.{without};
 use crate::Desk;
 use moka_hist::{Claim, Kind, Load, Owed, Settled, Takes, Told};
 use moka_sync::CallList;
+use moka_values::Exact;
 use std::alloc::AllocError;
 use std::hash::Hash;
 
-impl<K: Eq + Hash + Clone + Drop, V: Drop, E: Drop> Desk<K, V, E> {
-    ghost use Rattle.moka_hist.specs.Finite.{IsExact};
+impl<K: Eq + Hash + Exact, V: Drop, E: Drop> Desk<K, V, E> {
     ghost use Rattle.moka_hist.specs.State.{DeskPart};
     ghost use Rattle.std.specs.Option.{option_map};
     ghost use Rattle.moka_hist.specs.Conditions.{MayLeave};
@@ -32,7 +32,6 @@ impl<K: Eq + Hash + Clone + Drop, V: Drop, E: Drop> Desk<K, V, E> {
     /// Makes the call the owner of a load that nobody owns, or lets it wait for the owner. It owns
     /// nothing and waits for nobody before. An owner gets the place of its settlement.
     pub fn wait_or_own(&mut self, call: u64, load: Load<K>) -> Result<Claim, AllocError>
-        requires keys { IsExact K.is_clone }
         requires free { Can K.eq self.old (visit.WaitOrOwn call load.key load.kind) }
         ensures finds { IfOk result (λ claim. Finds K.eq self.old
             (visit.WaitOrOwn call load.key load.kind)
@@ -54,7 +53,6 @@ impl<K: Eq + Hash + Clone + Drop, V: Drop, E: Drop> Desk<K, V, E> {
     /// call is; nothing has changed then. It owns nothing and waits for nobody before. An owner gets
     /// the place of its settlement.
     pub fn owned(&mut self, call: u64, key: K) -> Result<bool, AllocError>
-        requires keys { IsExact K.is_clone }
         requires free { Can K.eq self.old (visit.OwnAlone call key) }
         ensures finds { IfOk result (λ owned. Finds K.eq self.old (visit.OwnAlone call key)
             (found.OwnAlone owned)) }
@@ -76,10 +74,8 @@ impl<K: Eq + Hash + Clone + Drop, V: Drop, E: Drop> Desk<K, V, E> {
     /// call that has read it waits no longer, and the last one takes it away.
     pub fn read_settled(&mut self, call: u64) -> Result<Settled<V, E>, AllocError>
     where
-        V: Clone,
-        E: Clone,
-        requires values { IsExact V.is_clone }
-        requires errors { IsExact E.is_clone }
+        V: Exact,
+        E: Exact,
         requires waits { Can K.eq self.old (visit.ReadSettled call) }
         ensures finds { IfOk result (λ settled. Finds K.eq self.old (visit.ReadSettled call)
             (found.ReadSettled settled)) }

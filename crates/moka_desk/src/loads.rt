@@ -1,7 +1,6 @@
 //! The loads that calls own and wait for.
 
 ghost use Rattle.std.specs.Prelude.{◌≡◌, ℕ, ◌+◌, ◌-◌, ◌≤◌, ◌<◌, ◌==◌, ◌&&◌, ◌^◌, cond, Option, Some, None, true, is_some, unwrap_or, nat_eq, IsNone, OnOk, OnErr, IfOk, if◌then◌else◌};
-ghost use Rattle.moka_hist.specs.Finite.{IsExact};
 ghost use Rattle.std.specs.Bool.{OnTrue};
 ghost use Rattle.std.specs.Option.{option_and_then, option_map};
 ghost use Rattle.std.specs.HashMap.{get, spare, hash_map_len};
@@ -12,6 +11,7 @@ use crate::maps::{put, replace};
 use moka_hist::{Claim, Load, Settled};
 use moka_needs::Ending;
 use moka_room::map_room;
+use moka_values::Exact;
 use std::alloc::{AllocError, Global};
 use std::collections::HashMap;
 use std::hash::Hash;
@@ -31,7 +31,7 @@ pub(crate) struct Loads<K: Eq + Hash, V, E> {
         ≡ waiting_for joined.entries n },
 }
 
-impl<K: Eq + Hash + Clone + Drop, V: Drop, E: Drop> Loads<K, V, E> {
+impl<K: Eq + Hash + Exact, V: Drop, E: Drop> Loads<K, V, E> {
     ghost use Rattle.moka_hist.specs.Finite.{load_eq, put_at, put_key};
     ghost use Rattle.moka_hist.specs.State.{DeskPart};
     ghost use Rattle.moka_hist.specs.declared.loads.Load.{Load as load_of};
@@ -63,7 +63,6 @@ impl<K: Eq + Hash + Clone + Drop, V: Drop, E: Drop> Loads<K, V, E> {
     /// Makes the call, which owns nothing and waits for nobody, the owner of a load that nobody
     /// owns, or lets it wait for the owner.
     pub(crate) fn claim(&mut self, call: u64, load: Load<K>) -> Result<Claim, AllocError>
-        requires exact { IsExact K.is_clone }
         requires idle { get nat_eq self.old.owning call ≡ None }
         requires apart { get nat_eq self.old.joined call ≡ None }
         ensures finds { IfOk result (λ claim. (w : DeskPart K V E) →
@@ -91,7 +90,6 @@ impl<K: Eq + Hash + Clone + Drop, V: Drop, E: Drop> Loads<K, V, E> {
     #[cold]
     #[inline(never)]
     pub(crate) fn claim_alone(&mut self, call: u64, load: Load<K>) -> Result<bool, AllocError>
-        requires exact { IsExact K.is_clone }
         requires idle { get nat_eq self.old.owning call ≡ None }
         ensures finds { IfOk result (λ owned. (w : DeskPart K V E) →
             LoadsAre K.eq self.old (load_part w) → owned ≡ is_some (w.owners load)) }
@@ -129,7 +127,6 @@ impl<K: Eq + Hash + Clone + Drop, V: Drop, E: Drop> Loads<K, V, E> {
 
     // Makes the call, which owns nothing, the owner of the load, which has no owner.
     fn own(&mut self, call: u64, load: Load<K>) -> Result<(), AllocError>
-        requires exact { IsExact K.is_clone }
         requires idle { get nat_eq self.old.owning call ≡ None }
         requires free { get (load_eq K.eq) self.old.owners load ≡ None }
         ensures ok { OnOk result (LoadsBecome K.eq self.old
@@ -165,10 +162,8 @@ impl<K: Eq + Hash + Clone + Drop, V: Drop, E: Drop> Loads<K, V, E> {
     /// For want of memory nothing was read.
     pub(crate) fn read(&mut self, call: u64) -> Result<Settled<V, E>, AllocError>
     where
-        V: Clone,
-        E: Clone,
-        requires values { IsExact V.is_clone }
-        requires errors { IsExact E.is_clone }
+        V: Exact,
+        E: Exact,
         ensures finds { IfOk result (λ found. (w : DeskPart K V E) →
             LoadsAre K.eq self.old (load_part w)
             → found ≡ unwrap_or (settlement_for w call) settled.NotYet) }
@@ -232,10 +227,8 @@ impl<K: Eq + Hash + Clone + Drop, V: Drop, E: Drop> Loads<K, V, E> {
     // How the owner ended that the call waits for, if it has.
     fn settlement_for(&self, call: u64) -> Result<Option<Settled<V, E>>, AllocError>
     where
-        V: Clone,
-        E: Clone,
-        requires values { IsExact V.is_clone }
-        requires errors { IsExact E.is_clone }
+        V: Exact,
+        E: Exact,
         ensures found { IfOk result (λ found. found ≡ option_and_then (get nat_eq self.now.settled)
             (get nat_eq self.now.joined call)) }
         ensures needs { OnErr result (is_copied (option_and_then (get nat_eq self.now.settled)
@@ -346,11 +339,9 @@ fn count_in(readers: &HashMap<u64, u64>, owner: u64) -> u64
 }
 
 // An equal settlement.
-fn settlement_copy<V: Clone, E: Clone>(
+fn settlement_copy<V: Exact, E: Exact>(
     settlement: &Settled<V, E>,
 ) -> Result<Settled<V, E>, AllocError>
-    requires values { IsExact V.is_clone }
-    requires errors { IsExact E.is_clone }
     ensures copy { IfOk result (λ copy. copy ≡ settlement.now) }
     ensures needs { OnErr result (has_content settlement.now ≡ true) }
 {
@@ -383,8 +374,7 @@ fn ending_of<V, E>(settlement: &Settled<V, E>) -> Ending
 }
 
 // An equal load.
-fn copy_of<K: Eq + Hash + Clone + Drop>(load: &Load<K>) -> Result<Load<K>, AllocError>
-    requires { IsExact K.is_clone }
+fn copy_of<K: Eq + Hash + Exact>(load: &Load<K>) -> Result<Load<K>, AllocError>
     ensures { IfOk result (λ copy. copy ≡ load.now) }
 {
     let key = load.key.clone()?;

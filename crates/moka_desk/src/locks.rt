@@ -3,10 +3,10 @@
 ghost use Rattle.std.specs.Prelude.{◌≡◌, ℕ, ◌==◌, true, false, cond, Option, Some, None, nat_eq, OnOk, OnErr, IfOk, IsNone, if◌then◌else◌};
 ghost use Rattle.std.specs.Option.{option_map_or};
 ghost use Rattle.std.specs.HashMap.{get, spare};
-ghost use Rattle.moka_hist.specs.Finite.{IsExact};
 
 use crate::maps::put;
 use moka_room::map_room;
+use moka_values::Exact;
 use std::alloc::{AllocError, Global};
 use std::collections::HashMap;
 use std::hash::Hash;
@@ -19,7 +19,7 @@ pub(crate) struct Locks<K: Eq + Hash> {
     pub(crate) locked: HashMap<u64, K>,
 }
 
-impl<K: Eq + Hash + Clone + Drop> Locks<K> {
+impl<K: Eq + Hash + Exact> Locks<K> {
     ghost use Rattle.moka_hist.specs.Finite.{put_at, put_key};
     ghost use Rattle.moka_desk.specs.Locks.{LockPart, LocksAre, LocksBecome};
 
@@ -42,7 +42,6 @@ impl<K: Eq + Hash + Clone + Drop> Locks<K> {
 
     /// Gives the lock of a key that nobody has locked to the call, which holds none.
     pub(crate) fn lock(&mut self, call: u64, key: &K) -> Result<(), AllocError>
-        requires exact { IsExact K.is_clone }
         ensures ok { OnOk result ((p : LockPart K) → LocksAre K.eq self.old p →
             p.locks key.now ≡ None
             → p.locked call ≡ None → LocksAre K.eq self.new (record {
@@ -74,8 +73,7 @@ impl<K: Eq + Hash + Clone + Drop> Locks<K> {
 }
 
 // An equal key.
-fn copy_of<K: Eq + Hash + Clone>(key: &K) -> Result<K, AllocError>
-    requires { IsExact K.is_clone }
+fn copy_of<K: Eq + Hash + Exact>(key: &K) -> Result<K, AllocError>
     ensures { IfOk result (λ copy. copy ≡ key.now) }
 {
     key.clone()

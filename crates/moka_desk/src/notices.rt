@@ -2,11 +2,11 @@
 
 ghost use Rattle.std.specs.Prelude.{◌≡◌, ℕ, ◌+◌, ◌≤◌, ◌<◌, ◌==◌, ◌||◌, true, false, not, cond, Option, Some, None, [], ◌∷◌, ◌++◌, is_some, IsNone, IsSome, IsTrue, IsFalse, ◌↔◌, nat_eq, vec_len, vec_capacity, OnOk, OnErr, IfOk, if◌then◌else◌};
 ghost use Rattle.std.specs.HashMap.{get, hash_map_len, spare};
-ghost use Rattle.moka_hist.specs.Finite.{IsExact};
 
 use crate::maps::put;
 use moka_hist::{Cause, Notice, NoticeState};
 use moka_room::map_room;
+use moka_values::Exact;
 use std::alloc::{AllocError, Global};
 use std::collections::HashMap;
 
@@ -84,10 +84,8 @@ impl<K: Drop, V: Drop> Notices<K, V> {
     /// The notice of this number, if one was opened.
     pub(crate) fn notice(&self, number: u64) -> Result<Option<Notice<K, V>>, AllocError>
     where
-        K: Clone,
-        V: Clone,
-        requires keys { IsExact K.is_clone }
-        requires values { IsExact V.is_clone }
+        K: Exact,
+        V: Exact,
         ensures { IfOk result (λ notice. notice ≡ either
             (option_map (running number) (get nat_eq self.now.running number))
             (get nat_eq self.now.past number)) }
@@ -239,13 +237,11 @@ impl<K, V> Heard<K, V> {
     }
 }
 
-impl<K: Clone + Drop, V: Clone + Drop> Heard<K, V> {
+impl<K: Exact, V: Exact> Heard<K, V> {
     ghost use Rattle.moka_desk.specs.Notices.{running};
 
     // The running notice of this number by which the listener hears this.
     fn notice(&self, number: u64) -> Result<Notice<K, V>, AllocError>
-        requires keys { IsExact K.is_clone }
-        requires values { IsExact V.is_clone }
         ensures { IfOk result (λ notice. notice ≡ running number self.now) }
     {
         let key = exact_copy(&self.key)?;
@@ -261,11 +257,7 @@ impl<K: Clone + Drop, V: Clone + Drop> Heard<K, V> {
 }
 
 // An equal notice.
-fn copy_of<K: Clone + Drop, V: Clone + Drop>(
-    notice: &Notice<K, V>,
-) -> Result<Notice<K, V>, AllocError>
-    requires keys { IsExact K.is_clone }
-    requires values { IsExact V.is_clone }
+fn copy_of<K: Exact, V: Exact>(notice: &Notice<K, V>) -> Result<Notice<K, V>, AllocError>
     ensures { IfOk result (λ copy. copy ≡ notice.now) }
 {
     let key = exact_copy(&notice.key)?;
@@ -280,8 +272,7 @@ fn copy_of<K: Clone + Drop, V: Clone + Drop>(
 }
 
 // An equal key or value.
-fn exact_copy<T: Clone>(original: &T) -> Result<T, AllocError>
-    requires { IsExact T.is_clone }
+fn exact_copy<T: Exact>(original: &T) -> Result<T, AllocError>
     ensures { IfOk result (λ copy. copy ≡ original.now) }
 {
     original.clone()

@@ -10,6 +10,7 @@ use crate::notices::Notices;
 use crate::waits::Waits;
 use crate::writes::Writes;
 use moka_hist::{Notice, Owed, Rules, Write};
+use moka_values::Exact;
 use std::alloc::{AllocError, Global};
 use std::collections::{HashMap, VecDeque};
 use std::hash::Hash;
@@ -35,9 +36,8 @@ pub struct Desk<K: Eq + Hash, V, E> {
     pub(crate) waits: Waits,
 }
 
-impl<K: Eq + Hash + Clone + Drop, V: Drop, E: Drop> Desk<K, V, E> {
+impl<K: Eq + Hash + Exact, V: Drop, E: Drop> Desk<K, V, E> {
     ghost use Rattle.moka_hist.specs.State.{DeskPart, fresh_desk};
-    ghost use Rattle.moka_hist.specs.Finite.{IsExact};
     ghost use Rattle.moka_hist.specs.Run.{last_call};
     ghost use Rattle.moka_hist.specs.Visits.{is_running};
     ghost use Rattle.moka_desk.specs.StandsFor.{StandsFor, Becomes};
@@ -217,9 +217,7 @@ impl<K: Eq + Hash + Clone + Drop, V: Drop, E: Drop> Desk<K, V, E> {
     /// The notice of this number, if one was opened. Without a history only one that runs is known.
     pub fn notice(&self, number: u64) -> Result<Option<Notice<K, V>>, AllocError>
     where
-        V: Clone,
-        requires keys { IsExact K.is_clone }
-        requires values { IsExact V.is_clone }
+        V: Exact,
         ensures whole { IfOk result (λ notice. keeps_history self.now ≡ true → (w : DeskPart K V E)
             → StandsFor K.eq self.now w → notice ≡ w.notices number) }
         ensures running { IfOk result (λ notice. (w : DeskPart K V E) → StandsFor K.eq self.now w

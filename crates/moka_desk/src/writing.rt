@@ -7,10 +7,11 @@ ghost use Rattle.moka_sync.specs.Holders.{is_others};
 use crate::Desk;
 use moka_hist::{Owed, Write};
 use moka_sync::CallList;
+use moka_values::Exact;
 use std::alloc::AllocError;
 use std::hash::Hash;
 
-impl<K: Eq + Hash + Clone + Drop, V: Drop, E: Drop> Desk<K, V, E> {
+impl<K: Eq + Hash + Exact, V: Drop, E: Drop> Desk<K, V, E> {
     ghost use Rattle.moka_hist.specs.State.{DeskPart};
     ghost use Rattle.moka_hist.specs.Visits.{is_free_for, judged, decided as with_decided};
     ghost use Rattle.moka_hist.specs.declared.visits.Visit.TheVariants as visit;
