@@ -1,6 +1,5 @@
 //! What a call tells of itself: how far it is, what it holds, and the notice that is due.
 ghost use Rattle.std.specs.Prelude.{◌≡◌, Some, false, IfOk};
-ghost use Rattle.moka_hist.specs.Finite.{IsExact};
 ghost use Rattle.moka_hist.specs.Step.{access_for, On_desk, replace_of};
 ghost use Rattle.moka_hist.specs.Plan as plan;
 ghost use Rattle.moka_hist.specs.Plan.{hearing};
@@ -16,6 +15,7 @@ use crate::points::{
     Computing, Listening, Loading, Look, Looking, Point, PostStep, Posted, Posting,
 };
 use moka_hist::{Cause, Kind, Mode, Owed, Rules, Start, Stored, Visit, Write};
+use moka_values::Exact;
 use std::alloc::AllocError;
 
 impl<K: Drop, V: Drop, E: Drop> Flow<K, V, E> {
@@ -165,14 +165,12 @@ impl<K, V, E> Flow<K, V, E> {
     }
 }
 
-impl<K: Clone + Drop, V: Clone + Drop, E: Clone + Drop> Flow<K, V, E> {
+impl<K: Exact, V: Exact, E: Exact> Flow<K, V, E> {
     ghost use Rattle.moka_init.specs.FlowPlan.{due_of};
 
     /// The visit that opens the call's notice, where that is due. It makes the clones that it
     /// needs.
     pub fn due(&self) -> Result<Option<Visit<K, V, E>>, AllocError>
-        requires keys { IsExact K.is_clone }
-        requires values { IsExact V.is_clone }
         ensures { IfOk result (λ due. due ≡ due_of self.now) }
     {
         match &self.point {
@@ -244,12 +242,10 @@ fn kind_read_in_computing<K, V, E>(computing: &Computing<K, V, E>) -> Option<Kin
 }
 
 // The visit that opens the notice of a call that is listening, where that is due.
-fn due_in_listening<K: Clone + Drop, V: Clone + Drop, E>(
+fn due_in_listening<K: Exact, V: Exact, E>(
     call: u64,
     listening: &Listening<K, V>,
 ) -> Result<Option<Visit<K, V, E>>, AllocError>
-    requires keys { IsExact K.is_clone }
-    requires values { IsExact V.is_clone }
     ensures { IfOk result (λ due. due ≡ opening call (listening_plan listening.now)) }
 {
     match listening {
@@ -272,15 +268,13 @@ fn due_in_listening<K: Clone + Drop, V: Clone + Drop, E>(
 }
 
 // The visit that opens the notice of a record that left by the call's write or removal.
-pub(crate) fn open_notice<K: Clone + Drop, V: Clone + Drop, E>(
+pub(crate) fn open_notice<K: Exact, V: Exact, E>(
     call: u64,
     key: &K,
     old: &Stored<V>,
     cause: Option<Cause>,
     upsert: bool,
 ) -> Result<Visit<K, V, E>, AllocError>
-    requires keys { IsExact K.is_clone }
-    requires values { IsExact V.is_clone }
     ensures { IfOk result (λ visit.
         On_desk visit ≡ access_for call (plan.Notice key.now old.now cause upsert)) }
 {

@@ -1,6 +1,5 @@
 //! The accesses for which a key or a value is copied.
 ghost use Rattle.std.specs.Prelude.{◌≡◌, false, IfOk, OnErr};
-ghost use Rattle.moka_hist.specs.Finite.{IsExact};
 ghost use Rattle.moka_hist.specs.Plan as plan;
 ghost use Rattle.moka_hist.specs.Step.{access_for, replace_of, want_for, takes_of, On_table};
 ghost use Rattle.moka_hist.specs.Writing.{stamp_asked};
@@ -11,6 +10,7 @@ ghost use Rattle.moka_init.specs.PointPlan.{removal_of, settled_of, takes_by};
 use crate::calls::open_notice;
 use crate::points::{Asks, Ending, Locked, Look, Put, Removal, TakeOut, Uncopied};
 use moka_hist::{Cause, Kind, Load, Settled, Stored, TableOp, Takes, Visit, Want};
+use moka_values::Exact;
 use std::alloc::AllocError;
 
 /// Which answers the ask of a load takes.
@@ -39,11 +39,7 @@ impl Asks {
 }
 
 /// Looks the key up.
-pub(crate) fn want_get<K: Clone + Drop, V, E>(
-    begun: bool,
-    key: &K,
-) -> Result<Want<K, V, E>, AllocError>
-    requires { IsExact K.is_clone }
+pub(crate) fn want_get<K: Exact, V, E>(begun: bool, key: &K) -> Result<Want<K, V, E>, AllocError>
     ensures { IfOk result (λ want. want ≡ want_for begun (On_table (TableOp.Get key.now))) }
 {
     if begun {
@@ -93,11 +89,10 @@ pub(crate) fn key_locked<K, V>(locked: &Locked<K, V>) -> &K
 }
 
 /// Takes the record out.
-pub(crate) fn want_out<K: Clone + Drop, V, E>(
+pub(crate) fn want_out<K: Exact, V, E>(
     begun: bool,
     out: &TakeOut<K>,
 ) -> Result<Want<K, V, E>, AllocError>
-    requires { IsExact K.is_clone }
     ensures { IfOk result (λ want. want ≡ want_for begun
         (access_for 0 (plan.Out (removal_of out.now) out.now.key))) }
 {
@@ -122,13 +117,11 @@ fn stamp_asked<K>(out: &TakeOut<K>) -> Option<u64>
 }
 
 /// Judges whether a record that was chosen for the cause has still to leave.
-pub(crate) fn want_holds<K: Clone + Drop, V: Clone + Drop, E>(
+pub(crate) fn want_holds<K: Exact, V: Exact, E>(
     key: &K,
     stored: &Stored<V>,
     cause: Cause,
 ) -> Result<Want<K, V, E>, AllocError>
-    requires keys { IsExact K.is_clone }
-    requires values { IsExact V.is_clone }
     ensures { IfOk result (λ want. want ≡ Want.Desk (Visit.Holds key.now stored.now cause)) }
 {
     let key = key.clone()?;
@@ -137,13 +130,11 @@ pub(crate) fn want_holds<K: Clone + Drop, V: Clone + Drop, E>(
 }
 
 /// Judges the record that was found, on which the test, if any, may hold.
-pub(crate) fn want_judge<K: Clone + Drop, V: Clone + Drop, E>(
+pub(crate) fn want_judge<K: Exact, V: Exact, E>(
     replace: Option<u64>,
     key: &K,
     stored: &Stored<V>,
 ) -> Result<Want<K, V, E>, AllocError>
-    requires keys { IsExact K.is_clone }
-    requires values { IsExact V.is_clone }
     ensures { IfOk result (λ want. want ≡ Want.Desk (Visit.Judge replace key.now stored.now)) }
 {
     let key = key.clone()?;
@@ -156,11 +147,9 @@ pub(crate) fn want_judge<K: Clone + Drop, V: Clone + Drop, E>(
 }
 
 /// The pair that was found, of which the ask gives out a copy.
-pub(crate) fn found_copy<K: Clone + Drop, V: Clone + Drop>(
+pub(crate) fn found_copy<K: Exact, V: Exact>(
     found: &Option<(K, V)>,
 ) -> Result<Option<(K, V)>, AllocError>
-    requires keys { IsExact K.is_clone }
-    requires values { IsExact V.is_clone }
     ensures { IfOk result (λ copy. copy ≡ found.now) }
 {
     match found {
@@ -173,12 +162,7 @@ pub(crate) fn found_copy<K: Clone + Drop, V: Clone + Drop>(
 }
 
 /// An equal pair.
-pub(crate) fn pair_copy<K: Clone + Drop, V: Clone + Drop>(
-    key: &K,
-    value: &V,
-) -> Result<(K, V), AllocError>
-    requires keys { IsExact K.is_clone }
-    requires values { IsExact V.is_clone }
+pub(crate) fn pair_copy<K: Exact, V: Exact>(key: &K, value: &V) -> Result<(K, V), AllocError>
     ensures { IfOk result (λ copy. copy ≡ (key.now, value.now)) }
 {
     let key = key.clone()?;
@@ -187,11 +171,7 @@ pub(crate) fn pair_copy<K: Clone + Drop, V: Clone + Drop>(
 }
 
 /// Becomes the owner of the key's computes, or waits for it.
-pub(crate) fn want_own_key<K: Clone + Drop, V, E>(
-    call: u64,
-    key: &K,
-) -> Result<Want<K, V, E>, AllocError>
-    requires { IsExact K.is_clone }
+pub(crate) fn want_own_key<K: Exact, V, E>(call: u64, key: &K) -> Result<Want<K, V, E>, AllocError>
     ensures { IfOk result (λ want. want ≡ Want.Desk (Visit.WaitOrOwn call key.now Kind.Compute)) }
 {
     let key = key.clone()?;
@@ -200,11 +180,10 @@ pub(crate) fn want_own_key<K: Clone + Drop, V, E>(
 }
 
 /// Becomes the owner of the key's computes where nobody is.
-pub(crate) fn want_own_alone<K: Clone + Drop, V, E>(
+pub(crate) fn want_own_alone<K: Exact, V, E>(
     call: u64,
     key: &K,
 ) -> Result<Want<K, V, E>, AllocError>
-    requires { IsExact K.is_clone }
     ensures { IfOk result (λ want. want ≡ Want.Desk (Visit.OwnAlone call key.now)) }
 {
     let key = key.clone()?;
@@ -212,11 +191,10 @@ pub(crate) fn want_own_alone<K: Clone + Drop, V, E>(
 }
 
 /// Becomes the owner of the load, or waits for it.
-pub(crate) fn want_own<K: Clone + Drop, V, E>(
+pub(crate) fn want_own<K: Exact, V, E>(
     call: u64,
     load: &Load<K>,
 ) -> Result<Want<K, V, E>, AllocError>
-    requires { IsExact K.is_clone }
     ensures { IfOk result (λ want.
         want ≡ Want.Desk (Visit.WaitOrOwn call load.now.key load.now.kind)) }
 {
@@ -229,12 +207,10 @@ pub(crate) fn want_own<K: Clone + Drop, V, E>(
 }
 
 /// Tells those that wait how the owner ends.
-pub(crate) fn want_settle<K, V: Clone + Drop, E: Clone + Drop>(
+pub(crate) fn want_settle<K, V: Exact, E: Exact>(
     call: u64,
     ending: &Ending<V, E>,
 ) -> Result<Want<K, V, E>, AllocError>
-    requires values { IsExact V.is_clone }
-    requires errors { IsExact E.is_clone }
     ensures want { IfOk result (λ want.
         want ≡ Want.Desk (Visit.Settle call (settled_of ending.now))) }
     ensures err { OnErr result (SettledNeedsMemory (settled_of ending.now)) }
@@ -244,11 +220,7 @@ pub(crate) fn want_settle<K, V: Clone + Drop, E: Clone + Drop>(
 }
 
 // What is told to those that wait.
-fn settled_by<V: Clone + Drop, E: Clone + Drop>(
-    ending: &Ending<V, E>,
-) -> Result<Settled<V, E>, AllocError>
-    requires values { IsExact V.is_clone }
-    requires errors { IsExact E.is_clone }
+fn settled_by<V: Exact, E: Exact>(ending: &Ending<V, E>) -> Result<Settled<V, E>, AllocError>
     ensures told { IfOk result (λ with. with ≡ settled_of ending.now) }
     ensures err { OnErr result (SettledNeedsMemory (settled_of ending.now)) }
 {
@@ -266,14 +238,12 @@ fn settled_by<V: Clone + Drop, E: Clone + Drop>(
 }
 
 /// Stores the value.
-pub(crate) fn want_write<K: Clone + Drop, V: Clone + Drop, E>(
+pub(crate) fn want_write<K: Exact, V: Exact, E>(
     begun: bool,
     call: u64,
     put: &Put<K, V>,
     moment: u64,
 ) -> Result<Want<K, V, E>, AllocError>
-    requires keys { IsExact K.is_clone }
-    requires values { IsExact V.is_clone }
     ensures { IfOk result (λ want. want
         ≡ want_for begun (access_for call (plan.Write put.now.key put.now.value moment))) }
 {
@@ -293,11 +263,7 @@ pub(crate) fn want_write<K: Clone + Drop, V: Clone + Drop, E>(
 }
 
 /// Takes the key's lock.
-pub(crate) fn want_lock<K: Clone + Drop, V, E>(
-    call: u64,
-    key: &K,
-) -> Result<Want<K, V, E>, AllocError>
-    requires { IsExact K.is_clone }
+pub(crate) fn want_lock<K: Exact, V, E>(call: u64, key: &K) -> Result<Want<K, V, E>, AllocError>
     ensures { IfOk result (λ want. want ≡ Want.Desk (Visit.LockKey call key.now)) }
 {
     let key = key.clone()?;
@@ -318,15 +284,13 @@ impl<V> Uncopied<V> {
 }
 
 /// Opens the notice of the record that left.
-pub(crate) fn want_notice<K: Clone + Drop, V: Clone + Drop, E>(
+pub(crate) fn want_notice<K: Exact, V: Exact, E>(
     call: u64,
     key: &K,
     old: &Stored<V>,
     cause: Option<Cause>,
     upsert: bool,
 ) -> Result<Want<K, V, E>, AllocError>
-    requires keys { IsExact K.is_clone }
-    requires values { IsExact V.is_clone }
     ensures { IfOk result (λ want. want
         ≡ want_for false (access_for call (plan.Notice key.now old.now cause upsert))) }
 {

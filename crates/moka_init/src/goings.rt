@@ -1,6 +1,5 @@
 //! Single steps of a flow, and steps up to the first turn that isn't Going.
 ghost use Rattle.std.specs.Prelude.{◌≡◌, ◌<◌, List, Some, IfOk, IfErr, OnOk, OnErr};
-ghost use Rattle.moka_hist.specs.Finite.{IsExact};
 ghost use Rattle.moka_hist.specs.State.{World};
 ghost use Rattle.moka_hist.specs.Step.{IsSafe, May};
 ghost use Rattle.moka_init.specs.FlowPlan.{call_of, next_in, IsLive, Leaves, StandsStill};
@@ -11,18 +10,16 @@ ghost use Rattle.moka_init.specs.Telling.{Made, TellsPoll, TellsStep};
 use crate::flow::Flow;
 use crate::ground::{Alone, Ground};
 use moka_hist::Turn;
+use moka_values::Exact;
 use std::alloc::AllocError;
 
 /// Makes one step: exactly the access that the flow wants. Condition: the flow has not answered,
 /// and the ground is that of its call, and serves what it wants. After want of memory flow and
 /// ground are as before.
-pub fn step<K: Eq + Clone + Drop, V: Clone + Drop, E: Clone + Drop, G: Ground<K, V, E>>(
+pub fn step<K: Eq + Exact, V: Exact, E: Exact, G: Ground<K, V, E>>(
     flow: &mut Flow<K, V, E>,
     ground: &mut G,
 ) -> Result<Turn<K, V, E>, AllocError>
-    requires keys { IsExact K.is_clone }
-    requires values { IsExact V.is_clone }
-    requires errors { IsExact E.is_clone }
     requires live { IsLive flow.old }
     requires on { IsOn (G.account ground.old) flow.old }
     requires fits { G.fits ground.old (wish_of flow.old) }
@@ -64,13 +61,10 @@ pub struct Unfinished {
 /// ground is that of its call, and has what each of its steps needs, as long as it goes on; and its
 /// log has room for a write once it is empty, without which a write would never be posted. After
 /// want of memory the steps made so far stand.
-pub fn poll<K: Eq + Clone + Drop, V: Clone + Drop, E: Clone + Drop, G: Alone<K, V, E>>(
+pub fn poll<K: Eq + Exact, V: Exact, E: Exact, G: Alone<K, V, E>>(
     flow: &mut Flow<K, V, E>,
     ground: &mut G,
 ) -> Result<Turn<K, V, E>, Unfinished>
-    requires keys { IsExact K.is_clone }
-    requires values { IsExact V.is_clone }
-    requires errors { IsExact E.is_clone }
     requires live { IsLive flow.old }
     requires on { IsOn (G.account ground.old) flow.old }
     requires safe { (w : World K V E) × G.stands ground.old w

@@ -1,6 +1,5 @@
 //! What a flow stands on: a table and a desk, on which it makes one access a step.
 ghost use Rattle.std.specs.Prelude.{◌≡◌, IfOk, OnErr};
-ghost use Rattle.moka_hist.specs.Finite.{IsExact};
 ghost use Rattle.moka_hist.specs.State.{World};
 ghost use Rattle.moka_hist.specs.Step.{Access};
 ghost use Rattle.moka_hist.specs.declared.accesses.Want.{Want};
@@ -8,10 +7,11 @@ ghost use Rattle.moka_bound.specs.Falling.{Counts};
 ghost use Rattle.moka_init.specs.Grounds.{Account, Accesses, Gives, Lacks, OfWanted, MayWant};
 
 use moka_hist::{Got, Want};
+use moka_values::Exact;
 use std::alloc::AllocError;
 
 /// A table and a desk, as one call reaches them.
-pub trait Ground<K: Eq + Clone, V: Clone, E: Clone> {
+pub trait Ground<K: Eq + Exact, V: Exact, E: Exact> {
     /// The worlds that it stands for. A ground on which others may make accesses meanwhile may
     /// stand for none, and still tell those of its call.
     ghost stands: { Self → World K V E → Type 0 };
@@ -32,9 +32,6 @@ pub trait Ground<K: Eq + Clone, V: Clone, E: Clone> {
     /// Makes the wanted access, and no other. Condition: the want fits. After want of memory
     /// nothing has changed.
     fn access(&mut self, want: Want<K, V, E>) -> Result<Got<K, V, E>, AllocError>
-        requires keys { IsExact K.is_clone }
-        requires values { IsExact V.is_clone }
-        requires errors { IsExact E.is_clone }
         requires fits { fits self.old want }
         // What it gives, and what is told then.
         ensures gives { IfOk result (λ given. OfWanted (account self.old) want (λ access.
@@ -66,4 +63,4 @@ pub trait Ground<K: Eq + Clone, V: Clone, E: Clone> {
 
 /// A ground that nobody else changes while it is lent: what it stands for stays until its next
 /// access.
-pub trait Alone<K: Eq + Clone, V: Clone, E: Clone>: Ground<K, V, E> {}
+pub trait Alone<K: Eq + Exact, V: Exact, E: Exact>: Ground<K, V, E> {}

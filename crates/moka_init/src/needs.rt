@@ -1,6 +1,5 @@
 //! What the next visit of a flow needs of the desk.
 ghost use Rattle.std.specs.Prelude.{◌≡◌, Some, true, IfOk, OnErr};
-ghost use Rattle.moka_hist.specs.Finite.{IsExact};
 ghost use Rattle.moka_init.specs.Grounds.{access_at, access_from};
 ghost use Rattle.moka_init.specs.Needs.{is_claim, need_at};
 ghost use Rattle.moka_init.specs.PointPlan.{settled_of, posting_plan, looking_plan, loading_plan};
@@ -15,14 +14,14 @@ use crate::points::{
 };
 use moka_hist::{Kind, Load, Write};
 use moka_needs::{Ending, Need};
+use moka_values::Exact;
 use std::alloc::AllocError;
 
-impl<K: Clone + Drop, V, E> Flow<K, V, E> {
+impl<K: Exact, V, E> Flow<K, V, E> {
     /// What the flow's next visit needs of the desk. None where its next access is one of the
     /// table, which needs nothing of it. Where a load is to be claimed its key is cloned, and only
     /// there memory may be wanting.
     pub fn need(&self) -> Result<Option<Need<K>>, AllocError>
-        requires { IsExact K.is_clone }
         ensures ok { IfOk result (λ need. need ≡ need_at (access_at self.now)) }
         ensures err { OnErr result (is_claim (need_at (access_at self.now)) ≡ true) }
     {
@@ -58,7 +57,6 @@ impl<K: Clone + Drop, V, E> Flow<K, V, E> {
     }
 
     fn loading_need(&self, loading: &Loading<K, V, E>) -> Result<Option<Need<K>>, AllocError>
-        requires { IsExact K.is_clone }
         ensures ok { IfOk result (λ need.
             need ≡ need_at (access_from self.now (loading_plan loading.now))) }
         ensures err { OnErr result (is_claim
@@ -74,7 +72,6 @@ impl<K: Clone + Drop, V, E> Flow<K, V, E> {
     }
 
     fn computing_need(&self, computing: &Computing<K, V, E>) -> Result<Option<Need<K>>, AllocError>
-        requires { IsExact K.is_clone }
         ensures ok { IfOk result (λ need.
             need ≡ need_at (access_from self.now (computing_plan computing.now))) }
         ensures err { OnErr result (is_claim
@@ -142,8 +139,7 @@ fn held_need<K, V, E>(step: PostStep, write: Write) -> Need<K>
 }
 
 // To claim this load.
-fn claims<K: Clone + Drop>(key: &K, kind: Kind) -> Result<Option<Need<K>>, AllocError>
-    requires { IsExact K.is_clone }
+fn claims<K: Exact>(key: &K, kind: Kind) -> Result<Option<Need<K>>, AllocError>
     ensures { IfOk result (λ need.
         need ≡ Some (Need.WaitOrOwn (record { key = key.now; kind = kind }))) }
 {

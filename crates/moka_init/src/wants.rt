@@ -2,7 +2,6 @@
 ghost use Rattle.std.specs.Prelude.{◌≡◌, [], ◌∷◌, true, false, None, IfOk, OnOk, OnErr};
 ghost use Rattle.moka_hist.specs.Plan as plan;
 ghost use Rattle.moka_hist.specs.Step.{access_of, want_for};
-ghost use Rattle.moka_hist.specs.Finite.{IsExact};
 ghost use Rattle.moka_init.specs.FlowPlan.{call_of, standing, IsLive, IsReady, StandsStill};
 ghost use Rattle.moka_init.specs.Grounds.{access_at, access_from, wish_for, wish_of, TakesCopies};
 ghost use Rattle.moka_init.specs.PointPlan.{posting_plan, looking_plan, loading_plan};
@@ -21,17 +20,15 @@ use crate::points::{
     Uncopied, Writing,
 };
 use moka_hist::{Settled, Stored, Visit, Want, Write};
+use moka_values::Exact;
 use std::alloc::AllocError;
 use std::mem;
 
-impl<K: Clone + Drop, V: Clone + Drop, E: Clone + Drop> Flow<K, V, E> {
+impl<K: Exact, V: Exact, E: Exact> Flow<K, V, E> {
     /// The flow's next access. It makes the clones that the access needs, and leaves the flow; but
     /// where a pair is needed twice, for the ask and for the answer, the flow keeps a clone of it.
     /// Condition: the call has not answered.
     pub fn want(&mut self) -> Result<Want<K, V, E>, AllocError>
-        requires keys { IsExact K.is_clone }
-        requires values { IsExact V.is_clone }
-        requires errors { IsExact E.is_clone }
         requires live { IsLive self.old }
         ensures want { IfOk result (λ want. want ≡ wish_of self.old) }
         ensures ready { OnOk result (IsReady self.new) }
@@ -44,8 +41,6 @@ impl<K: Clone + Drop, V: Clone + Drop, E: Clone + Drop> Flow<K, V, E> {
 
     // Makes the copies of what is needed twice, where the flow stands there without them.
     fn copy(&mut self) -> Result<(), AllocError>
-        requires keys { IsExact K.is_clone }
-        requires values { IsExact V.is_clone }
         ensures ready { OnOk result (IsReady self.new) }
         ensures still { StandsStill self.old self.new }
         ensures err { OnErr result (TakesCopies (access_at self.old)) }
@@ -90,8 +85,6 @@ impl<K: Clone + Drop, V: Clone + Drop, E: Clone + Drop> Flow<K, V, E> {
         compute: KeyCompute<K>,
         found: Option<(K, V)>,
     ) -> Result<(), AllocError>
-        requires keys { IsExact K.is_clone }
-        requires values { IsExact V.is_clone }
         ensures ready { OnOk result (IsReady self.new) }
         ensures call { call_of self.new
             ≡ standing self.old (plan.Ask_op (compute_of compute) found ∷ []) }
@@ -129,8 +122,6 @@ impl<K: Clone + Drop, V: Clone + Drop, E: Clone + Drop> Flow<K, V, E> {
         write: Write,
         then: Uncopied<V>,
     ) -> Result<(), AllocError>
-        requires keys { IsExact K.is_clone }
-        requires values { IsExact V.is_clone }
         ensures ready { OnOk result (IsReady self.new) }
         ensures call { call_of self.new
             ≡ standing self.old (listening_plan (Listening.Uncopied key old write then)) }
@@ -147,7 +138,6 @@ impl<K: Clone + Drop, V: Clone + Drop, E: Clone + Drop> Flow<K, V, E> {
     // The flow stands at the notice of the removed record, with a copy of its value if there was
     // memory for one.
     fn copy_value(&mut self, key: K, old: Stored<V>, write: Write) -> Result<(), AllocError>
-        requires values { IsExact V.is_clone }
         ensures ready { OnOk result (IsReady self.new) }
         ensures call { call_of self.new
             ≡ standing self.old (listening_plan (Listening.Uncopied key old write Uncopied.Found)) }
@@ -168,8 +158,6 @@ impl<K: Clone + Drop, V: Clone + Drop, E: Clone + Drop> Flow<K, V, E> {
 
     // The same, with copies of its key and its value.
     fn copy_pair(&mut self, key: K, old: Stored<V>, write: Write) -> Result<(), AllocError>
-        requires keys { IsExact K.is_clone }
-        requires values { IsExact V.is_clone }
         ensures ready { OnOk result (IsReady self.new) }
         ensures call { call_of self.new
             ≡ standing self.old (listening_plan (Listening.Uncopied key old write Uncopied.Removed)) }
@@ -198,7 +186,6 @@ impl<K: Clone + Drop, V: Clone + Drop, E: Clone + Drop> Flow<K, V, E> {
         value: V,
         replaced: bool,
     ) -> Result<(), AllocError>
-        requires keys { IsExact K.is_clone }
         ensures ready { OnOk result (IsReady self.new) }
         ensures call { call_of self.new ≡ standing self.old
             (listening_plan (Listening.Uncopied key old write (Uncopied.Put value replaced))) }
@@ -259,9 +246,6 @@ impl<K: Clone + Drop, V: Clone + Drop, E: Clone + Drop> Flow<K, V, E> {
 
     // The flow's next access, with the clones that it needs.
     fn wanted(&self) -> Result<Want<K, V, E>, AllocError>
-        requires keys { IsExact K.is_clone }
-        requires values { IsExact V.is_clone }
-        requires errors { IsExact E.is_clone }
         requires live { IsLive self.now }
         ensures want { IfOk result (λ want. want ≡ wish_of self.now) }
         ensures err { OnErr result (TakesCopies (access_at self.now)) }
@@ -289,8 +273,6 @@ impl<K: Clone + Drop, V: Clone + Drop, E: Clone + Drop> Flow<K, V, E> {
     }
 
     fn want_looking(&self, looking: &Looking<K, V>) -> Result<Want<K, V, E>, AllocError>
-        requires keys { IsExact K.is_clone }
-        requires values { IsExact V.is_clone }
         ensures want { IfOk result (λ want. want ≡ wish_for self.now (looking_plan looking.now)) }
         ensures err { OnErr result (TakesCopies (access_from self.now (looking_plan looking.now))) }
     {
@@ -301,9 +283,6 @@ impl<K: Clone + Drop, V: Clone + Drop, E: Clone + Drop> Flow<K, V, E> {
     }
 
     fn want_loading(&self, loading: &Loading<K, V, E>) -> Result<Want<K, V, E>, AllocError>
-        requires keys { IsExact K.is_clone }
-        requires values { IsExact V.is_clone }
-        requires errors { IsExact E.is_clone }
         ensures want { IfOk result (λ want. want ≡ wish_for self.now (loading_plan loading.now)) }
         ensures err { OnErr result (TakesCopies (access_from self.now (loading_plan loading.now))) }
     {
@@ -321,7 +300,6 @@ impl<K: Clone + Drop, V: Clone + Drop, E: Clone + Drop> Flow<K, V, E> {
     }
 
     fn want_computing(&self, computing: &Computing<K, V, E>) -> Result<Want<K, V, E>, AllocError>
-        requires keys { IsExact K.is_clone }
         ensures want { IfOk result (λ want.
             want ≡ wish_for self.now (computing_plan computing.now)) }
         ensures err { OnErr result
@@ -345,8 +323,6 @@ impl<K: Clone + Drop, V: Clone + Drop, E: Clone + Drop> Flow<K, V, E> {
     }
 
     fn want_writing(&self, writing: &Writing<K, V>) -> Result<Want<K, V, E>, AllocError>
-        requires keys { IsExact K.is_clone }
-        requires values { IsExact V.is_clone }
         ensures want { IfOk result (λ want. want ≡ wish_for self.now (writing_plan writing.now)) }
         ensures err { OnErr result (TakesCopies (access_from self.now (writing_plan writing.now))) }
     {
@@ -358,8 +334,6 @@ impl<K: Clone + Drop, V: Clone + Drop, E: Clone + Drop> Flow<K, V, E> {
     }
 
     fn want_removing(&self, removing: &Removing<K, V>) -> Result<Want<K, V, E>, AllocError>
-        requires keys { IsExact K.is_clone }
-        requires values { IsExact V.is_clone }
         ensures want { IfOk result (λ want.
             want ≡ wish_for self.now (removing_plan removing.now)) }
         ensures err { OnErr result
@@ -380,8 +354,6 @@ impl<K: Clone + Drop, V: Clone + Drop, E: Clone + Drop> Flow<K, V, E> {
     }
 
     fn want_listening(&self, listening: &Listening<K, V>) -> Result<Want<K, V, E>, AllocError>
-        requires keys { IsExact K.is_clone }
-        requires values { IsExact V.is_clone }
         ensures want { IfOk result (λ want.
             want ≡ wish_for self.now (listening_plan listening.now)) }
         ensures err { OnErr result

@@ -9,8 +9,8 @@ use Rattle.moka_init.proofs.Near.{near}
 use Rattle.moka_init.proofs.Still.{access_still, live_still, next_still}
 use Rattle.moka_init.proofs.goings.step.Goals as goal
 
-pub access-requires-clause-fits : goal.access-requires-clause-fits
-access-requires-clause-fits g c = rw c.in_ok-want.ensures.want c.requires.fits
+pub access-requires : goal.access-requires
+access-requires g c = record { fits = rw c.in_ok-want.ensures.want c.requires.fits }
 
 pub take-requires-clause-live : goal.take-requires-clause-live
 take-requires-clause-live g c =
