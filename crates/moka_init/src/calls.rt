@@ -5,8 +5,7 @@ ghost use Rattle.moka_hist.specs.Plan as plan;
 ghost use Rattle.moka_hist.specs.Plan.{hearing};
 ghost use Rattle.std.specs.Option.{option_map};
 ghost use Rattle.moka_needs.specs.Reads.{kind_read};
-ghost use Rattle.moka_init.specs.PointPlan.{aim_of, looking_plan, posting_plan, listening_plan};
-ghost use Rattle.moka_init.specs.PointPlan.{computing_plan, loading_plan};
+ghost use Rattle.moka_init.specs.PointPlan.{aim_of, posting_plan, listening_plan};
 ghost use Rattle.moka_init.specs.FlowPlan.{opening, owed_in, tested_in};
 
 use crate::copies::replace_of;
@@ -64,8 +63,13 @@ impl<K, V, E> Flow<K, V, E> {
         ensures { result ≡ hearing self.now.call (call_of self.now).plan }
     {
         match &self.point {
-            Point::Posting(posting) => self.notice_in_posting(posting),
-            Point::Listening(listening) => self.notice_in_listening(listening),
+            Point::Posting(
+                Posting::Held {
+                    step: PostStep::Hear,
+                    ..
+                },
+            ) => Some(self.call),
+            Point::Listening(Listening::Ended { notice, .. }) => Some(*notice),
             _ => None,
         }
     }
@@ -75,7 +79,7 @@ impl<K, V, E> Flow<K, V, E> {
         ensures { option_map (λ value. value.now) result ≡ tested_in (call_of self.now).plan }
     {
         match &self.point {
-            Point::Looking(looking) => tested_in_looking::<K, V, E>(looking),
+            Point::Looking(Looking::Judge { look, stored, .. }) => tested_by(look, stored),
             _ => None,
         }
     }
@@ -85,8 +89,8 @@ impl<K, V, E> Flow<K, V, E> {
         ensures { result ≡ kind_read (call_of self.now).plan }
     {
         match &self.point {
-            Point::Loading(loading) => kind_read_in_loading(loading),
-            Point::Computing(computing) => kind_read_in_computing(computing),
+            Point::Loading(Loading::Read(sought)) => Some(sought.load.kind),
+            Point::Computing(Computing::Read(_)) => Some(Kind::Compute),
             _ => None,
         }
     }
@@ -140,29 +144,6 @@ impl<K, V, E> Flow<K, V, E> {
             Listening::Release(_) => None,
         }
     }
-
-    // The notice whose end a call awaits that passes on its write.
-    fn notice_in_posting(&self, posting: &Posting<K, V>) -> Option<u64>
-        ensures { result ≡ hearing {E = E} self.now.call (posting_plan posting.now) }
-    {
-        match posting {
-            Posting::Drain(_) => None,
-            Posting::Held { step, .. } => notice_at::<K, V, E>(self.call, *step),
-        }
-    }
-
-    // The notice whose end a call awaits that is listening.
-    fn notice_in_listening(&self, listening: &Listening<K, V>) -> Option<u64>
-        ensures { result ≡ hearing {E = E} self.now.call (listening_plan listening.now) }
-    {
-        match listening {
-            Listening::Ended { notice, .. } => Some(*notice),
-            Listening::Lock(_) => None,
-            Listening::Notice { .. } => None,
-            Listening::Uncopied { .. } => None,
-            Listening::Release(_) => None,
-        }
-    }
 }
 
 impl<K: Exact, V: Exact, E: Exact> Flow<K, V, E> {
@@ -196,48 +177,6 @@ fn held_at<K, V, E>(call: u64, step: PostStep, write: Write) -> Owed
         PostStep::Turn => unheard(write),
         PostStep::Apply => unheard(write),
         PostStep::End => unheard(write),
-    }
-}
-
-// The notice whose end this call awaits, where this is its next step with the write that it holds.
-fn notice_at<K, V, E>(call: u64, step: PostStep) -> Option<u64>
-    ensures { (write : Write) → (then : Posted K V) → result
-        ≡ hearing {E = E} call (posting_plan (Posting.Held step write then)) }
-{
-    match step {
-        PostStep::Hear => Some(call),
-        PostStep::Unlock => None,
-        PostStep::Post => None,
-        PostStep::Turn => None,
-        PostStep::Apply => None,
-        PostStep::End => None,
-    }
-}
-
-// The kind of load whose owner's end a call reads next that is loading, if it reads one.
-fn kind_read_in_loading<K, V, E>(loading: &Loading<K, V, E>) -> Option<Kind>
-    ensures { result ≡ kind_read (loading_plan loading.now) }
-{
-    match loading {
-        Loading::Own(_) => None,
-        Loading::Read(sought) => Some(sought.load.kind),
-        Loading::Settle(_) => None,
-        Loading::Ask(_) => None,
-        Loading::Told(_) => None,
-    }
-}
-
-// The same of a call that computes.
-fn kind_read_in_computing<K, V, E>(computing: &Computing<K, V, E>) -> Option<Kind>
-    ensures { result ≡ kind_read {E = E} (computing_plan computing.now) }
-{
-    match computing {
-        Computing::Own(_) => None,
-        Computing::OwnAlone(_) => None,
-        Computing::Read(_) => Some(Kind::Compute),
-        Computing::Ask { .. } => None,
-        Computing::Told { .. } => None,
-        Computing::Settle(_) => None,
     }
 }
 
@@ -289,21 +228,6 @@ pub(crate) fn open_notice<K: Exact, V: Exact, E>(
         cause,
         upsert,
     })
-}
-
-// The value on which a call that looks asks its replace test next, where it does.
-fn tested_in_looking<K, V, E>(looking: &Looking<K, V>) -> Option<&V>
-    ensures { option_map (λ value. value.now) result
-        ≡ tested_in {E = E} (looking_plan looking.now) }
-{
-    match looking {
-        Looking::Judge {
-            look,
-            key: _,
-            stored,
-        } => tested_by(look, stored),
-        Looking::Get(_) => None,
-    }
 }
 
 // The value of the record, where the look has a replace test.
