@@ -14,7 +14,7 @@ use Rattle.moka_hist.specs.declared.replies.Answer.TheVariants as answer
 use Rattle.moka_hist.specs.declared.rules.Rules.{Rules}
 use Rattle.moka_init.specs.FlowPlan.{call_of}
 use Rattle.moka_laws.specs.Loads.{may_answer}
-use Rattle.moka_laws.specs.Shapes.{Fits, MayGive, MayLead, ShapesFit, asks_nobody}
+use Rattle.moka_laws.specs.Shapes.{Fits, MayBeGiven, MayLead, ShapesFit, asks_nobody}
 use Rattle.moka_kept.specs.Paths.{CameWith, EndedWith, IsGiven, LeadsWith}
 use Rattle.moka_kept.specs.Taking.{Answered, NoAnswer, Taken, Tested}
 use Rattle.moka_cache.specs.Asked.{Accords, ToldSuch}
@@ -36,7 +36,7 @@ module _ {K V E : Type 0} (eq : K → K → Bool) (n : ℕ) where
   lead_on c [] d more e first then = subst (λ (x : Call K V E). MayLead eq n x more e) first then
   lead_on c (given ∷ path) d more e first then = (first.0, first.1, first.2, lead_on first.0 path d more e first.3 then)
 
-  pub may_give : (c : Call K V E) (given : Got K V E) → IsGiven eq n c given → MayGive eq n c given
+  pub may_give : (c : Call K V E) (given : Got K V E) → IsGiven eq n c given → MayBeGiven eq n c given
   may_give c given by = record { world = by.world; after = by.after; gets = by.gets }
 
 module _ {K V E : Type 0} (eq : K → K → Bool) (such : Taken V E → Type 0) (n : ℕ) where

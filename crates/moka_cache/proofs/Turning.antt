@@ -19,7 +19,7 @@ use Rattle.moka_kept.specs.declared.stop.Stop.TheVariants as stop
 use Rattle.moka_kept.proofs.Stopping.{answers_on, came_here, came_to_on, came_to_weaker}
 use Rattle.moka_kept.proofs.Ways.{ended_weaker}
 use Rattle.moka_cache.specs.Asked.{BegunBy, IsAskedFor}
-use Rattle.moka_cache.specs.Hearing.{Follows, MayPend}
+use Rattle.moka_cache.specs.Hearing.{FollowsStop, MayPend}
 use Rattle.moka_cache.specs.Polls.{CameToAsk, PollIs, TurnIs}
 use Rattle.moka_cache.specs.declared.errors.PollError.{PollError}
 use Rattle.moka_cache.proofs.Taking.{unasked_then}
@@ -31,7 +31,7 @@ module _ {K V E : Type 0} (eq : K → K → Bool) (such : Taken V E → Type 0) 
   may_pend old t new came (inr pends) = subst (λ u. TurnIs eq such old u new) (sym pends) came
 
   -- a hold of the lock, with what follows it, ends a turn of a poll
-  pub turned : (old : Flow K V E) (s : Stop K V E) (t : Option (Poll (Result (Answer K V E) PollError))) (new : Flow K V E) → StopIs eq such old s new → Follows s t
+  pub turned : (old : Flow K V E) (s : Stop K V E) (t : Option (Poll (Result (Answer K V E) PollError))) (new : Flow K V E) → StopIs eq such old s new → FollowsStop s t
       → TurnIs eq such old t new
   turned old (stop.Answers answer) t new end follows = subst (λ u. TurnIs eq such old u new) (sym follows) end
   turned old stop.Going t new after follows = subst (λ u. TurnIs eq such old u new) (sym follows) after.0

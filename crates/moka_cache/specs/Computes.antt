@@ -41,8 +41,8 @@ module _ {C : Type 0} where
 
 module _ {C V E : Type 0} where
   -- what a compute may tell: what is to be done, or an error
-  abbrev pub Gives : (C → Result (Op V) E → Type 0) → ByCompute C → Told V E → Type 0
-  Gives gives asked told = TellsDone (MayGive gives asked.stage) told
+  abbrev pub GivesOp : (C → Result (Op V) E → Type 0) → ByCompute C → Told V E → Type 0
+  GivesOp gives asked told = TellsDone (MayGive gives asked.stage) told
 
   -- what an upsert may tell: the value of a put
   abbrev pub GivesPut : (C → Result (Op V) E → Type 0) → ByUpsert C → Told V E → Type 0

@@ -57,9 +57,9 @@ module _ {K V E : Type 0} where
 
   -- What follows a hold that left the call so: it goes on, is pending where it asks or waits, or
   -- answers.
-  abbrev pub Follows : Stop K V E → Option (Poll (Result (Answer K V E) PollError)) → Type 0
-  Follows stop.Going turn = turn ≡ None
-  Follows stop.Waits turn = MayPend turn
-  Follows (stop.Asks ask) turn = MayPend turn
-  Follows (stop.Answers answer) turn = turn ≡ Some (Ready (Ok answer))
-  Follows stop.Memory turn = turn ≡ Some (Ready (Err error.Memory))
+  abbrev pub FollowsStop : Stop K V E → Option (Poll (Result (Answer K V E) PollError)) → Type 0
+  FollowsStop stop.Going turn = turn ≡ None
+  FollowsStop stop.Waits turn = MayPend turn
+  FollowsStop (stop.Asks ask) turn = MayPend turn
+  FollowsStop (stop.Answers answer) turn = turn ≡ Some (Ready (Ok answer))
+  FollowsStop stop.Memory turn = turn ≡ Some (Ready (Err error.Memory))

@@ -5,7 +5,7 @@ ghost use Rattle.futures.specs.Poll.{IfReady, OnPending};
 ghost use Rattle.futures.specs.Task.{IsArmed, Keeps};
 ghost use Rattle.moka_hist.specs.declared.events.Op.{Op};
 ghost use Rattle.moka_cache.specs.Asked.{AsksNothing, Untested};
-ghost use Rattle.moka_cache.specs.Computes.{CanGo, CanPut, Ended, Gives, GivesPut, MayGive, Pends};
+ghost use Rattle.moka_cache.specs.Computes.{CanGo, CanPut, Ended, GivesOp, GivesPut, MayGive, Pends};
 ghost use Rattle.moka_cache.specs.Computes.{WasBegun};
 
 use crate::asked::Asked;
@@ -32,7 +32,7 @@ pub struct ByCompute<C> {
 impl<K, V, E, C: Compute<K, V, E>> Asked<K, V, E> for ByCompute<C> {
     ghost can_poll = { λ asked. CanGo C.can_start C.can_poll asked.stage };
 
-    ghost gives = { Gives C.gives };
+    ghost gives = { GivesOp C.gives };
 
     ghost pends = { λ old new. Pends C.pends old.stage new.stage };
 

@@ -2,7 +2,7 @@
 ghost use Rattle.std.specs.Prelude.{◌≡◌, Some, None, Result, IsSome, IsOk};
 ghost use Rattle.moka_hist.specs.declared.events.Start.TheVariants as Start;
 ghost use Rattle.moka_hist.specs.declared.events.Op.{Op};
-ghost use Rattle.moka_cache.specs.Computes.{Gives};
+ghost use Rattle.moka_cache.specs.Computes.{GivesOp};
 ghost use Rattle.moka_cache.specs.Entries.{computed_in};
 ghost use Rattle.moka_cache.specs.Keys.{key_of};
 ghost use Rattle.moka_cache.specs.Settings.{rules_of};
@@ -84,7 +84,7 @@ where
         ensures fresh { BeginsWith result.stage (λ begin. begin.key ≡ self.entry.key) }
         ensures may { MayPoll result.stage }
         ensures compute { result.asked.stage ≡ ComputeStage.Fresh compute }
-        ensures tells { Tells K.eq (Gives C.gives result.asked) (called
+        ensures tells { Tells K.eq (GivesOp C.gives result.asked) (called
             (rules_of result.cache.now) (λ begin. Start.Compute (key_of begin.key)))
             (λ named answer. computed_in answer) result.stage }
         ensures cache { result.cache.now ≡ self.entry.cache.now }

@@ -7,7 +7,7 @@ ghost use Rattle.moka_hist.specs.declared.events.Told.{Told};
 ghost use Rattle.moka_cache.specs.Asked.{BegunBy, BegunFor, entry_of};
 ghost use Rattle.moka_hist.specs.Plan.{hearing};
 ghost use Rattle.moka_init.specs.FlowPlan.{call_of};
-ghost use Rattle.moka_cache.specs.Hearing.{Awaits, Ends, Follows, IsHeard, MayPend, Unheard};
+ghost use Rattle.moka_cache.specs.Hearing.{Awaits, Ends, FollowsStop, IsHeard, MayPend, Unheard};
 ghost use Rattle.moka_cache.specs.Hearing.{WasPolled, heard_in, over_in};
 
 use crate::asked::Asked;
@@ -54,7 +54,7 @@ where
         ensures same { (told : Told V E) → Q.gives asked.new told → Q.gives asked.old told }
         ensures tested { (value : V) (replaced : Bool) → Q.tests asked.new value replaced
             → Q.tests asked.old value replaced }
-        ensures follows { Follows stop (over_in result) }
+        ensures follows { FollowsStop stop (over_in result) }
         ensures cause { over_in result ≡ Some Poll.Pending
             → (stop ≡ Stop.Waits) ⊎ Awaits (Unheard L.pends self.now.listener) flow.now }
         // What the next hold is to tell, and that a listener that is awaited was polled.

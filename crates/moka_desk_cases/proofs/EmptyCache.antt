@@ -8,7 +8,7 @@ use Rattle.moka_hist.specs.Bound.{stayed, times_of, decided_by}
 use Rattle.moka_hist.specs.State.{Call, World}
 use Rattle.moka_hist.specs.Plan.{Item, is_disabled, get_plan}
 use Rattle.moka_hist.specs.Plan as plan
-use Rattle.moka_hist.specs.Step.{Access, Gets, May, Moves, MovesOn, IsSafe, On_desk, On_table, access_of, next_of, going_as}
+use Rattle.moka_hist.specs.Step.{Access, Gets, May, CallMoves, MovesOn, IsSafe, On_desk, On_table, access_of, next_of, going_as}
 use Rattle.moka_hist.specs.Visits.{finds, makes, holding_with, first_of}
 use Rattle.moka_hist.specs.Tables.{answer_of}
 use Rattle.moka_hist.specs.Run.{fresh_call}
@@ -186,16 +186,16 @@ module _ {K V E : Type 0} (eq : K → K → Bool) where
 
   -- one more step of such a get
   looks_more : (n : ℕ) (b : Call K V E) (mid new : World K V E) (d : Call K V E) → IsEmpty mid → Looks b
-      → Moves eq n b mid (going_as d) new → IsEmpty new × Looks d
+      → CallMoves eq n b mid (going_as d) new → IsEmpty new × Looks d
   looks_more n b mid new d bare (inl at) moves =
       let c : Call K V E = record { rules = b.rules; mode = b.mode; plan = plan.Drain ∷ plan.Get (plan.To_show plan.As_value) at.0 ∷ []; aborts = b.aborts } in
       let is : b ≡ c = ap (λ p. record b { plan = p }) at.1 in
-      let m : Moves eq n c mid (going_as d) new = subst (λ (x : Call K V E). Moves eq n x mid (going_as d) new) is moves in
+      let m : CallMoves eq n c mid (going_as d) new = subst (λ (x : Call K V E). CallMoves eq n x mid (going_as d) new) is moves in
       drained n at.0 b.rules b.mode b.aborts mid new d m.given bare m.gets m.goes
   looks_more n b mid new d bare (inr at) moves =
       let c : Call K V E = record { rules = b.rules; mode = b.mode; plan = plan.Get (plan.To_show plan.As_value) at.0 ∷ []; aborts = b.aborts } in
       let is : b ≡ c = ap (λ p. record b { plan = p }) at.1 in
-      let m : Moves eq n c mid (going_as d) new = subst (λ (x : Call K V E). Moves eq n x mid (going_as d) new) is moves in
+      let m : CallMoves eq n c mid (going_as d) new = subst (λ (x : Call K V E). CallMoves eq n x mid (going_as d) new) is moves in
       looked n at.0 b.rules b.mode b.aborts mid new d m.given bare m.gets m.goes
 
   -- as long as it goes on

@@ -12,7 +12,7 @@ use Rattle.moka_hist.specs.declared.writes.Holding.TheVariants as holding
 use Rattle.moka_hist.specs.declared.writes.Write.{Write}
 use Rattle.moka_desk.specs.StandsFor.{StandsFor}
 use Rattle.moka_desk.specs.declared.state.Desk.{Desk}
-use Rattle.moka_desk_cases.specs.Rests.{resting, Rests}
+use Rattle.moka_desk_cases.specs.Rests.{resting, RestsOnDesk}
 use Rattle.moka_desk_cases.proofs.Steps.{put_back}
 
 abbrev pub once_stamped : DeskPart ℕ ℕ ℕ → List Write → ℕ → DeskPart ℕ ℕ ℕ
@@ -44,7 +44,7 @@ may_post w writes call write is = by (call == call) refl where
   by false e = absurd (eqb-false call call e refl)
 
 pub rests : {same : PartialEq.Ghosts ℕ} {hash : Hash.Ghosts ℕ} (w : DeskPart ℕ ℕ ℕ) (writes : List Write) (call : ℕ) (write : Write) (desk : Desk ℕ ℕ ℕ same hash) →
-    StandsFor nat_eq desk (ended_turn (once_applied w writes call write)) → Rests desk (writes ++ write ∷ [])
+    StandsFor nat_eq desk (ended_turn (once_applied w writes call write)) → RestsOnDesk desk (writes ++ write ∷ [])
 rests w writes call write desk stands =
     let last : DeskPart ℕ ℕ ℕ = record w { published = standing (writes ++ write ∷ []) } in
     (last, subst (λ h. StandsFor nat_eq desk (record (resting last (writes ++ write ∷ [])) { holding = h })) (put_back call None (Some (holding.Own (Some w.clock)))) stands)

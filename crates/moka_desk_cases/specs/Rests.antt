@@ -30,9 +30,9 @@ resting w writes = record w {
 }
 
 -- the desk stands for such a state
-abbrev pub Rests : {same : PartialEq.Ghosts ℕ} {hash : Hash.Ghosts ℕ} → Desk ℕ ℕ ℕ same hash →
+abbrev pub RestsOnDesk : {same : PartialEq.Ghosts ℕ} {hash : Hash.Ghosts ℕ} → Desk ℕ ℕ ℕ same hash →
     List Write → Type 0
-Rests desk writes = (w : DeskPart ℕ ℕ ℕ) × StandsFor nat_eq desk (resting w writes)
+RestsOnDesk desk writes = (w : DeskPart ℕ ℕ ℕ) × StandsFor nat_eq desk (resting w writes)
 
 -- the desk stands for a state where nobody holds a write
 abbrev pub NobodyHolds : {same : PartialEq.Ghosts ℕ} {hash : Hash.Ghosts ℕ} →

@@ -2,7 +2,7 @@
 
 ghost use Rattle.std.specs.Prelude.{◌≤◌, ◌<◌, List, []};
 ghost use Rattle.moka_hist.specs.declared.writes.Write.{Write as write_of};
-ghost use Rattle.moka_desk_cases.specs.Rests.{Rests};
+ghost use Rattle.moka_desk_cases.specs.Rests.{RestsOnDesk};
 
 use crate::desks::rules_with;
 use crate::writes::published_after;
@@ -105,7 +105,7 @@ fn old_of(write: &Write) -> Option<u64> {
 
 /// Whether after each of the writes, applied in this order, as many records stand as is published.
 fn are_counted(desk: &mut Desk<u32, u32, u32>, order: &[Write]) -> Result<bool, AllocError>
-    requires { (writes : List write_of) × Rests desk.old writes }
+    requires { (writes : List write_of) × RestsOnDesk desk.old writes }
 {
     for done in 0..order.len() {
         let write = order[done];
@@ -144,7 +144,7 @@ fn what_is_published_is_what_stands_in_any_order(rt: HostRuntime) -> Result<(), 
 /// Whether a write of this number may be stamped before the write was applied that makes its
 /// record, not after that, and again after the one that removes it, where that is told.
 fn may_be_stamped(desk: &mut Desk<u32, u32, u32>, again: bool) -> Result<bool, AllocError>
-    requires { Rests desk.old [] }
+    requires { RestsOnDesk desk.old [] }
 {
     let made = Write::Upsert {
         number: 1,

@@ -4,7 +4,7 @@ ghost use Rattle.std.specs.Prelude.{◌≡◌, ◌==◌, false, List, ◌∷◌,
 ghost use Rattle.moka_hist.specs.Finite.{times};
 ghost use Rattle.moka_hist.specs.Visits.{number_of};
 ghost use Rattle.moka_hist.specs.declared.writes.Write.{Write as write_of};
-ghost use Rattle.moka_desk_cases.specs.Rests.{IsNew, Rests};
+ghost use Rattle.moka_desk_cases.specs.Rests.{IsNew, RestsOnDesk};
 
 use crate::desks::{new_desk, rules_with};
 use moka_desk::Desk;
@@ -67,11 +67,11 @@ pub(crate) fn published_after(
     desk: &mut Desk<u32, u32, u32>,
     write: Write,
 ) -> Result<u64, AllocError>
-    requires { (writes : List write_of) × Rests desk.old writes
+    requires { (writes : List write_of) × RestsOnDesk desk.old writes
         × (times (number_of write) (map number_of writes) ≡ 0) }
-    ensures { OnOk result ((writes : List write_of) → Rests desk.old writes
+    ensures { OnOk result ((writes : List write_of) → RestsOnDesk desk.old writes
         → times (number_of write) (map number_of writes) ≡ 0
-        → Rests desk.new (writes ++ write ∷ [])) }
+        → RestsOnDesk desk.new (writes ++ write ∷ [])) }
 {
     let call = write.number();
     let _ = desk.stamp_moment(call)?;

@@ -190,7 +190,7 @@ module _ {K V E : Type 0} where
   May w (On_table operation) = Unit {0}
 
   -- one step of a call by itself: how it goes on, and the world then
-  pub record Moves (eq : K → K → Bool) (n : ℕ) (c : Call K V E) (w : World K V E)
+  pub record CallMoves (eq : K → K → Bool) (n : ℕ) (c : Call K V E) (w : World K V E)
       (next : Next K V E) (new : World K V E) : Type 0 where
     pub given : Got K V E
     pub gets : Gets eq n w (access_of n c) given new
@@ -206,7 +206,7 @@ module _ {K V E : Type 0} where
   MovesOn eq zero n c w d new = (d ≡ c) × (new ≡ w)
   MovesOn eq (suc k) n c w d new =
       (b : Call K V E) × (mid : World K V E) × MovesOn eq k n c w b mid ×
-      Moves eq n b mid (going_as d) new
+      CallMoves eq n b mid (going_as d) new
 
   -- steps of a call by itself, all of which leave it going but the last, which doesn't
   pub record Polled (eq : K → K → Bool) (n : ℕ) (c : Call K V E) (w : World K V E)
@@ -215,7 +215,7 @@ module _ {K V E : Type 0} where
     pub call : Call K V E
     pub mid : World K V E
     pub goes : MovesOn eq going n c w call mid
-    pub last : Moves eq n call mid next new
+    pub last : CallMoves eq n call mid next new
     pub ends : next.turn ≢ turns.Going
 
   -- the world has what each step of the call needs, as long as it goes on by itself
@@ -225,8 +225,8 @@ module _ {K V E : Type 0} where
       May mid (access_of n d)
 
   -- accesses with what they gave, by which the call goes on from c to d, always going
-  abbrev pub Leads : ℕ → Call K V E → List (Access K V E × Got K V E) → Call K V E → Type 0
-  Leads n c [] d = d ≡ c
-  Leads n c (made ∷ more) d =
+  abbrev pub LeadsAlong : ℕ → Call K V E → List (Access K V E × Got K V E) → Call K V E → Type 0
+  LeadsAlong n c [] d = d ≡ c
+  LeadsAlong n c (made ∷ more) d =
       (mid : Call K V E) × (made.0 ≡ access_of n c) × (next_of n c made.1 ≡ going_as mid) ×
-      Leads n mid more d
+      LeadsAlong n mid more d

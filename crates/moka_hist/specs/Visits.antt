@@ -91,8 +91,8 @@ claim_of (Some owner) = claim.Waits owner
 
 module _ {K V E : Type 0} where
   -- when the record of this stamp, written at the moment, was last seen
-  abbrev pub access_of : DeskPart K V E → ℕ → ℕ → ℕ
-  access_of w stamp modified = unwrap_or (w.accessed stamp) modified
+  abbrev pub accessed_at : DeskPart K V E → ℕ → ℕ → ℕ
+  accessed_at w stamp modified = unwrap_or (w.accessed stamp) modified
 
   -- nobody has the turn, or this call has it
   abbrev pub is_free_for : DeskPart K V E → ℕ → Bool
@@ -130,7 +130,7 @@ module _ {K V E : Type 0} where
         clock = w.clock;
         valid_after = None;
         modified = modified;
-        accessed = access_of w stamp modified;
+        accessed = accessed_at w stamp modified;
       }
 
   -- why a record leaves: for the cause handed in, or else since a write took its place or a call
@@ -195,7 +195,7 @@ module _ {K V E : Type 0} where
   abbrev pub judged : DeskPart K V E → ℕ → ℕ → Bool → DeskPart K V E
   judged w stamp modified seen = record w {
     accessed =
-        cond seen (put_at w.accessed stamp (Some (max (access_of w stamp modified) w.clock)))
+        cond seen (put_at w.accessed stamp (Some (max (accessed_at w stamp modified) w.clock)))
         w.accessed;
   }
 

@@ -1,7 +1,7 @@
 -- Steps of a call by itself, one after the other.
 use Rattle.std.proofs.Common.{◌≡◌, ◌≢◌, ℕ, zero, suc, ◌<◌, Bool, Option, MatchOption, ◌+◌, refl, sym, ap, ◌∙◌, subst, add-one}
 use Rattle.moka_hist.specs.State.{Call, World}
-use Rattle.moka_hist.specs.Step.{Access, Moves, MovesOn, Polled, IsSafe, May, access_of, going_as}
+use Rattle.moka_hist.specs.Step.{Access, CallMoves, MovesOn, Polled, IsSafe, May, access_of, going_as}
 use Rattle.moka_hist.specs.declared.accesses.Turn.{Turn}
 use Rattle.moka_hist.specs.declared.accesses.Turn.TheVariants as turn
 use Rattle.moka_bound.proofs.Size.{access_size}
@@ -32,7 +32,7 @@ module _ {K V E : Type 0} (eq : K → K → Bool) where
   moves_none n c w = (refl, refl)
 
   pub moves_more : (k n : ℕ) (c : Call K V E) (w : World K V E) (b : Call K V E) (mid : World K V E) (d : Call K V E) (new : World K V E)
-      → MovesOn eq k n c w b mid → Moves eq n b mid (going_as d) new → MovesOn eq (k + 1) n c w d new
+      → MovesOn eq k n c w b mid → CallMoves eq n b mid (going_as d) new → MovesOn eq (k + 1) n c w d new
   unfolding MovesOn
   moves_more k n c w b mid d new before more =
       subst (λ (j : ℕ). MovesOn eq j n c w d new) (sym (add-one k)) (b, mid, before, more)
@@ -45,16 +45,16 @@ module _ {K V E : Type 0} (eq : K → K → Bool) where
 
   -- one more step
   pub flow_more : (k : ℕ) (first flow new : Flow K V E) (w mid after : World K V E) (t : Turn K V E) → flow.call ≡ first.call → t ≡ turn.Going
-      → MovesOn eq k first.call (call_of first) w (call_of flow) mid → Moves eq flow.call (call_of flow) mid (next_in t new) after
+      → MovesOn eq k first.call (call_of first) w (call_of flow) mid → CallMoves eq flow.call (call_of flow) mid (next_in t new) after
       → MovesOn eq (k + 1) first.call (call_of first) w (call_of new) after
   flow_more k first flow new w mid after t number going before more =
       moves_more k first.call (call_of first) w (call_of flow) mid (call_of new) after before
-      (subst (λ (u : Turn K V E). Moves eq first.call (call_of flow) mid (next_in u new) after) going
-      (subst (λ (n : ℕ). Moves eq n (call_of flow) mid (next_in t new) after) number more))
+      (subst (λ (u : Turn K V E). CallMoves eq first.call (call_of flow) mid (next_in u new) after) going
+      (subst (λ (n : ℕ). CallMoves eq n (call_of flow) mid (next_in t new) after) number more))
 
   -- the last step
   pub flow_last : (k : ℕ) (first flow new : Flow K V E) (w mid after : World K V E) (t : Turn K V E) → flow.call ≡ first.call → t ≢ turn.Going
-      → MovesOn eq k first.call (call_of first) w (call_of flow) mid → Moves eq flow.call (call_of flow) mid (next_in t new) after
+      → MovesOn eq k first.call (call_of first) w (call_of flow) mid → CallMoves eq flow.call (call_of flow) mid (next_in t new) after
       → Polled eq first.call (call_of first) w (next_in t new) after
   flow_last k first flow new w mid after t number ends before more =
       record {
@@ -62,7 +62,7 @@ module _ {K V E : Type 0} (eq : K → K → Bool) where
         call = call_of flow;
         mid = mid;
         goes = before;
-        last = subst (λ (n : ℕ). Moves eq n (call_of flow) mid (next_in t new) after) number more;
+        last = subst (λ (n : ℕ). CallMoves eq n (call_of flow) mid (next_in t new) after) number more;
         ends = ends;
       }
 

@@ -2,7 +2,7 @@
 use Rattle.std.proofs.Common.{◌≡◌, ℕ, ◌+◌, List, [], ◌∷◌, ◌++◌, Option, Some, refl, sym, ap, subst, ◌∙◌}
 use Rattle.std.proofs.lemmas.List.{append_assoc, length-append, append-nil}
 use Rattle.moka_hist.specs.State.{Call}
-use Rattle.moka_hist.specs.Step.{Leads, access_of, next_of, going_as}
+use Rattle.moka_hist.specs.Step.{LeadsAlong, access_of, next_of, going_as}
 use Rattle.moka_hist.specs.declared.accesses.Got.{Got}
 use Rattle.moka_hist.specs.declared.accesses.Turn.{Turn}
 use Rattle.moka_hist.specs.declared.accesses.Turn.TheVariants as turn
@@ -13,7 +13,7 @@ use Rattle.moka_init.specs.Telling.{Made, TellsStep, TellsSteps, TellsPoll}
 module _ {K V E : Type 0} where
   -- a call that goes on to d goes on by one more access
   pub leads_more : (n : ℕ) (c : Call K V E) (path : List (Made K V E)) (d : Call K V E) (given : Got K V E) (e : Call K V E)
-      → Leads n c path d → next_of n d given ≡ going_as e → Leads n c (path ++ (access_of n d, given) ∷ []) e
+      → LeadsAlong n c path d → next_of n d given ≡ going_as e → LeadsAlong n c (path ++ (access_of n d, given) ∷ []) e
   leads_more n c [] d given e here goes =
       let same : access_of n d ≡ access_of n c = ap (λ x. access_of n x) here in
       let on : next_of n c given ≡ going_as e = subst (λ (x : Call K V E). next_of n x given ≡ going_as e) here goes in

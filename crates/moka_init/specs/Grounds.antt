@@ -173,9 +173,9 @@ module _ {K V E : Type 0} where
       → (new : World K V E) × Gets eq call w access given new × stands new
 
   -- the access is told with what it gave, after what was told before, and nothing else is
-  abbrev pub Tells : Option (List (Access K V E × Got K V E)) → Access K V E → Got K V E
+  abbrev pub TellsMade : Option (List (Access K V E × Got K V E)) → Access K V E → Got K V E
       → Option (List (Access K V E × Got K V E)) → Type 0
-  Tells old access given new =
+  TellsMade old access given new =
       (before : List (Access K V E × Got K V E)) → old ≡ Some before
       → new ≡ Some (before ++ (access, given) ∷ [])
 
@@ -189,7 +189,7 @@ module _ {K V E : Type 0} where
     -- an operation is begun there as long as it has not decided
     pub begun : new.begun ≡ still_begun access given
     -- exactly this access is told
-    pub tells : Tells old.made access given new.made
+    pub tells : TellsMade old.made access given new.made
     -- an undecided step is followed by fewer
     pub shortens : Shortens old.work new.work access given
 

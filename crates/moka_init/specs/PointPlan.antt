@@ -141,14 +141,14 @@ module _ {V E : Type 0} where
 
 module _ {K V E : Type 0} where
   -- and what it answers then
-  abbrev pub answer_of : Ending V E → Answer K V E
-  answer_of (ending.Ready value fresh) = answer.Loaded value fresh
-  answer_of (ending.Err error) = answer.InitErr error
-  answer_of ending.Nothing = answer.Nothing
+  abbrev pub answer_ending : Ending V E → Answer K V E
+  answer_ending (ending.Ready value fresh) = answer.Loaded value fresh
+  answer_ending (ending.Err error) = answer.InitErr error
+  answer_ending ending.Nothing = answer.Nothing
 
   -- how the owner ends is told to those that wait, and then answered
   abbrev pub settles : Ending V E → List (Item K V E)
-  settles e = end_load (settled_of e) (answer_of e)
+  settles e = end_load (settled_of e) (answer_ending e)
 
   -- what follows once the value is stored and the write posted
   abbrev pub put_rest : Put K V → List (Item K V E)

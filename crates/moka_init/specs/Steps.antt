@@ -3,7 +3,7 @@ use Rattle.std.specs.Prelude.{◌≡◌, ◌⊎◌, ◌<◌, ℕ, Bool, List, So
 use Rattle.moka_hist.specs.Bound.{as_told}
 use Rattle.moka_hist.specs.Next.{Next}
 use Rattle.moka_hist.specs.State.{World}
-use Rattle.moka_hist.specs.Step.{Access, Moves, MovesOn, Polled, IsSafe, May}
+use Rattle.moka_hist.specs.Step.{Access, CallMoves, MovesOn, Polled, IsSafe, May}
 use Rattle.moka_bound.specs.Ahead.{ahead}
 use Rattle.moka_init.specs.FlowPlan.{call_of}
 use Rattle.moka_init.specs.Grounds.{Account, TakesCopies, access_at}
@@ -19,7 +19,7 @@ module _ {K V E : Type 0} where
   abbrev pub MovesThere : (K → K → Bool) → Worlds K V E → Flow K V E → Next K V E → Worlds K V E → Type 0
   MovesThere eq stood flow next stands =
       (w : World K V E) → stood w → May w (access_at flow)
-      → (new : World K V E) × Moves eq flow.call (call_of flow) w next new × stands new
+      → (new : World K V E) × CallMoves eq flow.call (call_of flow) w next new × stands new
 
   -- it moves up to the first turn that isn't Going, in each of these worlds that has what its steps
   -- need

@@ -2,7 +2,7 @@
 use Rattle.std.specs.Prelude.{◌≡◌, ℕ, List, [], ◌∷◌, ◌++◌, length, Option, Some}
 use Rattle.moka_hist.specs.State.{Call}
 use Rattle.moka_hist.specs.Next.{Next}
-use Rattle.moka_hist.specs.Step.{Access, Leads, access_of, next_of}
+use Rattle.moka_hist.specs.Step.{Access, LeadsAlong, access_of, next_of}
 use Rattle.moka_hist.specs.declared.accesses.Got.{Got}
 
 -- an access with what it gave
@@ -26,7 +26,7 @@ module _ {K V E : Type 0} where
     -- one for each step
     pub steps : length path ≡ k
     -- each is the access that the call stood at, and it left the call going
-    pub leads : Leads n c path d
+    pub leads : LeadsAlong n c path d
     -- they are told after what was told before, and nothing else is
     pub told : after ≡ Some (before ++ path)
 
@@ -39,7 +39,7 @@ module _ {K V E : Type 0} where
     -- the call at its last step
     pub call : Call K V E
     -- each access is the one that the call stood at, and it left the call going
-    pub leads : Leads n c path call
+    pub leads : LeadsAlong n c path call
     -- what the last access gave
     pub given : Got K V E
     -- the turn and the call that is left follow from it

@@ -6,7 +6,7 @@ ghost use Rattle.moka_hist.specs.Loading.{after_own, after_read, after_abort, af
 ghost use Rattle.moka_hist.specs.Loading.{after_told};
 ghost use Rattle.moka_hist.specs.Loading.{after_settle, owner_rest};
 ghost use Rattle.moka_hist.specs.Step.{next_of, access_of, takes_of};
-ghost use Rattle.moka_init.specs.PointPlan.{answer_of, plan_at, loading_plan, settled_of, settles};
+ghost use Rattle.moka_init.specs.PointPlan.{answer_ending, plan_at, loading_plan, settled_of, settles};
 ghost use Rattle.moka_init.specs.FlowPlan.{standing, mid, GoesOn};
 ghost use Rattle.moka_init.specs.Forms.{HasForm, IsFoundBy};
 
@@ -181,7 +181,7 @@ impl<K: Drop, V: Drop, E: Drop> Flow<K, V, E> {
             (Visit.Settle self.old.call (settled_of ending)) found }
         ensures { GoesOn self.old
             (after_settle (standing self.old (settles ending))
-            (plan.Reply (answer_of ending) ∷ []) found) result self.new }
+            (plan.Reply (answer_ending ending) ∷ []) found) result self.new }
     {
         match found {
             Found::Settle => self.answers(ending.answer()),
@@ -193,7 +193,7 @@ impl<K: Drop, V: Drop, E: Drop> Flow<K, V, E> {
 impl<V: Drop, E: Drop> Ending<V, E> {
     // What is answered once it is settled.
     fn answer<K>(self) -> Answer<K, V, E>
-        ensures { result ≡ answer_of self }
+        ensures { result ≡ answer_ending self }
     {
         match self {
             Ending::Ready { value, fresh } => Answer::Loaded { value, fresh },

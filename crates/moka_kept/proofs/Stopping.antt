@@ -11,7 +11,7 @@ use Rattle.moka_init.specs.declared.flow.Flow.{Flow}
 use Rattle.moka_kept.specs.Paths.{CameWith, EndedWith, LeftWith}
 use Rattle.moka_kept.specs.Rests.{Rests}
 use Rattle.moka_kept.specs.Taking.{Taken}
-use Rattle.moka_kept.specs.Stops.{CameTo, GoesOn, StopIs, stop_after, stop_of}
+use Rattle.moka_kept.specs.Stops.{CameTo, GoesOnWith, StopIs, stop_after, stop_of}
 use Rattle.moka_kept.specs.declared.stop.Stop.{Stop}
 use Rattle.moka_kept.specs.declared.stop.Stop.TheVariants as stop
 use Rattle.moka_kept.proofs.Ways.{came_on, came_same, came_weaker, ended_came, ended_on, ended_weaker}
@@ -61,7 +61,7 @@ module _ {K V E : Type 0} (eq : K → K → Bool) (such : Taken V E → Type 0) 
 
   -- a step that leaves the call going
   pub left_going : {F : Type 0} (old : Flow K V E) (r : Result (Turn K V E) F) (new : Flow K V E) → r ≡ Ok turn.Going → StopIs eq such old (stop_after r) new
-      → CameTo eq such old new × GoesOn eq new
+      → CameTo eq such old new × GoesOnWith eq new
   left_going {F} old r new going stops = subst (λ (x : Result (Turn K V E) F). StopIs eq such old (stop_after x) new) going stops
 
   -- steps after steps

@@ -49,8 +49,8 @@ module _ {K V E : Type 0} where
 
   -- The flow's call may go on in a further hold: its last access left it going; or its next visit
   -- judges a record by its replace test, which is to be asked first.
-  abbrev pub GoesOn : (K → K → Bool) → Flow K V E → Type 0
-  GoesOn eq flow =
+  abbrev pub GoesOnWith : (K → K → Bool) → Flow K V E → Type 0
+  GoesOnWith eq flow =
       LeftWith eq flow.call (call_of flow) turn.Going
       ⊎ (is_some (tested_in (call_of flow).plan) ≡ true)
 
@@ -59,7 +59,7 @@ module _ {K V E : Type 0} where
   abbrev pub StopIs : (K → K → Bool) → (Taken V E → Type 0) → Flow K V E → Stop K V E → Flow K V E
       → Type 0
   StopIs eq such old (stop.Answers answer) new = AnswersFrom eq such old answer
-  StopIs eq such old stop.Going new = CameTo eq such old new × GoesOn eq new
+  StopIs eq such old stop.Going new = CameTo eq such old new × GoesOnWith eq new
   StopIs eq such old stop.Waits new = CameTo eq such old new × Waits eq new
   StopIs eq such old (stop.Asks ask) new = CameTo eq such old new × LeftAsking eq new ask
   StopIs eq such old stop.Memory new = CameTo eq such old new

@@ -28,7 +28,7 @@ use Rattle.moka_hist.specs.Writing.{cause_handed, nothing_answer, removed_answer
 use Rattle.moka_hist.specs.declared.writes.Write.TheVariants.{Remove}
 use Rattle.moka_laws.proofs.Rules.{put_plans, loaded_plans, kept_next, chosen_next, IsFresh, Disabled, fresh_plan, read_key_next, told_op_next, said_next}
 use Rattle.moka_laws.proofs.Counting.{none_some, put_cases}
-use Rattle.moka_laws.proofs.Kept.{IsKept, in_reached}
+use Rattle.moka_laws.proofs.Kept.{IsInvariant, in_reached}
 use Rattle.moka_laws.proofs.StepCases.{OnStep, step_cases}
 use Rattle.moka_laws.proofs.Outcomes.{Outcomes, outcomes, passes_by}
 
@@ -55,7 +55,7 @@ none_told : {V E : Type 0} (x : ℕ) (f : ℕ → Option (Told V E)) (n : ℕ) �
 none_told x f n h = kept_or (n == x) None (f x) IsGiven tt h
 
 -- no owner is kept as not yet settled, and no answer of a listener is told to a call
-pub record Answers {V E : Type 0} (kept : ℕ → Option (Settled V E)) (given : ℕ → Option (Told V E)) : Type 0 where
+pub record AnswersKept {V E : Type 0} (kept : ℕ → Option (Settled V E)) (given : ℕ → Option (Told V E)) : Type 0 where
   pub settled : (x : ℕ) → kept x ≢ Some settled.NotYet
   pub told : (x : ℕ) → IsGiven (given x)
 
@@ -88,7 +88,7 @@ module _ {K V E : Type 0} where
 
   -- what the desk keeps for those that wait
   abbrev pub HasAnswers : DeskPart K V E → Type 0
-  HasAnswers d = Answers d.settled d.told
+  HasAnswers d = AnswersKept d.settled d.told
 
   pub record IsAnswering (s : State K V E) : Type 0 where
     pub calls : (n : ℕ) (c : Call K V E) → s.calls n ≡ Some c → EndsWell c.plan
@@ -252,7 +252,7 @@ module _ {K V E : Type 0} (eq : K → K → Bool) where
       step_cases eq Leaves (λ v _. IsAnswering v) s t n turn step
       (on_plan eq s.world n step.call i.desk step.call.plan refl (i.calls n step.call step.live)) (λ w next. leaves s n w next i)
 
-  pub answering_kept : IsKept eq (IsAnswering {K = K} {V = V} {E = E})
+  pub answering_kept : IsInvariant eq (IsAnswering {K = K} {V = V} {E = E})
   answering_kept = record {
     fresh = λ rules size tests has_log. record { calls = λ n c live. absurd (none_some live); desk = record { settled = λ x. none_some; told = λ x. tt } };
     at = λ s moment i. record { calls = i.calls; desk = i.desk };

@@ -7,7 +7,7 @@ use Rattle.moka_hist.specs.Places.{AsksFor, Initializes}
 use Rattle.moka_hist.specs.declared.loads.Kind.TheVariants as kind
 use Rattle.moka_hist.specs.declared.loads.Load.{Load}
 use Rattle.moka_hist.specs.declared.writes.Owed.{Owed}
-use Rattle.moka_laws.specs.Listening.{AsksAreLive, IsHeard, IsOwedWith, RunningAreHeard}
+use Rattle.moka_laws.specs.Listening.{AsksAreLive, HasHearer, IsOwedWith, RunningAreHeard}
 use Rattle.moka_laws.proofs.Asking.{IsAsking, in_asking, takes_told}
 use Rattle.moka_laws.proofs.Noticing.{guards, guards_owed, in_noticing}
 use Rattle.moka_laws.proofs.Owning.{plan_left}
@@ -96,15 +96,15 @@ owed_has x (o ∷ os) h = by o.notice refl (owed_has x os)
 
 module _ {K V E : Type 0} (s : State K V E) (x : ℕ) where
   hears : (m : ℕ) (o : Option (Call K V E)) → s.calls m ≡ o →
-      0 < guards x (hearing m (plan_left o)) → IsHeard s x
+      0 < guards x (hearing m (plan_left o)) → HasHearer s x
   hears m None live h = absurd (omega arith)
   hears m (Some c) live h = by (hearing m c.plan) refl
     where
-      by : (y : Option ℕ) → hearing m c.plan ≡ y → IsHeard s x
+      by : (y : Option ℕ) → hearing m c.plan ≡ y → HasHearer s x
       by None e = absurd (omega (arith, h, ap (guards x) e))
       by (Some y) e = same (x == y) refl
         where
-          same : (b : Bool) → (x == y) ≡ b → IsHeard s x
+          same : (b : Bool) → (x == y) ≡ b → HasHearer s x
           same true is = record {
             hearer = m;
             call = c;
@@ -129,7 +129,7 @@ module _ {K V E : Type 0} (eq : K → K → Bool) where
   pub running_are_heard : RunningAreHeard K V E eq
   running_are_heard s x h run = by (guards_owed x s.world.desk.owed) refl
     where
-      by : (k : ℕ) → guards_owed x s.world.desk.owed ≡ k → IsHeard s x ⊎ IsOwedWith s x
+      by : (k : ℕ) → guards_owed x s.world.desk.owed ≡ k → HasHearer s x ⊎ IsOwedWith s x
       by (suc k) e = inr (owed_has x s.world.desk.owed (omega arith))
       by zero e =
           let at = sum_has s.world.desk.last

@@ -34,7 +34,7 @@ use Rattle.moka_laws.proofs.Weights.{weigh, weigh_call, weigh_goes}
 use Rattle.moka_laws.proofs.Plans.{IsLook, IsTail, Answering, Settling, IsDrained, Looking, Owning, Giving, Putting, Removing, Locking_out, IsPosted, Draining, Ended, Locking, IsPlan, Posted, Drained, Posting, Hearing, Noticing, Listening, Unlocking, Turning, Applying, Ending, Judging, Reading, Asking, Telling, Writing, Choosing, Finding, Chosen, Taking, Freeing, Idling, IsKnown, known_kept, Asking_op, Owning_key, Owning_alone, Reading_key, Telling_op}
 use Rattle.moka_laws.proofs.Balance.{IsBalanced}
 use Rattle.moka_laws.proofs.Balanced.{balanced_kept, next_free}
-use Rattle.moka_laws.proofs.Kept.{IsKept, in_reached}
+use Rattle.moka_laws.proofs.Kept.{IsInvariant, in_reached}
 use Rattle.moka_laws.proofs.StepCases.{OnStep, step_cases}
 use Rattle.moka_laws.proofs.Outcomes.{outcomes}
 use Rattle.moka_laws.proofs.TakesFit.{AllTake, ToldFits, IsTaking, taking_kept, load_takes_no_op, compute_loses_none}
@@ -415,7 +415,7 @@ module _ {K V E : Type 0} (eq : K → K → Bool) where
           few m None e = omega arith
           few m (Some c) e = plan_few c.plan (i.known m c e).plan
 
-  pub asking_kept : IsKept eq (IsAsking {K = K} {V = V} {E = E})
+  pub asking_kept : IsInvariant eq (IsAsking {K = K} {V = V} {E = E})
   asking_kept = record {
     fresh = λ rules size tests has_log. record {
       balanced = (balanced_kept eq).fresh rules size tests has_log;

@@ -16,7 +16,7 @@ use Rattle.moka_laws.proofs.Counting.{none_some, put_cases, put_here, put_there,
 use Rattle.moka_laws.proofs.Sums.{sum_zero, sum_next, sum_to, sum_same, sum_change}
 use Rattle.moka_laws.proofs.Weights.{weigh, weigh_call}
 use Rattle.moka_laws.proofs.Posts.{among, among_owed, post_of, may_write, late, late_call, posts_held, fresh_clear}
-use Rattle.moka_laws.proofs.Kept.{IsKept, in_reached}
+use Rattle.moka_laws.proofs.Kept.{IsInvariant, in_reached}
 use Rattle.moka_laws.proofs.StepCases.{step_cases}
 use Rattle.moka_laws.proofs.Balance.{IsBalanced, Balances, on_plan, owed_append}
 
@@ -124,7 +124,7 @@ module _ {K V E : Type 0} (eq : K → K → Bool) where
         omega (arith, i.balance x, posts_held x c.plan (i.tidy n c live), owed_append x s.world.desk.owed new, gives_up s n c x (held_by c.plan));
   }
 
-  pub balanced_kept : IsKept eq (IsBalanced {K = K} {V = V} {E = E})
+  pub balanced_kept : IsInvariant eq (IsBalanced {K = K} {V = V} {E = E})
   balanced_kept = record {
     fresh = λ rules size tests has_log. record {
       numbered = λ n c live. absurd (none_some live);

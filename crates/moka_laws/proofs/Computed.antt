@@ -26,7 +26,7 @@ use Rattle.moka_laws.proofs.Roles.{Fits, awaited}
 use Rattle.moka_laws.proofs.Nops.{says_asked}
 use Rattle.moka_laws.proofs.Owning.{plan_left}
 use Rattle.moka_laws.proofs.Served.{IsServed, enough, enough_own, in_served}
-use Rattle.moka_laws.proofs.Serving.{Serves, no_owner, part}
+use Rattle.moka_laws.proofs.Serving.{ServesPart, no_owner, part}
 use Rattle.moka_laws.proofs.ServingSteps.{on_plan}
 use Rattle.moka_laws.proofs.Starting.{begins_so, follow_start}
 use Rattle.moka_laws.proofs.Steady.{step_calls, step_last, step_rules}
@@ -42,7 +42,7 @@ module _ {K V E : Type 0} (eq : K → K → Bool) where
       let fits : Fits (s.world.desk.owning m) (s.world.desk.joined m) c.plan = subst
       (λ v. Fits (s.world.desk.owning m) (s.world.desk.joined m) (plan_left v)) step.live
       (i.fits m) in
-      step_cases eq (λ new next. Serves eq s.world.desk m (part new.desk) next.left)
+      step_cases eq (λ new next. ServesPart eq s.world.desk m (part new.desk) next.left)
       (λ v _. v.world.desk.owning n ≡ s.world.desk.owning n) s t m turn step
       (on_plan eq s.world m c i.owner (enough eq s i m l) (enough_own eq s i m l)
       i.answering.desk c.plan refl fits

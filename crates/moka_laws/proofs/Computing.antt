@@ -88,7 +88,7 @@ module _ {K V E : Type 0} where
 
 module _ {K V E : Type 0} (eq : K → K → Bool) (begin : Start K V) (key : K) (n : ℕ) where
   -- what is said of the call stays so, as long as it owns as before
-  pub record Follows (s v : State K V E) : Type 0 where
+  pub record FollowsFrom (s v : State K V E) : Type 0 where
     pub led : Leads eq s v
     pub rules : v.world.desk.rules ≡ s.world.desk.rules
     pub owning : v.world.desk.owning n ≡ s.world.desk.owning n
@@ -172,7 +172,7 @@ module _ {K V E : Type 0} (eq : K → K → Bool) (begin : Start K V) (key : K) 
     took = made_on eq s v n _ led w.took;
   }
 
-  stage_on : (s v : State K V E) → Follows s v → (p : List (Item K V E)) → Stage s p → Stage v p
+  stage_on : (s v : State K V E) → FollowsFrom s v → (p : List (Item K V E)) → Stage s p → Stage v p
   stage_on s v f (plan.Drain ∷ rest) h = stage_on s v f rest h
   stage_on s v f (plan.Ended number ∷ rest) h = stage_on s v f rest h
   stage_on s v f (plan.Post write ∷ rest) h = stage_on s v f rest h
@@ -218,7 +218,7 @@ module _ {K V E : Type 0} (eq : K → K → Bool) (begin : Start K V) (key : K) 
   StageIf s None = Unit {0}
   StageIf s (Some c) = Stage s c.plan × (c.rules ≡ s.world.desk.rules)
 
-  pub stage_if_on : (s v : State K V E) → Follows s v → (o : Option (Call K V E)) → StageIf s o →
+  pub stage_if_on : (s v : State K V E) → FollowsFrom s v → (o : Option (Call K V E)) → StageIf s o →
       StageIf v o
   stage_if_on s v f None h = tt
   stage_if_on s v f (Some c) h = (stage_on s v f c.plan h.0, h.1 ∙ sym f.rules)
@@ -276,7 +276,7 @@ module _ {K V E : Type 0} (eq : K → K → Bool) (begin : Start K V) (key : K) 
 
     follows : (new : World K V E) (next : Next K V E) → Made new next →
         new.desk.rules ≡ s.world.desk.rules →
-        new.desk.owning n ≡ s.world.desk.owning n → Follows s (after new next)
+        new.desk.owning n ≡ s.world.desk.owning n → FollowsFrom s (after new next)
     follows new next step rules owning = record {
       led = step_leads eq s (after new next) n next.turn step;
       rules = rules;

@@ -36,7 +36,7 @@ use Rattle.moka_laws.proofs.Counting.{none_some, put_cases, times_same}
 use Rattle.moka_laws.proofs.Weights.{weigh, weigh_call, weigh_goes, weigh_said}
 use Rattle.moka_laws.proofs.Locking.{IsLocking, locking_kept}
 use Rattle.moka_laws.proofs.Rules.{chosen_next, kept_next, loaded_plans_by, IsFresh, Puts, Locks_and_puts, Finds_or_puts, fresh_plan, read_key_next, told_op_next}
-use Rattle.moka_laws.proofs.Kept.{IsKept, in_reached}
+use Rattle.moka_laws.proofs.Kept.{IsInvariant, in_reached}
 use Rattle.moka_laws.proofs.Steady.{step_rules}
 use Rattle.moka_laws.proofs.StepCases.{OnStep, step_cases}
 use Rattle.moka_laws.proofs.Outcomes.{Outcomes, outcomes, passes_on}
@@ -299,7 +299,7 @@ module _ {K V E : Type 0} (eq : K → K → Bool) where
                 (λ there is. i.calm off m c is),
           ))
 
-  idle_kept : IsKept eq IsIdle
+  idle_kept : IsInvariant eq IsIdle
   idle_kept = record {
     fresh = λ rules size tests has_log. record {
       locking = (locking_kept eq).fresh rules size tests has_log;

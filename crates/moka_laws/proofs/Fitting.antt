@@ -35,7 +35,7 @@ use Rattle.moka_laws.proofs.Rules.{put_plans, loaded_plans, kept_next, chosen_ne
 use Rattle.moka_laws.proofs.TakesFit.{ItemTakes, AllTake, ToldFits, IsTaking, taking_kept, load_takes_no_op, compute_loses_none}
 use Rattle.moka_laws.proofs.Counting.{some_same, none_some, put_cases, put_here, put_there}
 use Rattle.moka_laws.proofs.Weights.{weigh}
-use Rattle.moka_laws.proofs.Kept.{IsKept, in_reached}
+use Rattle.moka_laws.proofs.Kept.{IsInvariant, in_reached}
 use Rattle.moka_laws.proofs.Owning.{plan_left}
 use Rattle.moka_laws.proofs.Roles.{Fits, owners}
 use Rattle.moka_laws.proofs.Serving.{at_most_one}
@@ -453,7 +453,7 @@ module _ {K V E : Type 0} (eq : K → K → Bool) where
         (λ there is. i.fit n c is);
   }
 
-  pub fitting_kept : IsKept eq IsFitting
+  pub fitting_kept : IsInvariant eq IsFitting
   fitting_kept = record {
     fresh = λ rules size tests has_log. record {
       served = (served_kept eq).fresh rules size tests has_log;

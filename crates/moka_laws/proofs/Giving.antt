@@ -18,17 +18,17 @@ use Rattle.moka_hist.specs.declared.records.Mode.TheVariants as mode
 use Rattle.moka_hist.specs.declared.replies.Refusal.{Refusal}
 use Rattle.moka_hist.specs.declared.replies.Reply.{Reply}
 use Rattle.moka_hist.specs.declared.replies.Reply.TheVariants as reply
-use Rattle.moka_laws.specs.Given.{Gives, HasStarted, WasGiven, brought, key_of}
+use Rattle.moka_laws.specs.Given.{GivesByEvent, HasStarted, WasGiven, brought, key_started}
 
 module _ {K V E : Type 0} (P : K → V → Type 0) (Q : ℕ → K → Type 0) where
   -- whatever the event gives is P
   abbrev pub GivesOnly : State K V E → Event K V E → Reply K V E → Type 0
-  GivesOnly s e r = (key : K) (value : V) → Gives s e r key value → P key value
+  GivesOnly s e r = (key : K) (value : V) → GivesByEvent s e r key value → P key value
 
   -- the event, if it starts a call, starts it for a key that is Q of its number
   abbrev BeginsOnly : Event K V E → Reply K V E → Type 0
   BeginsOnly e r =
-      (n : ℕ) (start : Start K V) → e ≡ event.Start start → r ≡ reply.Call n → Q n (key_of start)
+      (n : ℕ) (start : Start K V) → e ≡ event.Start start → r ≡ reply.Call n → Q n (key_started start)
 
   module _ (eq : K → K → Bool) where
     -- each event that gives only what is P, and starts only calls of Q, keeps it
@@ -36,7 +36,7 @@ module _ {K V E : Type 0} (P : K → V → Type 0) (Q : ℕ → K → Type 0) wh
       pub at : (s : State K V E) (moment : ℕ) → I s → I (at_moment s moment)
       pub start : (s : State K V E) (start : Start K V) → I s →
           ((key : K) (value : V) → brought start ≡ Some (key, value) → P key value) →
-          Q (s.world.desk.last + 1) (key_of start) → I (started s start)
+          Q (s.world.desk.last + 1) (key_started start) → I (started s start)
       pub step : (s t : State K V E) (n : ℕ) (turn : Turn K V E) → I s → Step eq s n turn t → I t
       pub tell : (s : State K V E) (n : ℕ) (given : Told V E) → I s →
           GivesOnly s (event.Tell n given) reply.Told → I (with_desk s (told_call s.world.desk n given))
@@ -108,7 +108,7 @@ module _ {K V E : Type 0} (P : K → V → Type 0) (Q : ℕ → K → Type 0) wh
       pub along : (s t : State K V E) (es : List (Event K V E)) (rs : List (Reply K V E))
           (run : Run eq Any s es rs t) →
           ((key : K) (value : V) → WasGiven eq s es rs t run key value → P key value) →
-          ((n : ℕ) (start : Start K V) → HasStarted n es rs start → Q n (key_of start)) → I s → I t
+          ((n : ℕ) (start : Start K V) → HasStarted n es rs start → Q n (key_started start)) → I s → I t
       along s t [] [] run gave begun i = subst I (sym run) i
       along s t (e ∷ es) (r ∷ rs) run gave begun i =
           along run.0 t es rs run.3 (λ key value g. gave key value (inr g))

@@ -223,7 +223,7 @@ module _ {K V E : Type 0} where
     -- ---- of a state
 
     -- The owner has ended, and as long as the call waits for it, how it ended is kept.
-    record IsHeard (eq : K → K → Bool) (s : State K V E) : Type 0 where
+    record AllHeard (eq : K → K → Bool) (s : State K V E) : Type 0 where
       well : IsWell eq s
       gone : s.calls o ≡ None
       given : o ≤ s.world.desk.last
@@ -234,7 +234,7 @@ module _ {K V E : Type 0} where
       apart_from : (s : State K V E) (m : ℕ) (c : Call K V E) → s.calls o ≡ None → s.calls m ≡ Some c → (m == o) ≡ false
       apart_from s m c gone live = differ m o (λ e. none_some (sym gone ∙ ap s.calls (sym e) ∙ live))
 
-      known : (s : State K V E) (m : ℕ) (c : Call K V E) → IsHeard eq s → s.calls m ≡ Some c → Known eq s.world.desk m
+      known : (s : State K V E) (m : ℕ) (c : Call K V E) → AllHeard eq s → s.calls m ≡ Some c → Known eq s.world.desk m
       known s m c i live = record {
         apart = apart_from s m c i.gone live;
         idle = no_load (s.world.desk.owning o) (subst (λ v. Fits (s.world.desk.owning o) (s.world.desk.joined o) (plan_left v)) i.gone (i.well.served.fits o)).owning;
@@ -242,7 +242,7 @@ module _ {K V E : Type 0} where
         enough = λ other j. enough eq s i.well.served m (i.well.served.balanced.numbered m c live) n o other j;
       }
 
-      heard_stable : IsStable eq (IsHeard eq)
+      heard_stable : IsStable eq (AllHeard eq)
       heard_stable = record {
         at = λ s moment i. record { well = (well_kept eq).at s moment i.well; gone = i.gone; given = i.given; kept = i.kept };
         start = λ s start i. record {
@@ -282,7 +282,7 @@ module _ {K V E : Type 0} (eq : K → K → Bool) where
       rw (own, waited, same_number o) refl
 
   ended : (s t : State K V E) (o n : ℕ) (with : Settled V E) → IsReached eq s → s.world.desk.joined n ≡ Some o → Settles eq s o with t →
-      IsHeard o n with eq t
+      AllHeard o n with eq t
   ended s t o n with h j e =
       let well : IsWell eq s = in_well eq s h in
       let c : Call K V E = e.call in
@@ -319,7 +319,7 @@ module _ {K V E : Type 0} (eq : K → K → Bool) where
   read_says c sought _ said e = ap (λ a. turn.Answer a) (some_same e)
 
   heard : (u v : State K V E) (o n : ℕ) (with : Settled V E) (said : Answer K V E)
-      (reply : Turn K V E) → IsHeard o n with eq u → said_of with false ≡ Some said →
+      (reply : Turn K V E) → AllHeard o n with eq u → said_of with false ≡ Some said →
       WaitsForLoad u n o → Step eq u n reply v →
       reply ≡ turn.Answer said
   heard u v o n with said reply i says wait step =
@@ -338,8 +338,8 @@ module _ {K V E : Type 0} (eq : K → K → Bool) where
 
   pub waiters_hear : WaitersAnswerSettled K V E eq
   waiters_hear s t u v es rs o n with said reply h j e says run k step =
-      let start : IsHeard o n with eq t = ended s t o n with h j e in
+      let start : AllHeard o n with eq t = ended s t o n with h j e in
       let reached : IsReached eq t = step_reached eq s t o e.turn h e.step in
-      let after = runs eq (IsHeard o n with eq) (heard_stable o n with eq) t u es rs start
+      let after = runs eq (AllHeard o n with eq) (heard_stable o n with eq) t u es rs start
       (run_more eq (IsLawful eq) Any (λ v i p. tt) t u es rs reached run) in
       heard u v o n with said reply after says k step

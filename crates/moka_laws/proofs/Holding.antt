@@ -41,7 +41,7 @@ use Rattle.moka_laws.proofs.Posts.{among, may_write, once, post_of}
 use Rattle.moka_laws.proofs.Balance.{IsBalanced, among_append, owed_numbers, on_desk}
 use Rattle.moka_laws.proofs.Balanced.{balanced_kept, next_free}
 use Rattle.moka_laws.proofs.Owning.{plan_left}
-use Rattle.moka_laws.proofs.Kept.{IsKept, in_reached}
+use Rattle.moka_laws.proofs.Kept.{IsInvariant, in_reached}
 use Rattle.moka_laws.proofs.StepCases.{OnStep, step_cases}
 use Rattle.moka_laws.proofs.Outcomes.{Outcomes, outcomes}
 use Rattle.moka_hist.specs.declared.loads.Compute.{Compute}
@@ -416,7 +416,7 @@ module _ {K V E : Type 0} (eq : K → K → Bool) where
       holds_on s new _ (Some (fresh_call s.world.desk.rules start)) i (record { own = free_holds new _ (plan_of s.world.desk.rules start) (fresh_free s.world.desk.rules _ (fresh_plan s.world.desk.rules start)) none; others = λ m e. refl })
       ((balanced_kept eq).start s start i.balanced)
 
-  pub holding_kept : IsKept eq (IsHolding {K = K} {V = V} {E = E})
+  pub holding_kept : IsInvariant eq (IsHolding {K = K} {V = V} {E = E})
   holding_kept = record {
     fresh = λ rules size tests has_log. record { balanced = (balanced_kept eq).fresh rules size tests has_log; holds = λ n. refl };
     at = λ s moment i. record { balanced = (balanced_kept eq).at s moment i.balanced; holds = i.holds };

@@ -29,7 +29,7 @@ use Rattle.moka_hist.specs.declared.rules.Rules.{Rules}
 use Rattle.moka_hist.specs.declared.visits.Found.TheVariants as found
 use Rattle.moka_hist.specs.declared.visits.Settled.{Settled}
 use Rattle.moka_hist.specs.declared.visits.Settled.TheVariants as settled
-use Rattle.moka_laws.specs.Removals.{IsKept, IsToKeep, KeepsByCause, KeptByCause}
+use Rattle.moka_laws.specs.Removals.{StaysByCause, IsToKeep, KeepsByCause, KeptByCause}
 use Rattle.moka_laws.proofs.Counting.{differ_not, none_some, some_same, put_cases, put_here}
 use Rattle.moka_laws.proofs.Weights.{weigh, weigh_call}
 use Rattle.moka_laws.proofs.Rules.{IsAtOnce, IsFresh, Disabled, Gives_back, fresh_plan, shown_next, chosen_by, kept_next, loaded_plans, put_plans, read_key_next, told_op_next_by, IsComputed, unchanged_computed, put_computed}
@@ -230,11 +230,11 @@ module _ {K V E : Type 0} (s : State K V E) where
   module _ (c : Call K V E) where
     -- what a step has to show whose first item is this
     record Decides (item : Item K V E) (next : Next K V E) : Type 0 where
-      only : NextKeeps next → IsKept s item
-      each : IsKept s item → NextKeeps next ⊎ (next.left ≡ Some (record c { mode = mode.Mid }))
+      only : NextKeeps next → StaysByCause s item
+      each : StaysByCause s item → NextKeeps next ⊎ (next.left ≡ Some (record c { mode = mode.Mid }))
       calm : CalmIf next.left
 
-    quiet : (item : Item K V E) (next : Next K V E) → (IsKept s item → ⊥) → Quiet next →
+    quiet : (item : Item K V E) (next : Next K V E) → (StaysByCause s item → ⊥) → Quiet next →
         Decides item next
     quiet item next never q = record {
       only = λ h. absurd (not_keeps next q h);
@@ -242,7 +242,7 @@ module _ {K V E : Type 0} (s : State K V E) where
       calm = quiet_calm next.left q.left;
     }
 
-    keeps_by : (item : Item K V E) → IsKept s item → Decides item (keeps c)
+    keeps_by : (item : Item K V E) → StaysByCause s item → Decides item (keeps c)
     keeps_by item why = record {
       only = λ h. why;
       each = λ h. inl (keeps_next c);
@@ -460,7 +460,7 @@ module _ {K V E : Type 0} (s : State K V E) where
     -- of a plan: why its first item keeps the record
     abbrev KeptAt : List (Item K V E) → Type 0
     KeptAt [] = ⊥
-    KeptAt (item ∷ rest) = IsKept s item
+    KeptAt (item ∷ rest) = StaysByCause s item
 
     record Outcome (p : List (Item K V E)) (next : Next K V E) : Type 0 where
       only : NextKeeps next → KeptAt p ⊎ IsToKeep p
@@ -531,7 +531,7 @@ module _ {K V E : Type 0} (eq : K → K → Bool) where
       (λ w next o m c live. put_cases s.calls n next.left m (Some c) (Calm c.plan) live
       (λ here is. subst CalmIf is o.calm) (λ there is. i m c is))
 
-  calm_kept : events.IsKept eq AreCalm
+  calm_kept : events.IsInvariant eq AreCalm
   calm_kept = record {
     fresh = λ rules size tests has_log n c live. absurd (none_some live);
     at = λ s moment i. i;

@@ -21,7 +21,7 @@ use Rattle.moka_hist.specs.declared.accesses.Turn.{Turn}
 
 module _ {K V E : Type 0} (eq : K → K → Bool) where
   -- a fresh cache has it, and each event keeps it
-  pub record IsKept (I : State K V E → Type 0) : Type 0 where
+  pub record IsInvariant (I : State K V E → Type 0) : Type 0 where
     pub fresh : (rules : Rules) (size : ℕ) (tests : ℕ → K → V → Bool) → 0 < size → I (fresh K V E rules size tests)
     pub at : (s : State K V E) (moment : ℕ) → I s → I (at_moment s moment)
     pub start : (s : State K V E) (start : Start K V) → I s → I (started s start)
@@ -100,9 +100,9 @@ module _ {K V E : Type 0} (eq : K → K → Bool) where
     runs s t [] (r ∷ rs) i run = absurd run
     runs s t (e ∷ es) [] i run = absurd run
 
-  stable : (I : State K V E → Type 0) → IsKept I → IsStable I
+  stable : (I : State K V E → Type 0) → IsInvariant I → IsStable I
   stable I kept =
       record { at = kept.at; start = kept.start; step = kept.step; tell = kept.tell; hear = kept.hear; drop = kept.drop }
 
-  pub in_reached : (I : State K V E → Type 0) → IsKept I → (s : State K V E) → IsReached eq s → I s
+  pub in_reached : (I : State K V E → Type 0) → IsInvariant I → (s : State K V E) → IsReached eq s → I s
   in_reached I kept s h = runs I (stable I kept) (fresh K V E h.rules h.size h.tests) s h.events h.replies (kept.fresh h.rules h.size h.tests h.has_log) h.run

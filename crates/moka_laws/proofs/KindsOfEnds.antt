@@ -23,7 +23,7 @@ use Rattle.moka_hist.specs.declared.visits.Settled.{Settled}
 use Rattle.moka_hist.specs.declared.visits.Settled.TheVariants as settled
 use Rattle.moka_laws.specs.Loads.{SettlementsFit}
 use Rattle.moka_laws.proofs.Counting.{none_some, some_same, put_here, put_there, differ}
-use Rattle.moka_laws.proofs.Kept.{IsKept, in_reached}
+use Rattle.moka_laws.proofs.Kept.{IsInvariant, in_reached}
 use Rattle.moka_laws.proofs.Answering.{EndsWell}
 use Rattle.moka_laws.proofs.Fitting.{AllFit, MayEndSo}
 use Rattle.moka_laws.proofs.Hearing.{settles_form, reads_form}
@@ -443,7 +443,7 @@ module _ {K V E : Type 0} (eq : K → K → Bool) where
           may (inr none) = absurd (false≢true (sym (ap is_some none) ∙ h.1))
       by o with (inr h) = inl (without_was s.world.desk n o with h)
 
-  ends_kept : IsKept eq EndsFit
+  ends_kept : IsInvariant eq EndsFit
   ends_kept = record {
     fresh = λ rules size tests has_log. record {
       well = (well_kept eq).fresh rules size tests has_log;

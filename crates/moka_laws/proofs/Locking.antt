@@ -33,7 +33,7 @@ use Rattle.moka_laws.proofs.Balance.{IsBalanced}
 use Rattle.moka_laws.proofs.Balanced.{balanced_kept, next_free}
 use Rattle.moka_laws.proofs.Owning.{plan_left}
 use Rattle.moka_laws.proofs.Rules.{put_plans_by, loaded_plans_by, kept_next, chosen_by, IsFresh, Puts, Locks_and_puts, Takes_out, Locks_and_takes_out, Evicts, Locks_and_evicts, fresh_plan, read_key_next, told_op_next}
-use Rattle.moka_laws.proofs.Kept.{IsKept, in_reached}
+use Rattle.moka_laws.proofs.Kept.{IsInvariant, in_reached}
 use Rattle.moka_laws.proofs.StepCases.{OnStep, step_cases}
 use Rattle.moka_laws.proofs.Outcomes.{Outcomes, outcomes}
 use Rattle.moka_hist.specs.declared.loads.Compute.{Compute}
@@ -622,7 +622,7 @@ module _ {K V E : Type 0} (eq : K → K → Bool) where
         others = λ m e. refl;
       }) ((balanced_kept eq).start s start i.balanced)
 
-  pub locking_kept : IsKept eq (IsLocking {K = K} {V = V} {E = E})
+  pub locking_kept : IsInvariant eq (IsLocking {K = K} {V = V} {E = E})
   locking_kept = record {
     fresh = λ rules size tests has_log. record {
       balanced = (balanced_kept eq).fresh rules size tests has_log;

@@ -3,7 +3,7 @@ use Rattle.std.proofs.Common.{◌≡◌, ◌≢◌, ℕ, zero, suc, ◌==◌, Bo
 use Rattle.moka_hist.specs.Finite.{put_at}
 use Rattle.moka_hist.specs.State.{State, World, Call}
 use Rattle.moka_hist.specs.Next.{Next}
-use Rattle.moka_hist.specs.Step.{Step, Moves, MovesOn, state_after}
+use Rattle.moka_hist.specs.Step.{Step, CallMoves, MovesOn, state_after}
 use Rattle.moka_hist.specs.Run.{Goings, Polls, Any, IsReached, reply_of}
 use Rattle.moka_hist.specs.declared.replies.Reply.TheVariants as reply
 use Rattle.moka_hist.specs.declared.accesses.Turn.{Turn}
@@ -40,7 +40,7 @@ module _ {K V E : Type 0} (eq : K → K → Bool) where
   }
 
   -- a step of the call that has gone on so far
-  goes_on : (s : State K V E) (n : ℕ) (b : Call K V E) (mid new : World K V E) (next : Next K V E) → Moves eq n b mid next new →
+  goes_on : (s : State K V E) (n : ℕ) (b : Call K V E) (mid new : World K V E) (next : Next K V E) → CallMoves eq n b mid next new →
       Step eq (gone_on s n b mid) n next.turn (state_after s n new next)
   goes_on s n b mid new next m =
       let twice : state_after (gone_on s n b mid) n new next ≡ state_after s n new next =

@@ -42,7 +42,7 @@ use Rattle.moka_laws.proofs.Owning.{plan_left}
 use Rattle.moka_laws.proofs.Plans.{IsTail, Answering, Settling, IsDrained, Looking, Putting, IsPosted, Draining, Ended, Locking, IsPlan, Posted, Drained, Posting, Hearing, Noticing, Listening, Unlocking, Turning, Applying, Ending, Judging, Owning, Giving, Reading, Asking, Telling, Writing, IsLook, Removing, Locking_out, Choosing, Finding, Chosen, Taking, Freeing, Idling, Asking_op, Owning_key, Owning_alone, Reading_key, Telling_op}
 use Rattle.moka_laws.proofs.Replacing.{IsReplacing, replacing_kept, not_opened}
 use Rattle.moka_laws.proofs.Rules.{put_plans, loaded_plans, kept_next, chosen_next, IsFresh, Disabled, fresh_plan, read_key_next, told_op_next}
-use Rattle.moka_laws.proofs.Kept.{IsKept, in_reached}
+use Rattle.moka_laws.proofs.Kept.{IsInvariant, in_reached}
 use Rattle.moka_laws.proofs.StepCases.{OnStep, step_cases}
 use Rattle.moka_laws.proofs.Outcomes.{outcomes}
 use Rattle.moka_hist.specs.declared.loads.Compute.{Compute}
@@ -663,7 +663,7 @@ module _ {K V E : Type 0} (eq : K → K → Bool) where
       by m true e = t.opened_once m ∙ ap (λ v. cond {A = ℕ} (is_some (d.notices v)) 1 0) (sym (eqb-true n m e)) ∙
           ap (λ v. cond {A = ℕ} v 1 0) (sym (there (d.notices n)))
 
-  pub noticing_kept : IsKept eq (IsNoticing {K = K} {V = V} {E = E})
+  pub noticing_kept : IsInvariant eq (IsNoticing {K = K} {V = V} {E = E})
   noticing_kept = record {
     fresh = λ rules size tests has_log. record {
       replacing = (replacing_kept eq).fresh rules size tests has_log;

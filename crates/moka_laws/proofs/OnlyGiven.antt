@@ -43,7 +43,7 @@ use Rattle.moka_hist.specs.declared.visits.Found.TheVariants as found
 use Rattle.moka_hist.specs.declared.visits.Settled.{Settled}
 use Rattle.moka_hist.specs.declared.visits.Settled.TheVariants as settled
 use Rattle.moka_hist.specs.declared.writes.Write.TheVariants.{Remove, Upsert}
-use Rattle.moka_laws.specs.Given.{HandedIsGiven, SteppedIsGiven, StoredIsGiven, HasStarted, WasGiven, handed, key_of, value_of, asked_key, brought, value_in}
+use Rattle.moka_laws.specs.Given.{HandedIsGiven, SteppedIsGiven, StoredIsGiven, HasStarted, WasGiven, handed, key_started, value_of, asked_key, brought, value_in}
 use Rattle.moka_laws.proofs.Counting.{none_some, some_same, put_cases, put_here, put_there}
 use Rattle.moka_laws.proofs.Owning.{and_left}
 use Rattle.moka_laws.proofs.Rules.{shown_next, chosen_next, kept_next, loaded_plans, put_plans, read_key_next}
@@ -650,7 +650,7 @@ module _ {K V : Type 0} (E : Type 0) (P R : K → V → Type 0) where
   fresh_fair : ((q : K) (value : V) → P q value → R q value) → (rules : Rules)
       (start : Start K V) →
       ((key : K) (value : V) → brought start ≡ Some (key, value) → P key value) →
-      RestFair P R (key_of start) (plan_of {E = E} rules start)
+      RestFair P R (key_started start) (plan_of {E = E} rules start)
   fresh_fair own rules (start.Get key) h = get_fair key (is_disabled rules)
   fresh_fair own rules (start.Insert key value) h =
       insert_fair key (is_disabled rules) rules value (h key value refl)
@@ -723,7 +723,7 @@ module _ {K V E : Type 0} (P R : K → V → Type 0) where
 
       start_fair : (s : State K V E) (start : Start K V) → IsFair s →
           ((key : K) (value : V) → brought start ≡ Some (key, value) → P key value) →
-          Q (s.world.desk.last + 1) (key_of start) → IsFair (started s start)
+          Q (s.world.desk.last + 1) (key_started start) → IsFair (started s start)
       start_fair s start i gave has = record {
         table = i.table;
         desk = i.desk;
@@ -731,10 +731,10 @@ module _ {K V E : Type 0} (P R : K → V → Type 0) where
             put_cases s.calls (s.world.desk.last + 1) (Some (fresh_call s.world.desk.rules start)) m
             (Some c) (CallIsFair (s.world.desk.told m) m c.plan) live
             (λ here is. (
-              key_of start,
-              subst (λ v. Q v (key_of start)) here has,
-              subst (CallFair P R (key_of start) (s.world.desk.told m)) is
-                  (rest_fair P R (key_of start) (s.world.desk.told m) _
+              key_started start,
+              subst (λ v. Q v (key_started start)) here has,
+              subst (CallFair P R (key_started start) (s.world.desk.told m)) is
+                  (rest_fair P R (key_started start) (s.world.desk.told m) _
                   (fresh_fair E P R ties.own s.world.desk.rules start gave)),
             ))
             (λ there is. i.plans m c is);
@@ -805,7 +805,7 @@ module _ {K V E : Type 0} (P R : K → V → Type 0) where
           (run : Run eq Any (fresh K V E rules size tests) es rs s) →
           ((key : K) (value : V) →
           WasGiven eq (fresh K V E rules size tests) es rs s run key value → P key value) →
-          ((n : ℕ) (start : Start K V) → HasStarted n es rs start → Q n (key_of start)) → IsFair s
+          ((n : ℕ) (start : Start K V) → HasStarted n es rs start → Q n (key_started start)) → IsFair s
       run_fair rules size tests s es rs run gave begun =
           along P Q eq IsFair fair_kept (fresh K V E rules size tests) s es rs run gave begun
           (record {
@@ -844,11 +844,11 @@ module _ {K V E : Type 0} (eq : K → K → Bool) (laws : IsEquivalence eq) (rul
 
   -- the run has started the call for this key
   abbrev StartedFor : ℕ → K → Type 0
-  StartedFor n k = (start : Start K V) × HasStarted n es rs start × (key_of start ≡ k)
+  StartedFor n k = (start : Start K V) × HasStarted n es rs start × (key_started start ≡ k)
 
   one_key : (n : ℕ) (a b : K) → StartedFor n a → StartedFor n b → a ≡ b
   one_key n a b x y = sym x.2 ∙
-      ap key_of (started_once eq (fresh K V E rules size tests) s es rs n x.0 y.0 run x.1 y.1) ∙ y.2
+      ap key_started (started_once eq (fresh K V E rules size tests) s es rs n x.0 y.0 run x.1 y.1) ∙ y.2
 
   given_ties : Ties Given Near StartedFor eq
   given_ties = record {
@@ -869,21 +869,21 @@ module _ {K V E : Type 0} (eq : K → K → Bool) (laws : IsEquivalence eq) (rul
   -- what a call may hand out was given for a key equal to its own
   given_near : (n : ℕ) (turn : Turn K V E) (start : Start K V) (value : V) →
       HasStarted n es rs start → TurnIsFair Given Near StartedFor eq n turn →
-      handed (reply_of turn) ≡ Some value → Near (key_of start) value
+      handed (reply_of turn) ≡ Some value → Near (key_started start) value
   given_near n turn start value began fair is =
-      subst (λ k. Near k value) (one_key n fair.0 (key_of start) fair.1 (start, began, refl))
+      subst (λ k. Near k value) (one_key n fair.0 (key_started start) fair.1 (start, began, refl))
       (fair.2 value is)
 
   -- as it is stepped or polled
   on_event : (t : State K V E) (n : ℕ) (e : Event K V E) (r : Reply K V E) (start : Start K V)
       (value : V) → HasStarted n es rs start → (e ≡ event.Step n) ⊎ (e ≡ event.Poll n) →
-      Happens eq Any s e r t → handed r ≡ Some value → Near (key_of start) value
+      Happens eq Any s e r t → handed r ≡ Some value → Near (key_started start) value
   on_event t n e r start value began (inl is) h v =
       stepped (s.calls n) (subst (λ x. Happens eq Any s x r t) is h)
     where
       stepped : (o : Option (Call K V E)) →
           MatchOption o (Refuses s refusal.UnknownCall r t) (λ _. Steps eq s n r t) →
-          Near (key_of start) value
+          Near (key_started start) value
       stepped None h = absurd (none_some (sym (ap handed h.reply) ∙ v))
       stepped (Some c) h = given_near n h.turn start value began
           (step_fair Given Near StartedFor eq given_ties s t n h.turn given_fair h.step).1
@@ -893,7 +893,7 @@ module _ {K V E : Type 0} (eq : K → K → Bool) (laws : IsEquivalence eq) (rul
     where
       polled : (o : Option (Call K V E)) →
           MatchOption o (Refuses s refusal.UnknownCall r t) (λ _. Polls eq Any s n r t) →
-          Near (key_of start) value
+          Near (key_started start) value
       polled None h = absurd (none_some (sym (ap handed h.reply) ∙ v))
       polled (Some c) h =
           let fair : IsFair Given Near StartedFor eq h.mid =

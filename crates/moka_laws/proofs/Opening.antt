@@ -28,7 +28,7 @@ use Rattle.moka_hist.specs.declared.rules.Rules.{Rules}
 use Rattle.moka_hist.specs.declared.visits.Settled.{Settled}
 use Rattle.moka_hist.specs.declared.visits.Settled.TheVariants as settled
 use Rattle.moka_hist.specs.declared.visits.Found.TheVariants as found
-use Rattle.moka_laws.specs.Loads.{said_of, told_as, TakesTold, LooksInVain, IsToAsk, CameBy, OpenedByOwners, OwnEndsAreTold}
+use Rattle.moka_laws.specs.Loads.{said_of, told_as, TakesTold, LooksInVain, AsksNext, CameBy, OpenedByOwners, OwnEndsAreTold}
 use Rattle.moka_laws.specs.Starting.{Leads}
 use Rattle.moka_laws.proofs.Counting.{none_some, some_same, put_cases, put_here}
 use Rattle.moka_laws.proofs.Following.{IsFollowed, follow, leads_more, no_leads}
@@ -76,7 +76,7 @@ module _ {K V E : Type 0} where
         told_as with ≡ Some given →
         said_of with false ≡ Some said → plan_left next.left ≡ end_load with said →
         TakesTold s n c given
-    asks : (load : Load K) → plan_left next.left ≡ plan.Ask load ∷ [] → IsToAsk s c load
+    asks : (load : Load K) → plan_left next.left ≡ plan.Ask load ∷ [] → AsksNext s c load
     opens : next.turn ≡ turn.Ask ask.Init → (load : Load K) × (c.plan ≡ plan.Ask load ∷ [])
 
   -- ---- plans with no such item
@@ -411,7 +411,7 @@ module _ {K V E : Type 0} (eq : K → K → Bool) where
         told_as with ≡ Some given →
         said_of with false ≡ Some said → c.plan ≡ end_load with said →
         CameBy eq s n c (λ u b. TakesTold u n b given)
-    asks : (load : Load K) → c.plan ≡ plan.Ask load ∷ [] → CameBy eq s n c (λ u b. IsToAsk u b load)
+    asks : (load : Load K) → c.plan ≡ plan.Ask load ∷ [] → CameBy eq s n c (λ u b. AsksNext u b load)
 
   record AreLed (s : State K V E) : Type 0 where
     reached : IsReached eq s

@@ -32,7 +32,7 @@ use Rattle.moka_laws.proofs.Replacing.{opens_notice, listening, not_opened, open
 use Rattle.moka_laws.proofs.Rules.{fresh_plan}
 use Rattle.moka_laws.proofs.Noticing.{IsNoticing, noticing_kept, naming, running, drained_none, posted_none, misses_none, finds_none, keeps_none, hits_none, read_none, told_none, form_none, read_key_none, told_op_none, tail_none}
 use Rattle.moka_laws.proofs.SoundReached.{IsSound, sound_kept, reached_sound}
-use Rattle.moka_laws.proofs.Kept.{IsKept, in_reached}
+use Rattle.moka_laws.proofs.Kept.{IsInvariant, in_reached}
 use Rattle.moka_laws.proofs.StepCases.{OnStep, step_cases}
 use Rattle.moka_laws.proofs.Outcomes.{outcomes}
 
@@ -595,7 +595,7 @@ module _ {K V E : Type 0} (eq : K → K → Bool) (laws : IsEquivalence eq) wher
       by false f is = (x, is, refl, λ r. refl)
       by true f is = from (d.notices n) refl is (eqb-true n m f)
 
-  ordered_kept : IsKept {K = K} {V = V} {E = E} eq (IsOrdered eq)
+  ordered_kept : IsInvariant {K = K} {V = V} {E = E} eq (IsOrdered eq)
   ordered_kept = record {
     fresh = λ rules size tests has_log. record {
       noticing = (noticing_kept eq).fresh rules size tests has_log;

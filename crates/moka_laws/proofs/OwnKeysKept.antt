@@ -14,7 +14,7 @@ use Rattle.moka_hist.specs.declared.accesses.Got.TheVariants as got
 use Rattle.moka_hist.specs.declared.accesses.Turn.{Turn}
 use Rattle.moka_laws.specs.OwnKeys.{UnderOwnKeys, ReachedIsUnderOwnKeys}
 use Rattle.moka_laws.proofs.Counting.{none_some}
-use Rattle.moka_laws.proofs.Kept.{IsKept, in_reached}
+use Rattle.moka_laws.proofs.Kept.{IsInvariant, in_reached}
 
 module _ {K V : Type 0} (eq : K → K → Bool) where
   -- the pair, where it is stored at q, has the key q
@@ -69,7 +69,7 @@ module _ {K V E : Type 0} (eq : K → K → Bool) where
       subst (λ (v : State K V E). IsUnder eq v.world.table.stored) (sym h.after)
       (access_keeps n s.world h.world (access_of n h.call) h.given h.gets under)
 
-  kept : IsKept {K = K} {V = V} {E = E} eq (UnderOwnKeys {K = K} {V = V} {E = E} eq)
+  kept : IsInvariant {K = K} {V = V} {E = E} eq (UnderOwnKeys {K = K} {V = V} {E = E} eq)
   kept = record {
     fresh = λ rules size tests has_log q p is. cc;
     at = λ s moment under. under;

@@ -37,7 +37,7 @@ use Rattle.moka_hist.specs.declared.accesses.Turn.{Turn}
 use Rattle.moka_laws.proofs.Rules.{put_plans, loaded_plans, kept_next, chosen_next, read_key_next, said_next, told_op_next, IsFresh, Disabled, fresh_plan}
 use Rattle.moka_laws.proofs.Counting.{some_same, none_some, put_cases, other_number}
 use Rattle.moka_laws.proofs.Weights.{weigh}
-use Rattle.moka_laws.proofs.Kept.{IsKept, in_reached}
+use Rattle.moka_laws.proofs.Kept.{IsInvariant, in_reached}
 use Rattle.moka_laws.proofs.StepCases.{OnStep, step_cases}
 use Rattle.moka_laws.proofs.Outcomes.{alone_of, computes_of, Outcomes, OwnsKey, outcomes}
 
@@ -482,7 +482,7 @@ module _ {K V E : Type 0} (eq : K → K → Bool) (laws : IsEquivalence eq) wher
       step_cases eq (Leaves eq s.world n) (λ v _. IsOwned eq v) s t n turn step
       (on_plan eq laws s.world n c i.one_owner c.plan refl (i.calls n c step.live)) (λ w next. owned s n w next i)
 
-  owned_kept : IsKept eq (IsOwned {K = K} {V = V} {E = E} eq)
+  owned_kept : IsInvariant eq (IsOwned {K = K} {V = V} {E = E} eq)
   owned_kept = record {
     fresh = λ rules size tests has_log. record { one_owner = λ a b e. refl; calls = λ n c live. absurd (none_some live) };
     at = λ s moment i. record { one_owner = i.one_owner; calls = i.calls };

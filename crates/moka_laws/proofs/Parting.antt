@@ -42,7 +42,7 @@ use Rattle.moka_laws.proofs.Balanced.{balanced_kept, gives_up}
 use Rattle.moka_laws.proofs.Rules.{put_plans, loaded_plans, kept_next, chosen_by, read_key_next, told_op_next}
 use Rattle.moka_laws.proofs.Between.{run_more}
 use Rattle.moka_laws.proofs.OnePlace.{contains_times}
-use Rattle.moka_laws.proofs.Kept.{IsKept, IsStable, in_reached, runs}
+use Rattle.moka_laws.proofs.Kept.{IsInvariant, IsStable, in_reached, runs}
 use Rattle.moka_laws.proofs.StepCases.{OnStep, step_cases}
 use Rattle.moka_laws.proofs.Outcomes.{Outcomes, outcomes, computes_of, passes_by}
 use Rattle.moka_hist.specs.declared.loads.Compute.{Compute}
@@ -397,7 +397,7 @@ module _ {K V E : Type 0} (eq : K → K → Bool) where
       gone k true h = refl
       gone k false h = h
 
-  alone_kept : IsKept eq (AreAlone {K = K} {V = V} {E = E})
+  alone_kept : IsInvariant eq (AreAlone {K = K} {V = V} {E = E})
   alone_kept = record {
     fresh = λ rules size tests has_log. record { balanced = (balanced_kept eq).fresh rules size tests has_log; alone = λ n c live. absurd (none_some live) };
     at = λ s moment i. record {

@@ -35,7 +35,7 @@ use Rattle.moka_laws.proofs.Holding.{HoldsAs, IsHolding, all_leave, holding_kept
 use Rattle.moka_laws.proofs.Owning.{plan_left}
 use Rattle.moka_laws.proofs.Plans.{IsTail, Answering, Settling, IsDrained, Looking, Putting, IsPosted, Draining, Ended, Locking, IsPlan, Posted, Drained, Posting, Hearing, Noticing, Listening, Unlocking, Turning, Applying, Ending, Judging, Owning, Giving, Reading, Asking, Telling, Writing, IsLook, Removing, Locking_out, Choosing, Finding, Chosen, Taking, Freeing, Idling, AllKnown, known_kept, Asking_op, Owning_key, Owning_alone, Reading_key, Telling_op}
 use Rattle.moka_laws.proofs.Rules.{put_plans, chosen_next, kept_next, loaded_plans, IsFresh, Disabled, fresh_plan, read_key_next, told_op_next}
-use Rattle.moka_laws.proofs.Kept.{IsKept, in_reached}
+use Rattle.moka_laws.proofs.Kept.{IsInvariant, in_reached}
 use Rattle.moka_laws.proofs.StepCases.{OnStep, step_cases}
 use Rattle.moka_laws.proofs.Outcomes.{outcomes}
 use Rattle.moka_hist.specs.declared.loads.Compute.{Compute}
@@ -298,7 +298,7 @@ module _ {K V E : Type 0} (eq : K → K → Bool) where
             (λ w next own rest. pends_on s n w next.left i.pends own rest) others;
       }
 
-  placed_kept : IsKept eq IsPlaced
+  placed_kept : IsInvariant eq IsPlaced
   placed_kept = record {
     fresh = λ rules size tests has_log. record {
       holding = (holding_kept eq).fresh rules size tests has_log;

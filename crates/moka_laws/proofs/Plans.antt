@@ -30,7 +30,7 @@ use Rattle.moka_hist.specs.declared.writes.Write as write
 use Rattle.moka_laws.proofs.Rules.{put_plans, loaded_plans, kept_next, chosen_next, read_key_next, told_op_next, IsFresh, Disabled, Gets, Loads, Owns, Computes, Computes_alone, Finds_or_puts, Gives_back, Puts, Locks_and_puts, Takes_out, Locks_and_takes_out, Evicts, Locks_and_evicts, fresh_plan}
 use Rattle.moka_laws.proofs.StepCases.{OnStep, step_cases}
 use Rattle.moka_laws.proofs.Outcomes.{alone_of, outcomes, OwnsKey}
-use Rattle.moka_laws.proofs.Kept.{IsKept, in_reached}
+use Rattle.moka_laws.proofs.Kept.{IsInvariant, in_reached}
 use Rattle.moka_laws.proofs.Counting.{none_some, put_cases}
 
 -- what is looked for may be seen: it isn't a record that was chosen to leave
@@ -378,7 +378,7 @@ module _ {K V E : Type 0} (eq : K → K → Bool) where
       step_cases eq (λ _ next. KnownIf next.left) (λ v _. AllKnown v) s t n turn step
       (on_plan eq s.world n step.call h step.call.plan h.plan) (λ w next. goes_on s n w next all)
 
-  pub known_kept : IsKept eq AllKnown
+  pub known_kept : IsInvariant eq AllKnown
   known_kept = record {
     fresh = λ rules size tests has_log n c live. absurd (none_some live);
     at = λ s moment all. all;

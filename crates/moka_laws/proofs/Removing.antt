@@ -23,7 +23,7 @@ use Rattle.moka_hist.specs.declared.replies.Answer.{Answer}
 use Rattle.moka_hist.specs.declared.replies.Answer.TheVariants as answer
 use Rattle.moka_hist.specs.declared.rules.Rules.{Rules}
 use Rattle.moka_hist.specs.declared.writes.Write.TheVariants.{Remove}
-use Rattle.moka_laws.specs.Removals.{EvictedIsOut, EvictedThat, IsAsked, RemovalsAnswer, RemoveAnswersTaken, SaysNothing, SaysTaken, StandsAs, TookOut, removal_of}
+use Rattle.moka_laws.specs.Removals.{EvictedIsOut, EvictedThat, IsAsked, RemovalsAnswer, RemoveAnswersTaken, SaysNothing, SaysTaken, StandsAs, TookOut, removal_started}
 use Rattle.moka_laws.specs.Starting.{Leads, WasStarted}
 use Rattle.moka_laws.proofs.Counting.{differ, none_some, some_same, put_here, put_there}
 use Rattle.moka_laws.proofs.OnePlace.{contains_times, times_contains}
@@ -564,7 +564,7 @@ same_removal {K = K} x y e = (
 module _ {K V : Type 0} (E : Type 0) where
   -- a call that is started to take a record out has still to
   starts_early : (rules : Rules) (begin : Start K V) (removal : Removal K) (key : K) (n : ℕ) →
-      removal_of begin ≡ Some (removal, key) →
+      removal_started begin ≡ Some (removal, key) →
       Early removal key n (plan_of {E = E} rules begin)
   starts_early rules (start.Invalidate k) removal key n e = by rules.listener
     where

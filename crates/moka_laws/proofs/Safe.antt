@@ -22,7 +22,7 @@ use Rattle.moka_laws.proofs.Locking.{Locks, lock_free, lock_held}
 use Rattle.moka_laws.proofs.Outcomes.{computes_of}
 use Rattle.moka_laws.proofs.Unsettled.{IsUnsettled, owners_unsettled, unsettled_kept}
 use Rattle.moka_laws.proofs.Replacing.{IsReplacing, replacing_kept, not_opened}
-use Rattle.moka_laws.proofs.Kept.{IsKept, in_reached}
+use Rattle.moka_laws.proofs.Kept.{IsInvariant, in_reached}
 
 none_is : {A : Type 0} (o : Option A) → o ≡ None → IsNone o
 none_is o e = ap is_some e
@@ -67,7 +67,7 @@ module _ {K V E : Type 0} (eq : K → K → Bool) where
     pub turning : IsTurning s
     pub replacing : IsReplacing s
 
-  pub well_kept : IsKept eq IsWell
+  pub well_kept : IsInvariant eq IsWell
   well_kept = record {
     fresh = λ rules size tests has_log. record {
       holding = (holding_kept eq).fresh rules size tests has_log;

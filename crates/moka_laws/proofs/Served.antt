@@ -12,7 +12,7 @@ use Rattle.moka_hist.specs.declared.accesses.Turn.{Turn}
 use Rattle.moka_laws.specs.Missing.{WaitersHaveOwners, HasOwner, OwnsAlike}
 use Rattle.moka_laws.proofs.Counting.{none_some, put_here, put_there, differ_not}
 use Rattle.moka_laws.proofs.Sums.{sum_to, sum_zero, sum_next, sum_change, sum_holds, sum_holds_two}
-use Rattle.moka_laws.proofs.Kept.{IsKept, in_reached}
+use Rattle.moka_laws.proofs.Kept.{IsInvariant, in_reached}
 use Rattle.moka_laws.proofs.StepCases.{step_cases}
 use Rattle.moka_laws.proofs.Answering.{IsAnswering, answering_kept}
 use Rattle.moka_laws.proofs.Balance.{IsBalanced}
@@ -20,7 +20,7 @@ use Rattle.moka_laws.proofs.Balanced.{balanced_kept, next_free}
 use Rattle.moka_laws.proofs.Owning.{plan_left}
 use Rattle.moka_laws.proofs.Roles.{Fits, awaited, awaits_first, fresh_fits}
 use Rattle.moka_laws.proofs.Reading.{joins, joins_self, Answered, OwnerOf}
-use Rattle.moka_laws.proofs.Serving.{part, Serves, drops, no_load, no_owner}
+use Rattle.moka_laws.proofs.Serving.{part, ServesPart, drops, no_load, no_owner}
 use Rattle.moka_laws.proofs.ServingSteps.{on_plan}
 
 module _ {K V E : Type 0} (eq : K → K → Bool) where
@@ -66,7 +66,7 @@ module _ {K V E : Type 0} (eq : K → K → Bool) where
             omega (arith, i.counted o, sum_holds_two s.world.desk.last (λ v. joins o (s.world.desk.joined v)) m n k l (omega arith))
 
     -- what a step of a call, or its end, has shown holds of the state that it leaves
-    serves : (n : ℕ) → n ≤ s.world.desk.last → (w : World K V E) (left : Option (Call K V E)) → Serves eq s.world.desk n (part w.desk) left →
+    serves : (n : ℕ) → n ≤ s.world.desk.last → (w : World K V E) (left : Option (Call K V E)) → ServesPart eq s.world.desk n (part w.desk) left →
         let t : State K V E = record { world = w; calls = put_at s.calls n left } in
         IsBalanced t → IsAnswering t → IsServed t
     serves n l w left b balanced answering = record {
@@ -109,7 +109,7 @@ module _ {K V E : Type 0} (eq : K → K → Bool) where
       let fits : Fits (s.world.desk.owning n) (s.world.desk.joined n) c.plan = subst
       (λ v. Fits (s.world.desk.owning n) (s.world.desk.joined n) (plan_left v)) step.live (i.fits n) in
       let kept : IsBalanced t → IsAnswering t → IsServed t =
-      step_cases eq (λ new next. Serves eq s.world.desk n (part new.desk) next.left)
+      step_cases eq (λ new next. ServesPart eq s.world.desk n (part new.desk) next.left)
       (λ v _. IsBalanced v → IsAnswering v → IsServed v) s t n turn step
       (on_plan eq s.world n c i.owner (enough s i n l) (enough_own s i n l) i.answering.desk c.plan refl fits
       (λ o load j a. i.waits n o load j (ap (λ v. awaited (plan_left v)) step.live ∙ a)))
@@ -147,7 +147,7 @@ module _ {K V E : Type 0} (eq : K → K → Bool) where
       wait idle m o load j a false e = i.waits m o load j
           (ap (λ v. awaited (plan_left v)) (sym (put_there s.calls (s.world.desk.last + 1) (Some (fresh_call {E = E} s.world.desk.rules start)) m e)) ∙ a)
 
-  pub served_kept : IsKept eq IsServed
+  pub served_kept : IsInvariant eq IsServed
   served_kept = record {
     fresh = λ rules size tests has_log. record {
       balanced = (balanced_kept eq).fresh rules size tests has_log;

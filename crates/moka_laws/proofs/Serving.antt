@@ -55,7 +55,7 @@ left_owner (Some v) n o e = by (v == n) refl e
 
 module _ {K V E : Type 0} (eq : K → K → Bool) where
   -- what a step of the call, or its end, has to show
-  pub record Serves (d : DeskPart K V E) (n : ℕ) (q : Part K V E) (left : Option (Call K V E)) : Type 0 where
+  pub record ServesPart (d : DeskPart K V E) (n : ℕ) (q : Part K V E) (left : Option (Call K V E)) : Type 0 where
     pub last : q.last ≡ d.last
     pub fits : Fits (q.owning n) (q.joined n) (plan_left left)
     pub owner : (load : Load K) (o : ℕ) → q.owners load ≡ Some o → OwnerOf eq q.owning o load
@@ -73,7 +73,7 @@ module _ {K V E : Type 0} (eq : K → K → Bool) where
     -- nothing of this has changed but the call's plan
     pub keeps : {left : Option (Call K V E)} → Fits (d.owning n) (d.joined n) (plan_left left) →
         ((o : ℕ) (load : Load K) → d.joined n ≡ Some o → awaited (plan_left left) ≡ Some load → Answered eq d.owning d.settled o load) →
-        Serves d n (part d) left
+        ServesPart d n (part d) left
     keeps f own = record {
       last = refl;
       fits = f;
@@ -87,7 +87,7 @@ module _ {K V E : Type 0} (eq : K → K → Bool) where
 
     -- nothing of this has changed, and the call awaits no load
     pub keeps_none : {left : Option (Call K V E)} → Fits (d.owning n) (d.joined n) (plan_left left) → awaited (plan_left left) ≡ None →
-        Serves d n (part d) left
+        ServesPart d n (part d) left
     keeps_none f none = keeps f (λ o load j a. absurd (none_some (sym none ∙ a)))
 
     -- the owners that are left once the call's ownership has ended
@@ -123,7 +123,7 @@ module _ {K V E : Type 0} (eq : K → K → Bool) where
       pub claims : {left : Option (Call K V E)} → IsLast (plan_left left) →
           weigh owners (plan_left left) ≡ 1 →
           awaited (plan_left left) ≡ None → is_some (d.joined n) ≡ false →
-          Serves d n (part (record d { owners = put_key (load_eq eq) d.owners load (Some n); owning = put_at d.owning n (Some load) })) left
+          ServesPart d n (part (record d { owners = put_key (load_eq eq) d.owners load (Some n); owning = put_at d.owning n (Some load) })) left
       claims last one idle free = record {
         last = refl;
         fits = record {
@@ -142,7 +142,7 @@ module _ {K V E : Type 0} (eq : K → K → Bool) where
     -- the call waits for the owner of the load
     pub joins_owner : (sought : Sought K) (who : ℕ) {left : Option (Call K V E)} → d.owners sought.load ≡ Some who →
         plan_left left ≡ plan.Read sought ∷ [] → d.owning n ≡ None → d.joined n ≡ None →
-        Serves d n (part (record d { joined = put_at d.joined n (Some who); readers = put_at d.readers who (d.readers who + 1) })) left
+        ServesPart d n (part (record d { joined = put_at d.joined n (Some who); readers = put_at d.readers who (d.readers who + 1) })) left
     joins_owner sought who owns p none free = record {
       last = refl;
       fits = subst (Fits (d.owning n) (put_at d.joined n (Some who) n)) (sym p)
@@ -186,7 +186,7 @@ module _ {K V E : Type 0} (eq : K → K → Bool) where
     pub joins_key_owner : (compute : Compute K) (who : ℕ) {left : Option (Call K V E)} →
         d.owners (computes_of compute.key) ≡ Some who →
         plan_left left ≡ plan.Read_key compute ∷ [] → d.owning n ≡ None → d.joined n ≡ None →
-        Serves d n (part (record d { joined = put_at d.joined n (Some who); readers = put_at d.readers who (d.readers who + 1) })) left
+        ServesPart d n (part (record d { joined = put_at d.joined n (Some who); readers = put_at d.readers who (d.readers who + 1) })) left
     joins_key_owner compute who owns p none free = record {
       last = refl;
       fits = subst (Fits (d.owning n) (put_at d.joined n (Some who) n)) (sym p)
@@ -217,7 +217,7 @@ module _ {K V E : Type 0} (eq : K → K → Bool) where
 
     -- the call has read how its owner ended
     pub leaves_owner : {left : Option (Call K V E)} → Fits (d.owning n) None (plan_left left) →
-        Serves d n (part (record d { joined = put_at d.joined n None; readers = readers_without d n; settled = settled_without d n })) left
+        ServesPart d n (part (record d { joined = put_at d.joined n None; readers = readers_without d n; settled = settled_without d n })) left
     leaves_owner {left = gone} f = record {
       last = refl;
       fits = subst (λ v. Fits (d.owning n) v (plan_left gone)) (sym (put_here d.joined n None)) f;
@@ -232,7 +232,7 @@ module _ {K V E : Type 0} (eq : K → K → Bool) where
     -- the call has ended its ownership
     pub ends_own : (with : Settled V E) {left : Option (Call K V E)} → Fits None (d.joined n) (plan_left left) →
         ((o : ℕ) (load : Load K) → d.joined n ≡ Some o → awaited (plan_left left) ≡ Some load → Answered eq d.owning d.settled o load) →
-        Serves d n (part (record d { owners = owners_without d n; owning = put_at d.owning n None; settled = settled_with d n with d.settled })) left
+        ServesPart d n (part (record d { owners = owners_without d n; owning = put_at d.owning n None; settled = settled_with d n with d.settled })) left
     ends_own with {left = gone} f own = record {
       last = refl;
       fits = subst (λ v. Fits v (d.joined n) (plan_left gone)) (sym (put_here d.owning n None)) f;
@@ -245,7 +245,7 @@ module _ {K V E : Type 0} (eq : K → K → Bool) where
     }
 
     -- the call is dropped
-    pub drops : Serves d n (part (left d n None)) None
+    pub drops : ServesPart d n (part (left d n None)) None
     drops = record {
       last = refl;
       fits = record {

@@ -19,7 +19,7 @@ use Rattle.moka_laws.proofs.Answering.{HasAnswers, settlement_ready}
 use Rattle.moka_laws.proofs.Owning.{plan_left}
 use Rattle.moka_laws.proofs.Roles.{IsLast, owners, Fits, awaited, goes_fits, keeps_fits, misses_fits, unseen_fits, finds_fits, hits_fits, told_fits, read_fits, read_key_fits, goes_awaits, keeps_awaits, misses_awaits, finds_awaits, hits_awaits}
 use Rattle.moka_laws.proofs.Reading.{joins, Answered, OwnerOf}
-use Rattle.moka_laws.proofs.Serving.{Serves, part, no_load, no_owner, at_most_one, keeps, keeps_none, claims, joins_owner, joins_key_owner, leaves_owner, ends_own}
+use Rattle.moka_laws.proofs.Serving.{ServesPart, part, no_load, no_owner, at_most_one, keeps, keeps_none, claims, joins_owner, joins_key_owner, leaves_owner, ends_own}
 use Rattle.moka_hist.specs.declared.loads.Compute.{Compute}
 use Rattle.moka_hist.specs.Computing.{after_told_op}
 
@@ -34,21 +34,21 @@ module _ {K V E : Type 0} (eq : K → K → Bool) (w : World K V E) (n : ℕ) (c
     own : (o : ℕ) (load : Load K) → w.desk.joined n ≡ Some o → awaited plan ≡ Some load → Answered eq w.desk.owning w.desk.settled o load
 
   abbrev Leaves : World K V E → Next K V E → Type 0
-  Leaves new next = Serves eq w.desk n (part new.desk) next.left
+  Leaves new next = ServesPart eq w.desk n (part new.desk) next.left
 
   -- the call goes on with this plan, or as it was, and nothing else has changed
-  goes_with : (left : Option (Call K V E)) → Plans (plan_left left) → Serves eq w.desk n (part w.desk) left
+  goes_with : (left : Option (Call K V E)) → Plans (plan_left left) → ServesPart eq w.desk n (part w.desk) left
   goes_with left p = keeps eq w.desk n owner enough enough_own p.fits p.own
 
   -- the call goes on with a plan that awaits no load
   goes_free : {left : Option (Call K V E)} → Fits {E = E} (w.desk.owning n) (w.desk.joined n) (plan_left left) → awaited (plan_left left) ≡ None →
-      Serves eq w.desk n (part w.desk) left
+      ServesPart eq w.desk n (part w.desk) left
   goes_free f none = keeps_none eq w.desk n owner enough enough_own f none
 
   rest_plans : (rest : List (Item K V E)) → Plans rest → Plans (plan_left (goes c rest).left)
   rest_plans rest p = record { fits = goes_fits _ _ c rest p.fits; own = λ o load j a. p.own o load j (sym (goes_awaits c rest) ∙ a) }
 
-  goes_rest : (rest : List (Item K V E)) → Plans rest → Serves eq w.desk n (part w.desk) (goes c rest).left
+  goes_rest : (rest : List (Item K V E)) → Plans rest → ServesPart eq w.desk n (part w.desk) (goes c rest).left
   goes_rest rest p = goes_with (goes c rest).left (rest_plans rest p)
 
   -- the plan's one item, where that is the last
@@ -57,7 +57,7 @@ module _ {K V E : Type 0} (eq : K → K → Bool) (w : World K V E) (n : ℕ) (c
   alone item rest e p = subst (λ v. Fits {E = E} (w.desk.owning n) (w.desk.joined n) (item ∷ v)) e p.fits
 
   takes_told : (load : Load K) (given : Told V E) → Plans c.plan → Fits {V = V} {E = E} (w.desk.owning n) (w.desk.joined n) (plan.Told load ∷ []) →
-      Serves eq w.desk n (part w.desk) (after_told c load (found.TakeTold (Some given))).left
+      ServesPart eq w.desk n (part w.desk) (after_told c load (found.TakeTold (Some given))).left
   takes_told load (answer.Value value) p f =
       goes_free (told_fits _ _ c load (answer.Value value) p.fits f)
       (loaded_plans (λ q. awaited (plan_left (goes c q).left) ≡ None)
@@ -69,10 +69,10 @@ module _ {K V E : Type 0} (eq : K → K → Bool) (w : World K V E) (n : ℕ) (c
 
   takes_told_op : (compute : Compute K) (pair : Option (K × V)) (given : Told V E) → Plans c.plan →
       Fits {V = V} {E = E} (w.desk.owning n) (w.desk.joined n) (plan.Told_op compute pair ∷ []) →
-      Serves eq w.desk n (part w.desk)
+      ServesPart eq w.desk n (part w.desk)
       (after_told_op c compute pair (found.TakeTold (Some given))).left
   takes_told_op compute pair given p f =
-      told_op_next (λ v. Serves eq w.desk n (part w.desk) v.left) c compute pair given
+      told_op_next (λ v. ServesPart eq w.desk n (part w.desk) v.left) c compute pair given
       (λ a. goes_free (record { last = refl; owning = omega (arith, f.owning); waiting = f.waiting }) refl)
       (λ value able off. goes_free (record { last = refl; owning = omega (arith, f.owning); waiting = f.waiting }) refl)
       (λ value able on. goes_free (record { last = refl; owning = omega (arith, f.owning); waiting = f.waiting }) refl)
@@ -90,7 +90,7 @@ module _ {K V E : Type 0} (eq : K → K → Bool) (w : World K V E) (n : ℕ) (c
   -- a call that judges what may be seen goes on with a plan that awaits no load
   judges : (aim : Aim K V) (key : K) (stored : Stored V) → Plans c.plan →
       Fits {E = E} (w.desk.owning n) (w.desk.joined n) (plan.Judge aim key stored ∷ []) →
-      Serves eq w.desk n (part w.desk) (hits c aim key stored.value).left
+      ServesPart eq w.desk n (part w.desk) (hits c aim key stored.value).left
   judges (plan.To_evict there stamp cause) key stored p f = goes_with _ p
   judges aim key stored p f =
       goes_free (hits_fits _ _ c aim key stored stored.value p.fits f)

@@ -12,7 +12,7 @@ use Rattle.moka_hist.specs.declared.events.Start.TheVariants as start
 use Rattle.moka_hist.specs.declared.loads.Kind.{Kind}
 use Rattle.moka_hist.specs.declared.replies.Answer.TheVariants as answer
 use Rattle.moka_laws.specs.Loads.{may_answer}
-use Rattle.moka_laws.specs.Shapes.{MayGive, MayLead, ShapesFit, asks_nobody}
+use Rattle.moka_laws.specs.Shapes.{MayBeGiven, MayLead, ShapesFit, asks_nobody}
 use Rattle.moka_laws.proofs.AnswersFit.{kind_of, AllSuit, Leaves, ReadsFit, on_plan, fresh_suits}
 use Rattle.moka_laws.proofs.Counting.{none_some}
 use Rattle.moka_laws.proofs.Owning.{plan_left}
@@ -54,7 +54,7 @@ module _ {K V E : Type 0} (eq : K → K → Bool) (begin : Start K V)
 
   -- one step, whatever is given
   step_suits : (n : ℕ) (c : Call K V E) (given : Got K V E) → AllSuit begin c.plan →
-      MayGive eq n c given → Leaves begin (next_of n c given)
+      MayBeGiven eq n c given → Leaves begin (next_of n c given)
   step_suits n c given suits gives =
       by_plan eq (λ w next. Leaves begin next) gives.world n c.rules c.mode c.plan c.aborts given
       gives.after gives.gets

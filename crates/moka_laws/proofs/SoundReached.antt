@@ -14,7 +14,7 @@ use Rattle.moka_hist.specs.declared.tables.TableTurn.TheVariants as table
 use Rattle.moka_hist.specs.declared.writes.Owed.{Owed}
 use Rattle.moka_hist.specs.declared.writes.Write.{Write}
 use Rattle.moka_laws.specs.Sound.{ReachedIsSound}
-use Rattle.moka_laws.proofs.Kept.{IsKept, in_reached}
+use Rattle.moka_laws.proofs.Kept.{IsInvariant, in_reached}
 use Rattle.moka_laws.proofs.Holding.{known_held, none_left}
 use Rattle.moka_laws.proofs.Safe.{IsWell, well_kept, may_step}
 use Rattle.moka_laws.proofs.Soundness.{fresh_sound, visit_sound, left_sound, told_call_sound, heard_sound, entered_sound, clock_sound}
@@ -41,7 +41,7 @@ module _ {K V E : Type 0} (eq : K → K → Bool) (laws : IsEquivalence eq) wher
   may_leave s n c well live None e = none_left eq s well.holding n c live e
   may_leave s n c well live (Some write) e = known_held eq s well.holding n c write live e
 
-  pub sound_kept : IsKept {K = K} {V = V} {E = E} eq (IsSound eq)
+  pub sound_kept : IsInvariant {K = K} {V = V} {E = E} eq (IsSound eq)
   sound_kept = record {
     fresh = λ rules size tests has_log. record { well = (well_kept eq).fresh rules size tests has_log; sound = fresh_sound eq rules size tests };
     at = λ s moment i. record { well = (well_kept eq).at s moment i.well; sound = clock_sound eq s.world.desk moment i.sound };

@@ -31,7 +31,7 @@ use Rattle.moka_laws.specs.Loads.{said_of, is_computed, Says, SaysAs, OwnersAnsw
 use Rattle.moka_laws.proofs.Counting.{none_some, some_same, put_cases, put_here, put_there}
 use Rattle.moka_laws.proofs.Fitting.{ItemFits, AllFit, OwnsKind, ends_own}
 use Rattle.moka_laws.proofs.TakesFit.{ItemTakes, AllTake}
-use Rattle.moka_laws.proofs.Kept.{IsKept, in_reached}
+use Rattle.moka_laws.proofs.Kept.{IsInvariant, in_reached}
 use Rattle.moka_laws.proofs.Owning.{plan_left}
 use Rattle.moka_laws.proofs.Roles.{IsLast}
 use Rattle.moka_laws.proofs.Rules.{IsPlain, once_plain, shown_next, put_plans, loaded_plans, kept_next, chosen_next, IsFresh, Disabled, Gives_back, fresh_plan, read_key_next, told_op_next_by, IsLoad, IsComputed, unchanged_computed, put_computed}
@@ -416,7 +416,7 @@ module _ {K V E : Type 0} (eq : K → K → Bool) where
       last_of : (s : State K V E) (n : ℕ) (c : Call K V E) → IsWell eq s → s.calls n ≡ Some c → IsLast c.plan
       last_of s n c well live = subst (λ v. IsLast (plan_left v)) live (well.served.fits n).last
 
-  true_kept : IsKept eq IsTrue
+  true_kept : IsInvariant eq IsTrue
   true_kept = record {
     fresh = λ rules size tests has_log. record {
       well = (well_kept eq).fresh rules size tests has_log;

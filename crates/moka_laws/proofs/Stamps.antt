@@ -25,7 +25,7 @@ use Rattle.moka_laws.proofs.Balance.{IsBalanced, times_last}
 use Rattle.moka_laws.proofs.Balanced.{balanced_kept}
 use Rattle.moka_laws.proofs.Posts.{may_write}
 use Rattle.moka_laws.proofs.Weights.{weigh}
-use Rattle.moka_laws.proofs.Kept.{IsKept, in_reached}
+use Rattle.moka_laws.proofs.Kept.{IsInvariant, in_reached}
 
 more_times : (x n : ℕ) (xs : List ℕ) → 0 < times x xs → 0 < times x (xs ++ n ∷ [])
 more_times x n xs h = omega (arith, h, times_last x n xs)
@@ -186,7 +186,7 @@ module _ {K V E : Type 0} (eq : K → K → Bool) where
     pub balanced : IsBalanced s
     stamped : Stamped eq s.world.table
 
-  pub stamped_kept : IsEquivalence eq → IsKept eq IsStamped
+  pub stamped_kept : IsEquivalence eq → IsInvariant eq IsStamped
   stamped_kept laws = record {
     fresh = λ rules size tests has_log. record {
       balanced = (balanced_kept eq).fresh rules size tests has_log;

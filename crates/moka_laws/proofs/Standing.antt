@@ -44,7 +44,7 @@ use Rattle.moka_laws.proofs.Owning.{plan_left}
 use Rattle.moka_laws.proofs.Rules.{IsFresh, Takes_out, Locks_and_takes_out, fresh_plan, put_plans, chosen_by, kept_next, loaded_plans, put_plans, read_key_next, told_op_next}
 use Rattle.moka_laws.proofs.SoundReached.{IsSound, sound_kept}
 use Rattle.moka_laws.proofs.Steady.{step_calls, step_rules}
-use Rattle.moka_laws.proofs.Kept.{IsKept, in_reached}
+use Rattle.moka_laws.proofs.Kept.{IsInvariant, in_reached}
 use Rattle.moka_laws.proofs.StepCases.{OnStep, step_cases}
 use Rattle.moka_laws.proofs.Outcomes.{Outcomes, outcomes, passes_on}
 use Rattle.moka_hist.specs.declared.loads.Compute.{Compute}
@@ -445,7 +445,7 @@ module _ {K V E : Type 0} (eq : K → K → Bool) (laws : IsEquivalence eq) wher
       by on m c live false e = other_step s i on t n m turn e step c
           (sym (step_calls eq s t n m turn e step) ∙ live)
 
-  standing_kept : IsKept eq IsStanding
+  standing_kept : IsInvariant eq IsStanding
   standing_kept = record {
     fresh = λ rules size tests has_log. record {
       sound = (sound_kept eq laws).fresh rules size tests has_log;

@@ -35,7 +35,7 @@ use Rattle.moka_hist.specs.declared.accesses.Turn.{Turn}
 use Rattle.moka_hist.specs.declared.accesses.Turn.TheVariants as turn
 use Rattle.moka_laws.proofs.Rules.{put_plans, loaded_plans, kept_next, chosen_next, read_key_next, told_op_next_by, IsLost, IsLoad, IsComputes, IsFresh, Loads, Owns, Computes, Disabled, fresh_plan}
 use Rattle.moka_laws.proofs.Counting.{some_same, none_some, put_cases, put_here, put_there}
-use Rattle.moka_laws.proofs.Kept.{IsKept, in_reached}
+use Rattle.moka_laws.proofs.Kept.{IsInvariant, in_reached}
 use Rattle.moka_laws.proofs.Owning.{plan_left}
 use Rattle.moka_laws.proofs.StepCases.{OnStep, step_cases}
 use Rattle.moka_laws.proofs.Outcomes.{Outcomes, outcomes, passes_by}
@@ -407,7 +407,7 @@ module _ {K V E : Type 0} (eq : K → K → Bool) where
         (λ there is. i.take n c is);
   }
 
-  pub taking_kept : IsKept eq (IsTaking {K = K} {V = V} {E = E})
+  pub taking_kept : IsInvariant eq (IsTaking {K = K} {V = V} {E = E})
   taking_kept = record {
     fresh = λ rules size tests has_log. record { take = λ n c live. absurd (none_some live) };
     at = λ s moment i. record { take = i.take };

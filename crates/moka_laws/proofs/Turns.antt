@@ -32,7 +32,7 @@ use Rattle.moka_laws.proofs.Weights.{weigh}
 use Rattle.moka_laws.proofs.Balance.{IsBalanced}
 use Rattle.moka_laws.proofs.Balanced.{balanced_kept, next_free}
 use Rattle.moka_laws.proofs.Owning.{plan_left}
-use Rattle.moka_laws.proofs.Kept.{IsKept, in_reached}
+use Rattle.moka_laws.proofs.Kept.{IsInvariant, in_reached}
 use Rattle.moka_laws.proofs.StepCases.{OnStep, step_cases}
 use Rattle.moka_laws.proofs.Outcomes.{Outcomes, outcomes}
 use Rattle.moka_hist.specs.declared.loads.Compute.{Compute}
@@ -361,7 +361,7 @@ module _ {K V E : Type 0} (eq : K → K → Bool) where
       (on_plan eq s.world n c c.plan refl fits) (λ w next b. turns s n w next.left i b) in
       kept ((balanced_kept eq).step s t n turn i.balanced step)
 
-  pub turning_kept : IsKept eq (IsTurning {K = K} {V = V} {E = E})
+  pub turning_kept : IsInvariant eq (IsTurning {K = K} {V = V} {E = E})
   turning_kept = record {
     fresh = λ rules size tests has_log. record {
       balanced = (balanced_kept eq).fresh rules size tests has_log;

@@ -20,7 +20,7 @@ use Rattle.moka_hist.specs.declared.visits.Visit.TheVariants as visit
 use Rattle.moka_hist.specs.declared.writes.Owed.{Owed}
 use Rattle.moka_laws.specs.Readers.{how_many, ReadersAreCounted, NothingUnreadIsKept}
 use Rattle.moka_laws.proofs.Sums.{sum_to, sum_has, sum_zero, sum_suc}
-use Rattle.moka_laws.proofs.Kept.{IsKept, in_reached}
+use Rattle.moka_laws.proofs.Kept.{IsInvariant, in_reached}
 use Rattle.moka_laws.proofs.Weights.{weigh}
 use Rattle.moka_laws.proofs.Owning.{plan_left}
 use Rattle.moka_laws.proofs.Outcomes.{computes_of}
@@ -172,7 +172,7 @@ module _ {K V E : Type 0} (eq : K → K → Bool) where
       role_alone (s.world.desk.owning n) (s.world.desk.joined n) c.plan
       (subst (λ v. Fits (s.world.desk.owning n) (s.world.desk.joined n) (plan_left v)) live (well.served.fits n)) (plan_role c.plan (well.asking.known n c live).plan)
 
-  awaited_kept : IsKept eq IsAwaited
+  awaited_kept : IsInvariant eq IsAwaited
   awaited_kept = record {
     fresh = λ rules size tests has_log. record { well = (well_kept eq).fresh rules size tests has_log; awaited = λ o some. absurd (false≢true some) };
     at = λ s moment i. record { well = (well_kept eq).at s moment i.well; awaited = i.awaited };

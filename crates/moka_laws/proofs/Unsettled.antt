@@ -26,7 +26,7 @@ use Rattle.moka_hist.specs.declared.visits.Settled.TheVariants as settled
 use Rattle.moka_hist.specs.declared.visits.Visit.{Visit}
 use Rattle.moka_hist.specs.declared.visits.Visit.TheVariants as visit
 use Rattle.moka_laws.proofs.Counting.{none_some, put_cases, put_here, put_there}
-use Rattle.moka_laws.proofs.Kept.{IsKept}
+use Rattle.moka_laws.proofs.Kept.{IsInvariant}
 use Rattle.moka_laws.proofs.Owning.{plan_left}
 use Rattle.moka_laws.proofs.Plans.{Settling, IsDrained, Locking_out, Ended, IsPlan, Posted, Drained, IsKnown, known_kept}
 use Rattle.moka_laws.proofs.Roles.{Fits}
@@ -261,7 +261,7 @@ module _ {K V E : Type 0} (eq : K → K → Bool) where
             (omega (arith, last, (gone_now s i n t turn step m (subst (λ (v : State K V E). IsSome (v.world.desk.settled m)) step.after some)).1));
       }
 
-  pub unsettled_kept : IsKept eq (IsUnsettled {K = K} {V = V} {E = E})
+  pub unsettled_kept : IsInvariant eq (IsUnsettled {K = K} {V = V} {E = E})
   unsettled_kept = record {
     fresh = λ rules size tests has_log. record {
       known = (known_kept eq).fresh rules size tests has_log;

@@ -39,59 +39,59 @@ not_none (Some a) e = λ h. false≢true (sym h)
 
 module _ {K V E : Type 0} where
   -- the step doesn't wait
-  abbrev GoesOn : Next K V E → Type 0
-  GoesOn next = next.turn ≢ turn.Wait
+  abbrev GoesOnThen : Next K V E → Type 0
+  GoesOnThen next = next.turn ≢ turn.Wait
 
-  goes_on : (c : Call K V E) (rest : List (Item K V E)) → GoesOn (goes c rest)
+  goes_on : (c : Call K V E) (rest : List (Item K V E)) → GoesOnThen (goes c rest)
   goes_on c (plan.Reply a ∷ []) = λ e. cc
   goes_on c (plan.Reply a ∷ x ∷ rest) = λ e. cc
   goes_on c [] = λ e. cc
   goes_on c (_ ∷ rest) = λ e. cc
 
-  keeps_on : (c : Call K V E) → GoesOn (keeps c)
-  keeps_on c = kept_next GoesOn c (λ off e. cc) (λ on e. cc)
+  keeps_on : (c : Call K V E) → GoesOnThen (keeps c)
+  keeps_on c = kept_next GoesOnThen c (λ off e. cc) (λ on e. cc)
 
-  misses_on : (c : Call K V E) (aim : Aim K V) → GoesOn (misses c aim)
+  misses_on : (c : Call K V E) (aim : Aim K V) → GoesOnThen (misses c aim)
   misses_on c (plan.To_insert key value) =
       let after : List (Item K V E) = plan.Reply (reply.Loaded value true) ∷ [] in
-      put_plans (λ p. GoesOn (goes c p)) c.rules key value after
+      put_plans (λ p. GoesOnThen (goes c p)) c.rules key value after
       (goes_on c (plan.Drain ∷ plan.Moment (plan.To_store key value) ∷ after))
       (goes_on c (plan.Drain ∷ plan.Lock key ∷ plan.Moment (plan.To_store key value) ∷ after))
   misses_on c (plan.To_evict key stamp cause) = keeps_on c
   misses_on c _ = λ e. cc
 
   finds_on : (c : Call K V E) (aim : Aim K V) (k : K) (stored : Stored V) →
-      GoesOn (finds_pair c aim k stored)
+      GoesOnThen (finds_pair c aim k stored)
   finds_on c (plan.To_evict key stamp cause) k stored =
-      chosen_next GoesOn c key stamp cause k stored (λ off e. cc) (λ on e. cc) (λ e. cc)
+      chosen_next GoesOnThen c key stamp cause k stored (λ off e. cc) (λ on e. cc) (λ e. cc)
   finds_on c _ k stored = λ e. cc
 
   hits_on : (c : Call K V E) (aim : Aim K V) (there : K) (value : V) → IsLook aim →
-      GoesOn (hits c aim there value)
+      GoesOnThen (hits c aim there value)
   hits_on c (plan.To_evict key stamp cause) there value l = absurd l
   hits_on c _ there value l = λ e. cc
 
   read_on : (c : Call K V E) (sought : Sought K) (with : Settled V E) → Some with ≢ Some settled.NotYet →
-      GoesOn (after_read c sought (found.ReadSettled with))
+      GoesOnThen (after_read c sought (found.ReadSettled with))
   read_on c sought settled.NotYet h = absurd (h refl)
   read_on c sought settled.Aborted h = by (c.aborts + 1 == retries) refl
     where
-      by : (b : Bool) → (c.aborts + 1 == retries) ≡ b → GoesOn (after_abort c sought)
+      by : (b : Bool) → (c.aborts + 1 == retries) ≡ b → GoesOnThen (after_abort c sought)
       by true e = rw e (λ e. cc)
       by false e = rw e (λ e. cc)
   read_on c sought _ h = λ e. cc
 
   read_key_on : (c : Call K V E) (compute : Compute K) (with : Settled V E) →
-      Some with ≢ Some settled.NotYet → GoesOn (after_read_key c compute (found.ReadSettled with))
+      Some with ≢ Some settled.NotYet → GoesOnThen (after_read_key c compute (found.ReadSettled with))
   read_key_on c compute settled.NotYet h = absurd (h refl)
   read_key_on c compute _ h = λ e. cc
 
   tells_on : (c : Call K V E) (load : Load K) (given : Told V E) → IsLoad load.kind →
       does_take (takes_of load.kind) given ≡ true →
-      GoesOn (after_told c load (found.TakeTold (Some given)))
+      GoesOnThen (after_told c load (found.TakeTold (Some given)))
   tells_on c load (answer.Value value) one is =
       let after : List (Item K V E) = told_on value in
-      loaded_plans (λ p. GoesOn (goes c p)) c.rules load value (goes_on c after)
+      loaded_plans (λ p. GoesOnThen (goes c p)) c.rules load value (goes_on c after)
       (goes_on c (plan.Drain ∷ plan.Moment (plan.To_store load.key value) ∷ after))
       (goes_on c (plan.Drain ∷ plan.Lock load.key ∷ plan.Moment (plan.To_store load.key value)
       ∷ after))
@@ -102,8 +102,8 @@ module _ {K V E : Type 0} where
 
   tells_on_op : (c : Call K V E) (compute : Compute K) (pair : Option (K × V)) (given : Told V E) →
       IsComputes compute.takes → does_take compute.takes given ≡ true →
-      GoesOn (after_told_op c compute pair (found.TakeTold (Some given)))
-  tells_on_op c compute pair given one is = told_op_next_by GoesOn c compute pair given
+      GoesOnThen (after_told_op c compute pair (found.TakeTold (Some given)))
+  tells_on_op c compute pair given one is = told_op_next_by GoesOnThen c compute pair given
       (λ e. cc)
       (λ error f e. cc)
       (λ value off e. cc)
@@ -143,7 +143,7 @@ module _ {K V E : Type 0} where
     left : next.turn ≡ turn.Wait → next.left ≡ Some (record c { mode = mode.Parked })
 
   module _ (w : World K V E) (c : Call K V E) where
-    never : {Q : Type 0} {new : World K V E} {next : Next K V E} → ¬ Q → GoesOn next → Waits w c Q new next
+    never : {Q : Type 0} {new : World K V E} {next : Next K V E} → ¬ Q → GoesOnThen next → Waits w c Q new next
     never not g = record { cause = (λ e. absurd (g e), λ q. absurd (not q)); world = λ e. absurd (g e); left = λ e. absurd (g e) }
 
     always : {Q : Type 0} → Q → Waits w c Q w (waits c)

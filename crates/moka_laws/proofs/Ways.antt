@@ -30,7 +30,7 @@ use Rattle.moka_bound.proofs.More.{post_worst}
 use Rattle.moka_bound.proofs.Size.{access_size}
 use Rattle.moka_laws.specs.Bounded.{LogsHaveRoom, StepsAreBounded, StepEventsAreBounded}
 use Rattle.moka_laws.proofs.Counting.{none_some, put_here, same_number}
-use Rattle.moka_laws.proofs.Kept.{IsKept, in_reached}
+use Rattle.moka_laws.proofs.Kept.{IsInvariant, in_reached}
 use Rattle.moka_laws.proofs.Plans.{IsTail, Answering, Settling, IsDrained, Looking, Giving, Putting, IsPosted, Draining, Ended, Locking, IsPlan, Posted, Drained, Posting, Hearing, Noticing, Listening, Unlocking, Turning, Applying, Ending, Judging, Writing, Finding, Taking, Freeing, Idling, Asking_op, Reading_key, calls_known}
 use Rattle.moka_laws.proofs.Reached.{step_reached, steps_reached}
 use Rattle.moka_laws.proofs.Safe.{in_well, may_step}
@@ -158,7 +158,7 @@ module _ {K V E : Type 0} (eq : K → K → Bool) where
   peak_step s t n turn h st =
       subst KeysWerePeak (sym st.after) (access_peak n s.world st.world (access_of n st.call) st.given st.gets h)
 
-  peak_kept : IsKept {K = K} {V = V} {E = E} eq KeysWerePeak
+  peak_kept : IsInvariant {K = K} {V = V} {E = E} eq KeysWerePeak
   peak_kept = record {
     fresh = λ rules size tests has_log. omega arith;
     at = λ s moment h. h;
@@ -261,7 +261,7 @@ module _ {K V E : Type 0} (eq : K → K → Bool) where
   log_step : (s t : State K V E) (n : ℕ) (turn : Turn K V E) → HasLog s → Step eq s n turn t → HasLog t
   log_step s t n turn h st = subst HasLog (sym st.after) (omega (arith, h, access_size eq n s.world st.world (access_of n st.call) st.given st.gets))
 
-  log_kept : IsKept {K = K} {V = V} {E = E} eq HasLog
+  log_kept : IsInvariant {K = K} {V = V} {E = E} eq HasLog
   log_kept = record {
     fresh = λ rules size tests has_log. has_log;
     at = λ s moment h. h;

@@ -87,18 +87,18 @@ module _ {K V E : Type 0} where
   -- The event gives the cache the value for the key: it starts a call with both, or answers what a
   -- call of that key has asked. One that is refused gives nothing, and no other event
   -- gives anything.
-  abbrev pub Gives : State K V E → Event K V E → Reply K V E → K → V → Type 0
-  Gives s (event.Start start) (reply.Call n) key value = brought start ≡ Some (key, value)
-  Gives s (event.Tell n answer) reply.Told key value =
+  abbrev pub GivesByEvent : State K V E → Event K V E → Reply K V E → K → V → Type 0
+  GivesByEvent s (event.Start start) (reply.Call n) key value = brought start ≡ Some (key, value)
+  GivesByEvent s (event.Tell n answer) reply.Told key value =
       (option_and_then (λ c. asked_key c.plan) (s.calls n) ≡ Some key) ×
       (value_in answer ≡ Some value)
-  Gives s _ _ key value = ⊥
+  GivesByEvent s _ _ key value = ⊥
 
   -- some event of the run gives the cache the value for the key
   abbrev pub WasGiven : (eq : K → K → Bool) (s : State K V E) (es : List (Event K V E))
       (rs : List (Reply K V E)) (new : State K V E) → Run eq Any s es rs new → K → V → Type 0
   WasGiven eq s (e ∷ es) (r ∷ rs) new run key value =
-      Gives s e r key value ⊎ WasGiven eq run.0 es rs new run.3 key value
+      GivesByEvent s e r key value ⊎ WasGiven eq run.0 es rs new run.3 key value
   WasGiven eq s _ _ new run key value = ⊥
 
 -- whatever is stored after a run on a fresh cache, some event of that run has given for the very
@@ -112,20 +112,20 @@ StoredIsGiven K V E eq =
     WasGiven eq (fresh K V E rules size tests) es rs s run p.0 p.1.value
 
 -- the key that a call is started for
-abbrev pub key_of : {K V : Type 0} → Start K V → K
-key_of (start.Get key) = key
-key_of (start.Insert key value) = key
-key_of (start.GetWith key replace) = key
-key_of (start.Optional key) = key
-key_of (start.Try key) = key
-key_of (start.OrInsert key value) = key
-key_of (start.Compute key) = key
-key_of (start.TryCompute key) = key
-key_of (start.Upsert key) = key
-key_of (start.ComputeAlone key) = key
-key_of (start.Invalidate key) = key
-key_of (start.Remove key) = key
-key_of (start.Evict key stamp cause) = key
+abbrev pub key_started : {K V : Type 0} → Start K V → K
+key_started (start.Get key) = key
+key_started (start.Insert key value) = key
+key_started (start.GetWith key replace) = key
+key_started (start.Optional key) = key
+key_started (start.Try key) = key
+key_started (start.OrInsert key value) = key
+key_started (start.Compute key) = key
+key_started (start.TryCompute key) = key
+key_started (start.Upsert key) = key
+key_started (start.ComputeAlone key) = key
+key_started (start.Invalidate key) = key
+key_started (start.Remove key) = key
+key_started (start.Evict key stamp cause) = key
 
 -- the value of what a compute did, if any
 abbrev pub value_done : {K V : Type 0} → CompResult K V → Option V
@@ -181,7 +181,7 @@ HandedIsGiven K V E eq =
     HasStarted n es rs start → (e ≡ event.Step n) ⊎ (e ≡ event.Poll n) → Happens eq Any s e r t →
     handed r ≡ Some value →
     (key : K) × WasGiven eq (fresh K V E rules size tests) es rs s run key value ×
-    (eq key (key_of start) ≡ true)
+    (eq key (key_started start) ≡ true)
 
 -- so by a step of its own
 abbrev pub SteppedIsGiven : (K V E : Type 0) → (K → K → Bool) → Type 0
@@ -192,4 +192,4 @@ SteppedIsGiven K V E eq =
     (start : Start K V) (value : V) →
     HasStarted n es rs start → Step eq s n turn t → handed (reply_of turn) ≡ Some value →
     (key : K) × WasGiven eq (fresh K V E rules size tests) es rs s run key value ×
-    (eq key (key_of start) ≡ true)
+    (eq key (key_started start) ≡ true)

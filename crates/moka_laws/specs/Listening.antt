@@ -104,7 +104,7 @@ AsksAreLive K V E eq =
 module _ {K V E : Type 0} where
   -- a live call is to hear how the notice of this number ended: its own, or that of an owed write
   -- that it took up
-  pub record IsHeard (s : State K V E) (number : ℕ) : Type 0 where
+  pub record HasHearer (s : State K V E) (number : ℕ) : Type 0 where
     pub hearer : ℕ
     pub call : Call K V E
     pub live : s.calls hearer ≡ Some call
@@ -120,7 +120,7 @@ module _ {K V E : Type 0} where
 abbrev pub RunningAreHeard : (K V E : Type 0) → (K → K → Bool) → Type 0
 RunningAreHeard K V E eq =
     (s : State K V E) (number : ℕ) → IsReached eq s → is_running s.world.desk number ≡ true →
-    IsHeard s number ⊎ IsOwedWith s number
+    HasHearer s number ⊎ IsOwedWith s number
 
 -- On a reached state the listener was told off, as the answer to a notice that ran, and then some
 -- events led here.

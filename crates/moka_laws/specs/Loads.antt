@@ -174,7 +174,7 @@ module _ {K V E : Type 0} where
 
   -- The call is to ask what the load gives once it has made this step: as its owner it has looked
   -- again in vain, or the cache is disabled and it has become the owner.
-  pub record IsToAsk (s : State K V E) (c : Call K V E) (load : Load K) : Type 0 where
+  pub record AsksNext (s : State K V E) (c : Call K V E) (load : Load K) : Type 0 where
     pub sought : Sought K
     pub seeks : sought.load ≡ load
     pub why : LooksInVain s c sought ⊎
@@ -188,7 +188,7 @@ pub record OpensAsOwner {K V E : Type 0} (eq : K → K → Bool) (s : State K V 
   pub load : Load K
   pub asking : c.plan ≡ plan.Ask load ∷ []
   pub owner : s.world.desk.owners load ≡ Some n
-  pub came : CameBy eq s n c (λ u b. IsToAsk u b load)
+  pub came : CameBy eq s n c (λ u b. AsksNext u b load)
 
 -- an initializer is opened by the owner of its load alone
 abbrev pub OpenedByOwners : (K V E : Type 0) → (K → K → Bool) → Type 0

@@ -3,7 +3,7 @@ use Rattle.std.specs.Prelude.{◌≡◌, ℕ, Bool, Some}
 use Rattle.moka_hist.specs.Finite.{put_at}
 use Rattle.moka_hist.specs.State.{Call, World, State}
 use Rattle.moka_hist.specs.Next.{Next}
-use Rattle.moka_hist.specs.Step.{Step, Moves, MovesOn, Polled, IsSafe, state_after}
+use Rattle.moka_hist.specs.Step.{Step, CallMoves, MovesOn, Polled, IsSafe, state_after}
 use Rattle.moka_hist.specs.Run.{Goings, Happens, Any, IsReached, reply_of}
 use Rattle.moka_hist.specs.declared.events.Event.TheVariants as event
 
@@ -16,7 +16,7 @@ module _ {K V E : Type 0} where
 abbrev pub MoveIsStep : (K V E : Type 0) → (K → K → Bool) → Type 0
 MoveIsStep K V E eq =
     (s : State K V E) (n : ℕ) (c : Call K V E) (next : Next K V E) (new : World K V E) →
-    s.calls n ≡ Some c → Moves eq n c s.world next new →
+    s.calls n ≡ Some c → CallMoves eq n c s.world next new →
     Step eq s n next.turn (state_after s n new next)
 
 -- steps of a live call by itself that leave it going are steps of the state that do

@@ -70,20 +70,20 @@ PlacesComeBack K V E eq = (s : State K V E) (n : ℕ) → IsReached eq s → Pla
 -- ---- what a removal answers
 
 -- what a call is started to take out, and from under which key
-abbrev pub removal_of : {K V : Type 0} → Start K V → Option (Removal K × K)
-removal_of (start.Get key) = None
-removal_of (start.Insert key value) = None
-removal_of (start.GetWith key replace) = None
-removal_of (start.Optional key) = None
-removal_of (start.Try key) = None
-removal_of (start.OrInsert key value) = None
-removal_of (start.Compute key) = None
-removal_of (start.TryCompute key) = None
-removal_of (start.ComputeAlone key) = None
-removal_of (start.Upsert key) = None
-removal_of (start.Invalidate key) = Some (plan.To_invalidate, key)
-removal_of (start.Remove key) = Some (plan.To_remove, key)
-removal_of (start.Evict key stamp cause) = Some (plan.To_evict_chosen stamp cause, key)
+abbrev pub removal_started : {K V : Type 0} → Start K V → Option (Removal K × K)
+removal_started (start.Get key) = None
+removal_started (start.Insert key value) = None
+removal_started (start.GetWith key replace) = None
+removal_started (start.Optional key) = None
+removal_started (start.Try key) = None
+removal_started (start.OrInsert key value) = None
+removal_started (start.Compute key) = None
+removal_started (start.TryCompute key) = None
+removal_started (start.ComputeAlone key) = None
+removal_started (start.Upsert key) = None
+removal_started (start.Invalidate key) = Some (plan.To_invalidate, key)
+removal_started (start.Remove key) = Some (plan.To_remove, key)
+removal_started (start.Evict key stamp cause) = Some (plan.To_evict_chosen stamp cause, key)
 
 -- the stamp is the one that is asked for, if any is
 abbrev pub IsAsked : Option ℕ → ℕ → Type 0
@@ -127,7 +127,7 @@ abbrev pub RemovalsAnswer : (K V E : Type 0) → (K → K → Bool) → Type 0
 RemovalsAnswer K V E eq =
     (s t : State K V E) (start : Start K V) (removal : Removal K) (key : K) (n : ℕ)
     (a : Answer K V E) →
-    removal_of start ≡ Some (removal, key) → WasStarted eq start n s →
+    removal_started start ≡ Some (removal, key) → WasStarted eq start n s →
     Step eq s n (turn.Answer a) t →
     SaysTaken eq start t n removal key a ⊎ SaysNothing t n removal a
 
@@ -166,13 +166,13 @@ module _ {K V E : Type 0} where
   -- why the record is kept: at the look, and where it was to be taken out, the record that was
   -- chosen stands under the key no longer; where it was judged the cause didn't hold. No other item
   -- decides that.
-  abbrev pub IsKept : State K V E → Item K V E → Type 0
-  IsKept s (plan.Get (plan.To_evict key stamp cause) at) = StandsAs s at stamp → ⊥
-  IsKept s (plan.Holds key stamp cause there found) =
+  abbrev pub StaysByCause : State K V E → Item K V E → Type 0
+  StaysByCause s (plan.Get (plan.To_evict key stamp cause) at) = StandsAs s at stamp → ⊥
+  StaysByCause s (plan.Holds key stamp cause there found) =
       chosen_holds s.world.desk.rules (times_at s.world.desk found.stamp found.modified) false cause
       ≡ false
-  IsKept s (plan.Out (plan.To_evict_chosen stamp cause) key) = StandsAs s key stamp → ⊥
-  IsKept s _ = ⊥
+  StaysByCause s (plan.Out (plan.To_evict_chosen stamp cause) key) = StandsAs s key stamp → ⊥
+  StaysByCause s _ = ⊥
 
   -- after a step with this reply the call has answered Kept, or nothing else is left to it
   abbrev pub HasKept : State K V E → ℕ → Turn K V E → Type 0
@@ -182,8 +182,8 @@ module _ {K V E : Type 0} where
   -- and then answers that; where there is cause its table operation may also stay undecided.
   pub record KeepsByCause (s : State K V E) (n : ℕ) (c : Call K V E) (item : Item K V E)
       (rest : List (Item K V E)) (reply : Turn K V E) (t : State K V E) : Type 0 where
-    pub only : HasKept t n reply → IsKept s item ⊎ IsToKeep (item ∷ rest)
-    pub each : IsKept s item → HasKept t n reply ⊎ (t.calls n ≡ Some (record c { mode = mode.Mid }))
+    pub only : HasKept t n reply → StaysByCause s item ⊎ IsToKeep (item ∷ rest)
+    pub each : StaysByCause s item → HasKept t n reply ⊎ (t.calls n ≡ Some (record c { mode = mode.Mid }))
     pub told : IsToKeep (item ∷ rest) → reply ≡ turn.Answer answer.Kept
 
 -- on a reached state a record is kept by cause

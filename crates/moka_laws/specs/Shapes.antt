@@ -12,7 +12,7 @@ use Rattle.moka_hist.specs.declared.rules.Rules.{Rules}
 use Rattle.moka_laws.specs.Loads.{may_answer}
 
 -- some world may give the call of this number this for its next access
-pub record MayGive {K V E : Type 0} (eq : K → K → Bool) (n : ℕ) (c : Call K V E) (given : Got K V E)
+pub record MayBeGiven {K V E : Type 0} (eq : K → K → Bool) (n : ℕ) (c : Call K V E) (given : Got K V E)
     : Type 0 where
   pub world : World K V E
   pub after : World K V E
@@ -23,7 +23,7 @@ abbrev pub MayLead : {K V E : Type 0} → (K → K → Bool) → ℕ → Call K 
     Call K V E → Type 0
 MayLead eq n c [] d = d ≡ c
 MayLead {K} {V} {E} eq n c (given ∷ more) d =
-    (mid : Call K V E) × MayGive eq n c given × ((next_of n c given).left ≡ Some mid)
+    (mid : Call K V E) × MayBeGiven eq n c given × ((next_of n c given).left ≡ Some mid)
     × MayLead eq n mid more d
 
 -- a call that is started for this asks its caller for nothing, and waits for no load and no compute
@@ -46,7 +46,7 @@ asks_nobody (start.Upsert key) = false
 abbrev pub Fits : {K V E : Type 0} → (K → K → Bool) → ℕ → Start K V → Call K V E → Type 0
 Fits {K} {V} {E} eq n begin c =
     (path : List (Got K V E)) (d : Call K V E) (given : Got K V E) (a : Answer K V E) →
-    MayLead eq n c path d → MayGive eq n d given → (next_of n d given).turn ≡ turn.Answer a →
+    MayLead eq n c path d → MayBeGiven eq n d given → (next_of n d given).turn ≡ turn.Answer a →
     may_answer begin a ≡ true
 
 -- so does a fresh call that asks nobody

@@ -7,7 +7,7 @@ use Rattle.moka_hist.specs.State.{Call, State, Stay, TablePart, World}
 use Rattle.moka_hist.specs.Bound.{as_told}
 use Rattle.moka_hist.specs.Finite.{put_at}
 use Rattle.moka_hist.specs.Next.{Next}
-use Rattle.moka_hist.specs.Step.{May, Moves, MovesOn, Polled, IsSafe, access_of}
+use Rattle.moka_hist.specs.Step.{May, CallMoves, MovesOn, Polled, IsSafe, access_of}
 use Rattle.moka_hist.specs.Run.{Any, Goings, Happens, IsReached, reply_of}
 use Rattle.moka_hist.specs.declared.accesses.Want.{Want}
 use Rattle.moka_hist.specs.declared.events.Event.{Event}
@@ -31,11 +31,11 @@ module _ {K V E : Type 0} where
 
   -- so many steps were made of the event, which is a poll, each of which left its call going,
   -- through states that meet P; nothing of any other event, or where there is none
-  abbrev pub Begins : (K → K → Bool) → (State K V E → Type 0) → State K V E
+  abbrev pub BeginsEvent : (K → K → Bool) → (State K V E → Type 0) → State K V E
       → Option (Event K V E) → ℕ → State K V E → Type 0
-  Begins eq P s (Some (event.Poll n)) steps t =
+  BeginsEvent eq P s (Some (event.Poll n)) steps t =
       (made : ℕ) × (steps ≡ as_told made) × Goings eq P made s n t
-  Begins eq P s _ steps t = (steps ≡ 0) × (t ≡ s)
+  BeginsEvent eq P s _ steps t = (steps ≡ 0) × (t ≡ s)
 
 -- The running call is of this number, which was given out. It has something left to do, and may go
 -- on with what it has begun on the table.
@@ -99,9 +99,9 @@ module _ {K V E T : Type 0} {same : PartialEq.Ghosts K} {hash : Hash.Ghosts K} w
     pub rest : Without eq q m n s.calls s.world
 
   -- some world that the call reaches allows what is wanted
-  abbrev pub Allows : (K → K → Bool) → Tests.Ghosts T K V → Machine K V E T same hash
+  abbrev pub AllowsEvent : (K → K → Bool) → Tests.Ghosts T K V → Machine K V E T same hash
       → Want K V E → Type 0
-  Allows eq q m wish =
+  AllowsEvent eq q m wish =
       (w : World K V E) × Reaches eq q m w
       × MayWant w (operation_in (the_table eq) m.layers.begun) wish
 
@@ -112,9 +112,9 @@ module _ {K V E T : Type 0} {same : PartialEq.Ghosts K} {hash : Hash.Ghosts K} w
     pub live : IsLive flow
 
   -- the event was carried out or refused with this reply, from whatever state the machine stood for
-  abbrev pub Serves : (K → K → Bool) → Tests.Ghosts T K V → Machine K V E T same hash
+  abbrev pub ServesEvent : (K → K → Bool) → Tests.Ghosts T K V → Machine K V E T same hash
       → Event K V E → Reply K V E → Machine K V E T same hash → Type 0
-  Serves eq q old e r new =
+  ServesEvent eq q old e r new =
       (s : State K V E) → MachineIs eq q old s → IsReached eq s
       → (t : State K V E) × Happens eq Any s e r t × MachineIs eq q new t
 
@@ -128,7 +128,7 @@ module _ {K V E T : Type 0} {same : PartialEq.Ghosts K} {hash : Hash.Ghosts K} w
       → Event K V E → ℕ → Machine K V E T same hash → Type 0
   Stops eq q old e steps new =
       (s : State K V E) → MachineIs eq q old s → IsReached eq s
-      → (t : State K V E) × Begins eq Any s (Some e) steps t × MachineIs eq q new t
+      → (t : State K V E) × BeginsEvent eq Any s (Some e) steps t × MachineIs eq q new t
 
   -- a step of a call that was taken out: the call made it, and was put back or has ended
   abbrev pub StepOut : (K → K → Bool) → Tests.Ghosts T K V → Machine K V E T same hash → ℕ
@@ -137,7 +137,7 @@ module _ {K V E T : Type 0} {same : PartialEq.Ghosts K} {hash : Hash.Ghosts K} w
       (others : ℕ → Option (Call K V E)) (w : World K V E)
       → Without eq q old n others w → May w (access_at flow)
       → (next : Next K V E) × (after : World K V E)
-      × Moves eq n (call_of flow) w next after × (r ≡ reply_of next.turn)
+      × CallMoves eq n (call_of flow) w next after × (r ≡ reply_of next.turn)
       × MachineIs eq q new (record { world = after; calls = put_at others n next.left })
 
   -- the call that was taken out was put back as it was

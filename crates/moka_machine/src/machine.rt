@@ -39,15 +39,15 @@ impl<K: Eq + Hash + Clone + Drop, V: Clone + Drop, E: Clone + Drop, T: Tests<K, 
     T,
 > {
     ghost use Rattle.moka_hist.specs.State.{State, fresh};
-    ghost use Rattle.moka_text.specs.ScheduleText.{rules_of};
-    ghost use Rattle.moka_machine.specs.Machine.{MachineIs, IsValid, Serves, Stops};
+    ghost use Rattle.moka_text.specs.ScheduleText.{rules_from};
+    ghost use Rattle.moka_machine.specs.Machine.{MachineIs, IsValid, ServesEvent, Stops};
     ghost use Rattle.moka_machine.specs.WantOfMemory.{MayStopIn};
 
     /// A fresh cache of these rules, of which none is set but that a capacity and a listener may
     /// be, with a log of this many writes: 1 to 65536. One of capacity 0 is disabled: it stores
     /// nothing. Its calls ask these tests.
     pub fn build(alloc: Global, rules: Rules, log: usize, tests: T) -> Result<Self, AllocError>
-        requires rules { rules ≡ rules_of rules.max_capacity rules.listener }
+        requires rules { rules ≡ rules_from rules.max_capacity rules.listener }
         requires least { 1 ≤ log }
         requires most { log ≤ 65536 }
         ensures fresh { IfOk result (λ m. MachineIs K.eq T.Tests m
@@ -84,7 +84,7 @@ impl<K: Eq + Hash + Clone + Drop, V: Clone + Drop, E: Clone + Drop, T: Tests<K, 
         requires values { IsExact V.is_clone }
         requires errors { IsExact E.is_clone }
         requires valid { IsValid K.eq T.Tests self.old }
-        ensures serves { IfOk result (λ r. Serves K.eq T.Tests self.old event.now r self.new) }
+        ensures serves { IfOk result (λ r. ServesEvent K.eq T.Tests self.old event.now r self.new) }
         ensures stops { IfErr result (λ u. Stops K.eq T.Tests self.old event.now u.steps self.new) }
         ensures needs { OnErr result ((s : State K V E) → MachineIs K.eq T.Tests self.new s
             → MayStopIn s event.now) }

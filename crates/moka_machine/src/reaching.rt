@@ -18,12 +18,12 @@ impl<K: Eq + Hash + Clone + Drop, V: Clone + Drop, E: Clone + Drop, T: Tests<K, 
     ghost use Rattle.moka_hist.specs.State.{World};
     ghost use Rattle.moka_init.specs.Grounds.{Accesses, Gives, Lacks, NeedsMemory, OfWanted};
     ghost use Rattle.moka_layers.specs.Layers.{account_of};
-    ghost use Rattle.moka_machine.specs.Machine.{Reaches, Allows};
+    ghost use Rattle.moka_machine.specs.Machine.{Reaches, AllowsEvent};
     ghost use Rattle.moka_machine.specs.TheTable.{the_table};
 
     ghost stands = { λ m w. Reaches K.eq T.Tests m w };
 
-    ghost fits = { λ m want. Allows K.eq T.Tests m want };
+    ghost fits = { λ m want. AllowsEvent K.eq T.Tests m want };
 
     ghost account = { λ m. account_of (the_table K.eq) m.layers };
 
@@ -43,7 +43,7 @@ impl<K: Eq + Hash + Clone + Drop, V: Clone + Drop, E: Clone + Drop, T: Tests<K, 
         requires keys { IsExact K.is_clone }
         requires values { IsExact V.is_clone }
         requires errors { IsExact E.is_clone }
-        requires fits { Allows K.eq T.Tests self.old want }
+        requires fits { AllowsEvent K.eq T.Tests self.old want }
         // What it gives, and what is told then.
         ensures gives { IfOk result (λ given.
             OfWanted (account_of (the_table K.eq) self.old.layers) want

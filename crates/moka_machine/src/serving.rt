@@ -28,11 +28,11 @@ impl<K: Eq + Hash + Clone + Drop, V: Clone + Drop, E: Clone + Drop, T: Tests<K, 
     ghost use Rattle.moka_init.specs.FlowPlan.{call_of};
     ghost use Rattle.moka_machine.specs.Calls.{HasPlace};
     ghost use Rattle.moka_machine.specs.Machine.{MachineIs, TakenOut, IsOut, IsValid};
-    ghost use Rattle.moka_machine.specs.Machine.{Serves, KeepsState};
+    ghost use Rattle.moka_machine.specs.Machine.{ServesEvent, KeepsState};
 
     /// Moves the clock on. It takes no memory.
     pub(crate) fn at(&mut self, moment: u64) -> Reply<K, V, E>
-        ensures { Serves K.eq T.Tests self.old (Event.At moment) result self.new }
+        ensures { ServesEvent K.eq T.Tests self.old (Event.At moment) result self.new }
     {
         if self.layers.desk.at(moment) {
             Reply::At
@@ -47,7 +47,7 @@ impl<K: Eq + Hash + Clone + Drop, V: Clone + Drop, E: Clone + Drop, T: Tests<K, 
         requires values { IsExact V.is_clone }
         requires errors { IsExact E.is_clone }
         ensures serves { IfOk result (λ r.
-            Serves K.eq T.Tests self.old (Event.Start start.now) r self.new) }
+            ServesEvent K.eq T.Tests self.old (Event.Start start.now) r self.new) }
         ensures err { OnErr result (KeepsState K.eq T.Tests self.old self.new) }
     {
         let start = cloned_start(start)?;
@@ -67,7 +67,7 @@ impl<K: Eq + Hash + Clone + Drop, V: Clone + Drop, E: Clone + Drop, T: Tests<K, 
     fn enter(&mut self, start: Start<K, V>) -> Result<Reply<K, V, E>, AllocError>
         requires { 0 < spare self.old.calls.places }
         ensures serves { IfOk result (λ r.
-            Serves K.eq T.Tests self.old (Event.Start start) r self.new) }
+            ServesEvent K.eq T.Tests self.old (Event.Start start) r self.new) }
         ensures err { OnErr result (KeepsState K.eq T.Tests self.old self.new) }
     {
         let last = self.layers.desk.last();
@@ -97,7 +97,7 @@ impl<K: Eq + Hash + Clone + Drop, V: Clone + Drop, E: Clone + Drop, T: Tests<K, 
         requires values { IsExact V.is_clone }
         requires errors { IsExact E.is_clone }
         ensures serves { IfOk result (λ r.
-            Serves K.eq T.Tests self.old (Event.Tell call answer.now) r self.new) }
+            ServesEvent K.eq T.Tests self.old (Event.Tell call answer.now) r self.new) }
         ensures err { OnErr result (KeepsState K.eq T.Tests self.old self.new) }
         ensures err_needs { OnErr result (ToldNeedsMemory answer.now) }
     {
@@ -126,7 +126,7 @@ impl<K: Eq + Hash + Clone + Drop, V: Clone + Drop, E: Clone + Drop, T: Tests<K, 
     /// Drops a call where it stands, unless it is between two steps. It takes no memory.
     pub(crate) fn drop_call(&mut self, call: u64) -> Reply<K, V, E>
         requires { IsValid K.eq T.Tests self.old }
-        ensures { Serves K.eq T.Tests self.old (Event.Drop call) result self.new }
+        ensures { ServesEvent K.eq T.Tests self.old (Event.Drop call) result self.new }
     {
         moka_laws::calls_may_leave::<K, V, E>();
         match self.take_out(call) {

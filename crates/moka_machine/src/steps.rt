@@ -24,7 +24,7 @@ impl<K: Eq + Hash + Clone + Drop, V: Clone + Drop, E: Clone + Drop, T: Tests<K, 
     ghost use Rattle.moka_layers.specs.Layers.{account_of};
     ghost use Rattle.moka_machine.specs.Calls.{HasPlace};
     ghost use Rattle.moka_machine.specs.Machine.{MachineIs, Reaches, Without, TakenOut, IsOut};
-    ghost use Rattle.moka_machine.specs.Machine.{IsValid, Serves, KeepsState};
+    ghost use Rattle.moka_machine.specs.Machine.{IsValid, ServesEvent, KeepsState};
     ghost use Rattle.moka_machine.specs.Machine.{Stops, StepOut, KeepsOut, PollOut, UnfinishedOut};
     ghost use Rattle.moka_machine.specs.WantOfMemory.{CallNeedsMemory};
     ghost use Rattle.moka_machine.specs.TheTable.{the_table};
@@ -36,7 +36,7 @@ impl<K: Eq + Hash + Clone + Drop, V: Clone + Drop, E: Clone + Drop, T: Tests<K, 
         requires errors { IsExact E.is_clone }
         requires valid { IsValid K.eq T.Tests self.old }
         ensures serves { IfOk result (λ r.
-            Serves K.eq T.Tests self.old (Event.Step call) r self.new) }
+            ServesEvent K.eq T.Tests self.old (Event.Step call) r self.new) }
         ensures err { OnErr result (KeepsState K.eq T.Tests self.old self.new) }
         ensures err_needs { OnErr result ((s : State K V E) → MachineIs K.eq T.Tests self.new s
             → CallNeedsMemory s call) }
@@ -57,7 +57,7 @@ impl<K: Eq + Hash + Clone + Drop, V: Clone + Drop, E: Clone + Drop, T: Tests<K, 
         requires errors { IsExact E.is_clone }
         requires valid { IsValid K.eq T.Tests self.old }
         ensures serves { IfOk result (λ r.
-            Serves K.eq T.Tests self.old (Event.Poll call) r self.new) }
+            ServesEvent K.eq T.Tests self.old (Event.Poll call) r self.new) }
         ensures stops { IfErr result (λ u.
             Stops K.eq T.Tests self.old (Event.Poll call) u.steps self.new) }
         ensures needs { OnErr result ((s : State K V E) → MachineIs K.eq T.Tests self.new s

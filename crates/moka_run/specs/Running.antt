@@ -8,7 +8,7 @@ use Rattle.moka_hist.specs.Run.{Run}
 use Rattle.moka_hist.specs.declared.events.Event.{Event}
 use Rattle.moka_hist.specs.declared.replies.Reply.{Reply}
 use Rattle.moka_hist.specs.declared.record_tests.Tests as Tests
-use Rattle.moka_machine.specs.Machine.{MachineIs, Begins}
+use Rattle.moka_machine.specs.Machine.{MachineIs, BeginsEvent}
 use Rattle.moka_machine.specs.WantOfMemory.{MayStopIn}
 use Rattle.moka_machine.specs.declared.machine.Machine.{Machine}
 
@@ -31,7 +31,7 @@ pub record StopsAt {K V E T : Type 0} {same : PartialEq.Ghosts K} {hash : Hash.G
   pub mid : State K V E
   pub run : Run eq (IsLawful eq) s (take done events) replies mid
   pub final : State K V E
-  pub begins : Begins eq (IsLawful eq) mid (slice_get events done) steps final
+  pub begins : BeginsEvent eq (IsLawful eq) mid (slice_get events done) steps final
   pub stands : MachineIs eq q new final
   -- at the very beginning, for the room of the replies; in an event that needs memory there; or
   -- after the last one, for the lists

@@ -2,7 +2,7 @@
 ghost use Rattle.std.specs.Prelude.{◌≡◌, ◌<◌, ◌≤◌, ℕ, length, nat_eq, IfOk, IsErrOf, IsPermutation, IsSortedByKey};
 ghost use Rattle.std.specs.Ordering.{nat_cmp};
 ghost use Rattle.std.specs.String.{string_bytes};
-ghost use Rattle.moka_text.specs.ScheduleText.{IsFirstBad, Says, rules_of};
+ghost use Rattle.moka_text.specs.ScheduleText.{IsFirstBad, Says, rules_from};
 ghost use Rattle.moka_hist.specs.State.{State};
 ghost use Rattle.moka_hist.specs.Run.{IsReached};
 ghost use Rattle.moka_machine.specs.Machine.{IsValid, MachineIs};
@@ -53,7 +53,7 @@ fn run_fresh(
     log: usize,
     events: Vec<Event<u32, u32, u32>>,
 ) -> Result<Report<u32, u32, u32>, AllocError>
-    requires rules { rules ≡ rules_of rules.max_capacity rules.listener }
+    requires rules { rules ≡ rules_from rules.max_capacity rules.listener }
     requires least { 1 ≤ log }
     requires most { log ≤ 65536 }
     ensures { IfOk result (λ report. RunsFresh rules log events.items report) }
@@ -74,7 +74,7 @@ fn report_on(
     log: usize,
     events: Vec<Event<u32, u32, u32>>,
 ) -> Result<String, AllocError>
-    requires rules { rules ≡ rules_of rules.max_capacity rules.listener }
+    requires rules { rules ≡ rules_from rules.max_capacity rules.listener }
     requires least { 1 ≤ log }
     requires most { log ≤ 65536 }
     ensures { IfOk result (λ text. ReportsRun rules log events.items (string_bytes text)) }

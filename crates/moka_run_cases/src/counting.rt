@@ -36,12 +36,12 @@ impl<K: Eq + Hash + Clone + Drop, V: Clone + Drop, E: Clone + Drop, T: Tests<K, 
     ghost use Rattle.moka_hist.specs.State.{World};
     ghost use Rattle.moka_init.specs.Grounds.{Accesses, Gives, Lacks, NeedsMemory, OfWanted};
     ghost use Rattle.moka_layers.specs.Layers.{account_of};
-    ghost use Rattle.moka_machine.specs.Machine.{Reaches, Allows};
+    ghost use Rattle.moka_machine.specs.Machine.{Reaches, AllowsEvent};
     ghost use Rattle.moka_machine.specs.TheTable.{the_table};
 
     ghost stands = { λ c w. Reaches K.eq T.Tests c.machine w };
 
-    ghost fits = { λ c want. Allows K.eq T.Tests c.machine want };
+    ghost fits = { λ c want. AllowsEvent K.eq T.Tests c.machine want };
 
     ghost account = { λ c. account_of (the_table K.eq) c.machine.layers };
 
@@ -62,7 +62,7 @@ impl<K: Eq + Hash + Clone + Drop, V: Clone + Drop, E: Clone + Drop, T: Tests<K, 
         requires keys { IsExact K.is_clone }
         requires values { IsExact V.is_clone }
         requires errors { IsExact E.is_clone }
-        requires fits { Allows K.eq T.Tests self.old.machine want }
+        requires fits { AllowsEvent K.eq T.Tests self.old.machine want }
         // What it gives, and what is told then.
         ensures gives { IfOk result (λ given.
             OfWanted (account_of (the_table K.eq) self.old.machine.layers) want

@@ -24,13 +24,13 @@ use Rattle.moka_hist.specs.declared.records.Stored.{Stored}
 use Rattle.moka_hist.specs.declared.replies.Answer.{Answer}
 use Rattle.moka_hist.specs.declared.rules.Rules.{Rules}
 use Rattle.moka_hist.specs.declared.visits.Found.TheVariants as found
-use Rattle.moka_laws.specs.Shapes.{MayGive, MayLead}
+use Rattle.moka_laws.specs.Shapes.{MayBeGiven, MayLead}
 use Rattle.moka_laws.proofs.Counting.{none_some, some_same}
 use Rattle.moka_laws.proofs.Outcomes.{Outcomes, computes_of, outcomes}
 use Rattle.moka_laws.proofs.Owning.{plan_left}
 use Rattle.moka_laws.proofs.Rules.{put_plans, read_key_next}
 use Rattle.moka_laws.proofs.StepCases.{OnStep, by_plan}
-use Rattle.moka_shapes.specs.Computes.{Answers, ComputesTell, Follows, other_goes, taken}
+use Rattle.moka_shapes.specs.Computes.{ComputeAnswers, ComputesTell, Follows, other_goes, taken}
 use Rattle.moka_laws.specs.Computes.{computed_key}
 use Rattle.moka_shapes.proofs.Leaving.{AllSuit, Leaves, answers_so, goes_suits, on}
 
@@ -232,7 +232,7 @@ module _ {K V E : Type 0} (eq : K → K → Bool) (n : ℕ) where
 module _ {K V E : Type 0} (eq : K → K → Bool) (key : K) (Other : Type 0) (May : Answer K V E → Type 0) (such : Told V E → Type 0)
     (follows : (given : Told V E) (a : Answer K V E) → such given → Follows key given a → May a) (n : ℕ) where
   -- one step
-  step_suits : (c : Call K V E) (given : Got K V E) → AllSuit (Suits key Other May) c.plan → MayGive eq n c given → ((t : Told V E) → given ≡ taken t → such t)
+  step_suits : (c : Call K V E) (given : Got K V E) → AllSuit (Suits key Other May) c.plan → MayBeGiven eq n c given → ((t : Told V E) → given ≡ taken t → such t)
       → (given ≡ other_goes → Other) → Leaves (Suits key Other May) May (next_of n c given)
   step_suits c given suits gives tells others =
       by_plan eq (λ w next. Leaves (Suits key Other May) May next) gives.world n c.rules c.mode c.plan c.aborts given gives.after gives.gets
@@ -253,7 +253,7 @@ module _ {K V E : Type 0} (eq : K → K → Bool) (key : K) (Other : Type 0) (Ma
 -- ---- as a compute is started
 
 module _ {K V E : Type 0} (eq : K → K → Bool) (rules : Rules) (key : K) (path : List (Got K V E)) where
-  fresh_suits : (begin : Start K V) → computed_key begin ≡ Some key → AllSuit (Suits key (Contains path other_goes) (Answers begin key path)) (plan_of rules begin)
+  fresh_suits : (begin : Start K V) → computed_key begin ≡ Some key → AllSuit (Suits key (Contains path other_goes) (ComputeAnswers begin key path)) (plan_of rules begin)
   fresh_suits (start.Compute under) is = (some_same is, tt)
   fresh_suits (start.TryCompute under) is = (some_same is, tt)
   fresh_suits (start.Upsert under) is = (some_same is, tt)
@@ -265,10 +265,10 @@ pub computes_tell : {K V E : Type 0} (eq : K → K → Bool) → ComputesTell K 
 computes_tell {K} {V} {E} eq rules begin key n path d given a computes led gives answers =
     let whole : List (Got K V E) = path ++ given ∷ [] in
     let such : Told V E → Type 0 = λ t. Contains whole (taken t) in
-    let follows : (t : Told V E) (said : Answer K V E) → such t → Follows key t said → Answers begin key whole said = λ t said tells is. inl (t, tells, is) in
-    let suits = path_suits eq key (Contains whole other_goes) (Answers begin key whole) such follows n path (fresh_call rules begin) d (fresh_suits eq rules key whole begin computes) led
+    let follows : (t : Told V E) (said : Answer K V E) → such t → Follows key t said → ComputeAnswers begin key whole said = λ t said tells is. inl (t, tells, is) in
+    let suits = path_suits eq key (Contains whole other_goes) (ComputeAnswers begin key whole) such follows n path (fresh_call rules begin) d (fresh_suits eq rules key whole begin computes) led
     (λ g there t is. subst (Contains whole) is (Contains-append_left path (given ∷ []) g there))
     (λ g there is. subst (Contains whole) is (Contains-append_left path (given ∷ []) g there)) in
-    (step_suits eq key (Contains whole other_goes) (Answers begin key whole) such follows n d given suits gives
+    (step_suits eq key (Contains whole other_goes) (ComputeAnswers begin key whole) such follows n d given suits gives
     (λ t is. subst (Contains whole) is (Contains-append_right path (given ∷ []) given (Contains-push [] given)))
     (λ is. subst (Contains whole) is (Contains-append_right path (given ∷ []) given (Contains-push [] given)))).now a answers

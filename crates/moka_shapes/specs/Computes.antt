@@ -17,7 +17,7 @@ use Rattle.moka_hist.specs.declared.replies.Answer.TheVariants as answer
 use Rattle.moka_hist.specs.declared.rules.Rules.{Rules}
 use Rattle.moka_hist.specs.declared.visits.Found.TheVariants as found
 use Rattle.moka_laws.specs.Computes.{computed_key}
-use Rattle.moka_laws.specs.Shapes.{MayGive, MayLead}
+use Rattle.moka_laws.specs.Shapes.{MayBeGiven, MayLead}
 
 -- a call that is started for this asks nothing where another compute of the key goes: that is of one
 -- start alone
@@ -51,8 +51,8 @@ module _ {K V E : Type 0} where
 
   -- It answers what follows from what one of its accesses told it. One that asks nothing where
   -- another goes may answer what the key has, where one of its accesses found that another goes.
-  abbrev pub Answers : Start K V → K → List (Got K V E) → Answer K V E → Type 0
-  Answers begin key path said =
+  abbrev pub ComputeAnswers : Start K V → K → List (Got K V E) → Answer K V E → Type 0
+  ComputeAnswers begin key path said =
       ((given : Told V E) × Contains path (taken given) × Follows key given said)
       ⊎ ((is_alone begin ≡ true) × Contains path other_goes
       × ((pair : Option (K × V)) × (said ≡ unchanged key pair)))
@@ -62,5 +62,5 @@ abbrev pub ComputesTell : (K V E : Type 0) → (K → K → Bool) → Type 0
 ComputesTell K V E eq =
     (rules : Rules) (begin : Start K V) (key : K) (n : ℕ) (path : List (Got K V E))
     (d : Call K V E) (given : Got K V E) (said : Answer K V E) → computed_key begin ≡ Some key →
-    MayLead eq n (fresh_call rules begin) path d → MayGive eq n d given →
-    (next_of n d given).turn ≡ turn.Answer said → Answers begin key (path ++ given ∷ []) said
+    MayLead eq n (fresh_call rules begin) path d → MayBeGiven eq n d given →
+    (next_of n d given).turn ≡ turn.Answer said → ComputeAnswers begin key (path ++ given ∷ []) said

@@ -23,7 +23,7 @@ use Rattle.moka_hist.specs.declared.visits.Found.TheVariants as found
 use Rattle.moka_hist.specs.declared.visits.Settled.{Settled}
 use Rattle.moka_hist.specs.declared.visits.Settled.TheVariants as settled
 use Rattle.moka_laws.specs.Loads.{said_of}
-use Rattle.moka_laws.specs.Shapes.{MayGive}
+use Rattle.moka_laws.specs.Shapes.{MayBeGiven}
 use Rattle.moka_needs.specs.Reads.{ReadsItsKind}
 use Rattle.moka_shapes.specs.Computes.{taken}
 
@@ -85,7 +85,7 @@ module _ {K V E : Type 0} where
 -- that is one that its kind may have
 pub record MayGiveLoad {K V E : Type 0} (eq : K → K → Bool) (n : ℕ) (c : Call K V E)
     (given : Got K V E) : Type 0 where
-  pub gives : MayGive eq n c given
+  pub gives : MayBeGiven eq n c given
   pub ends : ReadsItsKind gives.world.desk n c
 
 -- such worlds may give the load these for its accesses, which lead it from c to d

@@ -11,7 +11,7 @@ use Rattle.std.proofs.lemmas.Fmt.{digits_decimal}
 use Rattle.std.proofs.lemmas.List.{take-append-drop}
 use Rattle.moka_hist.specs.declared.rules.Rules.{Rules}
 use Rattle.moka_text.specs.Words.{call_in, after, before_byte, from_byte}
-use Rattle.moka_text.specs.ScheduleText.{option_words, switch, rules_of, IsCacheLine}
+use Rattle.moka_text.specs.ScheduleText.{option_words, switch, rules_from, IsCacheLine}
 use Rattle.moka_text.specs.ScheduleReading.{said_in, cut_option, unless_left, within, cap_of, log_of, switch_of, made_of, options_of, cache_of}
 use Rattle.moka_text.proofs.Numbers.{own}
 use Rattle.moka_text.proofs.Spelled.{Ends, HasNoSpace, mapped, bound, weaker, after_is, number_is, chosen, no_space, call_some, said_before, rest_from}
@@ -108,22 +108,22 @@ record Makes (cap log listener : Option (List ℕ)) (made : ℕ × Rules) : Type
   capacity : SaysCap cap made.1.max_capacity
   size : SaysLog log made.0
   set : listener ≡ switch made.1.listener
-  others : made.1 ≡ rules_of made.1.max_capacity made.1.listener
+  others : made.1 ≡ rules_from made.1.max_capacity made.1.listener
 
 made_is : (cap log listener : Option (List ℕ)) → IfSome (made_of cap log listener) (Makes cap log listener)
 unfolding made_of
 made_is cap log listener =
-    bound (SaysCap cap) _ (λ capacity. option_and_then (λ size. option_and_then (λ set. Some (size, rules_of capacity set)) (switch_of listener)) (log_of log)) (cap_of cap) (cap_is cap) (λ capacity g.
-    bound (SaysLog log) _ (λ size. option_and_then (λ set. Some (size, rules_of capacity set)) (switch_of listener)) (log_of log) (log_is log) (λ size h.
-    bound (λ set. listener ≡ switch set) (Makes cap log listener) (λ set. Some (size, rules_of capacity set)) (switch_of listener) (switch_is listener) (λ set j.
+    bound (SaysCap cap) _ (λ capacity. option_and_then (λ size. option_and_then (λ set. Some (size, rules_from capacity set)) (switch_of listener)) (log_of log)) (cap_of cap) (cap_is cap) (λ capacity g.
+    bound (SaysLog log) _ (λ size. option_and_then (λ set. Some (size, rules_from capacity set)) (switch_of listener)) (log_of log) (log_is log) (λ size h.
+    bound (λ set. listener ≡ switch set) (Makes cap log listener) (λ set. Some (size, rules_from capacity set)) (switch_of listener) (switch_is listener) (λ set j.
     record { capacity = g; size = h; set = j; others = refl })))
 
-made_read : (capacity number : Option ℕ) (set : Bool) → IfSome capacity (λ n. n < 2 ^ 64) → (1 ≤ unwrap_or number 384) × (unwrap_or number 384 ≤ 65536) → made_of (option_map decimal capacity) (option_map decimal number) (switch set) ≡ Some (unwrap_or number 384, rules_of capacity set)
+made_read : (capacity number : Option ℕ) (set : Bool) → IfSome capacity (λ n. n < 2 ^ 64) → (1 ≤ unwrap_or number 384) × (unwrap_or number 384 ≤ 65536) → made_of (option_map decimal capacity) (option_map decimal number) (switch set) ≡ Some (unwrap_or number 384, rules_from capacity set)
 unfolding made_of
 made_read capacity number set below range =
-    ap (λ o. option_and_then (λ c. option_and_then (λ size. option_and_then (λ s. Some (size, rules_of c s)) (switch_of (switch set))) (log_of (option_map decimal number))) o) (cap_read capacity below)
-    ∙ ap (λ o. option_and_then (λ size. option_and_then (λ s. Some (size, rules_of capacity s)) (switch_of (switch set))) o) (log_read number range)
-    ∙ ap (λ o. option_and_then (λ s. Some (unwrap_or number 384, rules_of capacity s)) o) (switch_read set)
+    ap (λ o. option_and_then (λ c. option_and_then (λ size. option_and_then (λ s. Some (size, rules_from c s)) (switch_of (switch set))) (log_of (option_map decimal number))) o) (cap_read capacity below)
+    ∙ ap (λ o. option_and_then (λ size. option_and_then (λ s. Some (size, rules_from capacity s)) (switch_of (switch set))) o) (log_read number range)
+    ∙ ap (λ o. option_and_then (λ s. Some (unwrap_or number 384, rules_from capacity s)) o) (switch_read set)
 
 -- no bytes are left where there is a value
 none_left : {A : Type 0} (P : A → Type 0) (left : List ℕ) (o : Option A) → IfSome o P → IfSome (unless_left left o) (λ x. P x × (left ≡ []))
@@ -163,7 +163,7 @@ cache_is line =
     }))
 
 -- the options of a first line are read
-options_read : (capacity number : Option ℕ) (set : Bool) → IfSome capacity (λ n. n < 2 ^ 64) → (1 ≤ unwrap_or number 384) × (unwrap_or number 384 ≤ 65536) → options_of (option_words (codes "cap=") (option_map decimal capacity) ++ (option_words (codes "log=") (option_map decimal number) ++ option_words (codes "listener") (switch set))) ≡ Some (unwrap_or number 384, rules_of capacity set)
+options_read : (capacity number : Option ℕ) (set : Bool) → IfSome capacity (λ n. n < 2 ^ 64) → (1 ≤ unwrap_or number 384) × (unwrap_or number 384 ≤ 65536) → options_of (option_words (codes "cap=") (option_map decimal capacity) ++ (option_words (codes "log=") (option_map decimal number) ++ option_words (codes "listener") (switch set))) ≡ Some (unwrap_or number 384, rules_from capacity set)
 options_read capacity number set below range =
     let cap : Option (List ℕ) = option_map decimal capacity in
     let log : Option (List ℕ) = option_map decimal number in
@@ -188,7 +188,7 @@ cache_read line log rules h =
     let range : (1 ≤ unwrap_or h.said 384) × (unwrap_or h.said 384 ≤ 65536) = subst (λ n. (1 ≤ n) × (n ≤ 65536)) h.size h.range in
     ap cache_of h.spelled
     ∙ options_read rules.max_capacity h.said rules.listener h.capacity range
-    ∙ ap (λ n. Some (n, rules_of rules.max_capacity rules.listener)) (sym h.size) ∙ ap (λ r. Some (log, r)) (sym h.others)
+    ∙ ap (λ n. Some (n, rules_from rules.max_capacity rules.listener)) (sym h.size) ∙ ap (λ r. Some (log, r)) (sym h.others)
 
 none_over : {A : Type 0} (left : List ℕ) (o : Option A) → 0 < length left → unless_left left o ≡ None
 none_over [] o h = absurd (omega arith)

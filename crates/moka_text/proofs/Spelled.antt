@@ -24,7 +24,7 @@ use Rattle.moka_hist.specs.declared.rules.Cause.{Cause}
 use Rattle.moka_hist.specs.declared.rules.Cause.TheVariants as cause
 use Rattle.moka_text.specs.Words.{number_in, call_in, key_in, cause_word, after, before_byte, after_byte, from_byte}
 use Rattle.moka_text.specs.ScheduleText.{chosen_words, replace_words, start_words, told_words, event_line, StartFits, ToldFits, EventFits, SpellsNone}
-use Rattle.moka_text.specs.ScheduleReading.{pair_of, cause_of, chosen_of, evict_of, replace_of, load_of, start_by, start_of, told_alone, told_of, tell_of, event_by, event_of}
+use Rattle.moka_text.specs.ScheduleReading.{pair_of, cause_of, chosen_of, evict_of, replace_in, load_of, start_by, start_of, told_alone, told_of, tell_of, event_by, event_of}
 use Rattle.moka_text.proofs.Numbers.{own, number_some, number_found}
 use Rattle.moka_text.proofs.Splitting.{before_here, before_later, after_here, after_later, from_here, from_later}
 
@@ -122,8 +122,8 @@ ends_replace : (replace : Option ℕ) → Ends (replace_words replace)
 ends_replace None = tt
 ends_replace (Some test) = refl
 
-replace_read : (replace : Option ℕ) → IfSome replace (λ test. test < 2 ^ 64) → replace_of (replace_words replace) ≡ Some replace
-unfolding replace_of
+replace_read : (replace : Option ℕ) → IfSome replace (λ test. test < 2 ^ 64) → replace_in (replace_words replace) ≡ Some replace
+unfolding replace_in
 replace_read None h = refl
 replace_read (Some test) h = rw (call_some test h) refl
 
@@ -234,8 +234,8 @@ cut_off : (bytes front rest : List ℕ) → before_byte 32 bytes ≡ front → f
 cut_off bytes front rest e f =
     sym (take-append-drop (position_or_len (λ b. eqb b 32) bytes) bytes) ∙ ap (λ t. t ++ from_byte 32 bytes) e ∙ ap (λ t. front ++ t) f
 
-replace_is : (bytes : List ℕ) → IfSome (replace_of bytes) (λ r. (bytes ≡ replace_words r) × IfSome r (λ test. test < 2 ^ 64))
-unfolding replace_of
+replace_is : (bytes : List ℕ) → IfSome (replace_in bytes) (λ r. (bytes ≡ replace_words r) × IfSome r (λ test. test < 2 ^ 64))
+unfolding replace_in
 replace_is [] = (refl, tt)
 replace_is (b ∷ bytes) =
     mapped (λ r. (b ∷ bytes ≡ replace_words r) × IfSome r (λ test. test < 2 ^ 64)) Some _ (bound _ _ call_in (after (codes " if ") (b ∷ bytes)) (after_is (codes " if ") (b ∷ bytes)) (λ rest e.
@@ -244,8 +244,8 @@ replace_is (b ∷ bytes) =
 load_is : (bytes : List ℕ) → IfSome (load_of bytes) (λ l. (bytes ≡ decimal l.0 ++ replace_words l.1) × ((l.0 < 2 ^ 32) × IfSome l.1 (λ test. test < 2 ^ 64)))
 unfolding load_of
 load_is bytes =
-    bound _ _ (λ key. option_and_then (λ replace. Some (key, replace)) (replace_of (from_byte 32 bytes))) (key_in (before_byte 32 bytes)) (number_is (2 ^ 32) (before_byte 32 bytes)) (λ key h.
-    bound _ _ (λ replace. Some (key, replace)) (replace_of (from_byte 32 bytes)) (replace_is (from_byte 32 bytes)) (λ replace j.
+    bound _ _ (λ key. option_and_then (λ replace. Some (key, replace)) (replace_in (from_byte 32 bytes))) (key_in (before_byte 32 bytes)) (number_is (2 ^ 32) (before_byte 32 bytes)) (λ key h.
+    bound _ _ (λ replace. Some (key, replace)) (replace_in (from_byte 32 bytes)) (replace_is (from_byte 32 bytes)) (λ replace j.
     (cut_off bytes (decimal key) (replace_words replace) h.0 j.0, (h.1, j.1))))
 
 some_load : (k : ℕ) (replace : Option ℕ) → k < 2 ^ 32 → 0 < length (decimal k ++ replace_words replace)

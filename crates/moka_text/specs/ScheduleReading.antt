@@ -15,7 +15,7 @@ use Rattle.moka_text.specs.declared.schedules.Schedule.{Schedule}
 use Rattle.moka_text.specs.declared.schedules.ScheduleError.{ScheduleError}
 use Rattle.moka_text.specs.declared.schedules.ScheduleError.TheVariants as errors
 use Rattle.moka_text.specs.Words.{call_in, key_in, after, before_byte, after_byte, from_byte}
-use Rattle.moka_text.specs.ScheduleText.{event_line, EventFits, rules_of, lines, Says, IsFirstBad}
+use Rattle.moka_text.specs.ScheduleText.{event_line, EventFits, rules_from, lines, Says, IsFirstBad}
 
 infixl 10 ◌>>=◌
 abbrev pub ◌>>=◌ : {A B : Type 0} → Option A → (A → Option B) → Option B
@@ -52,15 +52,15 @@ evict_of bytes = do
   Some (key, chosen)
 
 -- the replace test of a load: none where no bytes are left
-unfoldable pub replace_of : List ℕ → Option (Option ℕ)
-replace_of [] = Some None
-replace_of (b ∷ bytes) = option_map Some (after (codes " if ") (b ∷ bytes) >>= call_in)
+unfoldable pub replace_in : List ℕ → Option (Option ℕ)
+replace_in [] = Some None
+replace_in (b ∷ bytes) = option_map Some (after (codes " if ") (b ∷ bytes) >>= call_in)
 
 -- a key, and after it the replace test, where there is one
 unfoldable pub load_of : List ℕ → Option (ℕ × Option ℕ)
 load_of bytes = do
   key ← key_in (before_byte 32 bytes)
-  replace ← replace_of (from_byte 32 bytes)
+  replace ← replace_in (from_byte 32 bytes)
   Some (key, replace)
 
 -- what a call is started for, by a word and what stands after its space
@@ -173,7 +173,7 @@ made_of cap log listener = do
   capacity ← cap_of cap
   size ← log_of log
   set ← switch_of listener
-  Some (size, rules_of capacity set)
+  Some (size, rules_from capacity set)
 
 -- the size of the write log and the rules that the options say, one after the other
 abbrev pub options_of : List ℕ → Option (ℕ × Rules)

@@ -114,8 +114,8 @@ cache_line log rules =
 
 -- the rules of a cache of this capacity, where one is set, with a listener or without one, and no
 -- other rule
-abbrev pub rules_of : Option ℕ → Bool → Rules
-rules_of capacity set =
+abbrev pub rules_from : Option ℕ → Bool → Rules
+rules_from capacity set =
     record {
       max_capacity = capacity;
       time_to_live = None;
@@ -131,7 +131,7 @@ pub record IsCacheLine (line : List ℕ) (log : ℕ) (rules : Rules) : Type 0 wh
   pub size : log ≡ unwrap_or said 384
   pub range : (1 ≤ log) × (log ≤ 65536)
   pub capacity : IfSome rules.max_capacity (λ most. most < 2 ^ 64)
-  pub others : rules ≡ rules_of rules.max_capacity rules.listener
+  pub others : rules ≡ rules_from rules.max_capacity rules.listener
 
 -- Each line ends with byte 10, and the last may lack it: what stands after the last byte 10 is a
 -- line only where it isn't empty.

@@ -6,7 +6,7 @@ ghost use Rattle.moka_text.specs.ScheduleReading.{
   cause_of,
   chosen_of,
   evict_of,
-  replace_of,
+  replace_in,
   load_of,
   start_by,
   start_of,
@@ -67,9 +67,9 @@ fn evict_of(bytes: &[u8]) -> Option<(u32, (u64, Cause))>
 }
 
 /// The replace test of a load: none where no bytes are left.
-#[tactic(auto, unfolding(crate::specs::ScheduleReading::replace_of))]
+#[tactic(auto, unfolding(crate::specs::ScheduleReading::replace_in))]
 fn replace_of(bytes: &[u8]) -> Option<Option<u64>>
-    ensures { result ≡ replace_of bytes.now }
+    ensures { result ≡ replace_in bytes.now }
 {
     if bytes.is_empty() {
         return Some(None);
@@ -90,7 +90,7 @@ fn load_of(bytes: &[u8]) -> Option<(u32, Option<u64>)>
     let (key, _) = cut(bytes, b' ');
     let replace = &bytes[key.len()..];
     let key = key_in(key)?;
-    let replace = replace_of(replace)?;
+    let replace = replace_in(replace)?;
     Some((key, replace))
 }
 

@@ -2,7 +2,7 @@
 
 ghost use Rattle.std.specs.Prelude.{◌≡◌};
 ghost use Rattle.std.specs.Option.{option_copied};
-ghost use Rattle.moka_text.specs.ScheduleText.{rules_of};
+ghost use Rattle.moka_text.specs.ScheduleText.{rules_from};
 ghost use Rattle.moka_text.specs.ScheduleReading.{
   cut_option,
   cap_of,
@@ -77,7 +77,7 @@ fn switch_of(said: Option<&[u8]>) -> Option<bool>
 /// The rules of a cache of this capacity, where one is set, with a listener or without one, and no
 /// other rule.
 fn rules_of(capacity: Option<u64>, set: bool) -> Rules
-    ensures { result ≡ rules_of capacity set }
+    ensures { result ≡ rules_from capacity set }
 {
     Rules {
         max_capacity: capacity,
@@ -101,7 +101,7 @@ fn made_of(
     let capacity = cap_of(cap)?;
     let log = log_of(log)?;
     let listener = switch_of(listener)?;
-    Some((log, rules_of(capacity, listener)))
+    Some((log, rules_from(capacity, listener)))
 }
 
 /// How many writes the write log has room for, and the rules, as a schedule's first line says.

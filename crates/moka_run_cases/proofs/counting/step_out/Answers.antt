@@ -2,7 +2,7 @@
 use Rattle.std.proofs.Common.{◌≡◌, ℕ, Bool, Some, sym, ap, subst, ◌∙◌}
 use Rattle.std.specs.declared.cmp.PartialEq as PartialEq
 use Rattle.std.specs.declared.hash.Hash as Hash
-use Rattle.moka_hist.specs.Step.{May, Moves, state_after}
+use Rattle.moka_hist.specs.Step.{May, CallMoves, state_after}
 use Rattle.moka_hist.specs.State.{Call, State}
 use Rattle.moka_hist.specs.Run.{IsReached}
 use Rattle.moka_hist.specs.Finite.{put_at}
@@ -44,8 +44,8 @@ returns-in-Ok g c =
     let number : flow.call ≡ n = sym was.on.call ∙ h.number in
     let m = c.in-Ok.ensures.moves s.world h.reaches taken.3 in
     let next = next_in c.in-Ok.turn c.step-stepped.new.flow in
-    let moved : Moves eq n (call_of flow) s.world next m.0 =
-    subst (λ (x : ℕ). Moves eq x (call_of flow) s.world next m.0) number m.1 in
+    let moved : CallMoves eq n (call_of flow) s.world next m.0 =
+    subst (λ (x : ℕ). CallMoves eq x (call_of flow) s.world next m.0) number m.1 in
     let after = state_after s n m.0 next in
     record {
       state = after;

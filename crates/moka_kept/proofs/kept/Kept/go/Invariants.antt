@@ -1,7 +1,7 @@
 use Rattle.std.proofs.Common.{◌≡◌, ◌⊎◌}
 use Rattle.futures.specs.Task.{Keeps}
 use Rattle.moka_init.specs.FlowPlan.{call_of, tested_in}
-use Rattle.moka_kept.specs.Stops.{CameTo, GoesOn}
+use Rattle.moka_kept.specs.Stops.{CameTo, GoesOnWith}
 use Rattle.moka_kept.specs.Taking.{Brings, Taken}
 use Rattle.moka_kept.proofs.kept.Kept.go.Given as goal
 
@@ -10,5 +10,5 @@ invariant-loop g l = record {
   came : CameTo g.K.PartialEq.eq (Brings (tested_in (call_of l.fn.flow).plan) l.fn.brought) l.fn.flow l.flow;
   brings : (t : Taken g.row.V.Denot g.row.E.Denot) → Brings (tested_in (call_of l.flow).plan) l.next t → Brings (tested_in (call_of l.fn.flow).plan) l.fn.brought t;
   kept : Keeps l.fn.cx l.cx;
-  goes : (l.counter ≡ 0) ⊎ GoesOn g.K.PartialEq.eq l.flow;
+  goes : (l.counter ≡ 0) ⊎ GoesOnWith g.K.PartialEq.eq l.flow;
 }

@@ -3,24 +3,24 @@ use Rattle.std.proofs.Common.{IfErr, IfOk, OnErr, refl, sym, subst}
 use Rattle.std.proofs.lemmas.Result.{on_err_weaker, IfErr-weaker}
 use Rattle.moka_hist.specs.State.{State}
 use Rattle.moka_hist.specs.declared.events.Event.{Event}
-use Rattle.moka_machine.specs.Machine.{Serves, Stops, MachineIs}
+use Rattle.moka_machine.specs.Machine.{ServesEvent, Stops, MachineIs}
 use Rattle.moka_machine.specs.WantOfMemory.{MayStopIn}
 use Rattle.moka_machine.proofs.Happening.{unpolled_ok, unpolled_err, unpolled_on_err}
 use Rattle.moka_machine.proofs.machine.Machine.serve.Goals as goal
 
 pub returns-in-Step-clause-serves : goal.returns-in-Step-clause-serves
 returns-in-Step-clause-serves g c =
-    subst (λ (e : Event g.row.K.Denot g.row.V.Denot g.row.E.Denot). IfOk c.unpolled-in-Step.result (λ r. Serves g.K.PartialEq.eq g.T.Tests c.args.self.now e r c.step.new.self)) (sym c.in-Step.is)
+    subst (λ (e : Event g.row.K.Denot g.row.V.Denot g.row.E.Denot). IfOk c.unpolled-in-Step.result (λ r. ServesEvent g.K.PartialEq.eq g.T.Tests c.args.self.now e r c.step.new.self)) (sym c.in-Step.is)
     (unpolled_ok c.step.result c.unpolled-in-Step.result _ c.unpolled-in-Step.ensures c.step.ensures.serves)
 
 pub returns-in-Tell-clause-serves : goal.returns-in-Tell-clause-serves
 returns-in-Tell-clause-serves g c =
-    subst (λ (e : Event g.row.K.Denot g.row.V.Denot g.row.E.Denot). IfOk c.unpolled-in-Tell.result (λ r. Serves g.K.PartialEq.eq g.T.Tests c.args.self.now e r c.tell.new.self)) (sym c.in-Tell.is)
+    subst (λ (e : Event g.row.K.Denot g.row.V.Denot g.row.E.Denot). IfOk c.unpolled-in-Tell.result (λ r. ServesEvent g.K.PartialEq.eq g.T.Tests c.args.self.now e r c.tell.new.self)) (sym c.in-Tell.is)
     (unpolled_ok c.tell.result c.unpolled-in-Tell.result _ c.unpolled-in-Tell.ensures c.tell.ensures.serves)
 
 pub returns-in-Poll-clause-serves : goal.returns-in-Poll-clause-serves
 returns-in-Poll-clause-serves g c =
-    subst (λ (e : Event g.row.K.Denot g.row.V.Denot g.row.E.Denot). IfOk c.poll.result (λ r. Serves g.K.PartialEq.eq g.T.Tests c.args.self.now e r c.poll.new.self)) (sym c.in-Poll.is) c.poll.ensures.serves
+    subst (λ (e : Event g.row.K.Denot g.row.V.Denot g.row.E.Denot). IfOk c.poll.result (λ r. ServesEvent g.K.PartialEq.eq g.T.Tests c.args.self.now e r c.poll.new.self)) (sym c.in-Poll.is) c.poll.ensures.serves
 
 pub returns-in-Poll-clause-stops : goal.returns-in-Poll-clause-stops
 returns-in-Poll-clause-stops g c =
@@ -42,7 +42,7 @@ returns-in-Poll-clause-needs g c =
 
 pub returns-in-Start-clause-serves : goal.returns-in-Start-clause-serves
 returns-in-Start-clause-serves g c =
-    subst (λ (e : Event g.row.K.Denot g.row.V.Denot g.row.E.Denot). IfOk c.unpolled.result (λ r. Serves g.K.PartialEq.eq g.T.Tests c.args.self.now e r c.start.new.self)) (sym c.in-Start.is)
+    subst (λ (e : Event g.row.K.Denot g.row.V.Denot g.row.E.Denot). IfOk c.unpolled.result (λ r. ServesEvent g.K.PartialEq.eq g.T.Tests c.args.self.now e r c.start.new.self)) (sym c.in-Start.is)
     (unpolled_ok c.start.result c.unpolled.result _ c.unpolled.ensures c.start.ensures.serves)
 
 pub returns-in-Start-clause-stops : goal.returns-in-Start-clause-stops
@@ -62,4 +62,4 @@ returns-in-Tell-clause-stops g c =
 
 pub returns-in-Drop-clause-serves : goal.returns-in-Drop-clause-serves
 returns-in-Drop-clause-serves g c =
-    subst (λ (e : Event g.row.K.Denot g.row.V.Denot g.row.E.Denot). Serves g.K.PartialEq.eq g.T.Tests c.args.self.now e c.drop_call.result c.drop_call.new.self) (sym c.in-Drop.is) c.drop_call.ensures
+    subst (λ (e : Event g.row.K.Denot g.row.V.Denot g.row.E.Denot). ServesEvent g.K.PartialEq.eq g.T.Tests c.args.self.now e c.drop_call.result c.drop_call.new.self) (sym c.in-Drop.is) c.drop_call.ensures

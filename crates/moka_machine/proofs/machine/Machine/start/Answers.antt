@@ -3,12 +3,12 @@ use Rattle.std.proofs.Common.{IfOk, subst}
 use Rattle.std.proofs.lemmas.Result.{IfOk-weaker, on_err_weaker}
 use Rattle.moka_hist.specs.declared.events.Event.TheVariants as event
 use Rattle.moka_hist.specs.declared.events.Start.{Start}
-use Rattle.moka_machine.specs.Machine.{Serves}
+use Rattle.moka_machine.specs.Machine.{ServesEvent}
 use Rattle.moka_machine.proofs.machine.Machine.start.Goals as goal
 
 pub returns-clause-serves : goal.returns-clause-serves
 returns-clause-serves g c =
-    subst (λ (x : Start g.row.K.Denot g.row.V.Denot). IfOk c.enter.result (λ r. Serves g.K.PartialEq.eq g.T.Tests c.args.self.now (event.Start x) r c.enter.new.self)) c.in_ok-start.ensures
+    subst (λ (x : Start g.row.K.Denot g.row.V.Denot). IfOk c.enter.result (λ r. ServesEvent g.K.PartialEq.eq g.T.Tests c.args.self.now (event.Start x) r c.enter.new.self)) c.in_ok-start.ensures
     (IfOk-weaker c.enter.result _ _ (λ r serves s h reached. serves s (c.make_room.ensures.same s h) reached) c.enter.ensures.serves)
 
 pub returns-clause-err : goal.returns-clause-err

@@ -2,7 +2,7 @@
 use Rattle.std.proofs.Common.{◌≡◌, ℕ, Some, sym, subst, ◌∙◌}
 use Rattle.moka_hist.specs.Finite.{put_at}
 use Rattle.moka_hist.specs.State.{Call, World}
-use Rattle.moka_hist.specs.Step.{May, Moves}
+use Rattle.moka_hist.specs.Step.{May, CallMoves}
 use Rattle.moka_init.specs.declared.flow.Flow.{Flow}
 use Rattle.moka_init.specs.FlowPlan.{call_of, next_in}
 use Rattle.moka_init.specs.Grounds.{NeedsMemory, access_at}
@@ -23,7 +23,7 @@ returns-in-Ok-clause-steps g c =
     let number : flow.call ≡ c.args.call = sym out.on.call ∙ h.number in (
       next,
       m.0,
-      subst (λ (n : ℕ). Moves eq n (call_of flow) w next m.0) number m.1,
+      subst (λ (n : ℕ). CallMoves eq n (call_of flow) w next m.0) number m.1,
       c.after_step.ensures.reply,
       c.after_step.ensures.stands others m.0
           (still_without eq g.T.Tests c.args.self.now c.step.new.ground c.args.call flow c.step.new.flow others w m.0 out.on c.in-Ok.ensures.on c.in-Ok.ensures.number c.in-Ok.ensures.keeps m.2 h)
