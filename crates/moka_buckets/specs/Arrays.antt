@@ -27,4 +27,5 @@ memory_of s =
 
 -- each array of the segment says where it stands
 abbrev pub ArePlaced : Arrays → Type 0
-ArePlaced s = (place a : ℕ) → array_at (memory_of s) place ≡ Some a → option_map (λ array. array.place) (slice_get s.all.items a) ≡ Some place
+ArePlaced s = (place a : ℕ) → array_at (memory_of s) place ≡ Some a →
+    option_map (λ array. array.place) (slice_get s.all.items a) ≡ Some place

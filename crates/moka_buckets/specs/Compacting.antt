@@ -42,7 +42,8 @@ module _ {K V : Type 0} where
   -- The arrays have a root in which these nodes are laid out, by their places in the list; without nodes no array.
   pub record AreLaid (nodes : List (Node K V)) (s : Arrays) : Type 0 where
     pub size : ℕ
-    pub begins : ((nodes ≡ []) × HasNone s) ⊎ (IsCompact (length nodes) size × HasRoot (laid_out (numbered 0 nodes) size) s)
+    pub begins : ((nodes ≡ []) × HasNone s) ⊎
+        (IsCompact (length nodes) size × HasRoot (laid_out (numbered 0 nodes) size) s)
     pub len : s.segment.len ≡ length nodes
 
   -- the segment has the nodes alone that its root stored, laid out anew

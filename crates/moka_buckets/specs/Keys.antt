@@ -21,7 +21,8 @@ module _ {K V : Type 0} where
   -- What one step of a call does to its segment.
   pub record Leads (eq : K → K → Bool) (hash : K → ℕ) (first : ℕ) (old : Part K V) (before : Step)
       (gives : Result Bool AllocError) (new : Part K V) (after : Step) : Type 0 where
-    pub lead : IfOk gives (λ done. Lead eq hash old.nodes.items first (peak_at old) (memory_at old) before (memory_at new) after)
+    pub lead : IfOk gives (λ done. Lead eq hash old.nodes.items first (peak_at old) (memory_at old)
+        before (memory_at new) after)
     pub ended : IfOk gives (λ done. done ≡ is_ended after)
     pub nodes : new.nodes ≡ old.nodes
     pub peak : new.peak ≡ old.peak
@@ -29,7 +30,8 @@ module _ {K V : Type 0} where
     pub err : OnErr gives ((memory_at new ≡ memory_at old) × (after ≡ before))
 
   -- a call fits its segment: it goes on, or has ended
-  pub record FitsThere (eq : K → K → Bool) (hash : K → ℕ) (parts : List (Part K V)) (c : KeysCall) : Type 0 where
+  pub record FitsThere (eq : K → K → Bool) (hash : K → ℕ) (parts : List (Part K V)) (c : KeysCall) :
+      Type 0 where
     pub part : Part K V
     pub there : slice_get parts c.segment ≡ Some part
     pub walks : WalksOn eq hash (memory_at part) part.nodes.items c.table
@@ -49,14 +51,17 @@ module _ {K V : Type 0} where
 
   -- it lists this key, if the key stays
   abbrev pub CoversIt : (K → K → Bool) → List (Part K V) → KeysCall → K → Type 0
-  CoversIt eq parts c key = (p : Part K V) × (slice_get parts c.segment ≡ Some p) × Covers eq (memory_at p) p.nodes.items key c.table
+  CoversIt eq parts c key = (p : Part K V) × (slice_get parts c.segment ≡ Some p) ×
+      Covers eq (memory_at p) p.nodes.items key c.table
 
   -- how many steps it has left
   abbrev pub left_keys : (first : ℕ) → List (Part K V) → KeysCall → ℕ
-  left_keys first parts c = option_map_or (λ p. left_in first (peak_at p) (memory_at p) c.table) (slice_get parts c.segment) 0
+  left_keys first parts c = option_map_or (λ p. left_in first (peak_at p) (memory_at p) c.table)
+      (slice_get parts c.segment) 0
 
   -- what a step of a call may rest on
-  pub record CanList (eq : K → K → Bool) (hash : K → ℕ) (parts : List (Part K V)) (first most len : ℕ) (c : KeysCall) : Type 0 where
+  pub record CanList (eq : K → K → Bool) (hash : K → ℕ) (parts : List (Part K V))
+      (first most len : ℕ) (c : KeysCall) : Type 0 where
     pub respects : (x y : K) → eq x y ≡ true → hash x ≡ hash y
     pub well : AreParts eq hash parts first most len
     pub fits : FitsKeys eq hash parts c
@@ -67,12 +72,14 @@ module _ {K V : Type 0} where
   pub record KeepsKeys (eq : K → K → Bool) (hash : K → ℕ) (old new : List (Part K V)) : Type 0 where
     pub fits : (c : KeysCall) → FitsKeys eq hash old c → FitsKeys eq hash new c
     pub lists : (c : KeysCall) (key : K) → FitsKeys eq hash old c → ListsIt new c key ↔ ListsIt old c key
-    pub covers : (c : KeysCall) (key : K) → FitsKeys eq hash old c → segment_of (length old) (hash key) ≡ c.segment
+    pub covers : (c : KeysCall) (key : K) → FitsKeys eq hash old c →
+        segment_of (length old) (hash key) ≡ c.segment
         → IsSome (map_over eq hash old key) → CoversIt eq old c key → CoversIt eq new c key
 
   -- What a step of a call does to all segments: the map stays. It is nearer to its end, or has ended; what it lists anew was in the map, and a key that was
   -- there it goes on to cover. In a segment that isn't there it ends. All other calls fit.
-  pub record WalksOver (eq : K → K → Bool) (hash : K → ℕ) (first : ℕ) (old : List (Part K V)) (most len : ℕ) (before : KeysCall)
+  pub record WalksOver (eq : K → K → Bool) (hash : K → ℕ) (first : ℕ) (old : List (Part K V))
+      (most len : ℕ) (before : KeysCall)
       (gives : Result Bool AllocError) (new : List (Part K V)) (after : KeysCall) : Type 0 where
     pub segment : after.segment ≡ before.segment
     pub well : AreParts eq hash new first most len
@@ -82,7 +89,8 @@ module _ {K V : Type 0} where
     pub absent : length old ≤ before.segment → gives ≡ Ok true
     pub ended : IfOk gives (λ done. done ≡ is_ended after.table)
     pub nears : IfOk gives (λ done. done ≡ false → left_keys first new after < left_keys first old before)
-    pub lists : IfOk gives (λ done. (key : K) → ListsIt new after key → ListsIt old before key ⊎ IsSome (map_over eq hash old key))
+    pub lists : IfOk gives (λ done. (key : K) → ListsIt new after key → ListsIt old before key ⊎
+        IsSome (map_over eq hash old key))
     pub covers : IfOk gives (λ done. (key : K) → segment_of (length old) (hash key) ≡ before.segment
         → IsSome (map_over eq hash old key) → CoversIt eq old before key → CoversIt eq new after key)
     pub others : (c : BucketCall K V) → FitsParts eq hash old c → FitsParts eq hash new c
@@ -98,7 +106,10 @@ module _ {K V : Type 0} where
   keys_in nodes ns = flat_map (λ n. option_to_list (key_in nodes n)) ns
 
   -- The keys that an ended call has listed: none twice, and each that it covers.
-  pub record IsListing (eq : K → K → Bool) (parts : List (Part K V)) (c : KeysCall) (keys : List K) : Type 0 where
-    pub differ : (x y : ℕ) (k l : K) → slice_get keys x ≡ Some k → slice_get keys y ≡ Some l → eq k l ≡ true → x ≡ y
+  pub record IsListing (eq : K → K → Bool) (parts : List (Part K V)) (c : KeysCall)
+      (keys : List K) : Type 0 where
+    pub differ : (x y : ℕ) (k l : K) → slice_get keys x ≡ Some k → slice_get keys y ≡ Some l →
+        eq k l ≡ true → x ≡ y
     pub listed : (x : ℕ) (k : K) → slice_get keys x ≡ Some k → ListsIt parts c k
-    pub covers : (key : K) → CoversIt eq parts c key → (x : ℕ) × (k : K) × (slice_get keys x ≡ Some k) × (eq key k ≡ true)
+    pub covers : (key : K) → CoversIt eq parts c key → (x : ℕ) × (k : K) ×
+        (slice_get keys x ≡ Some k) × (eq key k ≡ true)

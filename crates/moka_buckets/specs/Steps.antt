@@ -50,51 +50,66 @@ module _ {K V : Type 0} where
     pub hash : after.hash ≡ before.hash
     pub table : after.table ≡ before.table
     pub grown : ((new ≡ old) × (after.node ≡ before.node))
-        ⊎ ((key : K) × (stored : Stored V) × (stored_by before.operation ≡ Some (key, stored)) × (before.node ≡ None)
-        × (new ≡ old ++ record { key = key; stored = stored; hash = before.hash } ∷ []) × (after.node ≡ Some (length old)))
+        ⊎ ((key : K) × (stored : Stored V) × (stored_by before.operation ≡ Some (key, stored)) ×
+            (before.node ≡ None)
+        × (new ≡ old ++ record { key = key; stored = stored; hash = before.hash } ∷ []) ×
+            (after.node ≡ Some (length old)))
 
   -- each node that was made has this hash
   abbrev pub Adds : (hash : ℕ) → (old new : List (Node K V)) → Type 0
-  Adds hash old new = (n : ℕ) (node : Node K V) → slice_get new n ≡ Some node → (slice_get old n ≡ Some node) ⊎ (node.hash ≡ hash)
+  Adds hash old new = (n : ℕ) (node : Node K V) → slice_get new n ≡ Some node →
+      (slice_get old n ≡ Some node) ⊎ (node.hash ≡ hash)
 
   -- the call fits the table
-  pub record FitsCall (eq : K → K → Bool) (hash : K → ℕ) (m : Memory) (nodes : List (Node K V)) (c : BucketCall K V) : Type 0 where
+  pub record FitsCall (eq : K → K → Bool) (hash : K → ℕ) (m : Memory) (nodes : List (Node K V))
+      (c : BucketCall K V) : Type 0 where
     pub hashed : c.hash ≡ hash (key_of c.operation)
     pub runs : RunsOn eq hash m nodes c.operation c.node c.table
 
   -- The step stays undecided, or decides by the map; the table stays well, and all other calls fit.
-  pub record Turned (eq : K → K → Bool) (hash : K → ℕ) (nodes : List (Node K V)) (first peak : ℕ) (o : TableOp K V) (stored : Option ℕ)
+  pub record Turned (eq : K → K → Bool) (hash : K → ℕ) (nodes : List (Node K V)) (first peak : ℕ)
+      (o : TableOp K V) (stored : Option ℕ)
       (old : Memory) (before : Step) (gives : TableTurn K V) (new : Memory) (after : Step) : Type 0 where
     pub well : (more : ℕ) → peak ≤ more → new.len ≤ more → IsWell eq hash new nodes first more
     pub moves : Moves eq o (map_of eq old nodes) old.len gives (map_of eq new nodes) new.len
-    pub going : gives ≡ turn.Going → RunsOn eq hash new nodes o stored after × (left_in first peak new after < left_in first peak old before)
-    pub others : (p : TableOp K V) (kept : Option ℕ) (other : Step) → RunsOn eq hash old nodes p kept other → RunsOn eq hash new nodes p kept other
+    pub going : gives ≡ turn.Going → RunsOn eq hash new nodes o stored after ×
+        (left_in first peak new after < left_in first peak old before)
+    pub others : (p : TableOp K V) (kept : Option ℕ) (other : Step) →
+        RunsOn eq hash old nodes p kept other → RunsOn eq hash new nodes p kept other
     pub later : (keys : ℕ → Option K) → Agrees keys nodes → LaterMemory (same_by eq keys) old new
 
   -- what a step of a call may rest on: hashes that equal keys share, a table that is well, and a node for the pair to be stored
-  pub record CanStep (eq : K → K → Bool) (hash : K → ℕ) (m : Memory) (nodes : List (Node K V)) (first peak : ℕ) (c : BucketCall K V) : Type 0 where
+  pub record CanStep (eq : K → K → Bool) (hash : K → ℕ) (m : Memory) (nodes : List (Node K V))
+      (first peak : ℕ) (c : BucketCall K V) : Type 0 where
     pub respects : (x y : K) → eq x y ≡ true → hash x ≡ hash y
     pub well : IsWell eq hash m nodes first peak
     pub fits : FitsCall eq hash m nodes c
     pub named : IsSome (stored_by c.operation) → IsSome c.node
 
   -- what a step may rest on that has yet to make the node
-  pub record CanBegin (eq : K → K → Bool) (hash : K → ℕ) (m : Memory) (nodes : List (Node K V)) (first peak : ℕ) (c : BucketCall K V) : Type 0 where
+  pub record CanBegin (eq : K → K → Bool) (hash : K → ℕ) (m : Memory) (nodes : List (Node K V))
+      (first peak : ℕ) (c : BucketCall K V) : Type 0 where
     pub respects : (x y : K) → eq x y ≡ true → hash x ≡ hash y
     pub well : IsWell eq hash m nodes first peak
     pub fits : FitsCall eq hash m nodes c
 
   -- What a step does, with a node that it may have made: it is undecided, or decides by the map, or without memory leaves all as it was. The
   -- table stays well, and all other calls fit.
-  pub record Done (eq : K → K → Bool) (hash : K → ℕ) (first peak : ℕ) (old : Memory) (nodes : List (Node K V)) (before : BucketCall K V)
-      (gives : Result (TableTurn K V) AllocError) (new : Memory) (more_nodes : List (Node K V)) (after : BucketCall K V) : Type 0 where
+  pub record Done (eq : K → K → Bool) (hash : K → ℕ) (first peak : ℕ) (old : Memory)
+      (nodes : List (Node K V)) (before : BucketCall K V)
+      (gives : Result (TableTurn K V) AllocError) (new : Memory) (more_nodes : List (Node K V))
+          (after : BucketCall K V) : Type 0 where
     pub well : (more : ℕ) → peak ≤ more → new.len ≤ more → IsWell eq hash new more_nodes first more
     pub operation : after.operation ≡ before.operation
-    pub moves : IfOk gives (λ t. Moves eq before.operation (map_of eq old nodes) old.len t (map_of eq new more_nodes) new.len)
+    pub moves : IfOk gives (λ t. Moves eq before.operation (map_of eq old nodes) old.len t
+        (map_of eq new more_nodes) new.len)
     pub going : IfOk gives (λ t. t ≡ turn.Going
-        → FitsCall eq hash new more_nodes after × (left_in first peak new after.table < left_in first peak old before.table))
-    pub others : (other : BucketCall K V) → FitsCall eq hash old nodes other → FitsCall eq hash new more_nodes other
+        → FitsCall eq hash new more_nodes after ×
+            (left_in first peak new after.table < left_in first peak old before.table))
+    pub others : (other : BucketCall K V) → FitsCall eq hash old nodes other →
+        FitsCall eq hash new more_nodes other
     pub later : (keys : ℕ → Option K) → Agrees keys more_nodes → LaterMemory (same_by eq keys) old new
     pub grows : (n : ℕ) (node : Node K V) → slice_get nodes n ≡ Some node → slice_get more_nodes n ≡ Some node
-    pub err : OnErr gives ((new ≡ old) × SameMap (map_of eq old nodes) (map_of eq new more_nodes) × (after.table ≡ before.table)
+    pub err : OnErr gives ((new ≡ old) × SameMap (map_of eq old nodes) (map_of eq new more_nodes) ×
+        (after.table ≡ before.table)
         × FitsCall eq hash new more_nodes after)

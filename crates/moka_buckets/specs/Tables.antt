@@ -76,8 +76,10 @@ module _ {K V : Type 0} where
 
   -- The segment is sound, and short for the most keys that it had; the count of keys is right. Of keys that are still to come nothing is said:
   -- so it stays whatever nodes come.
-  pub record IsWell (eq : K → K → Bool) (hash : K → ℕ) (m : Memory) (nodes : List (Node K V)) (first peak : ℕ) : Type 0 where
-    pub sound : (keys : ℕ → Option K) → Agrees keys nodes → IsSound (hash_by hash keys) (same_by eq keys) (mine_by keys) m
+  pub record IsWell (eq : K → K → Bool) (hash : K → ℕ) (m : Memory) (nodes : List (Node K V))
+      (first peak : ℕ) : Type 0 where
+    pub sound : (keys : ℕ → Option K) → Agrees keys nodes →
+        IsSound (hash_by hash keys) (same_by eq keys) (mine_by keys) m
     pub hashed : AreHashed hash nodes
     pub counted : IsCounted m
     pub short : IsShort first peak m
@@ -126,10 +128,12 @@ module _ {K V : Type 0} where
 
   -- the call fits the memory, whatever keys are still to come
   abbrev pub FitsAll : (K → K → Bool) → (K → ℕ) → Memory → List (Node K V) → (key : K) → Call → Type 0
-  FitsAll eq hash m nodes key c = (keys : ℕ → Option K) → Agrees keys nodes → Fits (hash_by hash keys) (own_by eq keys key) m c
+  FitsAll eq hash m nodes key c = (keys : ℕ → Option K) → Agrees keys nodes →
+      Fits (hash_by hash keys) (own_by eq keys key) m c
 
   -- a call for this operation goes on; `node` has the pair to be stored, once it was named
-  pub record Runs (eq : K → K → Bool) (hash : K → ℕ) (m : Memory) (nodes : List (Node K V)) (o : TableOp K V) (node : Option ℕ) (c : Call) :
+  pub record Runs (eq : K → K → Bool) (hash : K → ℕ) (m : Memory) (nodes : List (Node K V))
+      (o : TableOp K V) (node : Option ℕ) (c : Call) :
       Type 0 where
     pub kind : c.kind ≡ kind_of o
     pub hashed : c.hash ≡ hash (key_of o)
@@ -139,6 +143,7 @@ module _ {K V : Type 0} where
     pub puts : Puts nodes o node c.point
     pub filled : (n : ℕ) → node ≡ Some n → IsSome (stored_by o) × (pair_at nodes (Some n) ≡ stored_by o)
 
-  abbrev pub RunsOn : (K → K → Bool) → (K → ℕ) → Memory → List (Node K V) → TableOp K V → (node : Option ℕ) → Step → Type 0
+  abbrev pub RunsOn : (K → K → Bool) → (K → ℕ) → Memory → List (Node K V) → TableOp K V →
+      (node : Option ℕ) → Step → Type 0
   RunsOn eq hash m nodes o stored (Going c) = Runs eq hash m nodes o stored c
   RunsOn eq hash m nodes o stored (Decided e) = ⊥

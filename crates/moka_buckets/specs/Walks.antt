@@ -50,7 +50,8 @@ module _ {K V : Type 0} where
   AreNodes nodes ns = (x n : ℕ) → slice_get ns x ≡ Some n → IsSome (key_in nodes n)
 
   -- A call that goes on, whatever keys are still to come: it has listed no key twice, and none but those of buckets that it passed.
-  pub record Walks (eq : K → K → Bool) (hash : K → ℕ) (m : Memory) (nodes : List (Node K V)) (c : Call) : Type 0 where
+  pub record Walks (eq : K → K → Bool) (hash : K → ℕ) (m : Memory) (nodes : List (Node K V))
+      (c : Call) : Type 0 where
     pub kind : c.kind ≡ kind.Keys
     pub seeks : IsNoSeek c.point
     pub fits : (keys : ℕ → Option K) → Agrees keys nodes → Fits (hash_by hash keys) owns_none m c
@@ -68,18 +69,21 @@ module _ {K V : Type 0} where
 
   -- the call lists this key, if the key stays: it has listed it, or has yet to come to its bucket
   abbrev pub Covers : (K → K → Bool) → Memory → List (Node K V) → (key : K) → Step → Type 0
-  Covers eq m nodes key (Going c) = (keys : ℕ → Option K) → Agrees keys nodes → ListsKey (own_by eq keys key) m c.point
+  Covers eq m nodes key (Going c) = (keys : ℕ → Option K) → Agrees keys nodes →
+      ListsKey (own_by eq keys key) m c.point
   Covers eq m nodes key (Decided e) = HasListed (own_by eq (key_in nodes) key) (listed_in e)
 
   -- each of these nodes was listed before, or its key is one of the map's
   abbrev pub AreOfMap : (K → K → Bool) → Memory → List (Node K V) → (before after : List ℕ) → Type 0
   AreOfMap eq m nodes before after =
       (x n : ℕ) → slice_get after x ≡ Some n →
-      ((y : ℕ) × (slice_get before y ≡ Some n)) ⊎ ((key : K) → key_in nodes n ≡ Some key → IsSome (map_of eq m nodes key))
+      ((y : ℕ) × (slice_get before y ≡ Some n)) ⊎
+          ((key : K) → key_in nodes n ≡ Some key → IsSome (map_of eq m nodes key))
 
   -- What one step of the call does: the map stays, and so does the count of keys; it is nearer to its end, or has ended. What it lists anew was in the
   -- map, and a key that was there it goes on to cover. Operations on the segment still fit.
-  pub record Lead (eq : K → K → Bool) (hash : K → ℕ) (nodes : List (Node K V)) (first peak : ℕ) (old : Memory) (before : Step)
+  pub record Lead (eq : K → K → Bool) (hash : K → ℕ) (nodes : List (Node K V)) (first peak : ℕ)
+      (old : Memory) (before : Step)
       (new : Memory) (after : Step) : Type 0 where
     pub well : IsWell eq hash new nodes first peak
     pub map : (key : K) → map_of eq new nodes key ≡ map_of eq old nodes key
@@ -87,11 +91,13 @@ module _ {K V : Type 0} where
     pub walks : WalksOn eq hash new nodes after
     pub falls : Falls first peak old before new after
     pub lists : AreOfMap eq old nodes (listed_by before) (listed_by after)
-    pub covers : (key : K) → IsSome (map_of eq old nodes key) → Covers eq old nodes key before → Covers eq new nodes key after
+    pub covers : (key : K) → IsSome (map_of eq old nodes key) → Covers eq old nodes key before →
+        Covers eq new nodes key after
     pub later : (keys : ℕ → Option K) → Agrees keys nodes → LaterMemory (same_by eq keys) old new
 
   -- what a step of the call may rest on
-  pub record CanWalk (eq : K → K → Bool) (hash : K → ℕ) (m : Memory) (nodes : List (Node K V)) (first peak : ℕ) (c : Step) : Type 0 where
+  pub record CanWalk (eq : K → K → Bool) (hash : K → ℕ) (m : Memory) (nodes : List (Node K V))
+      (first peak : ℕ) (c : Step) : Type 0 where
     pub respects : (x y : K) → eq x y ≡ true → hash x ≡ hash y
     pub well : IsWell eq hash m nodes first peak
     pub going : IsGoing c

@@ -15,9 +15,11 @@ use Rattle.moka_layers.specs.declared.layers.Layers.{Layers}
 ended_alike : {A : Type 0} (joined joined' : Option ℕ) (settled settled' : ℕ → Option A)
     → joined ≡ joined' → ((n : ℕ) → settled n ≡ settled' n)
     → is_some (option_and_then settled joined) ≡ is_some (option_and_then settled' joined')
-ended_alike joined None settled settled' e same = subst (λ j. is_some (option_and_then settled j) ≡ false) (sym e) refl
+ended_alike joined None settled settled' e same =
+    subst (λ j. is_some (option_and_then settled j) ≡ false) (sym e) refl
 ended_alike joined (Some owner) settled settled' e same =
-    subst (λ j. is_some (option_and_then settled j) ≡ is_some (settled' owner)) (sym e) (ap is_some (same owner))
+    subst (λ j. is_some (option_and_then settled j) ≡ is_some (settled' owner)) (sym e)
+        (ap is_some (same owner))
 
 -- it is so in each world that they stand for
 pub counted : {K V E T C Q : Type 0} {same : PartialEq.Ghosts K} {hash : Hash.Ghosts K}
