@@ -41,6 +41,6 @@ GoingFalls K V E eq =
     (n : ℕ) (c : Call K V E) (w new : World K V E) (given : Got K V E) (before after : Work) →
     c.aborts < retries → 0 < before.size → May w (access_of n c) →
     Gets eq n w (access_of n c) given new → Counts n w before → Counts n new after →
-        Shortens before after (access_of n c) given →
+    Shortens before after (access_of n c) given →
     (next_of n c given).turn ≡ turns.Going →
     (d : Call K V E) × (next_of n c given ≡ going_as d) × (ahead after d < ahead before c)

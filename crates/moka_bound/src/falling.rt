@@ -2,8 +2,8 @@
 
 ghost use Rattle.moka_bound.specs.Falling.{GoingFalls};
 
-/// Cites the law that each step which leaves a call going, in a world that has what the step needs,
-/// lowers how many steps it may still make by itself before it waits, asks or answers.
+/// In a world that has what the step needs, each step that leaves a call going lowers the number of
+/// steps that it may still make by itself, before it waits, asks or answers.
 pub fn going_falls<K: Eq, V, E>()
     ensures falls { GoingFalls K V E K.eq }
 {}

@@ -16,9 +16,9 @@ use moka_hist::{Entry, Told};
 use moka_init::Flow;
 use moka_kept::is_asking;
 
-/// Who answers the own ask of a call, and its replace test. It is called without the lock: begun
-/// where the ask of a compute opens, polled as long as the ask is open, and asked its test right
-/// before the visit that judges by it.
+/// What answers the own ask of a call, and its replace test: an initializer or a compute. It is
+/// called without the lock: begun where the ask of a compute opens, polled as long as the ask is
+/// open, and asked its test right before the visit that judges by it.
 pub trait Asked<K, V, E>: Drop {
     /// Holds of the states in which it may be polled.
     ghost can_poll: { Self → Type 0 };
@@ -39,8 +39,7 @@ pub trait Asked<K, V, E>: Drop {
     /// this answer.
     ghost asks: { Self → V → Bool → Self → Type 0 };
 
-    /// Whether there is anybody whom its call may ask. Where there is nobody no answer is ever
-    /// given.
+    /// Whether the call has somebody to ask. Without anybody no answer is ever given.
     fn is_somebody(&self) -> bool
         ensures { OnFalse result ((told : Told V E) → gives self.now told → ⊥) };
 
@@ -95,7 +94,7 @@ pub(crate) fn is_polled<K: Clone + Drop, V, E, Q: Asked<K, V, E>>(
     asked.is_somebody() && is_asking(flow)
 }
 
-/// Who is asked by a call that asks nothing.
+/// What a call that asks nothing has in place of an initializer or a compute.
 #[derive(Drop)]
 pub struct Nobody;
 

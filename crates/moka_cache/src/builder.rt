@@ -63,7 +63,7 @@ where
         CacheBuilder::default().max_capacity(max_capacity)
     }
 
-    /// The cache is to have this name.
+    /// Sets the name of the cache.
     pub fn name(self, name: String) -> Self
         ensures { result ≡ record self { name = Some name } }
     {
@@ -72,7 +72,8 @@ where
         built
     }
 
-    /// The cache is to keep so many records.
+    /// Sets how many records the cache is to keep. A capacity of 0 disables it; a greater one has
+    /// no effect yet.
     pub fn max_capacity(self, max_capacity: u64) -> Self
         ensures { result ≡ record self { max_capacity = Some max_capacity } }
     {
@@ -81,7 +82,7 @@ where
         built
     }
 
-    /// The cache is expected to keep so many records. It has no effect yet.
+    /// Sets how many records the cache is expected to keep. It has no effect yet.
     pub fn initial_capacity(self, initial_capacity: usize) -> Self
         ensures { result ≡ record self { initial_capacity = Some initial_capacity } }
     {
@@ -90,7 +91,7 @@ where
         built
     }
 
-    /// The listener hears of each record that a write replaces or a call takes out.
+    /// Sets the listener, which hears of each record that a write replaces or a call takes out.
     pub fn eviction_listener(self, listener: L) -> Self
         ensures { result ≡ record self { listener = Some listener } }
     {
@@ -99,7 +100,7 @@ where
         built
     }
 
-    /// The same: there is one listener, which is polled.
+    /// Sets the listener, as `eviction_listener` does: a cache has one listener, which is polled.
     pub fn async_eviction_listener(self, listener: L) -> Self
         ensures { result ≡ record self { listener = Some listener } }
     {
@@ -116,7 +117,8 @@ where
         self.build_with_hasher(alloc, FixedSeed::new())
     }
 
-    /// The same, with this to make its hashers. It is kept, and nothing is hashed by it yet.
+    /// Builds the cache, as `build` does, with this to make its hashers. It is kept, and nothing is
+    /// hashed by it yet.
     pub fn build_with_hasher<S: Drop>(
         self,
         alloc: Global,

@@ -22,7 +22,7 @@ pub(crate) struct Shared<K: Eq + Hash, V, E, L, S> {
     pub(crate) hasher: S,
 }
 
-/// The hashers of a cache that is given none: those of std's maps, of a fixed seed.
+/// The hashers of a cache that is given none: those of std's maps, with a fixed seed.
 pub type FixedSeed = BuildHasherDefault<FoldHasher>;
 
 /// A cache, which any number of tasks on any threads share by its clones. `E` is the type of errors

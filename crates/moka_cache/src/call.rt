@@ -58,7 +58,8 @@ where
         self.call_asking(begin, Nobody)
     }
 
-    /// The same of a call whose own ask is answered by this one.
+    /// Makes a call that is to begin so, and whose own ask is answered by this one. It takes no
+    /// memory, number or lock before its first poll.
     pub(crate) fn call_asking<'a, A: Begin<K, V, E>, Q: Asked<K, V, E>>(
         &'a self,
         begin: A,
@@ -100,7 +101,7 @@ where
         }
     }
 
-    // The same of a state that is fresh.
+    // Begins the call of a state that is known to be fresh.
     fn begin_fresh<R: Wait, A: Begin<K, V, E>>(
         &self,
         rt: &R,

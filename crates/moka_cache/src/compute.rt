@@ -9,9 +9,9 @@ ghost use Rattle.moka_hist.specs.declared.events.Op.{Op};
 use futures::task::{Context, Poll};
 use moka_hist::{Entry, Op};
 
-/// Who tells a compute what is to be done with a key. It is called without the lock, by whoever
-/// polls the compute's state: once to start, when the compute is the owner and has looked the key
-/// up, and then until it gives its output; then it is let go.
+/// What is to be done with a key. The task that polls the compute's state calls it, without the
+/// lock: `start` once, when the compute is the owner and has looked the key up, and then `poll`
+/// until it gives its output; then it is dropped.
 pub trait Compute<K, V, E>: Drop {
     /// Holds of the states in which it may be started.
     ghost can_start: { Self → Type 0 } = { λ _. ⊤ };

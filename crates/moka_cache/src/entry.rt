@@ -15,7 +15,7 @@ pub struct EntrySelector<'a, K: Eq + Hash, V, E, L = NoListener, S = FixedSeed> 
     pub(crate) key: CallKey<'a, K>,
 }
 
-/// One by a key of its own.
+/// A selector of an owned key.
 pub type OwnedKeyEntrySelector<'a, K, V, E, L = NoListener, S = FixedSeed> = EntrySelector<
     'a,
     K,
@@ -25,7 +25,7 @@ pub type OwnedKeyEntrySelector<'a, K, V, E, L = NoListener, S = FixedSeed> = Ent
     S,
 >;
 
-/// One by a key that is lent, which its call copies.
+/// A selector of a borrowed key, which its call copies.
 pub type RefKeyEntrySelector<'a, K, V, E, L = NoListener, S = FixedSeed> = EntrySelector<
     'a,
     K,
@@ -54,7 +54,7 @@ where
         }
     }
 
-    /// The same by a key that is lent.
+    /// Selects the entry of a borrowed key, which its call copies. That does nothing.
     pub fn entry_by_ref<'a>(&'a self, key: &'a K) -> RefKeyEntrySelector<'a, K, V, E, L, S>
         ensures key { key_of result.key ≡ key.now }
         ensures cache { result.cache.now ≡ self.now }

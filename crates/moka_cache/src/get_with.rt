@@ -40,7 +40,8 @@ pub type GetWith<'a, K, V, E, I, L = NoListener, S = FixedSeed> = CacheCall<
     S,
 >;
 
-/// The same, or loads it anew where a replace test holds on the value that is there.
+/// Looks the value of a key up, or loads it where it is absent or a replace test holds on it,
+/// polled until it is there.
 pub type GetWithIf<'a, K, V, E, I, F, L = NoListener, S = FixedSeed> = CacheCall<
     'a,
     ToLoad<'a, K>,
@@ -89,9 +90,9 @@ where
     L: Listener<K, V>,
     S: Drop,
 {
-    /// Looks the key up. Where it is absent its value is loaded: by the initializer, or by that of
-    /// another load of the key, for which it waits. Answers the value, or `RetriesExhausted` once
-    /// 200 owners of such a load were dropped. `init` is polled only where this call is the owner.
+    /// Looks the key up, and loads its value where it is absent. Of all callers that miss the key
+    /// at once one owns the load and has its `init` polled; the others answer what that gave.
+    /// Answers `RetriesExhausted` once 200 owners were dropped while this call waited for them.
     pub fn get_with<'a, I: Init<V>>(&'a self, key: K, init: I) -> GetWith<'a, K, V, E, I, L, S>
         ensures fresh { BeginsWith result.stage
             (λ load. (key_of load.key ≡ key) × (load.replace ≡ None)) }
@@ -108,7 +109,8 @@ where
         self.call_asking(ToLoad { key, replace }, ByInit { init: Some(init) })
     }
 
-    /// The same by a key that is lent, which the first poll copies.
+    /// Looks a borrowed key up, and loads its value, as `get_with` does. The first poll copies the
+    /// key.
     pub fn get_with_by_ref<'a, I: Init<V>>(
         &'a self,
         key: &'a K,

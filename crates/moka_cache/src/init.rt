@@ -5,8 +5,8 @@ ghost use Rattle.futures.specs.Task.{IsArmed, Keeps};
 
 use futures::task::{Context, Poll};
 
-/// The initializer of a load. It is polled without the lock, by whoever polls the load's state,
-/// until it gives its output; then it is let go.
+/// The initializer of a load. The task that polls the load's state polls it, without the lock,
+/// until it gives its output; then it is dropped.
 pub trait Init<O>: Drop {
     /// Holds of the states in which it may be polled.
     ghost can_poll: { Self → Type 0 } = { λ _. ⊤ };

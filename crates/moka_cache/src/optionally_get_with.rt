@@ -99,7 +99,8 @@ where
         )
     }
 
-    /// The same by a key that is lent, which the first poll copies.
+    /// Looks a borrowed key up, or loads its value, as `optionally_get_with` does. The first poll
+    /// copies the key.
     pub fn optionally_get_with_by_ref<'a, I: Init<Option<V>>>(
         &'a self,
         key: &'a K,

@@ -102,7 +102,8 @@ where
     L: Listener<K, V>,
     S: Drop,
 {
-    /// The same with the default value, which is made now.
+    /// Looks the key up, and stores the default value where it is absent, as `or_insert` does. The
+    /// default is made now.
     pub fn or_default(self) -> OrInsert<'a, K, V, E, L, S>
         ensures fresh { BeginsWith result.stage
             (λ insert. (insert.key ≡ self.entry.key) × V.is_default insert.value) }

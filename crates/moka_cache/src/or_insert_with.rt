@@ -41,7 +41,8 @@ pub type OrInsertWith<'a, K, V, E, I, L = NoListener, S = FixedSeed> = CacheCall
     S,
 >;
 
-/// The same, or loads it anew where a replace test holds on the value that is there.
+/// Looks the value of a key up, or loads it where it is absent or a replace test holds on it,
+/// polled until it is there.
 pub type OrInsertWithIf<'a, K, V, E, I, F, L = NoListener, S = FixedSeed> = CacheCall<
     'a,
     ToLoadEntry<'a, K>,

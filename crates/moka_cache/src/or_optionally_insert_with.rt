@@ -81,8 +81,8 @@ where
     L: Listener<K, V>,
     S: Drop,
 {
-    /// The same as `optionally_get_with`. The entry is fresh where the initializer of this call
-    /// gave the value.
+    /// Looks the key up, or loads its value, as `optionally_get_with` does. The entry is fresh
+    /// where the initializer of this call gave the value.
     pub fn or_optionally_insert_with<I: Init<Option<V>>>(
         self,
         init: I,

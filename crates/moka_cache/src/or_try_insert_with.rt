@@ -78,8 +78,8 @@ where
     L: Listener<K, V>,
     S: Drop,
 {
-    /// The same as `try_get_with`. The entry is fresh where the initializer of this call gave the
-    /// value.
+    /// Looks the key up, or loads its value, as `try_get_with` does. The entry is fresh where the
+    /// initializer of this call gave the value.
     pub fn or_try_insert_with<I: Init<Result<V, E>>>(
         self,
         init: I,

@@ -8,7 +8,7 @@ use futures::Future;
 use futures::task::{Context, Poll};
 use std::sync::Wait;
 
-/// Where the moments of polls come from.
+/// A clock: it gives the moment of each poll, in nanoseconds.
 pub trait Moments {
     /// Gives a moment, in nanoseconds.
     fn moment(&mut self) -> u64;

@@ -100,7 +100,8 @@ pub type TryComputeWith<'a, K, V, E, C, L = NoListener, S = FixedSeed> = CacheCa
     S,
 >;
 
-/// The same where no other compute of the key goes.
+/// Asks what is to be done with a key, and does it, where no other compute of the key goes; polled
+/// until that is logged, or failed.
 pub type TryComputeAlone<'a, K, V, E, C, L = NoListener, S = FixedSeed> = CacheCall<
     'a,
     ToComputeAlone<'a, K>,
@@ -120,8 +121,8 @@ where
     L: Listener<K, V>,
     S: Drop,
 {
-    /// The same as `and_compute_with`, but for an error, which is answered; what the key has stays
-    /// then.
+    /// Computes, as `and_compute_with` does. Where the compute gives an error, the call answers
+    /// that, and what the key has stays.
     pub fn and_try_compute_with<C: Compute<K, V, E>>(
         self,
         compute: C,
@@ -140,8 +141,8 @@ where
         cache.call_asking(ToTryCompute { key }, ByCompute { stage })
     }
 
-    /// The same, where no other compute of the key goes. Else it asks nothing, and answers what the
-    /// key has: `Unchanged`, or `StillNone`.
+    /// Computes, as `and_try_compute_with` does, where no other compute of the key goes. Beside
+    /// another it asks nothing, and answers what the key has: `Unchanged`, or `StillNone`.
     pub fn and_try_compute_if_nobody_else<C: Compute<K, V, E>>(
         self,
         compute: C,

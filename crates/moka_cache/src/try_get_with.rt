@@ -96,7 +96,8 @@ where
         self.call_asking(ToTryLoad { key }, ByTryInit { init: Some(init) })
     }
 
-    /// The same by a key that is lent, which the first poll copies.
+    /// Looks a borrowed key up, or loads its value, as `try_get_with` does. The first poll copies
+    /// the key.
     pub fn try_get_with_by_ref<'a, I: Init<Result<V, E>>>(
         &'a self,
         key: &'a K,

@@ -56,7 +56,7 @@ pub fn wrong_row<R: Wait + RandomSource + AllocGlobal>(
     wrong
 }
 
-/// The same on a cache that is there.
+/// Plays the rows on a cache that is there, and gives the first of which another thing is told.
 pub fn wrong_row_on<R: Wait + RandomSource + AllocGlobal, L: Listener<u32, u32>>(
     rt: &R,
     cache: &Heard<L>,
@@ -152,7 +152,7 @@ fn run_beside<R: Wait + RandomSource + AllocGlobal, L: Listener<u32, u32>>(
     }
 }
 
-// The same of calls of these kinds.
+// Runs two calls of these kinds beside one another.
 fn make_both<R, L, F, G>(
     caller: &Caller<'_, R, L>,
     pair: &Beside<'_>,

@@ -61,7 +61,7 @@ impl<'a> Rounds<'a> {
         rounds
     }
 
-    /// The same for calls of this kind that are made in this way.
+    /// Rounds over these keys, for calls of this kind that are made in this way.
     pub(crate) fn made(&self, kind: Kind, way: Way) -> Self {
         let mut rounds = *self;
         rounds.pends = way.pends();
@@ -75,7 +75,7 @@ impl<'a> Rounds<'a> {
         place.checked_rem(self.keys).unwrap_or(0)
     }
 
-    // The same key, lent.
+    // The key of a round, lent.
     fn lent(&self, round: u64) -> &'a u64 {
         self.lent
             .get(self.key(round) as usize)

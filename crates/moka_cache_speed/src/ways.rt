@@ -12,15 +12,15 @@ pub(crate) enum Kind {
     /// By a test that holds on each value.
     Replacing,
     OptionallyGetWith,
-    /// The same, where there is none.
+    /// `optionally_get_with`, where there is no value.
     Nothing,
     TryGetWith,
-    /// The same, by an initializer that fails.
+    /// `try_get_with`, by an initializer that fails.
     Failing,
     OrInsert,
     Compute,
     TryCompute,
-    /// The same, which fails.
+    /// `and_try_compute_with`, by a compute that fails.
     ComputeFailing,
     Upsert,
 }

@@ -97,7 +97,8 @@ fn grows(alloc: Global, memory: &mut Memory, spread: u64, steps: u32) -> Result<
     Ok(told == changed(steps, None) && before == 128 && after == 256 && memory.len() == 91)
 }
 
-// The same in a new memory.
+// Whether, in a new memory, the 91st key makes so many steps, and then there are 256 words in place
+// of 128.
 fn grows_anew(alloc: Global, spread: u64, steps: u32) -> Result<bool, AllocError> {
     let mut memory = Memory::new(alloc);
     let grown = grows(alloc, &mut memory, spread, steps);

@@ -33,7 +33,8 @@ fn a_map_gives_places_back(rt: HostRuntime) {
     assert!(rt; matches!(gives, Ok(true)));
 }
 
-/// The same of a set.
+/// Fills the set, which has places for all then, and takes most out of it. Tells whether few places
+/// are left, with the entries that stay.
 fn set_gives_back(set: &mut HashSet<u64>) -> Result<bool, AllocError> {
     for number in 0..MANY {
         set_room::reserve(set, 1)?;
@@ -54,7 +55,8 @@ fn a_set_gives_places_back(rt: HostRuntime) {
     assert!(rt; matches!(gives, Ok(true)));
 }
 
-/// The same of a queue.
+/// Fills the queue, which has places for all then, and takes most out of it. Tells whether few
+/// places are left, with the entries that stay.
 fn queue_gives_back(queue: &mut VecDeque<u64>) -> Result<bool, AllocError> {
     for number in 0..MANY {
         queue.push_back(number)?;
@@ -72,7 +74,8 @@ fn a_queue_gives_places_back(rt: HostRuntime) {
     assert!(rt; matches!(gives, Ok(true)));
 }
 
-/// The same of a vector.
+/// Fills the vector, which has places for all then, and takes most out of it. Tells whether few
+/// places are left, with the entries that stay.
 fn list_gives_back(list: &mut Vec<u64>) -> Result<bool, AllocError> {
     for number in 0..MANY {
         list.push(number)?;

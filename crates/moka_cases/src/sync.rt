@@ -108,7 +108,8 @@ fn hands_out(lock: &mut PolledRwLock, steps: [Step; 3], calls: &[u64]) -> Result
     Ok(has(&lock.release(1), calls))
 }
 
-/// The same of a new lock.
+/// Whether, on a new lock, each of the steps comes out as it says, and call 1 has the lock then and
+/// hands out these.
 fn is_handed_out(alloc: Global, steps: [Step; 3], calls: &[u64]) -> Result<bool, AllocError> {
     let mut lock = PolledRwLock::new(alloc);
     let handed_out = hands_out(&mut lock, steps, calls);

@@ -109,7 +109,8 @@ impl<K: Eq + Drop, V: Drop> BucketArray<K, V> {
         }
     }
 
-    // The same, where the probe has found this node.
+    // Removes the pair of this node, which the probe has found, where the condition holds of it,
+    // and gives its value. The bucket is a tombstone then. It takes no memory.
     fn remove_at<C: FnMut(&K, &V) -> bool>(
         &mut self,
         probe: Probe,

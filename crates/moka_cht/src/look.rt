@@ -71,7 +71,7 @@ fn load<K: Eq, V, F: FnMut(&K) -> bool>(
     }
 }
 
-// The same of a word with this node.
+// What a load of a word with this node sees. The probe's key is asked of the node.
 fn load_node<K: Eq, V, F: FnMut(&K) -> bool>(word: Word, node: &Node<K, V>, eq: &mut F) -> Seen
     requires { F.IsAlwaysCallable eq.old }
     ensures callable { F.IsAlwaysCallable eq.new }

@@ -74,7 +74,8 @@ impl<K: Eq + Hash + Exact, V: Drop, E: Drop> Desk<K, V, E> {
         Desk::made(alloc, rules, log, last, true)
     }
 
-    /// The same, but that it keeps no history: of the past it keeps what a later visit may ask for.
+    /// Makes a desk where nothing has happened, and that keeps no history: of the past it keeps
+    /// what a later visit may ask for.
     pub fn without_history(
         alloc: Global,
         rules: Rules,

@@ -57,7 +57,8 @@ fn came(
     Ok(same && closed == taken)
 }
 
-/// The same on a new desk.
+/// Whether, on a new desk, the answer of this shape closes an ask and is taken up once, or leaves
+/// the ask open.
 fn came_on_new(
     alloc: Global,
     takes: Takes,

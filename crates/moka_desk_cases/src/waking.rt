@@ -100,7 +100,7 @@ fn woken_with_its_answer(desk: &mut Desk<u32, u32, u32>) -> Option<bool>
     if desk.is_woken(3) { None } else { Some(before) }
 }
 
-/// The same of a call that asks, and doesn't wait.
+/// Whether call 3, which asks and doesn't wait, is woken with its answer.
 fn woken_while_it_does_not_wait(desk: &mut Desk<u32, u32, u32>) -> Result<Option<bool>, AllocError>
     requires { IsNew desk.old }
 {
@@ -108,7 +108,8 @@ fn woken_while_it_does_not_wait(desk: &mut Desk<u32, u32, u32>) -> Result<Option
     Ok(woken_with_its_answer(desk))
 }
 
-/// The same of a call that asks, and then finds no answer yet; None where it finds one.
+/// Whether call 3, which asks and then finds no answer yet, is woken with its answer; None where it
+/// finds one.
 fn woken_while_it_waits(desk: &mut Desk<u32, u32, u32>) -> Result<Option<bool>, AllocError>
     requires { IsNew desk.old }
 {

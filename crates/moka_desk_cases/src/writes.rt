@@ -101,7 +101,8 @@ fn published_on(
     Ok(after_first == want[0] && after_second == want[1] && after_third == want[2])
 }
 
-/// The same on a new desk.
+/// Whether, on a new desk, just so much is published after each of the writes, of calls of their
+/// own.
 fn is_published(
     alloc: Global,
     first: Write,

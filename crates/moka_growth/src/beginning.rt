@@ -2,28 +2,28 @@
 
 ghost use Rattle.moka_growth.specs.Laws.{CountStays, EmptyIsRoot, LaidIsRoot, NoneIsSound, OneIsSound};
 
-/// Cites the law that a segment without arrays is sound.
+/// A segment without arrays is sound.
 pub fn none_is_sound()
     ensures sound { NoneIsSound }
 {}
 
-/// Cites the law that a segment with a root alone is sound, if that is as long as a power of two.
+/// A segment with a root alone is sound, if the root is as long as a power of two.
 pub fn one_is_sound()
     ensures sound { OneIsSound }
 {}
 
-/// Cites the law that an array of empty words can be a root.
+/// An array of empty words can be a root.
 pub fn empty_is_root()
     ensures root { EmptyIsRoot }
 {}
 
-/// Cites the law that an array can be a root in which the nodes present in a segment are laid out,
-/// if it has as many words, and that just these are stored in it.
+/// An array in which the present nodes of a segment are laid out can be a root, if it has as many
+/// words, and stores just these nodes.
 pub fn laid_is_root()
     ensures root { LaidIsRoot }
 {}
 
-/// Cites the law that the count of keys stays right, if each access recounts as it exchanges.
+/// The count of keys stays right, if each access recounts as it exchanges.
 pub fn count_stays()
     ensures counted { CountStays }
 {}

@@ -2,25 +2,25 @@
 
 ghost use Rattle.moka_growth.specs.Laws.{LeftFalls, LeftIsBounded, ShortGrows, ShortStays};
 
-/// Cites the law that no access makes an array longer than the greater of the first length and
-/// three times the most keys that were present.
+/// No access makes an array longer than the greater of the first length and three times the most
+/// keys that were present.
 pub fn short_stays()
     ensures short { ShortStays }
 {}
 
-/// Cites the law that a segment whose arrays are short for so many keys is short for more.
+/// A segment whose arrays are short for so many keys is short for more.
 pub fn short_grows()
     ensures short { ShortGrows }
 {}
 
-/// Cites the law that a fitting call has at most 16 times as many steps left as the first length
-/// and three times the most keys together, and 32.
+/// A fitting call has at most 16 times as many steps left as the first length and three times the
+/// most keys together, and 32.
 pub fn left_is_bounded()
     ensures bounded { LeftIsBounded }
 {}
 
-/// Cites the law that each access of a fitting call which leaves it going lowers how many steps it
-/// has left. To ask what is to be done, which belongs to the load before, does not raise it.
+/// Each access of a fitting call that leaves it going lowers the number of steps that it has left.
+/// To ask what is to be done, which belongs to the load before, does not raise it.
 pub fn left_falls()
     ensures falls { LeftFalls }
 {}

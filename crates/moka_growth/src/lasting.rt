@@ -2,23 +2,23 @@
 
 ghost use Rattle.moka_growth.specs.Laws.{CallFits, FitsGoesOn, FitsLasts, LaterMemoryGoesOn};
 
-/// Cites the law that later memories of later ones are later.
+/// A memory later than a later one is later.
 pub fn later_memory_goes_on()
     ensures later { LaterMemoryGoesOn }
 {}
 
-/// Cites the law that a call which fits a memory fits each later one, unless it has just asked what
-/// is to be done: that belongs to the step of the load before.
+/// A call that fits a memory fits each later one, unless it has just asked what is to be done: that
+/// belongs to the step of the load before.
 pub fn fits_lasts()
     ensures fits { FitsLasts }
 {}
 
-/// Cites the law that a call which begins fits every memory.
+/// A call that begins fits every memory.
 pub fn call_fits()
     ensures fits { CallFits }
 {}
 
-/// Cites the law that a call which goes on after its access fits the memory that this left.
+/// A call that goes on after its access fits the memory that the access left.
 pub fn fits_goes_on()
     ensures fits { FitsGoesOn }
 {}

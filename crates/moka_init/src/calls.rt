@@ -21,7 +21,8 @@ impl<K: Drop, V: Drop, E: Drop> Flow<K, V, E> {
     ghost use Rattle.moka_hist.specs.Run.{fresh_call};
     ghost use Rattle.moka_init.specs.FlowPlan.{call_of, IsLive, IsReady};
 
-    /// The fresh flow of a start, under this number, in a cache of these rules. It takes no memory.
+    /// Makes the fresh flow of a start, under this number, in a cache of these rules. It takes no
+    /// memory.
     pub fn new(start: Start<K, V>, call: u64, rules: Rules) -> Self
         ensures call { call_of result ≡ fresh_call rules start }
         ensures number { result.call ≡ call }

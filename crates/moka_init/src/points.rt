@@ -11,7 +11,7 @@ use moka_hist::{Answer, Cause, CompResult, Load, Sought, Stored, Write};
 pub enum Asks {
     /// What is to be done.
     Op,
-    /// The same, or an error.
+    /// What is to be done, or an error.
     TryOp,
     /// A value that is to be stored.
     Value,
@@ -277,7 +277,8 @@ pub enum Listening<K, V> {
         write: Write,
         then: Posted<K, V>,
     },
-    /// The same for a record whose key or value is answered too, and not copied yet.
+    /// The notice is due of a removed record whose key or value is answered too, and not copied
+    /// yet.
     Uncopied {
         key: K,
         old: Stored<V>,

@@ -156,7 +156,8 @@ impl<K: Exact, V: Exact, E: Exact> Flow<K, V, E> {
         }
     }
 
-    // The same, with copies of its key and its value.
+    // The flow stands at the notice of the removed record, with copies of its key and its value if
+    // there was memory for them.
     fn copy_pair(&mut self, key: K, old: Stored<V>, write: Write) -> Result<(), AllocError>
         ensures ready { OnOk result (IsReady self.new) }
         ensures call { call_of self.new

@@ -36,8 +36,8 @@ pub struct Guarded<K: Eq + Hash, V, E> {
 }
 
 impl<K: Eq + Hash + Clone + Drop, V: Clone + Drop, E: Clone + Drop> Guarded<K, V, E> {
-    /// Nothing is stored. This call number and those before it were given out. It is an error only
-    /// where memory is wanting.
+    /// Makes what an empty cache keeps, where this call number and those before it were given out.
+    /// It is an error only where memory is wanting.
     pub fn starting_after(alloc: Global, rules: Rules, last: u64) -> Result<Self, AllocError>
         ensures { IfOk result (λ guarded. guarded.rules ≡ rules) }
     {
@@ -85,7 +85,8 @@ impl<K: Eq + Hash + Clone + Drop, V: Clone + Drop, E: Clone + Drop> Guarded<K, V
         self.make_steps(rt, flow, brought, heard, cx, moment, &mut woken)
     }
 
-    // The same. The wakers of all that are handed out come to those in `woken`.
+    // Makes those steps in one hold of the lock. The wakers of all that are handed out come to
+    // those in `woken`.
     fn make_steps<R: Wait>(
         &self,
         rt: &R,
@@ -120,7 +121,8 @@ impl<K: Eq + Hash + Clone + Drop, V: Clone + Drop, E: Clone + Drop> Guarded<K, V
         drop(flow);
     }
 
-    // The same. The wakers of all that it hands out come to those in `woken`.
+    // Lets the call of the flow leave, under the lock. The wakers of all that it hands out come to
+    // those in `woken`.
     fn let_leave<R: Wait>(&self, rt: &R, flow: &Flow<K, V, E>, woken: &mut Wakers) {
         let mut guard = self.kept.lock(rt);
         let kept = &mut *guard;

@@ -21,7 +21,7 @@ impl Number {
         Number { call }
     }
 
-    /// The fresh flow of a call of this start and number, in a cache of these rules.
+    /// Makes the fresh flow of a call with this start and number, in a cache of these rules.
     pub fn begin<K: Drop, V: Drop, E: Drop>(self, start: Start<K, V>, rules: Rules) -> Flow<K, V, E>
         ensures fresh { call_of result ≡ fresh_call rules start }
         ensures number { result.call ≡ self.call }

@@ -158,8 +158,8 @@ module _ {K V E : Type 0} (begun : Start K V) where
         arith,
         ap (stored begun) (same_answer (shown form None) b e),
         shown_next {V = V} {E = E} (λ a. stored begun a ≡ 0) form None
-        (stores_none {E = E} begun (reply.Found None) refl refl refl)
-        (λ under. unchanged_stores E begun under None),
+            (stores_none {E = E} begun (reply.Found None) refl refl refl)
+            (λ under. unchanged_stores E begun under None),
       );
     }
     misses_says c (plan.To_insert under new) key t =
@@ -187,8 +187,8 @@ module _ {K V E : Type 0} (begun : Start K V) where
             arith,
             ap (stored begun) (same_answer (shown form (Some (key, found.value))) b e),
             shown_next {V = V} {E = E} (λ a. stored begun a ≡ 0) form (Some (key, found.value))
-            (stores_none {E = E} begun (reply.Found (Some found.value)) refl refl refl)
-            (λ under. unchanged_stores E begun under (Some (key, found.value))),
+                (stores_none {E = E} begun (reply.Found (Some found.value)) refl refl refl)
+                (λ under. unchanged_stores E begun under (Some (key, found.value))),
           );
         }
     hits_says c (plan.To_own sought) key found t =

@@ -2,9 +2,9 @@
 
 ghost use Rattle.moka_laws.specs.Alone.{InsertThenGet};
 
-/// Cites the law that an insert that answers by steps alone, so that it neither waits nor asks the
-/// listener, and right after it such a get of an equal key, give the inserted value, in a cache
-/// that is not disabled.
+/// An insert that answers by its own steps alone, so that it neither waits nor asks the listener,
+/// is seen by the get that follows it. The get of an equal key, stepped right after it, answers the
+/// inserted value. The cache must not be disabled.
 pub fn insert_then_get<K: Eq, V, E>()
     ensures gives { InsertThenGet K V E K.eq }
 {}

@@ -2,57 +2,55 @@
 
 ghost use Rattle.moka_laws.specs.Computes.{ActingComputesOwn, AloneWaitsForNobody, AsksCarryFound, ComputesAnswerTold, ComputesAreOne, NopsAnswerAsked, NopsChangeNothing, OneComputeActs, OwnedUntilSettled, WaitsAreApart};
 
-/// Cites the law that in every reached state one call owns the computes of equal keys.
+/// In every reached state at most one call owns the computes of equal keys.
 pub fn computes_are_one<K: Eq, V, E>()
     ensures one { ComputesAreOne K V E K.eq }
 {}
 
-/// Cites the law that a compute asks, puts and takes out only while it owns the computes of its
-/// key.
+/// A compute asks, puts and takes out only while it owns the computes of its key.
 pub fn acting_computes_own<K: Eq, V, E>()
     ensures own { ActingComputesOwn K V E K.eq }
 {}
 
-/// Cites the law that while a call owns the computes of a key, no other asks, puts or takes out as
-/// a compute of an equal key.
+/// While a call owns the computes of a key, no other call asks, puts or takes out as a compute of
+/// an equal key.
 pub fn one_compute_acts<K: Eq, V, E>()
     ensures one { OneComputeActs K V E K.eq }
 {}
 
-/// Cites the law that a call that owns the computes of a key owns them until it settles.
+/// A call that owns the computes of a key owns them until it settles.
 pub fn owned_until_settled<K: Eq, V, E>()
     ensures owned { OwnedUntilSettled K V E K.eq }
 {}
 
-/// Cites the law that no compute waits for the owner of a load, and no load for the owner of a
-/// key's computes.
+/// No compute waits for the owner of a load, and no load for the owner of a key's computes.
 pub fn waits_are_apart<K: Eq, V, E>()
     ensures apart { WaitsAreApart K V E K.eq }
 {}
 
-/// Cites the law that a call that computes alone waits for no owner.
+/// A call that computes alone waits for no owner.
 pub fn alone_waits_for_nobody<K: Eq, V, E>()
     ensures waits { AloneWaitsForNobody K V E K.eq }
 {}
 
-/// Cites the law that a compute asks with the pair that its own look found as the owner, or with
-/// none where that look missed or the cache is disabled.
+/// A compute asks with the pair that its own look found as the owner, or with none where that look
+/// missed or the cache is disabled.
 pub fn asks_carry_found<K: Eq, V, E>()
     ensures found { AsksCarryFound K V E K.eq }
 {}
 
-/// Cites the law that from a told nop or error on no step of the compute changes the map.
+/// Once a compute was told nop or an error, none of its steps changes the map.
 pub fn nops_change_nothing<K: Eq, V, E>()
     ensures same { NopsChangeNothing K V E K.eq }
 {}
 
-/// Cites the law that a compute that was told nop answers the value that it was asked with.
+/// A compute that was told nop answers the value that it was asked with.
 pub fn nops_answer_asked<K: Eq, V, E>()
     ensures asked { NopsAnswerAsked K V E K.eq }
 {}
 
-/// Cites the law that a compute answers by what it was told, and never what another compute
-/// settled; or, where it computes alone beside an owner, what its look found.
+/// A compute answers by what it was told, and never what another compute settled. One that computes
+/// alone beside an owner answers what its look found.
 pub fn computes_answer_told<K: Eq, V, E>()
     ensures answers { ComputesAnswerTold K V E K.eq }
 {}

@@ -2,28 +2,28 @@
 
 ghost use Rattle.moka_laws.specs.Lawful.{EventIsLawful, LawfulRunGoesOn, ReachedIsLawful, RunIsLawful, StepsAreLawful};
 
-/// Cites the law that every reached state is lawful: each committed write stands in exactly one
-/// place, no other write stands anywhere, and no key and kind has two open initializers.
+/// Every reached state is lawful: each committed write stands in exactly one place, no other write
+/// stands anywhere, and no key and kind has two open initializers.
 pub fn reached_is_lawful<K: Eq, V, E>()
     ensures lawful { ReachedIsLawful K V E K.eq }
 {}
 
-/// Cites the law that steps of one call on a reached state go through lawful states.
+/// The steps of one call on a reached state go through lawful states.
 pub fn steps_are_lawful<K: Eq, V, E>()
     ensures lawful { StepsAreLawful K V E K.eq }
 {}
 
-/// Cites the law that an event on a reached state goes through lawful states.
+/// An event on a reached state goes through lawful states.
 pub fn event_is_lawful<K: Eq, V, E>()
     ensures lawful { EventIsLawful K V E K.eq }
 {}
 
-/// Cites the law that a run from a reached state goes through lawful states.
+/// A run from a reached state goes through lawful states.
 pub fn run_is_lawful<K: Eq, V, E>()
     ensures lawful { RunIsLawful K V E K.eq }
 {}
 
-/// Cites the law that a run through lawful states goes on by one event at its end.
+/// A run through lawful states goes on by one event at its end.
 pub fn lawful_run_goes_on<K: Eq, V, E>()
     ensures goes_on { LawfulRunGoesOn K V E K.eq }
 {}

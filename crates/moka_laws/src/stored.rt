@@ -2,12 +2,12 @@
 
 ghost use Rattle.moka_laws.specs.OwnKeys.{ReachedByLawfulRun, ReachedIsUnderOwnKeys};
 
-/// Cites the law that in every reached state each stored pair stands under its own key.
+/// In every reached state each stored pair stands under its own key.
 pub fn stored_under_own_keys<K: Eq, V, E>()
     ensures stored { ReachedIsUnderOwnKeys K V E K.eq }
 {}
 
-/// Cites the law that a run through lawful states on a reached state leaves a reached state.
+/// A run through lawful states on a reached state leaves a reached state.
 pub fn reached_by_lawful_run<K: Eq, V, E>()
     ensures reached { ReachedByLawfulRun K V E K.eq }
 {}

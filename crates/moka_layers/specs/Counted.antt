@@ -19,7 +19,7 @@ ended_alike joined None settled settled' e same =
     subst (λ j. is_some (option_and_then settled j) ≡ false) (sym e) refl
 ended_alike joined (Some owner) settled settled' e same =
     subst (λ j. is_some (option_and_then settled j) ≡ is_some (settled' owner)) (sym e)
-        (ap is_some (same owner))
+    (ap is_some (same owner))
 
 -- it is so in each world that they stand for
 pub counted : {K V E T C Q : Type 0} {same : PartialEq.Ghosts K} {hash : Hash.Ghosts K}

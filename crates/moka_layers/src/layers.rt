@@ -194,8 +194,8 @@ impl<
         self.access_waking(want, &mut woken)
     }
 
-    /// The same. The calls that its visit hands out stand in `woken` then; where it hands nobody
-    /// out, that is as it was.
+    /// Makes the access, as `access` does, and leaves in `woken` the calls that its visit hands
+    /// out. Where the visit hands nobody out, `woken` is as it was.
     pub fn access_waking(
         &mut self,
         want: Want<K, V, E>,

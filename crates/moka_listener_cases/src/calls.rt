@@ -54,7 +54,8 @@ pub(crate) fn once<R: Wait + RandomSource + AllocGlobal, L: Listener<u32, u32>>(
     Ok(asks.told(reply))
 }
 
-/// The same of an insert of the value under key 1.
+/// Polls an insert of the value under key 1 once, drops it where that is pending, and tells what it
+/// replied.
 pub(crate) fn insert_once<R: Wait + RandomSource + AllocGlobal, L: Listener<u32, u32>>(
     rt: &R,
     cache: &Heard<L>,

@@ -105,7 +105,7 @@ impl<K: Eq + Hash + Clone + Drop, V: Clone + Drop, E: Clone + Drop, T: Tests<K, 
         Ok(PlaceList::from_vec(places))
     }
 
-    /// The same places in another order, which is mostly that of the numbers: applied, logged,
+    /// Lists the places in another order, which is mostly that of the numbers: applied, logged,
     /// owed, held.
     fn unsorted(&self, alloc: Global) -> Result<Vec<(u64, Place)>, AllocError>
         ensures { IfOk result (λ places. (s : State K V E) → MachineIs K.eq T.Tests self.now s

@@ -43,9 +43,9 @@ impl<K: Eq + Hash + Clone + Drop, V: Clone + Drop, E: Clone + Drop, T: Tests<K, 
     ghost use Rattle.moka_machine.specs.Machine.{MachineIs, IsValid, ServesEvent, Stops};
     ghost use Rattle.moka_machine.specs.WantOfMemory.{MayStopIn};
 
-    /// A fresh cache of these rules, of which none is set but that a capacity and a listener may
-    /// be, with a log of this many writes: 1 to 65536. One of capacity 0 is disabled: it stores
-    /// nothing. Its calls ask these tests.
+    /// Builds a fresh cache of these rules, with a log of this many writes, 1 to 65536, and these
+    /// tests. Of the rules only a capacity and a listener may be set. A cache of capacity 0 is
+    /// disabled: it stores nothing.
     pub fn build(alloc: Global, rules: Rules, log: usize, tests: T) -> Result<Self, AllocError>
         requires rules { rules ≡ rules_from rules.max_capacity rules.listener }
         requires least { 1 ≤ log }

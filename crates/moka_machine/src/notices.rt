@@ -39,7 +39,7 @@ impl<K: Eq + Hash + Clone + Drop, V: Clone + Drop, E: Clone + Drop, T: Tests<K, 
         Ok(NoticeList::from_vec(notices))
     }
 
-    // The same in another order: as they were opened, and then those that are due.
+    // Lists the notices in another order: as they were opened, and then those that are due.
     fn unsorted_notices(&self, alloc: Global) -> Result<Vec<Notice<K, V>>, AllocError>
         requires keys { IsExact K.is_clone }
         requires values { IsExact V.is_clone }

@@ -34,7 +34,7 @@ pub fn give_back<T>(queue: &mut VecDeque<T>, room: usize)
     }
 }
 
-// The same, of a queue of many places.
+// Gives places of a queue back that has many.
 #[inline(never)]
 fn shrink<T>(queue: &mut VecDeque<T>, room: usize)
     requires { deque_len queue.old + room ≤ deque_capacity queue.old }

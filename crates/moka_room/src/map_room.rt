@@ -34,7 +34,7 @@ pub fn give_back<K: Eq + Hash, V>(map: &mut HashMap<K, V>, room: usize)
     }
 }
 
-// The same, of a map of many places.
+// Gives places of a map back that has many.
 #[inline(never)]
 fn shrink<K: Eq + Hash, V>(map: &mut HashMap<K, V>, room: usize)
     requires { room ≤ spare map.old }

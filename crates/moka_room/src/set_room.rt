@@ -34,7 +34,7 @@ pub fn give_back<K: Eq + Hash>(set: &mut HashSet<K>, room: usize)
     }
 }
 
-// The same, of a set of many places.
+// Gives places of a set back that has many.
 #[inline(never)]
 fn shrink<K: Eq + Hash>(set: &mut HashSet<K>, room: usize)
     requires { room ≤ spare set.old }

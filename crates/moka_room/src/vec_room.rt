@@ -31,7 +31,7 @@ pub fn give_back<T>(list: &mut Vec<T>, room: usize)
     }
 }
 
-// The same, of a vector of many places.
+// Gives places of a vector back that has many.
 #[inline(never)]
 fn shrink<T>(list: &mut Vec<T>, room: usize)
     requires { vec_len list.old + room ≤ vec_capacity list.old }

@@ -107,7 +107,7 @@ fn spellings_on(
     Ok(spelled)
 }
 
-/// The same on a fresh cache.
+/// The spellings in the replies to the events, on a fresh cache.
 fn spellings(alloc: Global, events: &[Event<Name, u32, u16>]) -> Result<String, AllocError> {
     let mut cache = Machine::build(alloc, RULES, LOG, NoTests)?;
     let spelled = spellings_on(alloc, &mut cache, events);

@@ -70,7 +70,8 @@ fn of_entry(entry: &Entry<Letter, u32>) -> (char, u32) {
     }
 }
 
-// The same of what a compute answers, with the value 0 where there is none.
+// How the key of what a compute answers is spelled, and its value: `.` where it has no key, and the
+// value 0 where there is none.
 fn of_done(done: &CompResult<Letter, u32>) -> (char, u32) {
     match done {
         CompResult::Inserted(entry) => of_entry(entry),

@@ -128,7 +128,7 @@ impl<K: Eq + Clone + Drop, V: Clone + Drop, E: Clone + Drop> Bare<K, V, E> {
         }
     }
 
-    // The same, where memory is left for it.
+    // Serves what is wanted, where memory is left for it: a look, or what is owed.
     fn serve(&mut self, want: Want<K, V, E>) -> Result<Got<K, V, E>, AllocError>
         requires { IsExact K.is_clone }
         ensures gives { IfOk result (λ given. (access : Access K V E)
@@ -207,7 +207,8 @@ impl<K: Eq + Clone + Drop, V: Clone + Drop, E: Clone + Drop> Ground<K, V, E> for
 
 impl<K: Eq + Clone + Drop, V: Clone + Drop, E: Clone + Drop> Alone<K, V, E> for Bare<K, V, E> {}
 
-// The same, where others may make accesses meanwhile: it stands for no world, and tells its call's.
+// A bare ground on which others may make accesses meanwhile: it stands for no world, and tells its
+// call's accesses.
 #[derive(Drop)]
 struct Shared<K, V, E> {
     bare: Bare<K, V, E>,

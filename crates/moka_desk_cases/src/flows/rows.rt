@@ -74,7 +74,8 @@ fn stepped(
     Ok(Some(left))
 }
 
-// The same, by the word for what the access gives.
+// One step of the flow, by the word for what the access gives: the turn that is left where the flow
+// wants this access.
 pub(crate) fn turn_after(
     flow: &mut Flow<u32, u32, u32>,
     access: &str,
