@@ -1,6 +1,6 @@
 //! What the program tells about itself.
 
-const VERSION: &str = "wudzghela 0.1.0\n";
+const VERSION: &str = "moka 0.1.0 (Wudzghela)\n";
 
 const HELP: &str = "\
 usage: moka play < SCHEDULE > REPORT
