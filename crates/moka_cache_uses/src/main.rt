@@ -4,6 +4,7 @@
 mod answers;
 mod cancelled;
 mod counter;
+mod first;
 mod heard;
 mod memo;
 mod pages;
@@ -25,6 +26,7 @@ fn main(rt: HostRuntime) -> ExitCode {
 
 /// Runs each use in a cache of its own, and prints what it answers.
 fn show_all<R: Wait + RandomSource + AllocGlobal + Print>(rt: &R, alloc: Global) -> io::Result<()> {
+    first::show(rt, alloc)?;
     memo::show(rt, alloc)?;
     settings::show(rt, alloc)?;
     pages::show(rt, alloc)?;
