@@ -13,9 +13,9 @@ fn load_twice<'a, R: Wait + RandomSource + AllocGlobal>(
     rt: &'a R,
     cache: &'a Cache<u32, u32, u32>,
 ) -> io::Result<Both<Result<u32, RetriesExhausted>>> {
-    let asked = After { polls: 2, gives: 9 };
-    let unasked = After { polls: 2, gives: 8 };
-    both(rt, cache.get_with(1, asked), cache.get_with(1, unasked))
+    let first = cache.get_with(1, After { polls: 2, gives: 9 });
+    let second = cache.get_with(1, After { polls: 2, gives: 8 });
+    both(rt, first, second)
 }
 
 /// Loads a key for two callers at once.
