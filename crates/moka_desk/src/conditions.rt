@@ -19,9 +19,9 @@ impl<K: Eq + Hash + Exact, V: Drop, E: Drop> Desk<K, V, E> {
     ghost use Rattle.moka_desk.specs.Past.{AllowsAlike};
     ghost use Rattle.moka_desk.specs.StandsFor.{StandsFor};
 
-    /// Whether the desk allows the call each visit that needs this. Without a history it may have
-    /// forgotten that a write of the call's number was applied, or that its notice has ended. It
-    /// answers true then, and stands for a state as well where none was.
+    /// Whether the desk allows the call each visit that needs this. A desk without a history may
+    /// have forgotten that a write of the call's number was applied, or that its notice has ended.
+    /// It answers true then, and stands for a state where neither was, too.
     pub fn has(&self, call: u64, need: Need<K>) -> bool
         ensures exact { (is_recalled need || keeps_history self.now) ≡ true
             → (w : DeskPart K V E) (visit : Visit K V E) → StandsFor K.eq self.now w
@@ -66,8 +66,8 @@ impl<K: Eq + Hash + Exact, V: Drop, E: Drop> Desk<K, V, E> {
         }
     }
 
-    /// Whether the owner that the call waits for, if it does, has not ended, or ended as one of this
-    /// kind may.
+    /// Whether the owner that the call waits for, if it waits for one, has not ended, or has ended
+    /// as an owner of this kind may.
     pub fn ended_as(&self, call: u64, kind: Kind) -> bool
         ensures { (w : DeskPart K V E) → StandsFor K.eq self.now w
             → IsTrue result ↔ EndedAs w call kind }

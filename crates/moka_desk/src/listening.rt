@@ -59,9 +59,9 @@ impl<K: Eq + Hash + Exact, V: Drop, E: Drop> Desk<K, V, E> {
         Ok(true)
     }
 
-    /// Frees the lock that the call holds, and hands out all that wait for it. A pending moment of
-    /// the call ends. Where nothing was written under the lock (`wrote` is false) the places that
-    /// the call has for a write are given back; it took none up then.
+    /// Frees the lock that the call holds, and hands out all calls that wait for it. A pending
+    /// moment of the call ends. Where nothing was written under the lock (`wrote` is false), gives
+    /// the call's places for a write back; the call took no owed write up then.
     pub fn unlock_key(&mut self, call: u64, wrote: bool) -> CallList
         requires { Can K.eq self.old (visit.UnlockKey call wrote) }
         ensures makes { Makes K.eq self.old (visit.UnlockKey call wrote) self.new }
@@ -76,11 +76,11 @@ impl<K: Eq + Hash + Exact, V: Drop, E: Drop> Desk<K, V, E> {
         self.waits.locks.hand_out(call)
     }
 
-    /// Opens the notice of the call's number, which has none yet, for a record that its write took
-    /// out: the record of this stamp, last written at the moment `modified`, in nanoseconds.
-    /// Answers why it left: for the cause handed in, or else as `upsert` says whether a write took
-    /// its place. Where the listener is off the notice is skipped, and the answer None. A pending
-    /// moment of the call ends.
+    /// Opens the notice of the call's number for a record that its write took out: the record of
+    /// this stamp, last written at the moment `modified`, in nanoseconds. Answers why the record
+    /// left: the cause handed in, or else, by `upsert`, that of a record that a write replaced or a
+    /// call took out. Where the listener is off the notice is skipped, and the answer is None. The
+    /// call has no notice yet, and its pending moment ends.
     pub fn open_notice(
         &mut self,
         call: u64,
@@ -142,8 +142,8 @@ impl<K: Eq + Hash + Exact, V: Drop, E: Drop> Desk<K, V, E> {
         Ok(true)
     }
 
-    /// Ends the notice of this number, of which the listener was asked, turns the listener off, if
-    /// `off`, and hands out all that wait for the end. One that has ended stays so.
+    /// Ends the notice of this number, of which the listener was asked, and hands out all calls
+    /// that wait for its end. Turns the listener off, if `off`. A notice that has ended stays so.
     pub fn end_notice(&mut self, notice: u64, off: bool) -> CallList
         requires { (w : DeskPart K V E) × StandsFor K.eq self.old w × MayEnd (w.notices notice) }
         ensures makes { (w : DeskPart K V E) → StandsFor K.eq self.old w → MayEnd (w.notices notice)
@@ -171,10 +171,11 @@ impl<K: Eq + Hash + Exact, V: Drop, E: Drop> Desk<K, V, E> {
         }
     }
 
-    /// Judges whether the record of this stamp, last written at the moment `modified`, in
-    /// nanoseconds, that was chosen to leave for `cause` has still to, by the clock: `Size` holds
-    /// where a capacity is set, `Expired` past its time to live or to idle, `Replaced` never, and
-    /// `Explicit` not yet, since no record is hidden or hit by an invalidation.
+    /// Judges by the clock whether the record that was chosen to leave for `cause` still has to.
+    /// The record has this stamp, and was last written at the moment `modified`, in nanoseconds.
+    /// `Size` holds where a capacity is set, `Expired` past its time to live or to idle, and
+    /// `Replaced` never. `Explicit` does not hold yet, since no invalidation hides or hits a
+    /// record.
     pub fn holds(&self, stamp: u64, modified: u64, cause: Cause) -> bool
         ensures { (w : DeskPart K V E) → StandsFor K.eq self.now w
             → result ≡ chosen_holds w.rules (times_at w stamp modified) false cause }

@@ -29,8 +29,8 @@ impl<K: Eq + Hash + Exact, V: Drop, E: Drop> Desk<K, V, E> {
     ghost use Rattle.moka_desk.specs.StandsFor.{StandsFor, Can, CanLeave, Finds, Becomes, Makes, Stays};
     ghost use Rattle.moka_desk.specs.ListedMiss.{MissAfter, MissWith};
 
-    /// Makes the call the owner of a load that nobody owns, or lets it wait for the owner. It owns
-    /// nothing and waits for nobody before. An owner gets the place of its settlement.
+    /// Makes the call the owner of a load that nobody owns, or lets it wait for the owner. An owner
+    /// gets the place of its settlement. Before that the call owns nothing and waits for nobody.
     pub fn wait_or_own(&mut self, call: u64, load: Load<K>) -> Result<Claim, AllocError>
         requires free { Can K.eq self.old (visit.WaitOrOwn call load.key load.kind) }
         ensures finds { IfOk result (λ claim. Finds K.eq self.old
@@ -49,9 +49,9 @@ impl<K: Eq + Hash + Exact, V: Drop, E: Drop> Desk<K, V, E> {
         self.loads.claim(call, load)
     }
 
-    /// Makes the call the owner of the key's computes, where there is none. Answers whether another
-    /// call is; nothing has changed then. It owns nothing and waits for nobody before. An owner gets
-    /// the place of its settlement.
+    /// Makes the call the owner of the key's computes, where no call is. Answers whether another
+    /// call is; nothing has changed then. An owner gets the place of its settlement. Before that
+    /// the call owns nothing and waits for nobody.
     pub fn owned(&mut self, call: u64, key: K) -> Result<bool, AllocError>
         requires free { Can K.eq self.old (visit.OwnAlone call key) }
         ensures finds { IfOk result (λ owned. Finds K.eq self.old (visit.OwnAlone call key)
@@ -70,8 +70,8 @@ impl<K: Eq + Hash + Exact, V: Drop, E: Drop> Desk<K, V, E> {
         self.loads.claim_alone(call, Load { key, kind })
     }
 
-    /// Reads how the owner ended that the call waits for. Answers NotYet where it has not ended. A
-    /// call that has read it waits no longer, and the last one takes it away.
+    /// Reads how the owner ended that the call waits for, or answers NotYet where it has not ended.
+    /// A call that has read the end waits no longer, and the last one takes the end away.
     pub fn read_settled(&mut self, call: u64) -> Result<Settled<V, E>, AllocError>
     where
         V: Exact,
@@ -105,7 +105,7 @@ impl<K: Eq + Hash + Exact, V: Drop, E: Drop> Desk<K, V, E> {
         Ok(settlement)
     }
 
-    /// Ends the call's ownership of a load, keeps how it ended for those that wait for it, and
+    /// Ends the call's ownership of a load, keeps how it ended for the calls that wait for it, and
     /// hands these out.
     pub fn settle(&mut self, call: u64, with: Settled<V, E>) -> CallList
         requires { Can K.eq self.old (visit.Settle call with) }
@@ -120,7 +120,7 @@ impl<K: Eq + Hash + Exact, V: Drop, E: Drop> Desk<K, V, E> {
         self.waits.settlements.hand_out(call)
     }
 
-    /// Opens the call's ask, with the place of its answer. The call has no other one.
+    /// Opens the call's ask, with a place for its answer. The call has no other ask.
     pub fn open_ask(&mut self, call: u64, takes: Takes) -> Result<(), AllocError>
         requires { Can K.eq self.old (visit.OpenAsk call takes) }
         ensures makes { OnOk result (Makes K.eq self.old (visit.OpenAsk call takes) self.new) }
@@ -135,9 +135,9 @@ impl<K: Eq + Hash + Exact, V: Drop, E: Drop> Desk<K, V, E> {
         self.asks.open(call, takes)
     }
 
-    /// Closes the ask of this number by an answer that it takes: what an initializer gives, or a
-    /// compute is told, is kept for the call, and a listener's answer ends the notice of that
-    /// number. Hands out all that wait for it. Answers None where no such ask is open; nothing has
+    /// Closes the ask of this number by an answer that it takes, and hands out all calls that wait
+    /// for it. What an initializer gives, or a compute is told, is kept for the call; a listener's
+    /// answer ends the notice of that number. Answers None where no such ask is open; nothing has
     /// changed then.
     pub fn tell(&mut self, number: u64, answer: Told<V, E>) -> Option<CallList>
         ensures finds { (w : DeskPart K V E) → StandsFor K.eq self.old w →
@@ -199,10 +199,10 @@ impl<K: Eq + Hash + Exact, V: Drop, E: Drop> Desk<K, V, E> {
         self.asks.take(call)
     }
 
-    /// Lets a dropped call leave: the write that it held, and hands in, is owed, with its notice
-    /// where that still runs; its ask is closed, and its lock free; it waits for nobody; and those
-    /// that wait for it read that it was dropped. A listener that it asked is still asked. Hands
-    /// out those that wait for its load, and then those that wait for its lock.
+    /// Lets a dropped call leave. The write that it held, and hands in, is owed, with its notice
+    /// where that still runs. Its ask is closed, its lock is free, it waits for nobody, and the
+    /// calls that wait for it read that it was dropped. A listener that it asked is still asked.
+    /// Hands out the calls that wait for its load, and then those that wait for its lock.
     pub fn leave(&mut self, call: u64, held: Option<Owed>) -> CallList
         requires { CanLeave K.eq self.old call (option_map (λ o. o.write) held) }
         ensures makes { (w : DeskPart K V E) → StandsFor K.eq self.old w

@@ -46,8 +46,8 @@ impl<K: Eq + Hash + Exact, V: Drop, E: Drop> Desk<K, V, E> {
     ghost use Rattle.moka_desk.specs.Waits.{NobodyMoves};
     ghost use Rattle.moka_desk.specs.WakeList.{is_on, wake_list, ListedAreUnwoken, NobodyWakes};
 
-    /// A desk by these rules, where nothing has happened, with a log of this many writes, that keeps
-    /// a history: the applied writes, each notice, and when each record was seen.
+    /// Makes a desk by these rules, where nothing has happened, with a log of this many writes. It
+    /// keeps a history: the applied writes, each notice, and when each record was seen.
     pub fn new(alloc: Global, rules: Rules, log: usize) -> Result<Self, AllocError>
         ensures stands { IfOk result (λ desk. (tests : ℕ → K → V → Bool)
             → StandsFor K.eq desk (fresh_desk K V E rules log tests)) }
@@ -58,7 +58,7 @@ impl<K: Eq + Hash + Exact, V: Drop, E: Drop> Desk<K, V, E> {
         Desk::starting_after(alloc, rules, log, 0)
     }
 
-    /// A desk with a history, where this call number and those before it were given out.
+    /// Makes a desk with a history, where this call number and those before it were given out.
     pub fn starting_after(
         alloc: Global,
         rules: Rules,
@@ -250,8 +250,8 @@ impl<K: Eq + Hash + Exact, V: Drop, E: Drop> Desk<K, V, E> {
         self.moments || reads_moments(&self.rules)
     }
 
-    /// Whether the call was handed out, and has since neither come back to the visit that it waited
-    /// at nor left.
+    /// Whether the call was handed out, and since then has neither come back to the visit at which
+    /// it waited nor left.
     pub fn is_woken(&self, call: u64) -> bool
         ensures woken { result ≡ is_on (wake_list self.now) call }
         ensures once { ListedAreUnwoken self.now }

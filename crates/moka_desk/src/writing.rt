@@ -23,8 +23,8 @@ impl<K: Eq + Hash + Exact, V: Drop, E: Drop> Desk<K, V, E> {
     ghost use Rattle.moka_desk.specs.WakeList.{NobodyWakes, TurnsWake};
     ghost use Rattle.moka_desk.specs.Woken.{all_but, and_calls};
 
-    /// Gives the clock's moment, in nanoseconds. Places that the call has for a write, and doesn't
-    /// need, are given back: it took no write up.
+    /// Gives the clock's moment, in nanoseconds. Gives back the places that the call has for a
+    /// write and doesn't need: it took no owed write up.
     pub fn read_clock(&mut self, call: u64) -> u64
         requires { Can K.eq self.old (visit.Clock call) }
         ensures finds { Finds K.eq self.old (visit.Clock call) (found.Clock result) }
@@ -81,10 +81,10 @@ impl<K: Eq + Hash + Exact, V: Drop, E: Drop> Desk<K, V, E> {
         self.writes.decide(call);
     }
 
-    /// Judges whether the record of this stamp, written at the moment `modified`, is seen by a call
-    /// whose replace test holds on it, if `replaced`: it is seen where that is false. The access
-    /// moment of a record that is seen is raised to the clock where moments are kept; only that
-    /// may want memory.
+    /// Judges whether a call sees the record of this stamp, written at the moment `modified`: it
+    /// does, unless its replace test holds on the record (`replaced`). The access moment of a
+    /// record that is seen is raised to the clock, where moments are kept; only that may want
+    /// memory.
     pub fn judge(&mut self, replaced: bool, stamp: u64, modified: u64) -> Result<bool, AllocError>
         ensures finds { IfOk result (λ seen. seen ≡ not replaced) }
         ensures makes { OnOk result (Becomes K.eq self.old
@@ -129,8 +129,8 @@ impl<K: Eq + Hash + Exact, V: Drop, E: Drop> Desk<K, V, E> {
         Ok(())
     }
 
-    /// Appends the write, which the call holds, to the log. Answers false where the log is full;
-    /// the call goes on holding it then. A pending moment of the call ends in either case.
+    /// Appends the write that the call holds to the log. Answers false where the log is full; the
+    /// call goes on holding the write then. A pending moment of the call ends in either case.
     pub fn post_write(&mut self, call: u64, write: Write) -> bool
         requires { Can K.eq self.old (visit.PostWrite call write) }
         ensures finds { Finds K.eq self.old (visit.PostWrite call write) (found.PostWrite result) }
@@ -143,8 +143,8 @@ impl<K: Eq + Hash + Exact, V: Drop, E: Drop> Desk<K, V, E> {
         self.writes.post(call, write)
     }
 
-    /// Takes the maintenance turn for the call, which has it not. Answers false where another call
-    /// has it; the call waits for it then, and only there memory may be wanting.
+    /// Takes the maintenance turn for the call, which doesn't have it. Answers false where another
+    /// call has it; the call waits for it then, and only there memory may be wanting.
     pub fn take_turn(&mut self, call: u64) -> Result<bool, AllocError>
         requires { Can K.eq self.old (visit.TakeTurn call) }
         ensures finds { IfOk result (λ taken. Finds K.eq self.old (visit.TakeTurn call)
@@ -199,8 +199,8 @@ impl<K: Eq + Hash + Exact, V: Drop, E: Drop> Desk<K, V, E> {
         self.writes.apply_one()
     }
 
-    /// Publishes how many applied upserts stand unreplaced, and gives up the turn, which the call
-    /// has. Hands out all that wait for it.
+    /// Publishes how many applied upserts stand unreplaced, gives up the turn, which the call has,
+    /// and hands out all calls that wait for it.
     pub fn end_turn(&mut self, call: u64) -> CallList
         requires { Can K.eq self.old (visit.EndTurn call) }
         ensures makes { Makes K.eq self.old (visit.EndTurn call) self.new }

@@ -13,7 +13,7 @@ pub struct Entry<K, V> {
 }
 
 impl<K, V> Entry<K, V> {
-    /// Its key, which is there.
+    /// The key of the entry, which is there.
     pub fn key(&self) -> &K
         requires { IsSome self.now.key }
         ensures { Some result.now ≡ self.now.key }
@@ -24,7 +24,7 @@ impl<K, V> Entry<K, V> {
         }
     }
 
-    /// Its value.
+    /// The value of the entry.
     pub fn value(&self) -> &V
         ensures { result.now ≡ self.now.value }
     {

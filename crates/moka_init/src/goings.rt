@@ -13,9 +13,9 @@ use moka_hist::Turn;
 use moka_values::Exact;
 use std::alloc::AllocError;
 
-/// Makes one step: exactly the access that the flow wants. Condition: the flow has not answered,
-/// and the ground is that of its call, and serves what it wants. After want of memory flow and
-/// ground are as before.
+/// Makes one step: exactly the access that the flow wants. After want of memory flow and ground are
+/// as before. Precondition: the flow has not answered, and the ground is that of its call, and
+/// serves what it wants.
 pub fn step<K: Eq + Exact, V: Exact, E: Exact, G: Ground<K, V, E>>(
     flow: &mut Flow<K, V, E>,
     ground: &mut G,
@@ -57,10 +57,10 @@ pub struct Unfinished {
     pub steps: u64,
 }
 
-/// Makes steps up to the first turn that isn't Going. Condition: the flow has not answered; the
-/// ground is that of its call, and has what each of its steps needs, as long as it goes on; and its
-/// log has room for a write once it is empty, without which a write would never be posted. After
-/// want of memory the steps made so far stand.
+/// Makes steps up to the first turn that isn't Going. After want of memory the steps made so far
+/// stand. Precondition: the flow has not answered; the ground is that of its call, and has what
+/// each of its steps needs, as long as it goes on; and its log has room for a write once it is
+/// empty, without which a write would never be posted.
 pub fn poll<K: Eq + Exact, V: Exact, E: Exact, G: Alone<K, V, E>>(
     flow: &mut Flow<K, V, E>,
     ground: &mut G,

@@ -29,8 +29,8 @@ pub trait Ground<K: Eq + Exact, V: Exact, E: Exact> {
     /// What stays of it, whatever its call accesses there.
     ghost keeps: { Self → Self → Type 0 };
 
-    /// Makes the wanted access, and no other. Condition: the want fits. After want of memory
-    /// nothing has changed.
+    /// Makes the wanted access, and no other. After want of memory nothing has changed.
+    /// Precondition: the want fits.
     fn access(&mut self, want: Want<K, V, E>) -> Result<Got<K, V, E>, AllocError>
         requires fits { fits self.old want }
         // What it gives, and what is told then.

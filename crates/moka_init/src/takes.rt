@@ -12,10 +12,10 @@ use moka_hist::{Answer, Ask, Found, Got, Mode, TableTurn, Turn};
 use std::mem;
 
 impl<K: Drop, V: Drop, E: Drop> Flow<K, V, E> {
-    /// Goes on with what the access gave that `want` told. It moves, and takes no memory.
-    /// Condition: the call has not answered, `want` has made the copies that the flow keeps, and
-    /// the answer is of the form that belongs to that access. A call that has answered has nothing
-    /// left to do, and holds no write.
+    /// Goes on with what the access gave that `want` told. It moves, and takes no memory. A call
+    /// that has answered has nothing left to do, and holds no write. Precondition: the call has not
+    /// answered, `want` has made the copies that the flow keeps, and the answer is of the form that
+    /// belongs to that access.
     pub fn take(&mut self, got: Got<K, V, E>) -> Turn<K, V, E>
         requires live { IsLive self.old }
         requires ready { IsReady self.old }

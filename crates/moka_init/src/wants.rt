@@ -25,9 +25,9 @@ use std::alloc::AllocError;
 use std::mem;
 
 impl<K: Exact, V: Exact, E: Exact> Flow<K, V, E> {
-    /// The flow's next access. It makes the clones that the access needs, and leaves the flow; but
-    /// where a pair is needed twice, for the ask and for the answer, the flow keeps a clone of it.
-    /// Condition: the call has not answered.
+    /// Tells the flow's next access, with the clones that it needs, and leaves the flow. Where a
+    /// pair is needed twice, for the ask and for the answer, the flow keeps a clone of it.
+    /// Precondition: the call has not answered.
     pub fn want(&mut self) -> Result<Want<K, V, E>, AllocError>
         requires live { IsLive self.old }
         ensures want { IfOk result (λ want. want ≡ wish_of self.old) }

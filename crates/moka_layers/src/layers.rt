@@ -166,9 +166,9 @@ impl<
         Ok(Got::Desk(found))
     }
 
-    /// Makes the wanted access. After want of memory the layers stand for what they stood for. What
-    /// other calls have begun they may still go on with, whatever is accessed. Where the table
-    /// always decides at once, as the plain one does, each access does.
+    /// Makes the wanted access. After want of memory the layers stand for what they stood for.
+    /// Whatever is accessed, other calls may go on with what they have begun. Where the table
+    /// always decides at once, as the plain one does, each access decides.
     pub fn access(&mut self, want: Want<K, V, E>) -> Result<Got<K, V, E>, AllocError>
         requires keys { IsExact K.is_clone }
         requires values { IsExact V.is_clone }

@@ -77,8 +77,8 @@ impl<K: Eq + Hash + Clone + Drop, V: Clone + Drop, E: Clone + Drop, T: Tests<K, 
         }
     }
 
-    /// Carries one event out, or refuses it. Want of memory tells how many steps of a poll were
-    /// made; of any other event nothing was done then.
+    /// Carries one event out, or refuses it. At want of memory it tells how many steps of a poll
+    /// were made; of any other event nothing was done then.
     pub fn serve(&mut self, event: &Event<K, V, E>) -> Result<Reply<K, V, E>, Unfinished>
         requires keys { IsExact K.is_clone }
         requires values { IsExact V.is_clone }
