@@ -96,9 +96,7 @@ module _ {K V E : Type 0} where
 
   goes_well : (c : Call K V E) (rest : List (Item K V E)) → EndsWell rest → LeftWell (goes c rest).left
   goes_well c (plan.Reply a ∷ []) h = tt
-  goes_well c (plan.Reply a ∷ x ∷ rest) h = h
-  goes_well c [] h = h
-  goes_well c (_ ∷ rest) h = h
+  goes_well c _ h = h
 
   fresh_ends : (rules : Rules) (p : List (Item K V E)) → IsFresh rules p → EndsWell p
   fresh_ends rules p (Disabled a d plain) = tt

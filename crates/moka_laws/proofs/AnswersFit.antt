@@ -190,9 +190,7 @@ module _ {K V E : Type 0} (begin : Start K V) where
   module _ (c : Call K V E) where
     goes_suits : (rest : List (Item K V E)) → AllSuit rest → Leaves (goes c rest)
     goes_suits (plan.Reply a ∷ []) q = answers_so a _ refl refl q.0
-    goes_suits (plan.Reply a ∷ x ∷ rest) q = on _ (λ b e. cc) q
-    goes_suits [] q = on _ (λ b e. cc) q
-    goes_suits (item ∷ rest) q = on _ (λ b e. cc) q
+    goes_suits _ q = on _ (λ b e. cc) q
 
     keeps_suit : May answer.Kept → Leaves (keeps c)
     keeps_suit may = kept_next Leaves c (λ off. answers_so answer.Kept _ refl refl may)

@@ -210,8 +210,7 @@ module _ {K V E : Type 0} (eq : K → K → Bool) (begin : Start K V) (key : K) 
   stage_on s v f (plan.Judge (plan.To_show (plan.As_report own)) there stored ∷ []) h =
       (h.0, h.1, made_on eq s v n _ f.led h.2, made_on eq s v n _ f.led h.3)
   stage_on s v f (plan.Reply a ∷ []) h = says_on s v a f.led f.rules h
-  stage_on s v f [] h = absurd h
-  stage_on s v f (_ ∷ rest) h = absurd h
+  stage_on s v f _ h = absurd h
 
   -- a call that may have ended is so far, and goes by the rules of the cache
   abbrev pub StageIf : State K V E → Option (Call K V E) → Type 0
@@ -732,8 +731,7 @@ module _ {K V E : Type 0} (eq : K → K → Bool) (begin : Start K V) (key : K) 
         )
     on_stage (plan.Reply a ∷ []) e st = outcomes eq Shows s.world n c (plan.Reply a) []
         (go_on _ (plan.Reply a ∷ []) refl refl (inl refl) st)
-    on_stage [] e st = absurd st
-    on_stage (_ ∷ rest) e st = absurd st
+    on_stage _ e st = absurd st
 
   pub stage_step : (s t : State K V E) (turn : Turn K V E) → IsReached eq s →
       StageIf s (s.calls n) → Step eq s n turn t → Result s t turn

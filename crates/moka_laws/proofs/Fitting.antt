@@ -144,9 +144,7 @@ module _ {K V E : Type 0} where
     goes_fit : (c : Call K V E) (rest : List (Item K V E)) → AllFit owned rest →
         AllFit owned (plan_left (goes c rest).left)
     goes_fit c (plan.Reply a ∷ []) q = tt
-    goes_fit c (plan.Reply a ∷ x ∷ rest) q = q
-    goes_fit c [] q = q
-    goes_fit c (_ ∷ rest) q = q
+    goes_fit c _ q = q
 
     keeps_fit : (c : Call K V E) → AllFit owned (plan_left (stays c).left)
     keeps_fit c = kept_next (λ v. AllFit owned (plan_left v.left)) c (λ off. tt)

@@ -178,9 +178,7 @@ module _ {K V E : Type 0} where
 
     goes_holds : (c : Call K V E) (rest : List (Item K V E)) → HoldsAs n h rest → HoldsAs n h (plan_left (goes c rest).left)
     goes_holds c (plan.Reply a ∷ []) q = q.0
-    goes_holds c (plan.Reply a ∷ x ∷ rest) q = q
-    goes_holds c [] q = q
-    goes_holds c (_ ∷ rest) q = q
+    goes_holds c _ q = q
 
     hits_holds : (c : Call K V E) (aim : Aim K V) (there : K) (value : V) → HoldsAs n h c.plan →
         h ≡ None →

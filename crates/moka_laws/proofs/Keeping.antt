@@ -96,9 +96,7 @@ module _ {K V E : Type 0} where
       (goes c rest)
   goes_quiet c (plan.Reply a ∷ []) h = record
       { left = refl; turn = answers_quiet a (omega (arith, h)) }
-  goes_quiet c (plan.Reply a ∷ x ∷ rest) h = record { left = h; turn = λ e. cc }
-  goes_quiet c [] h = record { left = h; turn = λ e. cc }
-  goes_quiet c (_ ∷ rest) h = record { left = h; turn = λ e. cc }
+  goes_quiet c _ h = record { left = h; turn = λ e. cc }
 
   hits_quiet : (c : Call K V E) (aim : Aim K V) (key : K) (seen : Stored V) → keeping
       (plan.Judge aim key seen) ≡ 0 → Quiet (hits c aim key seen.value)

@@ -130,8 +130,7 @@ module _ {K V E : Type 0} where
       (goes c rest).turn ≢ turn.Ask a
   goes_asks c [] a e = cc
   goes_asks c (plan.Reply said ∷ []) a e = cc
-  goes_asks c (plan.Reply said ∷ x ∷ rest) a e = cc
-  goes_asks c (_ ∷ rest) a e = cc
+  goes_asks c _ a e = cc
 
   -- what is so of the call that is left is so of the call that lives then
   lives : (calls : ℕ → Option (Call K V E)) (n : ℕ) (left : Option (Call K V E))

@@ -165,15 +165,11 @@ module _ {K V E : Type 0} where
 
   goes_rules : (c : Call K V E) (rest : List (Item K V E)) → SameRules c (goes c rest).left
   goes_rules c (plan.Reply a ∷ []) = tt
-  goes_rules c (plan.Reply a ∷ x ∷ rest) = refl
-  goes_rules c [] = refl
-  goes_rules c (_ ∷ rest) = refl
+  goes_rules c _ = refl
 
   goes_locks : (b : Bool) (l : Option K) (c : Call K V E) (rest : List (Item K V E)) → Locks b l rest → Locks b l (plan_left (goes c rest).left)
   goes_locks b l c (plan.Reply a ∷ []) q = like b l q (λ e. refl) (λ o. tt) (λ k i. i)
-  goes_locks b l c (plan.Reply a ∷ x ∷ rest) q = q
-  goes_locks b l c [] q = q
-  goes_locks b l c (_ ∷ rest) q = q
+  goes_locks b l c _ q = q
 
   -- What a step has to show: what this call locks then, and that the others' locks are as they were.
   record Leaves (d : DeskPart K V E) (n : ℕ) (c : Call K V E) (rules : Rules) (locked : ℕ → Option K) (left : Option (Call K V E)) : Type 0 where

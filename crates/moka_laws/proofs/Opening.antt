@@ -112,9 +112,7 @@ module _ {K V E : Type 0} where
   goes_late : (c : Call K V E) (rest : List (Item K V E)) →
       lates (plan_left (goes c rest).left) ≡ lates rest
   goes_late c (plan.Reply a ∷ []) = refl
-  goes_late c (plan.Reply a ∷ x ∷ rest) = refl
-  goes_late c [] = refl
-  goes_late c (_ ∷ rest) = refl
+  goes_late c _ = refl
 
   -- a compute ends no load
   computed_ends : (a : Answer K V E) → IsComputed a → ends_load settled.Nothing a ≡ 0
@@ -134,9 +132,7 @@ module _ {K V E : Type 0} where
 
   goes_not : (c : Call K V E) (rest : List (Item K V E)) → (goes c rest).turn ≡ turn.Ask ask.Init → ⊥
   goes_not c (plan.Reply a ∷ []) e = cc
-  goes_not c (plan.Reply a ∷ x ∷ rest) e = cc
-  goes_not c [] e = cc
-  goes_not c (item ∷ rest) e = cc
+  goes_not c _ e = cc
 
   fresh_quiet : (rules : Rules) (p : List (Item K V E)) → IsFresh rules p → lates p ≡ 0
   fresh_quiet rules p (Disabled a d plain) = refl

@@ -181,9 +181,7 @@ module _ {K V E : Type 0} where
     goes_owns : (c : Call K V E) (rest : List (Item K V E)) → Owns owners n rest →
         Owns owners n (plan_left (goes c rest).left)
     goes_owns c (plan.Reply a ∷ []) o = owns_none [] refl
-    goes_owns c (plan.Reply a ∷ x ∷ rest) o = o
-    goes_owns c [] o = o
-    goes_owns c (item ∷ rest) o = o
+    goes_owns c _ o = o
 
     goes_none : (c : Call K V E) (rest : List (Item K V E)) → weigh owning rest ≡ 0 →
         Owns owners n (plan_left (goes c rest).left)
@@ -210,8 +208,6 @@ module _ {K V E : Type 0} where
     unseen_owns c d (plan.To_load sought) key stored rest e o =
         owns_none (plan.Own sought ∷ []) refl
     unseen_owns c d (plan.To_own sought) key stored rest e o =
-        record { first = o.first; later = refl }
-    unseen_owns c d (plan.To_compute compute) key stored rest e o =
         record { first = o.first; later = refl }
     unseen_owns c d _ key stored rest e o = absurd (false≢true (sym e))
 

@@ -68,9 +68,7 @@ module _ {K V E : Type 0} where
         by : (rest : List (Item K V E)) → (a : Answer K V E) → (goes c rest).turn ≡ turn.Answer a →
             (goes c rest).left ≡ None
         by (plan.Reply b ∷ []) a e = refl
-        by (plan.Reply b ∷ x ∷ rest) a e = cc
-        by [] a e = cc
-        by (_ ∷ rest) a e = cc
+        by _ a e = cc
 
     -- the call goes on with nothing to post
     clear_parts : {next : Next K V E} → ((x : ℕ) → weigh_call (post_of x) next.left ≡ 0) →

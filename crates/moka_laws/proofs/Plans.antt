@@ -122,8 +122,7 @@ module _ {K V E : Type 0} where
   goes_known : (c : Call K V E) (rest : List (Item K V E)) → c.aborts < retries → IsPlan rest → KnownIf (goes c rest).left
   goes_known c [] y p = record { plan = p; young = y }
   goes_known c (plan.Reply a ∷ []) y p = tt
-  goes_known c (plan.Reply a ∷ x ∷ rest) y p = record { plan = p; young = y }
-  goes_known c (item ∷ rest) y p = record { plan = p; young = y }
+  goes_known c _ y p = record { plan = p; young = y }
 
   keeps_known : (c : Call K V E) → c.aborts < retries → KnownIf (keeps c).left
   keeps_known c y = kept_next (λ v. KnownIf v.left) c (λ off. tt)

@@ -85,9 +85,7 @@ module _ {K V E : Type 0} where
 
   pub late_goes : (c : Call K V E) (rest : List (Item K V E)) → late_call (goes c rest).left ≡ late rest
   late_goes c (plan.Reply a ∷ []) = refl
-  late_goes c (plan.Reply a ∷ x ∷ rest) = refl
-  late_goes c [] = refl
-  late_goes c (_ ∷ rest) = refl
+  late_goes c _ = refl
 
   -- where no write is posted none is posted late
   pub late_none : (rest : List (Item K V E)) → weigh any_post rest ≡ 0 → late rest ≡ 0

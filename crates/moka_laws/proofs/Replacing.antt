@@ -237,9 +237,7 @@ module _ {K V E : Type 0} where
 
   goes_mid : (c : Call K V E) (rest : List (Item K V E)) → MidIf (goes c rest).left
   goes_mid c (plan.Reply a ∷ []) = tt
-  goes_mid c (plan.Reply a ∷ x ∷ rest) = refl
-  goes_mid c [] = refl
-  goes_mid c (_ ∷ rest) = refl
+  goes_mid c _ = refl
 
   -- What a step has to show: what this call and the desk have of replacing writes changes by what
   -- this call's notice does, and the other notices are as they were; a call that is to open its

@@ -81,9 +81,7 @@ module _ {K V E : Type 0} where
   module _ (o : Option (Load K)) (j : Option ℕ) where
     pub goes_fits : (c : Call K V E) (rest : List (Item K V E)) → Fits o j rest → Fits o j (plan_left (goes c rest).left)
     goes_fits c (plan.Reply a ∷ []) f = record { last = tt; owning = omega (arith, f.owning); waiting = f.waiting }
-    goes_fits c (plan.Reply a ∷ x ∷ rest) f = f
-    goes_fits c [] f = f
-    goes_fits c (item ∷ rest) f = f
+    goes_fits c _ f = f
 
     pub keeps_fits : (c : Call K V E) → ◌≡◌ {A = ℕ} (cond (is_some o) 1 0) 0 → is_some j ≡ false →
         Fits o j (plan_left (keeps c).left)
@@ -180,9 +178,7 @@ module _ {K V E : Type 0} where
 
   pub goes_awaits : (c : Call K V E) (rest : List (Item K V E)) → awaited (plan_left (goes c rest).left) ≡ awaited rest
   goes_awaits c (plan.Reply a ∷ []) = refl
-  goes_awaits c (plan.Reply a ∷ x ∷ rest) = refl
-  goes_awaits c [] = refl
-  goes_awaits c (item ∷ rest) = refl
+  goes_awaits c _ = refl
 
   -- what an item waits for, its plan does
   pub awaits_first : (item : Item K V E) (rest : List (Item K V E)) (load : Load K) →

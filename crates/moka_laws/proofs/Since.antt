@@ -85,9 +85,7 @@ module _ {K V E : Type 0} where
       weigh_call tests (misses c aim).left + cond (is_some (replace_of aim)) 1 0 ≤ look_tests aim
   unseen_tests c d (plan.To_load sought) key stored e = omega (arith, test_once sought.replace)
   unseen_tests c d (plan.To_own sought) key stored e = omega (arith, test_once sought.replace)
-  unseen_tests c d (plan.To_insert there value) key stored e = omega (arith, misses_tests c (plan.To_insert there value))
-  unseen_tests c d (plan.To_evict there stamp cause) key stored e = omega (arith, keeps_tests c)
-  unseen_tests c d _ key stored e = omega arith
+  unseen_tests c d aim key stored e = omega (arith, misses_tests c aim)
 
   finds_tests : (c : Call K V E) (aim : Aim K V) (there : K) (stored : Stored V) →
       weigh_call tests (finds_pair c aim there stored).left ≤ look_tests aim
@@ -241,9 +239,7 @@ module _ {K V E : Type 0} where
 
   goes_counts : (c : Call K V E) (rest : List (Item K V E)) → Counts c 0 (goes c rest)
   goes_counts c (plan.Reply a ∷ []) = λ d e. absurd (none_some e)
-  goes_counts c (plan.Reply a ∷ x ∷ rest) = as_often c _ _ refl refl
-  goes_counts c [] = as_often c _ _ refl refl
-  goes_counts c (item ∷ rest) = as_often c _ _ refl refl
+  goes_counts c _ = as_often c _ _ refl refl
 
   misses_count : (c : Call K V E) (aim : Aim K V) → Counts c 0 (misses c aim)
   misses_count c (plan.To_show form) = λ d e. absurd (none_some e)

@@ -151,9 +151,7 @@ module _ {K V E : Type 0} where
 
     goes_says : (rest : List (Item K V E)) → PlanSays (d.owning n) rest → Still (goes c rest)
     goes_says (plan.Reply a ∷ []) q = plainly a _ refl refl q
-    goes_says (plan.Reply a ∷ x ∷ rest) q = on _ (λ b e. cc) q
-    goes_says [] q = on _ (λ b e. cc) q
-    goes_says (item ∷ rest) q = on _ (λ b e. cc) q
+    goes_says _ q = on _ (λ b e. cc) q
 
     keeps_says : Still (keeps c)
     keeps_says = kept_next Still c (λ off. plainly answer.Kept _ refl refl tt)

@@ -136,9 +136,7 @@ module _ {K V E : Type 0} (begun : Start K V) where
       now = λ b e. omega
           (arith, h, ap (stored begun) (same_answer a b e));
     }
-    goes_says c (plan.Reply a ∷ x ∷ rest) h t = record { left = h; plain = t; now = λ b e. cc }
-    goes_says c [] h t = record { left = h; plain = t; now = λ b e. cc }
-    goes_says c (_ ∷ rest) h t = record { left = h; plain = t; now = λ b e. cc }
+    goes_says c _ h t = record { left = h; plain = t; now = λ b e. cc }
 
     -- the call has its plan still
     stays_says : (c : Call K V E) (next : Next K V E) → next.left ≡ Some c →

@@ -105,9 +105,7 @@ module _ {K V E : Type 0} where
     goes_take : (c : Call K V E) (rest : List (Item K V E)) → AllTake asked given rest →
         AllTake asked given (plan_left (goes c rest).left)
     goes_take c (plan.Reply a ∷ []) q = tt
-    goes_take c (plan.Reply a ∷ x ∷ rest) q = q
-    goes_take c [] q = q
-    goes_take c (_ ∷ rest) q = q
+    goes_take c _ q = q
 
     keeps_take : (c : Call K V E) → AllTake asked given (plan_left (stays c).left)
     keeps_take c = kept_next (λ v. AllTake asked given (plan_left v.left)) c (λ off. tt)
@@ -130,7 +128,6 @@ module _ {K V E : Type 0} where
     unseen_take c (plan.To_own sought) key stored f = misses_take c (plan.To_own sought) key f
     unseen_take c (plan.To_compute compute) key stored f =
         misses_take c (plan.To_compute compute) key f
-    unseen_take c (plan.To_evict there stamp cause) key stored f = keeps_take c
     unseen_take c aim key stored f = misses_take c aim key tt
 
     finds_take : (c : Call K V E) (aim : Aim K V) (key k : K) (stored : Stored V) →

@@ -97,22 +97,16 @@ module _ {K V E : Type 0} where
 
   goes_calm : (c : Call K V E) (rest : List (Item K V E)) → weigh of_turn rest ≡ 0 → weigh of_turn (plan_left (goes c rest).left) ≡ 0
   goes_calm c (plan.Reply a ∷ []) h = refl
-  goes_calm c (plan.Reply a ∷ x ∷ rest) h = h
-  goes_calm c [] h = h
-  goes_calm c (item ∷ rest) h = h
+  goes_calm c _ h = h
 
   goes_fits : (turn : Option ℕ) (n : ℕ) (c : Call K V E) (rest : List (Item K V E)) → TurnFits turn n rest →
       TurnFits turn n (plan_left (goes c rest).left)
   goes_fits turn n c (plan.Reply a ∷ []) f = record { first = tt; has = f.has; applies = f.applies }
-  goes_fits turn n c (plan.Reply a ∷ x ∷ rest) f = f
-  goes_fits turn n c [] f = f
-  goes_fits turn n c (item ∷ rest) f = f
+  goes_fits turn n c _ f = f
 
   goes_mid : (c : Call K V E) (rest : List (Item K V E)) → InTurn (plan_left (goes c rest).left) → IsMid (goes c rest).left
   goes_mid c (plan.Reply a ∷ []) h = h
-  goes_mid c (plan.Reply a ∷ x ∷ rest) h = refl
-  goes_mid c [] h = refl
-  goes_mid c (item ∷ rest) h = refl
+  goes_mid c _ h = refl
 
   keeps_calm : (c : Call K V E) → weigh of_turn (plan_left (keeps c).left) ≡ 0
   keeps_calm c = kept_next (λ v. weigh of_turn (plan_left v.left) ≡ 0) c (λ off. refl) (λ on. refl)

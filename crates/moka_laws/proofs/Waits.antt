@@ -44,9 +44,7 @@ module _ {K V E : Type 0} where
 
   goes_on : (c : Call K V E) (rest : List (Item K V E)) → GoesOnThen (goes c rest)
   goes_on c (plan.Reply a ∷ []) = λ e. cc
-  goes_on c (plan.Reply a ∷ x ∷ rest) = λ e. cc
-  goes_on c [] = λ e. cc
-  goes_on c (_ ∷ rest) = λ e. cc
+  goes_on c _ = λ e. cc
 
   keeps_on : (c : Call K V E) → GoesOnThen (keeps c)
   keeps_on c = kept_next GoesOnThen c (λ off e. cc) (λ on e. cc)

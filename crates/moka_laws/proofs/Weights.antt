@@ -24,9 +24,7 @@ module _ {K V E : Type 0} where
       ((a : Answer K V E) → f (plan.Reply a) ≡ 0) →
       weigh_call f (goes c rest).left ≡ weigh f rest
   weigh_goes f c (plan.Reply a ∷ []) h = let e = h a in omega arith
-  weigh_goes f c [] h = refl
-  weigh_goes f c (plan.Reply a ∷ x ∷ rest) h = refl
-  weigh_goes f c (_ ∷ rest) h = refl
+  weigh_goes f c _ h = refl
 
   -- what is left of a removal weighs nothing, if answers and ends don't
   pub weigh_said : (f : Item K V E → ℕ) (removal : Removal K) (a : Answer K V E) →

@@ -35,6 +35,4 @@ module _ {K V E : Type 0} (Suits : Item K V E → Type 0) (May : Answer K V E �
 
   pub goes_suits : ((a : Answer K V E) → Suits (plan.Reply a) → May a) → (c : Call K V E) (rest : List (Item K V E)) → AllSuit Suits rest → Leaves (goes c rest)
   goes_suits replies c (plan.Reply a ∷ []) q = answers_so a _ refl refl (replies a q.0)
-  goes_suits replies c (plan.Reply a ∷ x ∷ rest) q = on _ (λ b e. cc) q
-  goes_suits replies c [] q = on _ (λ b e. cc) q
-  goes_suits replies c (item ∷ rest) q = on _ (λ b e. cc) q
+  goes_suits replies c _ q = on _ (λ b e. cc) q
