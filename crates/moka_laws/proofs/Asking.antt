@@ -7,7 +7,7 @@ use Rattle.moka_hist.specs.Plan.{Item, Aim, plan_of}
 use Rattle.moka_hist.specs.Plan as plan
 use Rattle.moka_hist.specs.Next.{Next, goes}
 use Rattle.moka_hist.specs.Looking.{hits, misses, keeps, finds_pair}
-use Rattle.moka_hist.specs.Loading.{after_read, after_told, retries}
+use Rattle.moka_hist.specs.Loading.{after_read, after_told}
 use Rattle.moka_hist.specs.Telling.{is_taken, does_take}
 use Rattle.moka_hist.specs.Dropping.{dropped}
 use Rattle.std.specs.Option.{option_map_or}
@@ -28,7 +28,7 @@ use Rattle.moka_hist.specs.declared.accesses.Turn.{Turn}
 use Rattle.moka_hist.specs.Plan.{Removal}
 use Rattle.moka_hist.specs.declared.replies.Answer.{Answer}
 use Rattle.moka_hist.specs.Writing.{nothing_answer, removed_answer, said}
-use Rattle.moka_laws.proofs.Rules.{put_plans, loaded_plans, kept_next, chosen_next, IsFresh, Disabled, fresh_plan, read_key_next, told_op_next_by, IsLoad, IsComputes}
+use Rattle.moka_laws.proofs.Rules.{abort_next, put_plans, loaded_plans, kept_next, chosen_next, IsFresh, Disabled, fresh_plan, read_key_next, told_op_next_by, IsLoad, IsComputes}
 use Rattle.moka_laws.proofs.Counting.{put_here, put_there}
 use Rattle.moka_laws.proofs.Weights.{weigh, weigh_call, weigh_goes}
 use Rattle.moka_laws.proofs.Plans.{IsLook, IsTail, Answering, Settling, IsDrained, Looking, Owning, Giving, Putting, Removing, Locking_out, IsPosted, Draining, Ended, Locking, IsPlan, Posted, Drained, Posting, Hearing, Noticing, Listening, Unlocking, Turning, Applying, Ending, Judging, Reading, Asking, Telling, Writing, Choosing, Finding, Chosen, Taking, Freeing, Idling, IsKnown, known_kept, Asking_op, Owning_key, Owning_alone, Reading_key, Telling_op}
@@ -73,15 +73,10 @@ module _ {K V E : Type 0} where
   hits_takes c (plan.To_evict key stamp cause) there value l = absurd l
   hits_takes c _ there value l = refl
 
-  either_takes : (b : Bool) (x y : Next K V E) → weigh_call takes_told x.left ≡ 0 → weigh_call takes_told y.left ≡ 0 →
-      weigh_call takes_told (cond b x y).left ≡ 0
-  either_takes true x y h k = h
-  either_takes false x y h k = k
-
   reads_take : (c : Call K V E) (sought : Sought K) (with : Settled V E) → weigh takes_told c.plan ≡ 0 →
       weigh_call takes_told (after_read c sought (found.ReadSettled with)).left ≡ 0
   reads_take c sought settled.NotYet e = e
-  reads_take c sought settled.Aborted e = either_takes (c.aborts + 1 == retries) _ _ refl refl
+  reads_take c sought settled.Aborted e = abort_next (λ v. weigh_call takes_told v.left ≡ 0) c sought refl refl
   reads_take c sought _ e = refl
 
   reads_take_key : (c : Call K V E) (compute : Compute K) (with : Settled V E) →

@@ -1,5 +1,5 @@
 -- A disabled cache stores nothing.
-use Rattle.std.proofs.Common.{◌≡◌, ℕ, ◌+◌, ◌==◌, Bool, true, false, cond, List, [], ◌∷◌, map, Option, Some, None, is_some, inr, refl, sym, ap, ◌∙◌, subst, arith}
+use Rattle.std.proofs.Common.{◌≡◌, ℕ, ◌+◌, Bool, true, List, [], ◌∷◌, map, Option, Some, None, is_some, inr, refl, sym, ap, ◌∙◌, subst, arith}
 use Rattle.std.proofs.lemmas.Bool.{false≢true}
 use Rattle.std.specs.Prelude.{Contains}
 use Rattle.moka_hist.specs.Finite.{times}
@@ -8,7 +8,7 @@ use Rattle.moka_hist.specs.Plan.{Item, Aim, held_by, is_disabled, plan_of}
 use Rattle.moka_hist.specs.Plan as plan
 use Rattle.moka_hist.specs.Next.{Next, goes}
 use Rattle.moka_hist.specs.Looking.{finds_pair, hits, keeps, misses}
-use Rattle.moka_hist.specs.Loading.{after_read, after_told, retries}
+use Rattle.moka_hist.specs.Loading.{after_read, after_told}
 use Rattle.moka_hist.specs.Notices.{HasReplaced, WriteAt}
 use Rattle.moka_hist.specs.Places.{IsLawful}
 use Rattle.moka_hist.specs.Step.{Step}
@@ -35,7 +35,7 @@ use Rattle.moka_laws.specs.Removals.{DisabledStoresNothing, StoresNothing}
 use Rattle.moka_laws.proofs.Counting.{none_some, put_cases, times_same}
 use Rattle.moka_laws.proofs.Weights.{weigh, weigh_call, weigh_goes, weigh_said}
 use Rattle.moka_laws.proofs.Locking.{IsLocking, locking_kept}
-use Rattle.moka_laws.proofs.Rules.{chosen_next, kept_next, loaded_plans_by, IsFresh, Puts, Locks_and_puts, Finds_or_puts, fresh_plan, read_key_next, told_op_next}
+use Rattle.moka_laws.proofs.Rules.{abort_next, chosen_next, kept_next, loaded_plans_by, IsFresh, Puts, Locks_and_puts, Finds_or_puts, fresh_plan, read_key_next, told_op_next}
 use Rattle.moka_laws.proofs.Kept.{IsInvariant, in_reached}
 use Rattle.moka_laws.proofs.Steady.{step_rules}
 use Rattle.moka_laws.proofs.StepCases.{OnStep, step_cases}
@@ -93,16 +93,10 @@ module _ {K V E : Type 0} where
   hits_calm c (plan.To_evict key stamp cause) there value p = p
   hits_calm c _ there value p = refl
 
-  either_calm : (b : Bool) (x y : Next K V E) → weigh_call stores x.left ≡ 0 →
-      weigh_call stores y.left ≡ 0 →
-      weigh_call stores (cond b x y).left ≡ 0
-  either_calm true x y h k = h
-  either_calm false x y h k = k
-
   read_calm : (c : Call K V E) (sought : Sought K) (with : Settled V E) → weigh stores c.plan ≡ 0 →
       weigh_call stores (after_read c sought (found.ReadSettled with)).left ≡ 0
   read_calm c sought settled.NotYet p = p
-  read_calm c sought settled.Aborted p = either_calm (c.aborts + 1 == retries) _ _ refl refl
+  read_calm c sought settled.Aborted p = abort_next (λ v. weigh_call stores v.left ≡ 0) c sought refl refl
   read_calm c sought _ p = refl
 
   read_key_calm : (c : Call K V E) (compute : Compute K) (with : Settled V E) →

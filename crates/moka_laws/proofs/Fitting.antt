@@ -1,5 +1,5 @@
 -- A call's plan is of the kind of the load that it owns, and it may end that as it will.
-use Rattle.std.proofs.Common.{◌≡◌, ℕ, ◌+◌, ◌==◌, Bool, true, false, cond, List, [], ◌∷◌, Option, Some, None, is_some, IsSomeAnd, refl, sym, ap, ◌∙◌, subst, arith}
+use Rattle.std.proofs.Common.{◌≡◌, ℕ, ◌+◌, ◌==◌, Bool, true, false, List, [], ◌∷◌, Option, Some, None, is_some, IsSomeAnd, refl, sym, ap, ◌∙◌, subst, arith}
 use Rattle.std.proofs.lemmas.Bool.{false≢true}
 use Rattle.moka_hist.specs.Conditions.{may_end}
 use Rattle.moka_hist.specs.Dropping.{dropped}
@@ -10,7 +10,7 @@ use Rattle.moka_hist.specs.Writing.{said}
 use Rattle.moka_hist.specs.Plan as plan
 use Rattle.moka_hist.specs.Next.{Next, goes}
 use Rattle.moka_hist.specs.Looking.{hits, misses, keeps as stays, finds_pair}
-use Rattle.moka_hist.specs.Loading.{after_read, after_told, retries}
+use Rattle.moka_hist.specs.Loading.{after_read, after_told}
 use Rattle.moka_hist.specs.Step.{Step, takes_of, state_after}
 use Rattle.moka_hist.specs.Telling.{does_take, takes_error, takes_nothing}
 use Rattle.moka_hist.specs.Run.{IsReached, fresh_call, started}
@@ -31,7 +31,7 @@ use Rattle.moka_hist.specs.declared.visits.Takes.{Takes}
 use Rattle.moka_hist.specs.declared.visits.Found.TheVariants as found
 use Rattle.moka_hist.specs.declared.accesses.Turn.{Turn}
 use Rattle.moka_hist.specs.declared.accesses.Turn.TheVariants as turn
-use Rattle.moka_laws.proofs.Rules.{put_plans, loaded_plans, kept_next, chosen_next, IsFresh, Takes_out, Locks_and_takes_out, fresh_plan, read_key_next, told_op_next_by, IsLoad, IsComputes}
+use Rattle.moka_laws.proofs.Rules.{abort_next, put_plans, loaded_plans, kept_next, chosen_next, IsFresh, Takes_out, Locks_and_takes_out, fresh_plan, read_key_next, told_op_next_by, IsLoad, IsComputes}
 use Rattle.moka_laws.proofs.TakesFit.{ItemTakes, AllTake, ToldFits, IsTaking, taking_kept, load_takes_no_op, compute_loses_none}
 use Rattle.moka_laws.proofs.Counting.{some_same, none_some, put_cases, put_here, put_there}
 use Rattle.moka_laws.proofs.Weights.{weigh}
@@ -153,7 +153,6 @@ module _ {K V E : Type 0} where
     misses_fit : (c : Call K V E) (aim : Aim K V) (key : K) → ItemFits owned (plan.Get aim key) →
         AllFit owned (plan_left (misses c aim).left)
     misses_fit c (plan.To_show form) key f = tt
-    misses_fit c (plan.To_load sought) key f = (tt, tt)
     misses_fit c (plan.To_insert there value) key f =
         put_plans (λ p. AllFit owned (plan_left (goes c p).left)) c.rules there value _
         (tt, (tt, (tt, tt))) (tt, (tt, (tt, (tt, tt))))
@@ -164,19 +163,16 @@ module _ {K V E : Type 0} where
         is_seen d (replace_of aim) key stored ≡ false →
         ItemFits owned (plan.Judge aim key stored) →
         AllFit owned (plan_left (misses c aim).left)
-    unseen_fit c d (plan.To_load sought) key stored e f = (tt, tt)
-    unseen_fit c d (plan.To_own sought) key stored e f = (f, tt)
-    unseen_fit c d _ key stored e f = absurd (false≢true (sym e))
+    unseen_fit c d (plan.To_evict there stamp cause) key stored e f = keeps_fit c
+    unseen_fit c d aim key stored e f = misses_fit c aim key f
 
     finds_fit : (c : Call K V E) (aim : Aim K V) (key k : K) (stored : Stored V) →
         ItemFits owned (plan.Get aim key) →
         AllFit owned (plan_left (finds_pair c aim k stored).left)
-    finds_fit c (plan.To_own sought) key k stored f = (f, tt)
-    finds_fit c (plan.To_compute compute) key k stored f = (f, tt)
     finds_fit c (plan.To_evict there stamp cause) key k stored f =
         chosen_next (λ v. AllFit owned (plan_left v.left)) c there stamp cause k stored
         (λ off. tt) (λ on. (tt, (tt, tt))) (tt, tt)
-    finds_fit c _ key k stored f = (tt, tt)
+    finds_fit c _ key k stored f = (f, tt)
 
     hits_fit : (asked : Option Takes) (given : Option (Told V E)) (c : Call K V E) (aim : Aim K V)
         (there : K) (value : V) (stored : Stored V) → AllFit owned c.plan →
@@ -189,16 +185,10 @@ module _ {K V E : Type 0} where
     hits_fit asked given c (plan.To_evict key stamp cause) there value stored p f one = p
     hits_fit asked given c _ there value stored p f one = tt
 
-    either_fit : (b : Bool) (x y : Next K V E) → AllFit owned (plan_left x.left) →
-        AllFit owned (plan_left y.left) →
-        AllFit owned (plan_left (cond b x y).left)
-    either_fit true x y h k = h
-    either_fit false x y h k = k
-
     read_fit : (c : Call K V E) (sought : Sought K) (with : Settled V E) → AllFit owned c.plan →
         AllFit owned (plan_left (after_read c sought (found.ReadSettled with)).left)
     read_fit c sought settled.NotYet p = p
-    read_fit c sought settled.Aborted p = either_fit (c.aborts + 1 == retries) _ _ tt (tt, tt)
+    read_fit c sought settled.Aborted p = abort_next (λ v. AllFit owned (plan_left v.left)) c sought tt (tt, tt)
     read_fit c sought _ p = tt
 
     read_key_fit : (c : Call K V E) (compute : Compute K) (with : Settled V E) →

@@ -11,7 +11,7 @@ use Rattle.moka_laws.specs.Held.{MayAllLeave}
 use Rattle.moka_hist.specs.Conditions.{held_number, numbers_of, IsPlaceOf, IsUnused, MayLeave, MayLeaveWith}
 use Rattle.moka_hist.specs.Next.{Next, goes}
 use Rattle.moka_hist.specs.Looking.{hits, misses, keeps as stays, finds_pair}
-use Rattle.moka_hist.specs.Loading.{after_read, after_told, retries}
+use Rattle.moka_hist.specs.Loading.{after_read, after_told}
 use Rattle.moka_hist.specs.Step.{Step}
 use Rattle.moka_hist.specs.Run.{IsReached, started, fresh_call}
 use Rattle.moka_hist.specs.Places.{HeldAreKnown}
@@ -33,7 +33,7 @@ use Rattle.moka_hist.specs.declared.writes.Write.TheVariants.{Remove, Upsert}
 use Rattle.moka_hist.specs.Plan.{Removal}
 use Rattle.moka_hist.specs.declared.replies.Answer.{Answer}
 use Rattle.moka_hist.specs.Writing.{nothing_answer, removed_answer, said}
-use Rattle.moka_laws.proofs.Rules.{put_plans, loaded_plans, kept_next, chosen_next, IsFresh, Disabled, fresh_plan, read_key_next, told_op_next}
+use Rattle.moka_laws.proofs.Rules.{abort_next, put_plans, loaded_plans, kept_next, chosen_next, IsFresh, Disabled, fresh_plan, read_key_next, told_op_next}
 use Rattle.moka_laws.proofs.Counting.{none_some, some_same, put_here, put_there, same_number}
 use Rattle.moka_laws.proofs.Sums.{sum_holds}
 use Rattle.moka_laws.proofs.Weights.{weigh, weigh_call}
@@ -151,10 +151,6 @@ module _ {K V E : Type 0} where
       (λ on. refl) refl
   finds_weigh c _ k stored = refl
 
-  either_weighs : (b : Bool) (x y : Next K V E) → weigh_call held x.left ≡ 0 → weigh_call held y.left ≡ 0 → weigh_call held (cond b x y).left ≡ 0
-  either_weighs true x y h k = h
-  either_weighs false x y h k = k
-
   module _ (n : ℕ) (h : Option Holding) where
     free_holds : (rest : List (Item K V E)) → weigh held rest ≡ 0 → h ≡ None → HoldsAs n h rest
     free_holds [] e none = none
@@ -192,7 +188,7 @@ module _ {K V E : Type 0} where
         HoldsAs n h (plan_left (after_read c sought (found.ReadSettled with)).left)
     read_holds c sought settled.NotYet p none = p
     read_holds c sought settled.Aborted p none =
-        left_holds _ (either_weighs (c.aborts + 1 == retries) _ _ refl refl) none
+        left_holds _ (abort_next (λ v. weigh_call held v.left ≡ 0) c sought refl refl) none
     read_holds c sought _ p none = none
 
     read_key_holds : (c : Call K V E) (compute : Compute K) (with : Settled V E) →

@@ -9,7 +9,7 @@ use Rattle.moka_hist.specs.Plan.{Item, Aim, held_by, hearing, plan_of}
 use Rattle.moka_hist.specs.Plan as plan
 use Rattle.moka_hist.specs.Next.{Next, goes}
 use Rattle.moka_hist.specs.Looking.{hits, misses, keeps, finds_pair}
-use Rattle.moka_hist.specs.Loading.{after_read, after_told, retries}
+use Rattle.moka_hist.specs.Loading.{after_read, after_told}
 use Rattle.moka_hist.specs.Dropping.{dropped, owed_by, owed_with, running_of}
 use Rattle.moka_hist.specs.Telling.{ended, with_end}
 use Rattle.moka_hist.specs.Step.{Step}
@@ -41,7 +41,7 @@ use Rattle.moka_laws.proofs.Balance.{times_first, times_last}
 use Rattle.moka_laws.proofs.Owning.{plan_left}
 use Rattle.moka_laws.proofs.Plans.{IsTail, Answering, Settling, IsDrained, Looking, Putting, IsPosted, Draining, Ended, Locking, IsPlan, Posted, Drained, Posting, Hearing, Noticing, Listening, Unlocking, Turning, Applying, Ending, Judging, Owning, Giving, Reading, Asking, Telling, Writing, IsLook, Removing, Locking_out, Choosing, Finding, Chosen, Taking, Freeing, Idling, Asking_op, Owning_key, Owning_alone, Reading_key, Telling_op}
 use Rattle.moka_laws.proofs.Replacing.{IsReplacing, replacing_kept, not_opened}
-use Rattle.moka_laws.proofs.Rules.{put_plans, loaded_plans, kept_next, chosen_next, IsFresh, Disabled, fresh_plan, read_key_next, told_op_next}
+use Rattle.moka_laws.proofs.Rules.{abort_next, put_plans, loaded_plans, kept_next, chosen_next, IsFresh, Disabled, fresh_plan, read_key_next, told_op_next}
 use Rattle.moka_laws.proofs.Kept.{IsInvariant, in_reached}
 use Rattle.moka_laws.proofs.StepCases.{OnStep, step_cases}
 use Rattle.moka_laws.proofs.Outcomes.{outcomes}
@@ -138,15 +138,10 @@ module _ {K V E : Type 0} where
   hits_none n c (plan.To_evict key stamp cause) there value l = absurd l
   hits_none n c _ there value l = refl
 
-  either_none : (n : ℕ) (b : Bool) (x y : Next K V E) → naming n (plan_left x.left) ≡ None → naming n (plan_left y.left) ≡ None →
-      naming n (plan_left (cond b x y).left) ≡ None
-  either_none n true x y h k = h
-  either_none n false x y h k = k
-
   pub read_none : (n : ℕ) (c : Call K V E) (sought : Sought K) (with : Settled V E) → naming n c.plan ≡ None →
       naming n (plan_left (after_read c sought (found.ReadSettled with)).left) ≡ None
   read_none n c sought settled.NotYet h = h
-  read_none n c sought settled.Aborted h = either_none n (c.aborts + 1 == retries) _ _ refl refl
+  read_none n c sought settled.Aborted h = abort_next (λ v. naming n (plan_left v.left) ≡ None) c sought refl refl
   read_none n c sought _ h = refl
 
   pub read_key_none : (n : ℕ) (c : Call K V E) (compute : Compute K) (with : Settled V E) →

@@ -12,7 +12,7 @@ use Rattle.moka_hist.specs.Plan.{Item, Aim, told_on, Removal, plan_of, is_disabl
 use Rattle.moka_hist.specs.Plan as plan
 use Rattle.moka_hist.specs.Next.{Next, goes}
 use Rattle.moka_hist.specs.Looking.{finds_pair, hits, keeps, misses}
-use Rattle.moka_hist.specs.Loading.{after_read, after_told, retries}
+use Rattle.moka_hist.specs.Loading.{after_read, after_told}
 use Rattle.moka_hist.specs.Computing.{after_told_op, end_compute, put_told}
 use Rattle.moka_hist.specs.Step.{Step}
 use Rattle.moka_hist.specs.Telling.{told_call}
@@ -46,7 +46,7 @@ use Rattle.moka_hist.specs.declared.writes.Write.TheVariants.{Remove, Upsert}
 use Rattle.moka_laws.specs.Given.{HandedIsGiven, SteppedIsGiven, StoredIsGiven, HasStarted, WasGiven, handed, key_started, value_of, asked_key, brought, value_in}
 use Rattle.moka_laws.proofs.Counting.{none_some, some_same, put_cases, put_here, put_there}
 use Rattle.moka_laws.proofs.Owning.{and_left}
-use Rattle.moka_laws.proofs.Rules.{shown_next, chosen_next, kept_next, loaded_plans, put_plans, read_key_next}
+use Rattle.moka_laws.proofs.Rules.{abort_next, shown_next, chosen_next, kept_next, loaded_plans, put_plans, read_key_next}
 use Rattle.moka_laws.proofs.StepCases.{OnStep, step_cases}
 use Rattle.moka_laws.proofs.Outcomes.{Outcomes, computes_of, outcomes, passes_by}
 use Rattle.moka_laws.proofs.StartedOnce.{started_once}
@@ -270,17 +270,12 @@ module _ {K V E : Type 0} (P R : K → V → Type 0) (q : K) where
   hits_fair told c (plan.To_evict key stamp cause) there value r h p = (p, none_fair R q)
   hits_fair told c _ there value r h p = (tt, one_fair R q value r)
 
-  either_fair : (told : Option (Told V E)) (b : Bool) (x y : Next K V E) → NextFair told x →
-      NextFair told y → NextFair told (cond b x y)
-  either_fair told true x y h k = h
-  either_fair told false x y h k = k
-
   read_fair : (told : Option (Told V E)) (c : Call K V E) (sought : Sought K) (with : Settled V E) →
       sought.load.key ≡ q → ValueFair R q (ready with) → PlanFair told c.plan →
       NextFair told (after_read c sought (found.ReadSettled with))
   read_fair told c sought settled.NotYet h r p = (p, r)
   read_fair told c sought settled.Aborted h r p =
-      either_fair told (c.aborts + 1 == retries) _ _ (tt, r) ((h, tt), r)
+      abort_next (NextFair told) c sought (tt, r) ((h, tt), r)
   read_fair told c sought _ h r p = (tt, r)
 
   module _ (Q : ℕ → K → Type 0) (eq : K → K → Bool) (ties : Ties P R Q eq) where

@@ -16,7 +16,7 @@ use Rattle.moka_hist.specs.Plan as plan
 use Rattle.moka_hist.specs.Visits.{owners_without}
 use Rattle.moka_hist.specs.Next.{Next, goes}
 use Rattle.moka_hist.specs.Looking.{hits, misses, keeps as stays, finds_pair}
-use Rattle.moka_hist.specs.Loading.{after_read, after_told, retries}
+use Rattle.moka_hist.specs.Loading.{after_read, after_told}
 use Rattle.moka_hist.specs.Step.{Step, state_after}
 use Rattle.moka_hist.specs.Run.{IsReached, fresh_call}
 use Rattle.moka_hist.specs.Places.{AsksFor, Initializes}
@@ -34,7 +34,7 @@ use Rattle.moka_hist.specs.declared.visits.Settled.{Settled}
 use Rattle.moka_hist.specs.declared.visits.Settled.TheVariants as settled
 use Rattle.moka_hist.specs.declared.visits.Found.TheVariants as found
 use Rattle.moka_hist.specs.declared.accesses.Turn.{Turn}
-use Rattle.moka_laws.proofs.Rules.{put_plans, loaded_plans, kept_next, chosen_next, read_key_next, said_next, told_op_next, IsFresh, Disabled, fresh_plan}
+use Rattle.moka_laws.proofs.Rules.{abort_next, put_plans, loaded_plans, kept_next, chosen_next, read_key_next, said_next, told_op_next, IsFresh, Disabled, fresh_plan}
 use Rattle.moka_laws.proofs.Counting.{some_same, none_some, put_cases, other_number}
 use Rattle.moka_laws.proofs.Weights.{weigh}
 use Rattle.moka_laws.proofs.Kept.{IsInvariant, in_reached}
@@ -214,15 +214,11 @@ module _ {K V E : Type 0} where
     finds_owns : (c : Call K V E) (aim : Aim K V) (key k : K) (stored : Stored V) (rest : List (Item K V E)) →
         Owns owners n (plan.Get aim key ∷ rest) →
         Owns owners n (plan_left (finds_pair c aim k stored).left)
-    finds_owns c (plan.To_own sought) key k stored rest o = record { first = o.first; later = refl }
-    finds_owns c (plan.To_compute compute) key k stored rest o =
-        record { first = o.first; later = refl }
     finds_owns c (plan.To_evict there stamp cause) key k stored rest o =
         chosen_next (λ v. Owns owners n (plan_left v.left)) c there stamp cause k stored
         (λ off. owns_none [] refl) (λ on. owns_none (plan.Unlock false ∷ plan.Reply _ ∷ []) refl)
         (owns_none (plan.Holds there stamp cause k stored ∷ []) refl)
-    finds_owns c aim key k stored rest o =
-        owns_none (plan.Judge aim k stored ∷ []) refl
+    finds_owns c _ key k stored rest o = record { first = o.first; later = refl }
 
     hits_owns : (c : Call K V E) (aim : Aim K V) (there : K) (value : V) (stored : Stored V)
         (rest : List (Item K V E)) →
@@ -235,15 +231,10 @@ module _ {K V E : Type 0} where
     hits_owns c (plan.To_evict key stamp cause) there value stored rest p o = p
     hits_owns c _ there value stored rest p o = owns_none [] refl
 
-    either_owns : (b : Bool) (x y : Next K V E) → Owns owners n (plan_left x.left) → Owns owners n (plan_left y.left) →
-        Owns owners n (plan_left (cond b x y).left)
-    either_owns true x y h k = h
-    either_owns false x y h k = k
-
     read_owns : (c : Call K V E) (sought : Sought K) (with : Settled V E) → Owns owners n c.plan →
         Owns owners n (plan_left (after_read c sought (found.ReadSettled with)).left)
     read_owns c sought settled.NotYet h = h
-    read_owns c sought settled.Aborted h = either_owns (c.aborts + 1 == retries) _ _ (owns_none [] refl) (owns_none (plan.Own sought ∷ []) refl)
+    read_owns c sought settled.Aborted h = abort_next (λ v. Owns owners n (plan_left v.left)) c sought (owns_none [] refl) (owns_none (plan.Own sought ∷ []) refl)
     read_owns c sought _ h = owns_none [] refl
 
     told_owns : (c : Call K V E) (load : Load K) (given : Told V E) → Owns owners n c.plan →

@@ -1,6 +1,6 @@
 -- Places come back: a call has one of its own for a write that it holds, or while the moment of its
 -- change is pending.
-use Rattle.std.proofs.Common.{◌≡◌, ◌⊎◌, inl, inr, ℕ, ◌+◌, ◌==◌, Bool, true, false, cond, List, [], ◌∷◌, Option, Some, None, is_some, IsSome, refl, sym, ap, ◌∙◌, subst}
+use Rattle.std.proofs.Common.{◌≡◌, ◌⊎◌, inl, inr, ℕ, ◌+◌, ◌==◌, Bool, true, false, List, [], ◌∷◌, Option, Some, None, is_some, IsSome, refl, sym, ap, ◌∙◌, subst}
 use Rattle.std.proofs.lemmas.Bool.{eqb-true}
 use Rattle.moka_hist.specs.declared.replies.Answer.TheVariants as reply
 use Rattle.moka_hist.specs.Finite.{put_at}
@@ -9,7 +9,7 @@ use Rattle.moka_hist.specs.Plan.{Item, Aim, held_by, plan_of}
 use Rattle.moka_hist.specs.Plan as plan
 use Rattle.moka_hist.specs.Next.{Next, goes}
 use Rattle.moka_hist.specs.Looking.{finds_pair, hits, keeps, misses}
-use Rattle.moka_hist.specs.Loading.{after_read, after_told, retries}
+use Rattle.moka_hist.specs.Loading.{after_read, after_told}
 use Rattle.moka_hist.specs.Conditions.{MayLeaveWith}
 use Rattle.moka_hist.specs.Dropping.{dropped}
 use Rattle.moka_hist.specs.Places.{Holds}
@@ -34,7 +34,7 @@ use Rattle.moka_laws.proofs.Counting.{none_some, put_here, put_there}
 use Rattle.moka_laws.proofs.Holding.{HoldsAs, IsHolding, all_leave, holding_kept, others_hold}
 use Rattle.moka_laws.proofs.Owning.{plan_left}
 use Rattle.moka_laws.proofs.Plans.{IsTail, Answering, Settling, IsDrained, Looking, Putting, IsPosted, Draining, Ended, Locking, IsPlan, Posted, Drained, Posting, Hearing, Noticing, Listening, Unlocking, Turning, Applying, Ending, Judging, Owning, Giving, Reading, Asking, Telling, Writing, IsLook, Removing, Locking_out, Choosing, Finding, Chosen, Taking, Freeing, Idling, AllKnown, known_kept, Asking_op, Owning_key, Owning_alone, Reading_key, Telling_op}
-use Rattle.moka_laws.proofs.Rules.{put_plans, chosen_next, kept_next, loaded_plans, IsFresh, Disabled, fresh_plan, read_key_next, told_op_next}
+use Rattle.moka_laws.proofs.Rules.{abort_next, put_plans, chosen_next, kept_next, loaded_plans, IsFresh, Disabled, fresh_plan, read_key_next, told_op_next}
 use Rattle.moka_laws.proofs.Kept.{IsInvariant, in_reached}
 use Rattle.moka_laws.proofs.StepCases.{OnStep, step_cases}
 use Rattle.moka_laws.proofs.Outcomes.{outcomes}
@@ -101,15 +101,10 @@ module _ {K V E : Type 0} where
     hits_pends c (plan.To_evict key stamp cause) there value l = absurd l
     hits_pends c _ there value l = tt
 
-    either_pends : (b : Bool) (x y : Next K V E) → Pends h (plan_left x.left) → Pends h
-        (plan_left y.left) → Pends h (plan_left (cond b x y).left)
-    either_pends true x y p q = p
-    either_pends false x y p q = q
-
     read_pends : (c : Call K V E) (sought : Sought K) (with : Settled V E) → Pends h c.plan → Pends h
         (plan_left (after_read c sought (found.ReadSettled with)).left)
     read_pends c sought settled.NotYet p = p
-    read_pends c sought settled.Aborted p = either_pends (c.aborts + 1 == retries) _ _ tt tt
+    read_pends c sought settled.Aborted p = abort_next (λ v. Pends h (plan_left v.left)) c sought tt tt
     read_pends c sought _ p = tt
 
     read_key_pends : (c : Call K V E) (compute : Compute K) (with : Settled V E) → Pends h c.plan →

@@ -1,14 +1,14 @@
 -- Which writes a plan posts, and whether it may still make one.
-use Rattle.std.proofs.Common.{◌≡◌, ℕ, ◌+◌, ◌≤◌, ◌==◌, Bool, true, false, cond, List, [], ◌∷◌, map, Option, Some, None, refl, arith}
+use Rattle.std.proofs.Common.{◌≡◌, ℕ, ◌≤◌, ◌==◌, cond, List, [], ◌∷◌, map, Option, Some, None, refl, arith}
 use Rattle.std.specs.Option.{option_to_list}
 use Rattle.moka_hist.specs.Finite.{times}
 use Rattle.moka_hist.specs.State.{Call}
 use Rattle.moka_hist.specs.Plan.{Item, Aim, held_by, plan_of}
 use Rattle.moka_hist.specs.Plan as plan
 use Rattle.moka_hist.specs.Visits.{number_of}
-use Rattle.moka_hist.specs.Next.{Next, goes}
+use Rattle.moka_hist.specs.Next.{goes}
 use Rattle.moka_hist.specs.Looking.{hits, misses, keeps, finds_pair}
-use Rattle.moka_hist.specs.Loading.{after_read, after_told, retries}
+use Rattle.moka_hist.specs.Loading.{after_read, after_told}
 use Rattle.moka_hist.specs.Run.{fresh_call}
 use Rattle.moka_hist.specs.declared.writes.Write.{Write}
 use Rattle.moka_hist.specs.declared.records.Stored.{Stored}
@@ -22,7 +22,7 @@ use Rattle.moka_hist.specs.declared.events.Told.TheVariants as answer
 use Rattle.moka_hist.specs.declared.visits.Settled.{Settled}
 use Rattle.moka_hist.specs.declared.visits.Settled.TheVariants as settled
 use Rattle.moka_hist.specs.declared.visits.Found.TheVariants as found
-use Rattle.moka_laws.proofs.Rules.{put_plans, loaded_plans, kept_next, chosen_next, IsFresh, Disabled, fresh_plan, read_key_next, told_op_next}
+use Rattle.moka_laws.proofs.Rules.{abort_next, put_plans, loaded_plans, kept_next, chosen_next, IsFresh, Disabled, fresh_plan, read_key_next, told_op_next}
 use Rattle.moka_laws.proofs.Weights.{weigh, weigh_call}
 use Rattle.moka_hist.specs.declared.loads.Compute.{Compute}
 use Rattle.moka_hist.specs.Computing.{after_told_op, after_read_key}
@@ -170,15 +170,11 @@ module _ {K V E : Type 0} where
   hits_clear c _ there value h =
       record { late = refl; posts = λ x. refl; may = omega arith }
 
-  either_clear : (b : Bool) (x y : Next K V E) → IsClear x.left → IsClear y.left → IsClear (cond b x y).left
-  either_clear true x y h k = h
-  either_clear false x y h k = k
-
   pub read_clear : (c : Call K V E) (sought : Sought K) (with : Settled V E) → IsClear (Some c) →
       IsClear (after_read c sought (found.ReadSettled with)).left
   read_clear c sought settled.NotYet h = record { late = h.late; posts = h.posts; may = h.may }
   read_clear c sought settled.Aborted h =
-      either_clear (c.aborts + 1 == retries) _ _ (record { late = refl; posts = λ x. refl; may = omega arith })
+      abort_next (λ v. IsClear v.left) c sought (record { late = refl; posts = λ x. refl; may = omega arith })
       (record { late = refl; posts = λ x. refl; may = omega arith })
   read_clear c sought _ h = record { late = refl; posts = λ x. refl; may = omega arith }
 

@@ -8,7 +8,7 @@ use Rattle.moka_hist.specs.Plan.{Item, Aim, held_by, hearing, plan_of}
 use Rattle.moka_hist.specs.Plan as plan
 use Rattle.moka_hist.specs.Next.{Next, goes}
 use Rattle.moka_hist.specs.Looking.{hits, misses, keeps, finds_pair}
-use Rattle.moka_hist.specs.Loading.{after_read, after_told, retries}
+use Rattle.moka_hist.specs.Loading.{after_read, after_told}
 use Rattle.moka_hist.specs.Notices.{OpensNotice}
 use Rattle.moka_hist.specs.Dropping.{dropped, owed_by, owed_with}
 use Rattle.moka_hist.specs.Step.{Step, state_after}
@@ -43,7 +43,7 @@ use Rattle.moka_laws.proofs.Balanced.{balanced_kept, next_free}
 use Rattle.moka_laws.proofs.Locking.{IsLocking, locking_kept, of_key}
 use Rattle.moka_laws.proofs.Owning.{plan_left}
 use Rattle.moka_laws.proofs.Plans.{IsTail, Answering, Settling, IsDrained, Looking, Putting, IsPosted, Draining, Ended, Locking, IsPlan, Posted, Drained, Posting, Hearing, Noticing, Listening, Unlocking, Turning, Applying, Ending, Judging, Owning, Giving, Reading, Asking, Telling, Writing, IsKnown, known_kept, IsLook, Removing, Locking_out, Choosing, Finding, Chosen, Taking, Freeing, Idling, Asking_op, Owning_key, Owning_alone, Reading_key, Telling_op}
-use Rattle.moka_laws.proofs.Rules.{put_plans, loaded_plans, kept_next, chosen_next, IsFresh, Disabled, fresh_plan, read_key_next, told_op_next}
+use Rattle.moka_laws.proofs.Rules.{abort_next, put_plans, loaded_plans, kept_next, chosen_next, IsFresh, Disabled, fresh_plan, read_key_next, told_op_next}
 use Rattle.moka_laws.proofs.Kept.{IsInvariant, in_reached}
 use Rattle.moka_laws.proofs.StepCases.{OnStep, step_cases}
 use Rattle.moka_laws.proofs.Outcomes.{outcomes}
@@ -178,13 +178,9 @@ module _ {K V E : Type 0} where
   hits_clear c (plan.To_evict key stamp cause) there value l = absurd l
   hits_clear c _ there value l = record { swaps = λ x. refl; notice = refl }
 
-  either_clear : (b : Bool) (x y : Next K V E) → Clear x.left → Clear y.left → Clear (cond b x y).left
-  either_clear true x y h k = h
-  either_clear false x y h k = k
-
   read_clear : (c : Call K V E) (sought : Sought K) (with : Settled V E) → Clear (Some c) → Clear (after_read c sought (found.ReadSettled with)).left
   read_clear c sought settled.NotYet h = record { swaps = h.swaps; notice = h.notice }
-  read_clear c sought settled.Aborted h = either_clear (c.aborts + 1 == retries) _ _ (record { swaps = λ x. refl; notice = refl })
+  read_clear c sought settled.Aborted h = abort_next (λ v. Clear v.left) c sought (record { swaps = λ x. refl; notice = refl })
       (record { swaps = λ x. refl; notice = refl })
   read_clear c sought _ h = record { swaps = λ x. refl; notice = refl }
 

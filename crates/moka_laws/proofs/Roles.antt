@@ -1,14 +1,14 @@
 -- What a plan says of its call: whether it owns a load, and which load it waits for.
-use Rattle.std.proofs.Common.{◌≡◌, ◌≢◌, ℕ, ◌+◌, ◌==◌, Bool, true, false, cond, List, [], ◌∷◌, Option, Some, None, is_some, refl, sym, arith}
+use Rattle.std.proofs.Common.{◌≡◌, ◌≢◌, ℕ, false, cond, List, [], ◌∷◌, Option, Some, None, is_some, refl, sym, arith}
 use Rattle.std.proofs.lemmas.Bool.{false≢true}
 use Rattle.moka_hist.specs.Step.{replace_of}
 use Rattle.moka_hist.specs.Visits.{is_seen}
 use Rattle.moka_hist.specs.State.{DeskPart, Call}
 use Rattle.moka_hist.specs.Plan.{Item, Aim, plan_of}
 use Rattle.moka_hist.specs.Plan as plan
-use Rattle.moka_hist.specs.Next.{Next, goes}
+use Rattle.moka_hist.specs.Next.{goes}
 use Rattle.moka_hist.specs.Looking.{hits, misses, keeps, finds_pair}
-use Rattle.moka_hist.specs.Loading.{after_read, after_told, retries}
+use Rattle.moka_hist.specs.Loading.{after_read, after_told}
 use Rattle.moka_hist.specs.declared.records.Stored.{Stored}
 use Rattle.moka_hist.specs.declared.loads.Load.{Load}
 use Rattle.moka_hist.specs.declared.loads.Sought.{Sought}
@@ -21,7 +21,7 @@ use Rattle.moka_hist.specs.declared.visits.Settled.TheVariants as settled
 use Rattle.moka_hist.specs.declared.visits.Found.TheVariants as found
 use Rattle.moka_laws.specs.Missing.{waits_for}
 use Rattle.moka_laws.proofs.Counting.{none_some}
-use Rattle.moka_laws.proofs.Rules.{put_plans, loaded_plans, kept_next, chosen_next, IsFresh, Takes_out, Locks_and_takes_out, fresh_plan, told_op_next}
+use Rattle.moka_laws.proofs.Rules.{abort_next, put_plans, loaded_plans, kept_next, chosen_next, IsFresh, Takes_out, Locks_and_takes_out, fresh_plan, told_op_next}
 use Rattle.moka_laws.proofs.Weights.{weigh}
 use Rattle.moka_laws.proofs.Owning.{plan_left}
 use Rattle.moka_laws.proofs.Outcomes.{computes_of}
@@ -187,18 +187,13 @@ module _ {K V E : Type 0} where
   awaits_first (plan.Read_key compute) rest load e = e
   awaits_first _ rest load e = absurd (none_some e)
 
-  either_fits : (o : Option (Load K)) (b : Bool) (x y : Next K V E) → Fits o None (plan_left x.left) → Fits o None (plan_left y.left) →
-      Fits o None (plan_left (cond b x y).left)
-  either_fits o true x y h k = h
-  either_fits o false x y h k = k
-
   -- a call that has read how its owner ended waits for nobody
   pub read_fits : (o : Option (Load K)) (j : Option ℕ) (c : Call K V E) (sought : Sought K) (with : Settled V E) →
       Some with ≢ Some settled.NotYet → Fits o j (plan.Read sought ∷ []) →
       Fits o None (plan_left (after_read c sought (found.ReadSettled with)).left)
   read_fits o j c sought settled.NotYet n f = absurd (n refl)
   read_fits o j c sought settled.Aborted n f =
-      either_fits o (c.aborts + 1 == retries) _ _ (record { last = tt; owning = omega (arith, f.owning); waiting = refl })
+      abort_next (λ v. Fits o None (plan_left v.left)) c sought (record { last = tt; owning = omega (arith, f.owning); waiting = refl })
       (record { last = refl; owning = f.owning; waiting = refl })
   read_fits o j c sought _ n f = record { last = tt; owning = omega (arith, f.owning); waiting = refl }
 

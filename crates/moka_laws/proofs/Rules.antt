@@ -1,11 +1,12 @@
 -- How plans depend on the rules of the cache.
-use Rattle.std.proofs.Common.{◌≡◌, ◌==◌, refl, Bool, true, false, List, [], ◌∷◌, Option, Some, None}
+use Rattle.std.proofs.Common.{◌≡◌, ◌+◌, ◌==◌, refl, Bool, true, false, cond, List, [], ◌∷◌, Option, Some, None}
 use Rattle.std.specs.Option.{option_map}
 use Rattle.std.proofs.lemmas.Bool.{eqb-true}
 use Rattle.moka_hist.specs.State.{Call}
 use Rattle.moka_hist.specs.Next.{Next, goes, answers, waits}
 use Rattle.moka_hist.specs.Entries.{put_answer, unchanged}
 use Rattle.moka_hist.specs.Writing.{said}
+use Rattle.moka_hist.specs.Loading.{after_abort, retries}
 use Rattle.moka_hist.specs.Computing.{after_read_key, after_told_op, end_compute, put_told}
 use Rattle.moka_hist.specs.Looking.{shown, keeps, kept_rest, finds_pair, chosen_or_not}
 use Rattle.moka_hist.specs.Plan.{Item, Aim, Shown, Removal, put, under_lock, take_out, is_disabled, told_on, load_rest, loaded, get_plan, insert_plan, load_plan, or_insert_plan, seek, plan_of}
@@ -98,6 +99,17 @@ module _ {K V E : Type 0} (P : Next K V E → Type 0) (c : Call K V E) where
       by : (listener : Bool) → c.rules.listener ≡ listener → P (goes c (kept_rest listener))
       by false e = free e
       by true e = locked e
+
+  -- what holds of a load that gives up, and of one that begins anew, as its owner was dropped
+  pub abort_next : (sought : Sought K) → P (answers answer.RetriesExhausted) →
+      P (goes (record c { aborts = c.aborts + 1 }) (plan.Own sought ∷ [])) →
+      P (after_abort c sought)
+  abort_next sought ends anew = by (c.aborts + 1 == retries)
+    where
+      by : (b : Bool) → P (cond b (answers answer.RetriesExhausted)
+          (goes (record c { aborts = c.aborts + 1 }) (plan.Own sought ∷ [])))
+      by true = ends
+      by false = anew
 
   -- what holds of it as it finds a pair under the key of a chosen record
   pub chosen_by : (key : K) (stamp : _) (cause : Cause) (there : K) (stored : Stored V) →

@@ -11,7 +11,7 @@ use Rattle.moka_hist.specs.Plan.{Item, Aim, get_plan, insert_plan, is_disabled, 
 use Rattle.moka_hist.specs.Plan as plan
 use Rattle.moka_hist.specs.Next.{Next, goes}
 use Rattle.moka_hist.specs.Looking.{finds_pair, hits, keeps, misses}
-use Rattle.moka_hist.specs.Loading.{after_read, after_told, retries}
+use Rattle.moka_hist.specs.Loading.{after_read, after_told}
 use Rattle.moka_hist.specs.Step.{Access, On_table, On_desk, access_for, access_of, Gets, Step}
 use Rattle.moka_hist.specs.Tables.{Operates, by_pair, removed, taken_by, written}
 use Rattle.moka_hist.specs.Run.{fresh_call}
@@ -41,7 +41,7 @@ use Rattle.moka_laws.proofs.Weights.{weigh, weigh_call, weigh_goes, weigh_said}
 use Rattle.moka_laws.proofs.Locking.{IsLocking, Inside, key_locked}
 use Rattle.moka_laws.proofs.Ordering.{one_lock}
 use Rattle.moka_laws.proofs.Owning.{plan_left}
-use Rattle.moka_laws.proofs.Rules.{IsFresh, Takes_out, Locks_and_takes_out, fresh_plan, put_plans, chosen_by, kept_next, loaded_plans, put_plans, read_key_next, told_op_next}
+use Rattle.moka_laws.proofs.Rules.{abort_next, IsFresh, Takes_out, Locks_and_takes_out, fresh_plan, put_plans, chosen_by, kept_next, loaded_plans, put_plans, read_key_next, told_op_next}
 use Rattle.moka_laws.proofs.SoundReached.{IsSound, sound_kept}
 use Rattle.moka_laws.proofs.Steady.{step_calls, step_rules}
 use Rattle.moka_laws.proofs.Kept.{IsInvariant, in_reached}
@@ -142,15 +142,10 @@ module _ {K V E : Type 0} where
   hits_calm c (plan.To_evict key stamp cause) there value p = p
   hits_calm c _ there value p = refl
 
-  either_calm : (b : Bool) (x y : Next K V E) → weigh_call chosen x.left ≡ 0 →
-      weigh_call chosen y.left ≡ 0 → weigh_call chosen (cond b x y).left ≡ 0
-  either_calm true x y h k = h
-  either_calm false x y h k = k
-
   read_calm : (c : Call K V E) (sought : Sought K) (with : Settled V E) → weigh chosen c.plan ≡ 0 →
       weigh_call chosen (after_read c sought (found.ReadSettled with)).left ≡ 0
   read_calm c sought settled.NotYet p = p
-  read_calm c sought settled.Aborted p = either_calm (c.aborts + 1 == retries) _ _ refl refl
+  read_calm c sought settled.Aborted p = abort_next (λ v. weigh_call chosen v.left ≡ 0) c sought refl refl
   read_calm c sought _ p = refl
 
   read_key_calm : (c : Call K V E) (compute : Compute K) (with : Settled V E) →

@@ -9,7 +9,7 @@ use Rattle.moka_hist.specs.Plan.{Item, Aim, Removal, plan_of}
 use Rattle.moka_hist.specs.Plan as plan
 use Rattle.moka_hist.specs.Next.{Next, goes}
 use Rattle.moka_hist.specs.Looking.{hits, misses, keeps as stays, finds_pair}
-use Rattle.moka_hist.specs.Loading.{after_read, after_told, retries}
+use Rattle.moka_hist.specs.Loading.{after_read, after_told}
 use Rattle.moka_hist.specs.Computing.{after_told_op}
 use Rattle.moka_hist.specs.Step.{Step, takes_of, state_after}
 use Rattle.moka_hist.specs.Telling.{does_take, is_taken, takes_nothing, takes_op}
@@ -33,7 +33,7 @@ use Rattle.moka_hist.specs.declared.visits.Takes.TheVariants as takes
 use Rattle.moka_hist.specs.declared.visits.Found.TheVariants as found
 use Rattle.moka_hist.specs.declared.accesses.Turn.{Turn}
 use Rattle.moka_hist.specs.declared.accesses.Turn.TheVariants as turn
-use Rattle.moka_laws.proofs.Rules.{put_plans, loaded_plans, kept_next, chosen_next, read_key_next, told_op_next_by, IsLost, IsLoad, IsComputes, IsFresh, Loads, Owns, Computes, Disabled, fresh_plan}
+use Rattle.moka_laws.proofs.Rules.{abort_next, put_plans, loaded_plans, kept_next, chosen_next, read_key_next, told_op_next_by, IsLost, IsLoad, IsComputes, IsFresh, Loads, Owns, Computes, Disabled, fresh_plan}
 use Rattle.moka_laws.proofs.Counting.{some_same, none_some, put_cases, put_here, put_there}
 use Rattle.moka_laws.proofs.Kept.{IsInvariant, in_reached}
 use Rattle.moka_laws.proofs.Owning.{plan_left}
@@ -124,22 +124,16 @@ module _ {K V E : Type 0} where
     unseen_take : (c : Call K V E) (aim : Aim K V) (key : K) (stored : Stored V) →
         ItemTakes asked given (plan.Judge aim key stored) →
         AllTake asked given (plan_left (misses c aim).left)
-    unseen_take c (plan.To_load sought) key stored f = misses_take c (plan.To_load sought) key f
-    unseen_take c (plan.To_own sought) key stored f = misses_take c (plan.To_own sought) key f
-    unseen_take c (plan.To_compute compute) key stored f =
-        misses_take c (plan.To_compute compute) key f
-    unseen_take c aim key stored f = misses_take c aim key tt
+    unseen_take c (plan.To_evict there stamp cause) key stored f = keeps_take c
+    unseen_take c aim key stored f = misses_take c aim key f
 
     finds_take : (c : Call K V E) (aim : Aim K V) (key k : K) (stored : Stored V) →
         ItemTakes asked given (plan.Get aim key) →
         AllTake asked given (plan_left (finds_pair c aim k stored).left)
-    finds_take c (plan.To_load sought) key k stored f = (f, tt)
-    finds_take c (plan.To_own sought) key k stored f = (f, tt)
-    finds_take c (plan.To_compute compute) key k stored f = (f, tt)
     finds_take c (plan.To_evict there stamp cause) key k stored f =
         chosen_next (λ v. AllTake asked given (plan_left v.left)) c there stamp cause k stored
         (λ off. tt) (λ on. (tt, (tt, tt))) (tt, tt)
-    finds_take c _ key k stored f = (tt, tt)
+    finds_take c _ key k stored f = (f, tt)
 
     hits_take : (c : Call K V E) (aim : Aim K V) (there : K) (value : V) (stored : Stored V) →
         AllTake asked given c.plan → ItemTakes asked given (plan.Judge aim there stored) →
@@ -149,18 +143,12 @@ module _ {K V E : Type 0} where
     hits_take c (plan.To_evict key stamp cause) there value stored p f = p
     hits_take c _ there value stored p f = tt
 
-    either_take : (b : Bool) (x y : Next K V E) → AllTake asked given (plan_left x.left) →
-        AllTake asked given (plan_left y.left) →
-        AllTake asked given (plan_left (cond b x y).left)
-    either_take true x y h k = h
-    either_take false x y h k = k
-
     read_take : (c : Call K V E) (sought : Sought K) (with : Settled V E) →
         AllTake asked given c.plan → IsLoad sought.load.kind →
         AllTake asked given (plan_left (after_read c sought (found.ReadSettled with)).left)
     read_take c sought settled.NotYet p one = p
     read_take c sought settled.Aborted p one =
-        either_take (c.aborts + 1 == retries) _ _ tt (one, tt)
+        abort_next (λ v. AllTake asked given (plan_left v.left)) c sought tt (one, tt)
     read_take c sought _ p one = tt
 
     told_take : (c : Call K V E) (load : Load K) (tells : Told V E) → IsLoad load.kind →

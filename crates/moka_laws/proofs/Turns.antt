@@ -1,5 +1,5 @@
 -- The turn is with the one call that applies the log.
-use Rattle.std.proofs.Common.{◌≡◌, ◌≢◌, ◌↔◌, ℕ, ◌+◌, ◌==◌, Bool, true, false, cond, List, [], ◌∷◌, Option, Some, None, refl, sym, ap, ◌∙◌, subst, arith}
+use Rattle.std.proofs.Common.{◌≡◌, ◌≢◌, ◌↔◌, ℕ, ◌+◌, ◌==◌, Bool, true, false, List, [], ◌∷◌, Option, Some, None, refl, sym, ap, ◌∙◌, subst, arith}
 use Rattle.std.proofs.lemmas.Bool.{eqb-true, false≢true}
 use Rattle.std.specs.Option.{option_map_or}
 use Rattle.moka_hist.specs.Finite.{put_at}
@@ -9,7 +9,7 @@ use Rattle.moka_hist.specs.Plan as plan
 use Rattle.moka_hist.specs.Visits.{is_free_for}
 use Rattle.moka_hist.specs.Next.{Next, goes}
 use Rattle.moka_hist.specs.Looking.{hits, misses, keeps, finds_pair}
-use Rattle.moka_hist.specs.Loading.{after_read, after_told, retries}
+use Rattle.moka_hist.specs.Loading.{after_read, after_told}
 use Rattle.moka_hist.specs.Step.{Step}
 use Rattle.moka_hist.specs.Run.{IsReached, fresh_call}
 use Rattle.moka_hist.specs.declared.records.Mode.TheVariants as mode
@@ -26,7 +26,7 @@ use Rattle.moka_hist.specs.declared.accesses.Turn.{Turn}
 use Rattle.moka_laws.specs.Missing.{TurnIsHeld, AppliesLog, IsApplying}
 use Rattle.moka_hist.specs.Writing.{cause_handed, nothing_answer, removed_answer}
 use Rattle.moka_hist.specs.declared.writes.Write.TheVariants.{Remove}
-use Rattle.moka_laws.proofs.Rules.{said_next, put_plans, loaded_plans, kept_next, chosen_by, IsFresh, Disabled, fresh_plan, read_key_next, told_op_next}
+use Rattle.moka_laws.proofs.Rules.{abort_next, said_next, put_plans, loaded_plans, kept_next, chosen_by, IsFresh, Disabled, fresh_plan, read_key_next, told_op_next}
 use Rattle.moka_laws.proofs.Counting.{none_some, some_same, put_here, put_there, differ_not, other_number}
 use Rattle.moka_laws.proofs.Weights.{weigh}
 use Rattle.moka_laws.proofs.Balance.{IsBalanced}
@@ -129,15 +129,10 @@ module _ {K V E : Type 0} where
   hits_calm c (plan.To_evict key stamp cause) there value h = h
   hits_calm c _ there value h = refl
 
-  either_calm : (b : Bool) (x y : Next K V E) → weigh of_turn (plan_left x.left) ≡ 0 → weigh of_turn (plan_left y.left) ≡ 0 →
-      weigh of_turn (plan_left (cond b x y).left) ≡ 0
-  either_calm true x y h k = h
-  either_calm false x y h k = k
-
   read_calm : (c : Call K V E) (sought : Sought K) (with : Settled V E) → weigh of_turn c.plan ≡ 0 →
       weigh of_turn (plan_left (after_read c sought (found.ReadSettled with)).left) ≡ 0
   read_calm c sought settled.NotYet h = h
-  read_calm c sought settled.Aborted h = either_calm (c.aborts + 1 == retries) _ _ refl refl
+  read_calm c sought settled.Aborted h = abort_next (λ v. weigh of_turn (plan_left v.left) ≡ 0) c sought refl refl
   read_calm c sought _ h = refl
 
   read_key_calm : (c : Call K V E) (compute : Compute K) (with : Settled V E) →
