@@ -1,7 +1,6 @@
 //! The table and the desk of a cache, as the call reaches them that is being stepped.
 ghost use Rattle.std.specs.Prelude.{◌≡◌, ◌≢◌, ◌≤◌, ℕ, Option, Some, None, IsSome, IfOk, OnErr};
 ghost use Rattle.std.proofs.Common.{refl, ◌∙◌};
-ghost use Rattle.moka_hist.specs.Finite.{IsExact};
 ghost use Rattle.moka_layers.specs.Counted.{counted};
 
 use crate::visits::make_visit;
@@ -10,6 +9,7 @@ use moka_hist::{Got, TableOp, TableTurn, Tests, Visit, Want};
 use moka_init::{Alone, Ground};
 use moka_sync::CallList;
 use moka_table::Table;
+use moka_values::Exact;
 use std::alloc::AllocError;
 use std::hash::Hash;
 
@@ -25,9 +25,9 @@ pub struct Layers<K: Eq + Hash, V, E, T, C, Q> {
 }
 
 impl<
-    K: Eq + Hash + Clone + Drop,
-    V: Clone + Drop,
-    E: Clone + Drop,
+    K: Eq + Hash + Exact,
+    V: Exact,
+    E: Exact,
     C: Drop,
     T: Table<K, V, Call = C> + Drop,
     Q: Tests<K, V> + Drop,
@@ -46,9 +46,6 @@ impl<
     // Makes a step of the operation that was begun. It stays begun where it is undecided, or memory
     // was wanting.
     fn go_on(&mut self, mut call: C) -> Result<Got<K, V, E>, AllocError>
-        requires keys { IsExact K.is_clone }
-        requires values { IsExact V.is_clone }
-        requires errors { IsExact E.is_clone }
         requires fits { T.fits self.old.table call }
         requires within { T.left self.old.table call ≤ most_on T.Table self.old.table }
         ensures serves { IfOk result (λ given. (o : TableOp K V) → T.operation_of call ≡ Some o
@@ -83,9 +80,6 @@ impl<
 
     // Begins an operation, with its first step. Without memory none is begun.
     fn begin(&mut self, operation: TableOp<K, V>) -> Result<Got<K, V, E>, AllocError>
-        requires keys { IsExact K.is_clone }
-        requires values { IsExact V.is_clone }
-        requires errors { IsExact E.is_clone }
         requires none { self.old.begun ≡ None }
         ensures serves { IfOk result (λ given.
             Serves K.eq T.Table Q.Tests self.old (On_table operation) given self.new) }
@@ -110,9 +104,6 @@ impl<
 
     // Goes on with the operation that was begun.
     fn resume(&mut self) -> Result<Got<K, V, E>, AllocError>
-        requires keys { IsExact K.is_clone }
-        requires values { IsExact V.is_clone }
-        requires errors { IsExact E.is_clone }
         requires stands { (w : World K V E) × GroundIs K.eq T.Table Q.Tests self.old w }
         requires begun { IsSome self.old.begun }
         ensures serves { IfOk result (λ given. (o : TableOp K V)
@@ -141,9 +132,6 @@ impl<
         visit: Visit<K, V, E>,
         woken: &mut Option<CallList>,
     ) -> Result<Got<K, V, E>, AllocError>
-        requires keys { IsExact K.is_clone }
-        requires values { IsExact V.is_clone }
-        requires errors { IsExact E.is_clone }
         requires may { (w : World K V E) × GroundIs K.eq T.Table Q.Tests self.old w
             × MayVisit w.desk visit }
         requires none { self.old.begun ≡ None }
@@ -170,9 +158,6 @@ impl<
     /// Whatever is accessed, other calls may go on with what they have begun. Where the table
     /// always decides at once, as the plain one does, each access decides.
     pub fn access(&mut self, want: Want<K, V, E>) -> Result<Got<K, V, E>, AllocError>
-        requires keys { IsExact K.is_clone }
-        requires values { IsExact V.is_clone }
-        requires errors { IsExact E.is_clone }
         requires allows { Allows K.eq T.Table Q.Tests self.old want }
         // What it gives, and what is told then.
         ensures serves { IfOk result (λ given. OfWanted (account_of T.Table self.old) want
@@ -201,9 +186,6 @@ impl<
         want: Want<K, V, E>,
         woken: &mut Option<CallList>,
     ) -> Result<Got<K, V, E>, AllocError>
-        requires keys { IsExact K.is_clone }
-        requires values { IsExact V.is_clone }
-        requires errors { IsExact E.is_clone }
         requires allows { Allows K.eq T.Table Q.Tests self.old want }
         // What it gives, and what is told then.
         ensures serves { IfOk result (λ given. OfWanted (account_of T.Table self.old) want
@@ -232,9 +214,9 @@ impl<
 }
 
 impl<
-    K: Eq + Hash + Clone + Drop,
-    V: Clone + Drop,
-    E: Clone + Drop,
+    K: Eq + Hash + Exact,
+    V: Exact,
+    E: Exact,
     C: Drop,
     T: Table<K, V, Call = C> + Drop,
     Q: Tests<K, V> + Drop,
@@ -262,9 +244,6 @@ impl<
     ghost counts = { λ l w stands. counted _ _ K.eq l w stands };
 
     fn access(&mut self, want: Want<K, V, E>) -> Result<Got<K, V, E>, AllocError>
-        requires keys { IsExact K.is_clone }
-        requires values { IsExact V.is_clone }
-        requires errors { IsExact E.is_clone }
         requires fits { Allows K.eq T.Table Q.Tests self.old want }
         // What it gives, and what is told then.
         ensures gives { IfOk result (λ given. OfWanted (account_of T.Table self.old) want
@@ -288,9 +267,9 @@ impl<
 }
 
 impl<
-    K: Eq + Hash + Clone + Drop,
-    V: Clone + Drop,
-    E: Clone + Drop,
+    K: Eq + Hash + Exact,
+    V: Exact,
+    E: Exact,
     C: Drop,
     T: Table<K, V, Call = C> + Drop,
     Q: Tests<K, V> + Drop,

@@ -1,6 +1,5 @@
 //! The visits of the desk that flows make.
 ghost use Rattle.std.specs.Prelude.{◌≡◌, Some, IfOk, OnErr};
-ghost use Rattle.moka_hist.specs.Finite.{IsExact};
 ghost use Rattle.moka_desk.specs.History.{KeepsAsBefore};
 ghost use Rattle.moka_desk.specs.StandsFor.{Can};
 ghost use Rattle.moka_desk.specs.Waits.{lock_line, settlement_line, turn_line};
@@ -11,25 +10,18 @@ ghost use Rattle.moka_layers.specs.Visiting.{VisitBy, handed_out, test_holds};
 use moka_desk::Desk;
 use moka_hist::{Cause, Found, Load, Settled, Stored, Takes, Tests, Visit};
 use moka_sync::CallList;
+use moka_values::Exact;
 use std::alloc::AllocError;
 use std::hash::Hash;
 
 /// Makes the visit. After want of memory the desk stands for what it stood for. The calls that it
 /// hands out, where it is one that does, stand in `woken` then.
-pub(crate) fn make_visit<
-    K: Eq + Hash + Clone + Drop,
-    V: Clone + Drop,
-    E: Clone + Drop,
-    Q: Tests<K, V>,
->(
+pub(crate) fn make_visit<K: Eq + Hash + Exact, V: Exact, E: Exact, Q: Tests<K, V>>(
     desk: &mut Desk<K, V, E>,
     tests: &Q,
     visit: Visit<K, V, E>,
     woken: &mut Option<CallList>,
 ) -> Result<Found<V, E>, AllocError>
-    requires keys { IsExact K.is_clone }
-    requires values { IsExact V.is_clone }
-    requires errors { IsExact E.is_clone }
     requires can { Can K.eq desk.old visit }
     ensures form { IfOk result (λ found. IsFoundBy visit found) }
     ensures ok { IfOk result (λ found.
@@ -76,7 +68,7 @@ pub(crate) fn make_visit<
     }
 }
 
-fn stamp_moment<K: Eq + Hash + Clone + Drop, V: Clone + Drop, E: Clone + Drop>(
+fn stamp_moment<K: Eq + Hash + Exact, V: Exact, E: Exact>(
     desk: &mut Desk<K, V, E>,
     call: u64,
 ) -> Result<Found<V, E>, AllocError>
@@ -91,7 +83,7 @@ fn stamp_moment<K: Eq + Hash + Clone + Drop, V: Clone + Drop, E: Clone + Drop>(
 }
 
 // Judges the record by the tests, which the desk does not have.
-fn judge_by<K: Eq + Hash + Clone + Drop, V: Clone + Drop, E: Clone + Drop, Q: Tests<K, V>>(
+fn judge_by<K: Eq + Hash + Exact, V: Exact, E: Exact, Q: Tests<K, V>>(
     desk: &mut Desk<K, V, E>,
     tests: &Q,
     replace: Option<u64>,
@@ -119,7 +111,7 @@ fn is_replaced<K, V, Q: Tests<K, V>>(tests: &Q, replace: Option<u64>, key: &K, v
 }
 
 // Judges a record on which the call's test holds, if it is replaced.
-fn judge<K: Eq + Hash + Clone + Drop, V: Clone + Drop, E: Clone + Drop>(
+fn judge<K: Eq + Hash + Exact, V: Exact, E: Exact>(
     desk: &mut Desk<K, V, E>,
     replaced: bool,
     stamp: u64,
@@ -136,7 +128,7 @@ fn judge<K: Eq + Hash + Clone + Drop, V: Clone + Drop, E: Clone + Drop>(
 
 #[cold]
 #[inline(never)]
-fn holds<K: Eq + Hash + Clone + Drop, V: Clone + Drop, E: Clone + Drop>(
+fn holds<K: Eq + Hash + Exact, V: Exact, E: Exact>(
     desk: &mut Desk<K, V, E>,
     stamp: u64,
     modified: u64,
@@ -148,12 +140,11 @@ fn holds<K: Eq + Hash + Clone + Drop, V: Clone + Drop, E: Clone + Drop>(
     Found::Holds(desk.holds(stamp, modified, cause))
 }
 
-fn wait_or_own<K: Eq + Hash + Clone + Drop, V: Clone + Drop, E: Clone + Drop>(
+fn wait_or_own<K: Eq + Hash + Exact, V: Exact, E: Exact>(
     desk: &mut Desk<K, V, E>,
     call: u64,
     load: Load<K>,
 ) -> Result<Found<V, E>, AllocError>
-    requires keys { IsExact K.is_clone }
     requires can { Can K.eq desk.old (Visit.WaitOrOwn call load.key load.kind) }
     ensures ok { IfOk result (λ found.
         VisitIs K.eq desk.old (Visit.WaitOrOwn call load.key load.kind) found desk.new) }
@@ -164,12 +155,11 @@ fn wait_or_own<K: Eq + Hash + Clone + Drop, V: Clone + Drop, E: Clone + Drop>(
     Ok(Found::WaitOrOwn(claim))
 }
 
-fn own_alone<K: Eq + Hash + Clone + Drop, V: Clone + Drop, E: Clone + Drop>(
+fn own_alone<K: Eq + Hash + Exact, V: Exact, E: Exact>(
     desk: &mut Desk<K, V, E>,
     call: u64,
     key: K,
 ) -> Result<Found<V, E>, AllocError>
-    requires keys { IsExact K.is_clone }
     requires can { Can K.eq desk.old (Visit.OwnAlone call key) }
     ensures ok { IfOk result (λ found.
         VisitIs K.eq desk.old (Visit.OwnAlone call key) found desk.new) }
@@ -180,12 +170,10 @@ fn own_alone<K: Eq + Hash + Clone + Drop, V: Clone + Drop, E: Clone + Drop>(
     Ok(Found::OwnAlone(owned))
 }
 
-fn read_settled<K: Eq + Hash + Clone + Drop, V: Clone + Drop, E: Clone + Drop>(
+fn read_settled<K: Eq + Hash + Exact, V: Exact, E: Exact>(
     desk: &mut Desk<K, V, E>,
     call: u64,
 ) -> Result<Found<V, E>, AllocError>
-    requires values { IsExact V.is_clone }
-    requires errors { IsExact E.is_clone }
     requires can { Can K.eq desk.old (Visit.ReadSettled call) }
     ensures ok { IfOk result (λ found.
         VisitIs K.eq desk.old (Visit.ReadSettled call) found desk.new) }
@@ -196,7 +184,7 @@ fn read_settled<K: Eq + Hash + Clone + Drop, V: Clone + Drop, E: Clone + Drop>(
     Ok(Found::ReadSettled(settled))
 }
 
-fn open_ask<K: Eq + Hash + Clone + Drop, V: Clone + Drop, E: Clone + Drop>(
+fn open_ask<K: Eq + Hash + Exact, V: Exact, E: Exact>(
     desk: &mut Desk<K, V, E>,
     call: u64,
     takes: Takes,
@@ -211,7 +199,7 @@ fn open_ask<K: Eq + Hash + Clone + Drop, V: Clone + Drop, E: Clone + Drop>(
     Ok(Found::OpenAsk)
 }
 
-fn settle<K: Eq + Hash + Clone + Drop, V: Clone + Drop, E: Clone + Drop>(
+fn settle<K: Eq + Hash + Exact, V: Exact, E: Exact>(
     desk: &mut Desk<K, V, E>,
     call: u64,
     with: Settled<V, E>,
@@ -228,7 +216,7 @@ fn settle<K: Eq + Hash + Clone + Drop, V: Clone + Drop, E: Clone + Drop>(
 
 #[cold]
 #[inline(never)]
-fn end_turn<K: Eq + Hash + Clone + Drop, V: Clone + Drop, E: Clone + Drop>(
+fn end_turn<K: Eq + Hash + Exact, V: Exact, E: Exact>(
     desk: &mut Desk<K, V, E>,
     call: u64,
     woken: &mut Option<CallList>,
@@ -244,7 +232,7 @@ fn end_turn<K: Eq + Hash + Clone + Drop, V: Clone + Drop, E: Clone + Drop>(
 
 #[cold]
 #[inline(never)]
-fn notice_ended<K: Eq + Hash + Clone + Drop, V: Clone + Drop, E: Clone + Drop>(
+fn notice_ended<K: Eq + Hash + Exact, V: Exact, E: Exact>(
     desk: &mut Desk<K, V, E>,
     call: u64,
     notice: u64,
@@ -261,12 +249,11 @@ fn notice_ended<K: Eq + Hash + Clone + Drop, V: Clone + Drop, E: Clone + Drop>(
 
 #[cold]
 #[inline(never)]
-fn lock_key<K: Eq + Hash + Clone + Drop, V: Clone + Drop, E: Clone + Drop>(
+fn lock_key<K: Eq + Hash + Exact, V: Exact, E: Exact>(
     desk: &mut Desk<K, V, E>,
     call: u64,
     key: K,
 ) -> Result<Found<V, E>, AllocError>
-    requires keys { IsExact K.is_clone }
     requires can { Can K.eq desk.old (Visit.LockKey call key) }
     ensures ok { IfOk result (λ found.
         VisitIs K.eq desk.old (Visit.LockKey call key) found desk.new) }
@@ -279,7 +266,7 @@ fn lock_key<K: Eq + Hash + Clone + Drop, V: Clone + Drop, E: Clone + Drop>(
 
 #[cold]
 #[inline(never)]
-fn unlock_key<K: Eq + Hash + Clone + Drop, V: Clone + Drop, E: Clone + Drop>(
+fn unlock_key<K: Eq + Hash + Exact, V: Exact, E: Exact>(
     desk: &mut Desk<K, V, E>,
     call: u64,
     wrote: bool,
@@ -296,7 +283,7 @@ fn unlock_key<K: Eq + Hash + Clone + Drop, V: Clone + Drop, E: Clone + Drop>(
 
 #[cold]
 #[inline(never)]
-fn open_notice<K: Eq + Hash + Clone + Drop, V: Clone + Drop, E: Clone + Drop>(
+fn open_notice<K: Eq + Hash + Exact, V: Exact, E: Exact>(
     desk: &mut Desk<K, V, E>,
     call: u64,
     key: K,
@@ -319,7 +306,7 @@ fn open_notice<K: Eq + Hash + Clone + Drop, V: Clone + Drop, E: Clone + Drop>(
 
 #[cold]
 #[inline(never)]
-fn take_turn<K: Eq + Hash + Clone + Drop, V: Clone + Drop, E: Clone + Drop>(
+fn take_turn<K: Eq + Hash + Exact, V: Exact, E: Exact>(
     desk: &mut Desk<K, V, E>,
     call: u64,
 ) -> Result<Found<V, E>, AllocError>
