@@ -1,7 +1,6 @@
 //! Calls that list the keys of a segment, alone and while operations run.
 
 ghost use Rattle.std.specs.Prelude.{◌≡◌, IfOk, OnOk, None};
-ghost use Rattle.moka_hist.specs.Finite.{IsExact};
 ghost use Rattle.moka_calls.specs.Standing.{IsGoing};
 ghost use Rattle.moka_buckets.specs.Views.{fits_in, fits_keys_in};
 
@@ -9,6 +8,7 @@ use crate::hashers::BuildZero;
 use moka_buckets::{BucketCall, BucketTable, KeysCall};
 use moka_hist::{Stored, TableAnswer, TableOp, TableTurn};
 use moka_table::Table;
+use moka_values::Exact;
 use std::alloc::{AllocError, Global};
 use std::hash::{BuildHasher, Hash};
 use std::test::Fail;
@@ -18,13 +18,11 @@ pub(crate) type Zero = BucketTable<u64, u64, BuildZero>;
 
 /// Makes the steps of the operation that are left, beside the call. Gives its answer; None where it
 /// doesn't end.
-pub(crate) fn finish<K: Eq + Hash + Clone + Drop, V: Clone + Drop, S: BuildHasher + Drop>(
+pub(crate) fn finish<K: Eq + Hash + Exact, V: Exact, S: BuildHasher + Drop>(
     table: &mut BucketTable<K, V, S>,
     call: &KeysCall,
     other: &mut BucketCall<K, V>,
 ) -> Result<Option<TableAnswer<K, V>>, AllocError>
-    requires keys { IsExact K.is_clone }
-    requires values { IsExact V.is_clone }
     requires listing { fits_keys_in S.BuildHasher S.Hasher.Hasher K.eq K.hash_input
         table.old call.now }
     requires fits { fits_in S.BuildHasher S.Hasher.Hasher K.eq K.hash_input
@@ -42,13 +40,11 @@ pub(crate) fn finish<K: Eq + Hash + Clone + Drop, V: Clone + Drop, S: BuildHashe
 }
 
 /// Runs the operation to its end, beside the call.
-pub(crate) fn run<K: Eq + Hash + Clone + Drop, V: Clone + Drop, S: BuildHasher + Drop>(
+pub(crate) fn run<K: Eq + Hash + Exact, V: Exact, S: BuildHasher + Drop>(
     table: &mut BucketTable<K, V, S>,
     call: &KeysCall,
     operation: TableOp<K, V>,
 ) -> Result<(), AllocError>
-    requires keys { IsExact K.is_clone }
-    requires values { IsExact V.is_clone }
     requires fits { fits_keys_in S.BuildHasher S.Hasher.Hasher K.eq K.hash_input
         table.old call.now }
     ensures fits { fits_keys_in S.BuildHasher S.Hasher.Hasher K.eq K.hash_input
@@ -75,7 +71,7 @@ pub(crate) fn insert(key: u64) -> TableOp<u64, u64> {
 }
 
 /// Makes at most so many steps of the call; tells by how many it decided.
-pub(crate) fn list<K: Eq + Hash + Clone + Drop, V: Clone + Drop, S: BuildHasher + Drop>(
+pub(crate) fn list<K: Eq + Hash + Exact, V: Exact, S: BuildHasher + Drop>(
     table: &mut BucketTable<K, V, S>,
     call: &mut KeysCall,
     most: u32,
@@ -96,7 +92,7 @@ pub(crate) fn list<K: Eq + Hash + Clone + Drop, V: Clone + Drop, S: BuildHasher 
 }
 
 // Makes steps of the call where it has not decided yet.
-fn list_on<K: Eq + Hash + Clone + Drop, V: Clone + Drop, S: BuildHasher + Drop>(
+fn list_on<K: Eq + Hash + Exact, V: Exact, S: BuildHasher + Drop>(
     table: &mut BucketTable<K, V, S>,
     call: &mut KeysCall,
     early: Option<u32>,
@@ -117,11 +113,10 @@ fn list_on<K: Eq + Hash + Clone + Drop, V: Clone + Drop, S: BuildHasher + Drop>(
 type Listed<K> = (bool, Option<u32>, Option<Vec<K>>);
 
 // Makes the steps of the call.
-fn listed<K: Eq + Hash + Clone + Drop, V: Clone + Drop, S: BuildHasher + Drop>(
+fn listed<K: Eq + Hash + Exact, V: Exact, S: BuildHasher + Drop>(
     table: &mut BucketTable<K, V, S>,
     call: &mut KeysCall,
 ) -> Result<Listed<K>, AllocError>
-    requires keys { IsExact K.is_clone }
     requires fits { fits_keys_in S.BuildHasher S.Hasher.Hasher K.eq K.hash_input
         table.old call.old }
     requires going { IsGoing call.old.table }
@@ -132,13 +127,11 @@ fn listed<K: Eq + Hash + Clone + Drop, V: Clone + Drop, S: BuildHasher + Drop>(
 }
 
 // Makes the steps of the call after those of the operation.
-fn listed_after<K: Eq + Hash + Clone + Drop, V: Clone + Drop, S: BuildHasher + Drop>(
+fn listed_after<K: Eq + Hash + Exact, V: Exact, S: BuildHasher + Drop>(
     table: &mut BucketTable<K, V, S>,
     call: &mut KeysCall,
     operation: TableOp<K, V>,
 ) -> Result<Listed<K>, AllocError>
-    requires keys { IsExact K.is_clone }
-    requires values { IsExact V.is_clone }
     requires fits { fits_keys_in S.BuildHasher S.Hasher.Hasher K.eq K.hash_input
         table.old call.old }
     requires going { IsGoing call.old.table }
@@ -191,12 +184,11 @@ fn a_segment_that_is_not_there_has_no_keys(rt: HostRuntime) -> Result<(), Fail> 
 }
 
 // Stores these keys, each with itself, one after the other, beside the call.
-fn store_all<K: Eq + Hash + Clone + Drop, S: BuildHasher + Drop>(
+fn store_all<K: Eq + Hash + Exact, S: BuildHasher + Drop>(
     table: &mut BucketTable<K, K, S>,
     call: &KeysCall,
     keys: &[K],
 ) -> Result<(), AllocError>
-    requires keys { IsExact K.is_clone }
     requires fits { fits_keys_in S.BuildHasher S.Hasher.Hasher K.eq K.hash_input
         table.old call.now }
     ensures { OnOk result (fits_keys_in S.BuildHasher S.Hasher.Hasher K.eq K.hash_input
@@ -222,14 +214,13 @@ fn store_all<K: Eq + Hash + Clone + Drop, S: BuildHasher + Drop>(
 
 // Makes so many steps of the call once the first keys are stored, and the steps that are left once
 // the others are. Gives the keys then; None where it doesn't end.
-fn listed_between<K: Eq + Hash + Clone + Drop, S: BuildHasher + Drop>(
+fn listed_between<K: Eq + Hash + Exact, S: BuildHasher + Drop>(
     table: &mut BucketTable<K, K, S>,
     call: &mut KeysCall,
     steps: u32,
     first: &[K],
     others: &[K],
 ) -> Result<Option<Vec<K>>, AllocError>
-    requires keys { IsExact K.is_clone }
     requires fits { fits_keys_in S.BuildHasher S.Hasher.Hasher K.eq K.hash_input
         table.old call.old }
     requires going { IsGoing call.old.table }

@@ -1,7 +1,6 @@
 //! A list of keys beside an operation, in each order of all their steps.
 
 ghost use Rattle.std.specs.Prelude.{◌≡◌, IfOk};
-ghost use Rattle.moka_hist.specs.Finite.{IsExact};
 ghost use Rattle.moka_calls.specs.Standing.{IsGoing};
 ghost use Rattle.moka_buckets.specs.Views.{fits_in, fits_keys_in};
 
@@ -10,6 +9,7 @@ use crate::keys::{Zero, finish, insert, list, run};
 use moka_buckets::{BucketCall, BucketTable, KeysCall};
 use moka_hist::{TableAnswer, TableOp, TableTurn};
 use moka_table::Table;
+use moka_values::Exact;
 use std::alloc::{AllocError, Global};
 use std::hash::{BuildHasher, Hash};
 use std::test::Fail;
@@ -25,14 +25,12 @@ struct Played<K, V> {
 
 // The steps of the two in this order: its bits, from the highest, tell whose each step is. Once one
 // has decided the other goes on alone. None where 64 bits were too few, or one doesn't end.
-fn play<K: Eq + Hash + Clone + Drop, V: Clone + Drop, S: BuildHasher + Drop>(
+fn play<K: Eq + Hash + Exact, V: Exact, S: BuildHasher + Drop>(
     table: &mut BucketTable<K, V, S>,
     call: &mut KeysCall,
     other: &mut BucketCall<K, V>,
     order: u64,
 ) -> Result<Option<Played<K, V>>, AllocError>
-    requires keys { IsExact K.is_clone }
-    requires values { IsExact V.is_clone }
     requires listing { fits_keys_in S.BuildHasher S.Hasher.Hasher K.eq K.hash_input
         table.old call.old }
     requires going { IsGoing call.old.table }
@@ -89,15 +87,13 @@ fn operation(inserts: bool) -> TableOp<u64, u64> {
 
 // Runs the first operation to its end, and then plays the order beside the second. Gives what
 // `play` gives, and the keys that are listed.
-fn play_after<K: Eq + Hash + Clone + Drop, V: Clone + Drop, S: BuildHasher + Drop>(
+fn play_after<K: Eq + Hash + Exact, V: Exact, S: BuildHasher + Drop>(
     table: &mut BucketTable<K, V, S>,
     call: &mut KeysCall,
     first: TableOp<K, V>,
     second: TableOp<K, V>,
     order: u64,
 ) -> Result<(Option<Played<K, V>>, Option<Vec<K>>), AllocError>
-    requires keys { IsExact K.is_clone }
-    requires values { IsExact V.is_clone }
     requires fits { fits_keys_in S.BuildHasher S.Hasher.Hasher K.eq K.hash_input
         table.old call.old }
     requires going { IsGoing call.old.table }

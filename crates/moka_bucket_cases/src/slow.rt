@@ -4,7 +4,6 @@ ghost use Rattle.std.specs.Prelude.{◌≡◌, ◌≢◌, ◌<◌, ◌≤◌, �
 ghost use Rattle.std.specs.Bool.{OnTrue};
 ghost use Rattle.std.specs.HashMap.{hash_map_len};
 ghost use Rattle.std.proofs.Common.{arith};
-ghost use Rattle.moka_hist.specs.Finite.{IsExact};
 ghost use Rattle.moka_hist.specs.declared.tables.TableOp.{TableOp};
 ghost use Rattle.moka_table.specs.Map.{SameMap, Moves, ListsPairs, most_steps};
 ghost use Rattle.moka_table.specs.Plain.{map_of, peak_of, plain_first};
@@ -13,6 +12,7 @@ ghost use Rattle.moka_table.specs.Plain.{map_of, peak_of, plain_first};
 use moka_hist::Stored;
 use moka_hist::{TableOp, TableTurn};
 use moka_table::{EntryList, PlainCall, PlainTable, Table};
+use moka_values::Exact;
 use std::alloc::{AllocError, Global};
 use std::hash::Hash;
 #[cfg(test)]
@@ -28,7 +28,7 @@ struct Slow<K: Eq + Hash, V> {
     ghost few: { pieces < most_steps plain_first 0 },
 }
 
-impl<K: Eq + Hash + Clone + Drop, V: Clone + Drop> Table<K, V> for Slow<K, V> {
+impl<K: Eq + Hash + Exact, V: Exact> Table<K, V> for Slow<K, V> {
     type Call = PlainCall<K, V>;
 
     ghost map = { λ t. map_of K.eq t.plain };
@@ -64,8 +64,6 @@ impl<K: Eq + Hash + Clone + Drop, V: Clone + Drop> Table<K, V> for Slow<K, V> {
     }
 
     fn step(&mut self, call: &mut PlainCall<K, V>) -> Result<TableTurn<K, V>, AllocError>
-        requires keys { IsExact K.is_clone }
-        requires values { IsExact V.is_clone }
         requires fits { call.old.operation ≢ None }
         ensures moves { IfOk result (λ turn. (o : TableOp K V) → call.old.operation ≡ Some o
             → Moves K.eq o (map_of K.eq self.old.plain) (hash_map_len self.old.plain.pairs) turn
@@ -99,8 +97,6 @@ impl<K: Eq + Hash + Clone + Drop, V: Clone + Drop> Table<K, V> for Slow<K, V> {
     }
 
     fn pairs(&self, alloc: Global) -> Result<EntryList<K, V>, AllocError>
-        requires keys { IsExact K.is_clone }
-        requires values { IsExact V.is_clone }
         ensures { IfOk result (λ pairs. ListsPairs K.eq pairs (map_of K.eq self.now.plain)) }
     {
         self.plain.pairs(alloc)

@@ -2,7 +2,6 @@
 
 ghost use Rattle.std.specs.Prelude.{List, ◌≡◌, ◌≢◌, ◌⊎◌, ◌↔◌, ℕ, true, false, is_some, IsSome, ◌+◌, ◌*◌, ◌-◌, ◌^◌, ◌<◌, ◌≤◌, max, min, length, Ok, OnErr, IfOk, Some, None};
 ghost use Rattle.std.proofs.Common.{arith};
-ghost use Rattle.moka_hist.specs.Finite.{IsExact};
 ghost use Rattle.moka_hist.specs.declared.tables.TableOp.{TableOp};
 ghost use Rattle.moka_hist.specs.declared.tables.TableTurn.{TableTurn};
 ghost use Rattle.moka_table.specs.Map.{SameMap, Moves, ListsPairs, most_steps};
@@ -19,6 +18,7 @@ use moka_calls::TableCall;
 use moka_growth::CallKind;
 use moka_hist::{TableOp, TableTurn};
 use moka_table::{EntryList, Table};
+use moka_values::Exact;
 use std::alloc::{AllocError, Global};
 use std::hash::{BuildHasher, Hash};
 use std::marker::Model;
@@ -110,7 +110,7 @@ impl<K: Eq + Hash + Drop, V: Drop, S: BuildHasher + Drop> BucketTable<K, V, S> {
     }
 }
 
-impl<K: Eq + Hash + Clone + Drop, V: Clone + Drop, S: BuildHasher + Drop> BucketTable<K, V, S> {
+impl<K: Eq + Hash + Exact, V: Exact, S: BuildHasher + Drop> BucketTable<K, V, S> {
     ghost use Rattle.moka_buckets.specs.Compacting.{AllCompact};
     ghost use Rattle.std.specs.Option.{option_map};
     ghost use Rattle.moka_calls.specs.Standing.{IsGoing};
@@ -124,8 +124,6 @@ impl<K: Eq + Hash + Clone + Drop, V: Clone + Drop, S: BuildHasher + Drop> Bucket
     /// allow, and none where there are none; old arrays and nodes go. Operations that were begun
     /// before need not fit any more. All memory is taken first.
     pub fn compact(&mut self) -> Result<(), AllocError>
-        requires keys { IsExact K.is_clone }
-        requires values { IsExact V.is_clone }
         ensures map { SameMap
             (map_in S.BuildHasher S.Hasher.Hasher K.eq K.hash_input self.old)
             (map_in S.BuildHasher S.Hasher.Hasher K.eq K.hash_input self.new) }
@@ -223,7 +221,6 @@ impl<K: Eq + Hash + Clone + Drop, V: Clone + Drop, S: BuildHasher + Drop> Bucket
 
     /// The keys that the call has listed; None exactly where it hasn't decided.
     pub fn keys(&self, call: &KeysCall) -> Result<Option<Vec<K>>, AllocError>
-        requires keys { IsExact K.is_clone }
         requires fits { fits_keys_in S.BuildHasher S.Hasher.Hasher K.eq K.hash_input
             self.now call.now }
         ensures ended { IfOk result (λ keys. is_some keys ≡ is_ended call.now.table) }
@@ -235,8 +232,7 @@ impl<K: Eq + Hash + Clone + Drop, V: Clone + Drop, S: BuildHasher + Drop> Bucket
     }
 }
 
-impl<K: Eq + Hash + Clone + Drop, V: Clone + Drop, S: BuildHasher + Drop> Table<K, V>
-    for BucketTable<K, V, S> {
+impl<K: Eq + Hash + Exact, V: Exact, S: BuildHasher + Drop> Table<K, V> for BucketTable<K, V, S> {
     type Call = BucketCall<K, V>;
 
     ghost use Rattle.moka_buckets.specs.Views.{count_of, covers_in, first_of, fits_in, fits_keys_in, left_keys_of, left_of, lists_in, map_in, operation_of, peak_of, segment_for, segment_in};
@@ -285,8 +281,6 @@ impl<K: Eq + Hash + Clone + Drop, V: Clone + Drop, S: BuildHasher + Drop> Table<
     }
 
     fn step(&mut self, call: &mut BucketCall<K, V>) -> Result<TableTurn<K, V>, AllocError>
-        requires keys { IsExact K.is_clone }
-        requires values { IsExact V.is_clone }
         requires fits { fits_in S.BuildHasher S.Hasher.Hasher K.eq K.hash_input
             self.old call.old }
         // What it gives, and what the table is after it.
@@ -357,8 +351,6 @@ impl<K: Eq + Hash + Clone + Drop, V: Clone + Drop, S: BuildHasher + Drop> Table<
     }
 
     fn pairs(&self, alloc: Global) -> Result<EntryList<K, V>, AllocError>
-        requires keys { IsExact K.is_clone }
-        requires values { IsExact V.is_clone }
         ensures { IfOk result (λ pairs. ListsPairs K.eq pairs
             (map_in S.BuildHasher S.Hasher.Hasher K.eq K.hash_input self.now)) }
     {

@@ -2,7 +2,6 @@
 
 ghost use Rattle.std.specs.Prelude.{◌≡◌, IfOk, OnErr, IsSome, Some};
 ghost use Rattle.std.specs.Option.{option_map};
-ghost use Rattle.moka_hist.specs.Finite.{IsExact};
 ghost use Rattle.moka_hist.specs.Tables.{key_of};
 ghost use Rattle.moka_buckets.specs.Tables.{kind_of, stored_by};
 ghost use Rattle.moka_buckets.specs.Steps.{Names, turn_by};
@@ -12,6 +11,7 @@ use crate::node::Node;
 use moka_calls::TableCall;
 use moka_growth::CallKind;
 use moka_hist::{Stored, TableAnswer, TableOp, TableTurn};
+use moka_values::Exact;
 use std::alloc::AllocError;
 
 /// The key of the operation.
@@ -40,12 +40,10 @@ pub fn kind_of<K, V>(operation: &TableOp<K, V>) -> CallKind
 
 /// Makes a node for the pair that is to be stored, if there is none. Without memory nothing has
 /// changed.
-pub fn name_node<K: Clone + Drop, V: Clone + Drop>(
+pub fn name_node<K: Exact, V: Exact>(
     nodes: &mut Vec<Node<K, V>>,
     call: &mut BucketCall<K, V>,
 ) -> Result<(), AllocError>
-    requires keys { IsExact K.is_clone }
-    requires values { IsExact V.is_clone }
     ensures ok { IfOk result (λ done. Names nodes.old.items nodes.new.items call.old call.new) }
     ensures named { IfOk result (λ done. IsSome (stored_by call.old.operation)
         → IsSome call.new.node) }
@@ -64,12 +62,10 @@ pub fn name_node<K: Clone + Drop, V: Clone + Drop>(
 }
 
 // A node for the pair that is to be stored.
-fn new_node<K: Clone + Drop, V: Clone + Drop>(
+fn new_node<K: Exact, V: Exact>(
     operation: &TableOp<K, V>,
     hash: u64,
 ) -> Result<Option<Node<K, V>>, AllocError>
-    requires keys { IsExact K.is_clone }
-    requires values { IsExact V.is_clone }
     ensures { IfOk result (λ node. node ≡ option_map
         (λ pair. record { key = pair.0; stored = pair.1; hash = hash }) (stored_by operation.now)) }
 {
@@ -81,13 +77,11 @@ fn new_node<K: Clone + Drop, V: Clone + Drop>(
     }
 }
 
-fn node_for<K: Clone + Drop, V: Clone + Drop>(
+fn node_for<K: Exact, V: Exact>(
     key: &K,
     stored: &Stored<V>,
     hash: u64,
 ) -> Result<Option<Node<K, V>>, AllocError>
-    requires keys { IsExact K.is_clone }
-    requires values { IsExact V.is_clone }
     ensures { IfOk result (λ node. node
         ≡ Some (record { key = key.now; stored = stored.now; hash = hash })) }
 {

@@ -2,7 +2,6 @@
 
 ghost use Rattle.std.specs.Prelude.{◌≡◌, ◌++◌, ◌<◌, ◌≤◌, ◌^◌, IfOk, length};
 ghost use Rattle.std.specs.Option.{option_to_list};
-ghost use Rattle.moka_hist.specs.Finite.{IsExact};
 ghost use Rattle.moka_words.specs.Words.{stored_in};
 ghost use Rattle.moka_buckets.specs.Compacting.{AllCompact, AreLaid, Compacts, IsCompact, live_nodes, node_in, numbered};
 
@@ -13,6 +12,7 @@ use crate::nodes::node_at;
 use crate::part::Part;
 use crate::words::stored_in;
 use moka_calls::lay_out;
+use moka_values::Exact;
 use moka_words::Word;
 use std::alloc::{AllocError, Global};
 
@@ -20,12 +20,10 @@ use std::alloc::{AllocError, Global};
 const LEAST: usize = 128;
 
 /// The segments laid out anew, in their order.
-pub fn compact_parts<K: Clone + Drop, V: Clone + Drop>(
+pub fn compact_parts<K: Exact, V: Exact>(
     alloc: Global,
     parts: &[Part<K, V>],
 ) -> Result<Vec<Part<K, V>>, AllocError>
-    requires keys { IsExact K.is_clone }
-    requires values { IsExact V.is_clone }
     ensures { IfOk result (λ anew. AllCompact parts.now anew.items) }
 {
     let mut anew = Vec::with_capacity(alloc, parts.len())?;
@@ -36,12 +34,10 @@ pub fn compact_parts<K: Clone + Drop, V: Clone + Drop>(
     Ok(anew)
 }
 
-fn compact_part<K: Clone + Drop, V: Clone + Drop>(
+fn compact_part<K: Exact, V: Exact>(
     alloc: Global,
     part: &Part<K, V>,
 ) -> Result<Part<K, V>, AllocError>
-    requires keys { IsExact K.is_clone }
-    requires values { IsExact V.is_clone }
     ensures { IfOk result (λ new. Compacts part.now new) }
 {
     let nodes = clone_live(alloc, part)?;
@@ -54,12 +50,10 @@ fn compact_part<K: Clone + Drop, V: Clone + Drop>(
 }
 
 // Clones of the nodes that the root stores.
-fn clone_live<K: Clone + Drop, V: Clone + Drop>(
+fn clone_live<K: Exact, V: Exact>(
     alloc: Global,
     part: &Part<K, V>,
 ) -> Result<Vec<Node<K, V>>, AllocError>
-    requires keys { IsExact K.is_clone }
-    requires values { IsExact V.is_clone }
     ensures { IfOk result (λ nodes. nodes.items ≡ live_nodes part.now) }
 {
     let mut nodes = Vec::new(alloc);
@@ -70,13 +64,11 @@ fn clone_live<K: Clone + Drop, V: Clone + Drop>(
 }
 
 // A clone of the word's node, if one is stored there.
-fn clone_word<K: Clone + Drop, V: Clone + Drop>(
+fn clone_word<K: Exact, V: Exact>(
     clones: &mut Vec<Node<K, V>>,
     nodes: &[Node<K, V>],
     word: Word,
 ) -> Result<(), AllocError>
-    requires keys { IsExact K.is_clone }
-    requires values { IsExact V.is_clone }
     ensures { IfOk result (λ done. clones.new.items
         ≡ clones.old.items ++ option_to_list (node_in nodes.now (stored_in word))) }
 {

@@ -1,7 +1,6 @@
 //! The pairs of a table.
 
 ghost use Rattle.std.specs.Prelude.{◌≡◌, ◌++◌, IfOk};
-ghost use Rattle.moka_hist.specs.Finite.{IsExact};
 ghost use Rattle.moka_words.specs.Effect.{root, words_of};
 ghost use Rattle.moka_buckets.specs.Arrays.{memory_of};
 ghost use Rattle.moka_buckets.specs.Listed.{listed_at};
@@ -13,6 +12,7 @@ use crate::nodes::node_at;
 use crate::part::Part;
 use crate::words::stored_in;
 use moka_hist::Stored;
+use moka_values::Exact;
 use moka_words::Word;
 use std::alloc::{AllocError, Global};
 
@@ -29,12 +29,10 @@ impl Arrays {
 }
 
 /// The pairs of all segments, of each in the order of the root's buckets.
-pub fn list_parts<K: Clone + Drop, V: Clone + Drop>(
+pub fn list_parts<K: Exact, V: Exact>(
     parts: &[Part<K, V>],
     alloc: Global,
 ) -> Result<Vec<(K, Stored<V>)>, AllocError>
-    requires keys { IsExact K.is_clone }
-    requires values { IsExact V.is_clone }
     ensures { IfOk result (λ pairs. pairs.items ≡ listed_over parts.now) }
 {
     let mut pairs = Vec::new(alloc);
@@ -45,12 +43,10 @@ pub fn list_parts<K: Clone + Drop, V: Clone + Drop>(
 }
 
 // The pairs of the nodes that the root stores, in the order of its buckets.
-fn list_part<K: Clone + Drop, V: Clone + Drop>(
+fn list_part<K: Exact, V: Exact>(
     pairs: &mut Vec<(K, Stored<V>)>,
     part: &Part<K, V>,
 ) -> Result<(), AllocError>
-    requires keys { IsExact K.is_clone }
-    requires values { IsExact V.is_clone }
     ensures { IfOk result (λ done. pairs.new.items ≡ pairs.old.items ++ listed_part part.now) }
 {
     for word in part.arrays.root_words() {
@@ -60,13 +56,11 @@ fn list_part<K: Clone + Drop, V: Clone + Drop>(
 }
 
 // The pair of the word's node, if one is stored there.
-fn list_word<K: Clone + Drop, V: Clone + Drop>(
+fn list_word<K: Exact, V: Exact>(
     pairs: &mut Vec<(K, Stored<V>)>,
     nodes: &[Node<K, V>],
     word: Word,
 ) -> Result<(), AllocError>
-    requires keys { IsExact K.is_clone }
-    requires values { IsExact V.is_clone }
     ensures { IfOk result (λ done. pairs.new.items
         ≡ pairs.old.items ++ listed_at nodes.now word) }
 {

@@ -3,7 +3,6 @@
 ghost use Rattle.std.specs.Prelude.{◌≡◌, ℕ, ◌<◌, Bool, false, IfOk, OnErr, Option, Some, None, length};
 ghost use Rattle.std.specs.Option.{option_copied, option_map, option_map_or};
 ghost use Rattle.std.specs.List.{slice_get};
-ghost use Rattle.moka_hist.specs.Finite.{IsExact};
 ghost use Rattle.moka_hist.specs.Tables.{answer_of};
 ghost use Rattle.moka_words.specs.Words.{node_of, word_at};
 ghost use Rattle.moka_words.specs.Effect.{Effect, Memory};
@@ -14,6 +13,7 @@ ghost use Rattle.moka_buckets.specs.declared.node.Node.{Node};
 use crate::node::Node;
 use crate::words::node_of;
 use moka_hist::TableAnswer;
+use moka_values::Exact;
 use moka_words::{Seen, Word};
 use std::alloc::AllocError;
 
@@ -76,12 +76,10 @@ fn is_key<K: Eq, V>(key: Option<&K>, node: &Node<K, V>) -> bool
 }
 
 /// The stored pair of the node, as a clone; of no node None.
-pub fn clone_pair<K: Clone + Drop, V: Clone + Drop>(
+pub fn clone_pair<K: Exact, V: Exact>(
     nodes: &[Node<K, V>],
     node: Option<u64>,
 ) -> Result<TableAnswer<K, V>, AllocError>
-    requires keys { IsExact K.is_clone }
-    requires values { IsExact V.is_clone }
     ensures { IfOk result (λ a. a ≡ answer_of (pair_at nodes.now node)) }
 {
     let Some(number) = node else {
@@ -93,11 +91,7 @@ pub fn clone_pair<K: Clone + Drop, V: Clone + Drop>(
     }
 }
 
-fn clone_node<K: Clone + Drop, V: Clone + Drop>(
-    node: &Node<K, V>,
-) -> Result<TableAnswer<K, V>, AllocError>
-    requires keys { IsExact K.is_clone }
-    requires values { IsExact V.is_clone }
+fn clone_node<K: Exact, V: Exact>(node: &Node<K, V>) -> Result<TableAnswer<K, V>, AllocError>
     ensures { IfOk result (λ a. a ≡ answer_of (Some (node.now.key, node.now.stored))) }
 {
     let key = node.key.clone()?;

@@ -2,7 +2,6 @@
 
 ghost use Rattle.std.specs.Prelude.{◌≡◌, ℕ, ◌-◌, ◌<◌, ◌^◌, Some, length, slice_set};
 ghost use Rattle.std.specs.List.{slice_get};
-ghost use Rattle.moka_hist.specs.Finite.{IsExact};
 ghost use Rattle.moka_buckets.specs.Arrays.{ArePlaced};
 ghost use Rattle.moka_buckets.specs.Steps.{CanBegin};
 ghost use Rattle.moka_buckets.specs.Keys.{KeepsKeys};
@@ -14,6 +13,7 @@ use crate::bucket_call::BucketCall;
 use crate::node::Node;
 use crate::stepping::step;
 use moka_hist::TableTurn;
+use moka_values::Exact;
 use std::alloc::AllocError;
 
 /// A segment with all that is its own: arrays, nodes, and the most keys that it had before the last
@@ -25,11 +25,9 @@ pub struct Part<K, V> {
     pub peak: u64,
 }
 
-impl<K: Eq + Clone + Drop, V: Clone + Drop> Part<K, V> {
+impl<K: Eq + Exact, V: Exact> Part<K, V> {
     /// Makes one step of an operation on one of its keys.
     pub fn step(&mut self, call: &mut BucketCall<K, V>) -> Result<TableTurn<K, V>, AllocError>
-        requires keys { IsExact K.is_clone }
-        requires values { IsExact V.is_clone }
         requires placed { ArePlaced self.old.arrays }
         requires can { (hash : K → ℕ) × (first : ℕ) × CanBegin K.eq hash
             (memory_at self.old) self.old.nodes.items first (peak_at self.old) call.old }
@@ -60,13 +58,11 @@ fn keys_at<K, V>(parts: &[Part<K, V>], index: usize) -> u64
 }
 
 /// Makes one step of an operation on a key of this segment.
-fn step_at<K: Eq + Clone + Drop, V: Clone + Drop>(
+fn step_at<K: Eq + Exact, V: Exact>(
     parts: &mut Vec<Part<K, V>>,
     index: usize,
     call: &mut BucketCall<K, V>,
 ) -> Result<TableTurn<K, V>, AllocError>
-    requires keys { IsExact K.is_clone }
-    requires values { IsExact V.is_clone }
     requires can { (hash : K → ℕ) × (first : ℕ) × (p : Part K V)
         × (slice_get parts.old.items index ≡ Some p) × ArePlaced p.arrays × CanBegin K.eq hash
         (memory_at p) p.nodes.items first (peak_at p) call.old }
@@ -81,13 +77,11 @@ fn step_at<K: Eq + Clone + Drop, V: Clone + Drop>(
 }
 
 /// Makes one step of an operation in the segment of its key; `len` counts the keys of all segments.
-pub fn step_parts<K: Eq + Clone + Drop, V: Clone + Drop>(
+pub fn step_parts<K: Eq + Exact, V: Exact>(
     parts: &mut Vec<Part<K, V>>,
     len: &mut u64,
     call: &mut BucketCall<K, V>,
 ) -> Result<TableTurn<K, V>, AllocError>
-    requires keys { IsExact K.is_clone }
-    requires values { IsExact V.is_clone }
     requires few { len.old < 2 ^ 64 - 1 }
     requires can { (hash : K → ℕ) × (first : ℕ) × (most : ℕ)
         × CanGo K.eq hash parts.old.items first most len.old call.old }

@@ -1,7 +1,6 @@
 //! One step of an operation.
 
 ghost use Rattle.std.specs.Prelude.{◌≡◌, ℕ, IfOk, OnErr};
-ghost use Rattle.moka_hist.specs.Finite.{IsExact};
 ghost use Rattle.moka_buckets.specs.Arrays.{ArePlaced, memory_of};
 ghost use Rattle.moka_buckets.specs.Steps.{Adds, CanBegin, CanStep, Done, Turned};
 
@@ -14,17 +13,16 @@ use crate::making::make;
 use crate::node::Node;
 use crate::nodes::clone_pair;
 use moka_hist::TableTurn;
+use moka_values::Exact;
 use std::alloc::AllocError;
 
 /// Makes one access, and answers the question to which a load leads. Without memory nothing has
 /// changed.
-pub fn advance<K: Eq + Clone + Drop, V: Clone + Drop>(
+pub fn advance<K: Eq + Exact, V: Exact>(
     arrays: &mut Arrays,
     nodes: &[Node<K, V>],
     call: &mut BucketCall<K, V>,
 ) -> Result<TableTurn<K, V>, AllocError>
-    requires keys { IsExact K.is_clone }
-    requires values { IsExact V.is_clone }
     requires placed { ArePlaced arrays.old }
     requires can { (hash : K → ℕ) × (first : ℕ) × (peak : ℕ)
         × CanStep K.eq hash (memory_of arrays.old) nodes.now first peak call.old }
@@ -50,13 +48,11 @@ pub fn advance<K: Eq + Clone + Drop, V: Clone + Drop>(
 }
 
 /// Makes a node for the pair that is to be stored, if there is none, and one access.
-pub fn step<K: Eq + Clone + Drop, V: Clone + Drop>(
+pub fn step<K: Eq + Exact, V: Exact>(
     arrays: &mut Arrays,
     nodes: &mut Vec<Node<K, V>>,
     call: &mut BucketCall<K, V>,
 ) -> Result<TableTurn<K, V>, AllocError>
-    requires keys { IsExact K.is_clone }
-    requires values { IsExact V.is_clone }
     requires placed { ArePlaced arrays.old }
     requires can { (hash : K → ℕ) × (first : ℕ) × (peak : ℕ)
         × CanBegin K.eq hash (memory_of arrays.old) nodes.old.items first peak call.old }

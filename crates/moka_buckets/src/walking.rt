@@ -3,7 +3,6 @@
 ghost use Rattle.std.specs.Prelude.{List, ◌≡◌, ℕ, ◌++◌, true, is_some, IfOk, Ok, OnErr, None, Some, [], slice_set};
 ghost use Rattle.std.specs.List.{slice_get};
 ghost use Rattle.std.specs.Option.{option_copied, option_map, option_to_list};
-ghost use Rattle.moka_hist.specs.Finite.{IsExact};
 ghost use Rattle.moka_growth.specs.declared.kinds.CallKind.TheVariants as kind;
 ghost use Rattle.moka_growth.specs.Calls.{Going, Decided, Nodes, call_from};
 ghost use Rattle.moka_buckets.specs.Nodes.{key_in};
@@ -20,6 +19,7 @@ use crate::node::Node;
 use crate::nodes::node_at;
 use crate::part::Part;
 use moka_calls::{Decision, TableCall};
+use moka_values::Exact;
 use moka_words::Seen;
 use std::alloc::{AllocError, Global};
 
@@ -121,12 +121,11 @@ pub fn walk_parts<K: Eq, V>(
 }
 
 /// Clones of the keys that the call has listed; None where it hasn't decided.
-pub fn listed_keys<K: Clone + Drop, V>(
+pub fn listed_keys<K: Exact, V>(
     alloc: Global,
     parts: &[Part<K, V>],
     call: &KeysCall,
 ) -> Result<Option<Vec<K>>, AllocError>
-    requires keys { IsExact K.is_clone }
     ensures ended { IfOk result (λ keys. is_some keys ≡ is_ended call.now.table) }
     ensures listed { IfOk result (λ keys. (list : List K)
         → option_map (λ v. v.items) keys ≡ Some list
@@ -154,12 +153,11 @@ fn nodes_of<K, V>(parts: &[Part<K, V>], segment: usize) -> &[Node<K, V>]
 }
 
 // The keys of these nodes, in their order.
-fn clone_keys<K: Clone + Drop, V>(
+fn clone_keys<K: Exact, V>(
     alloc: Global,
     nodes: &[Node<K, V>],
     numbers: &[u64],
 ) -> Result<Vec<K>, AllocError>
-    requires { IsExact K.is_clone }
     ensures { IfOk result (λ keys. keys.items ≡ keys_in nodes.now numbers.now) }
 {
     let mut keys = Vec::new(alloc);
@@ -169,12 +167,11 @@ fn clone_keys<K: Clone + Drop, V>(
     Ok(keys)
 }
 
-fn clone_key<K: Clone + Drop, V>(
+fn clone_key<K: Exact, V>(
     keys: &mut Vec<K>,
     nodes: &[Node<K, V>],
     number: u64,
 ) -> Result<(), AllocError>
-    requires { IsExact K.is_clone }
     ensures { IfOk result (λ done. keys.new.items
         ≡ keys.old.items ++ option_to_list (key_in nodes.now number)) }
 {

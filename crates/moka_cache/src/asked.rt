@@ -6,7 +6,6 @@ ghost use Rattle.futures.specs.Poll.{IfReady, OnPending};
 ghost use Rattle.futures.specs.Task.{IsArmed, Keeps};
 ghost use Rattle.moka_hist.specs.declared.entries.Entry.{Entry};
 ghost use Rattle.moka_hist.specs.declared.events.Told.{Told};
-ghost use Rattle.moka_hist.specs.Finite.{IsExact};
 ghost use Rattle.moka_init.specs.Grounds.{access_at};
 ghost use Rattle.moka_kept.specs.Taking.{NoAnswer, is_taking};
 ghost use Rattle.moka_cache.specs.Asked.{AsksNothing, Untested};
@@ -15,6 +14,7 @@ use futures::task::{Context, Poll};
 use moka_hist::{Entry, Told};
 use moka_init::Flow;
 use moka_kept::is_asking;
+use moka_values::Exact;
 
 /// What answers the own ask of a call, and its replace test: an initializer or a compute. It is
 /// called without the lock: begun where the ask of a compute opens, polled as long as the ask is
@@ -81,11 +81,7 @@ pub trait Asked<K, V, E>: Drop {
 
 /// Whether who is asked is to be polled, or begun: the own ask of the flow is open. Where there is
 /// nobody to be asked the flow isn't looked at.
-pub(crate) fn is_polled<K: Clone + Drop, V, E, Q: Asked<K, V, E>>(
-    asked: &Q,
-    flow: &Flow<K, V, E>,
-) -> bool
-    requires { IsExact K.is_clone }
+pub(crate) fn is_polled<K: Exact, V, E, Q: Asked<K, V, E>>(asked: &Q, flow: &Flow<K, V, E>) -> bool
     ensures asking { OnTrue result (is_taking (access_at flow.now) ≡ true) }
     // Where it is open and isn't polled, nobody gives an answer.
     ensures unasked { OnFalse result (is_taking (access_at flow.now) ≡ true

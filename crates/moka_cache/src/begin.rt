@@ -1,10 +1,10 @@
 //! What the states of a cache's calls differ in.
 ghost use Rattle.std.specs.Prelude.{◌≡◌, Option, Some, None, IsSome, IfOk, IfErr};
-ghost use Rattle.moka_hist.specs.Finite.{IsExact};
 ghost use Rattle.moka_hist.specs.declared.events.Start.{Start};
 ghost use Rattle.moka_hist.specs.declared.replies.Answer.{Answer};
 
 use moka_hist::{Answer, Start};
+use moka_values::Exact;
 
 /// What a call is begun by: its start, and the key of the entry that is to be answered, where the
 /// call's own answer has none.
@@ -34,7 +34,7 @@ impl<K, V> Begun<K, V> {
 }
 
 /// What a state begins its call with, and what it tells of the answer.
-pub trait Begin<K: Clone, V, E>: Drop {
+pub trait Begin<K: Exact, V, E>: Drop {
     type Output;
 
     /// How its call starts.
@@ -49,7 +49,6 @@ pub trait Begin<K: Clone, V, E>: Drop {
 
     /// Gives what the call is begun by. Without memory for copies of the key it gives itself back.
     fn start(self) -> Result<Begun<K, V>, Self>
-        requires keys { IsExact K.is_clone }
         ensures ok { IfOk result (λ begun. begun.start ≡ start self) }
         ensures key { IfOk result (λ begun. begun.named ≡ named self) }
         ensures err { IfErr result (λ kept. kept ≡ self) };

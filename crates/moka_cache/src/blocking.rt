@@ -1,6 +1,5 @@
 //! A call that a thread runs to its end.
 ghost use Rattle.std.specs.Prelude.{◌≡◌, IfErr, IfOk};
-ghost use Rattle.moka_hist.specs.Finite.{IsExact};
 ghost use Rattle.moka_cache.specs.Asked.{Accords};
 ghost use Rattle.moka_cache.specs.Settings.{rules_of};
 ghost use Rattle.moka_cache.specs.Stages.{MayPoll};
@@ -14,6 +13,7 @@ use crate::errors::PollError;
 use crate::listener::Listener;
 use crate::polled::{Moments, Polled, State};
 use futures::executor::block_on;
+use moka_values::Exact;
 use std::alloc::AllocGlobal;
 use std::hash::Hash;
 use std::io;
@@ -24,9 +24,9 @@ impl<A, K, V, E, Q, L, S> CacheCall<'_, A, K, V, E, Q, L, S>
 where
     A: Begin<K, V, E>,
     Q: Asked<K, V, E>,
-    K: Eq + Hash + Clone + Drop,
-    V: Clone + Drop,
-    E: Clone + Drop,
+    K: Eq + Hash + Exact,
+    V: Exact,
+    E: Exact,
     L: Listener<K, V>,
     S: Drop,
 {
@@ -41,9 +41,6 @@ where
     where
         R: Wait + RandomSource + AllocGlobal,
         M: Moments + Drop,
-        requires keys { IsExact K.is_clone }
-        requires values { IsExact V.is_clone }
-        requires errors { IsExact E.is_clone }
         requires may { MayPoll self.stage }
         requires asks { Q.can_poll self.asked }
         requires tells { Tells K.eq (Q.gives self.asked)

@@ -5,6 +5,7 @@ ghost use Rattle.std.specs.String.{string_bytes};
 
 use crate::cache::{Cache, FixedSeed};
 use crate::listener::NoListener;
+use moka_values::Exact;
 use std::alloc::Global;
 use std::hash::Hash;
 use std::marker::PhantomData;
@@ -44,9 +45,9 @@ impl<K, V, E, L> Default for CacheBuilder<K, V, E, L> {
 
 impl<K, V, E, L> CacheBuilder<K, V, E, L>
 where
-    K: Eq + Hash + Clone + Drop,
-    V: Clone + Drop,
-    E: Clone + Drop,
+    K: Eq + Hash + Exact,
+    V: Exact,
+    E: Exact,
     L: Drop,
 {
     ghost use Rattle.moka_cache.specs.Settings.{hasher_of, listener_of, name_of, rules_of};

@@ -9,6 +9,7 @@ use crate::listener::NoListener;
 use moka_engine::Policy;
 use moka_hist::Rules;
 use moka_kept::Guarded;
+use moka_values::Exact;
 use std::alloc::{AllocError, Global};
 use std::hash::{BuildHasherDefault, FoldHasher, Hash};
 use std::sync::Arc;
@@ -34,9 +35,9 @@ pub struct Cache<K: Eq + Hash, V, E, L = NoListener, S = FixedSeed> {
 
 impl<K, V, E, L> Cache<K, V, E, L>
 where
-    K: Eq + Hash + Clone + Drop,
-    V: Clone + Drop,
-    E: Clone + Drop,
+    K: Eq + Hash + Exact,
+    V: Exact,
+    E: Exact,
     L: Drop,
 {
     ghost use Rattle.moka_cache.specs.Settings.{listener_of, name_of, rules_of, rules_with};
@@ -79,9 +80,9 @@ where
 
 impl<K, V, E, L, S> Cache<K, V, E, L, S>
 where
-    K: Eq + Hash + Clone + Drop,
-    V: Clone + Drop,
-    E: Clone + Drop,
+    K: Eq + Hash + Exact,
+    V: Exact,
+    E: Exact,
     L: Drop,
     S: Drop,
 {
@@ -149,9 +150,9 @@ where
 /// A clone shares the cache. It is an error only where no further owner can be counted.
 impl<K, V, E, L, S> Clone for Cache<K, V, E, L, S>
 where
-    K: Eq + Hash + Clone + Drop,
-    V: Clone + Drop,
-    E: Clone + Drop,
+    K: Eq + Hash + Exact,
+    V: Exact,
+    E: Exact,
     L: Drop,
     S: Drop,
 {

@@ -2,7 +2,6 @@
 ghost use Rattle.std.specs.Prelude.{◌≡◌, ◌↔◌, Bool, IfOk, IfErr, OnOk, OnErr};
 ghost use Rattle.futures.specs.Poll.{IfReady, OnPending};
 ghost use Rattle.futures.specs.Task.{IsArmed, Keeps};
-ghost use Rattle.moka_hist.specs.Finite.{IsExact};
 ghost use Rattle.moka_cache.specs.Asked.{Accords};
 ghost use Rattle.moka_cache.specs.Hearing.{Unheard};
 ghost use Rattle.moka_cache.specs.Settings.{listener_of, rules_of};
@@ -20,6 +19,7 @@ use crate::polled::State;
 use crate::stage::{Nested, Stage, put};
 use futures::task::{Context, Poll};
 use moka_hist::Start;
+use moka_values::Exact;
 use std::hash::Hash;
 use std::marker::PhantomData;
 use std::mem;
@@ -40,9 +40,9 @@ pub struct CacheCall<'a, A, K: Eq + Hash, V, E, Q, L = NoListener, S = FixedSeed
 
 impl<K, V, E, L, S> Cache<K, V, E, L, S>
 where
-    K: Eq + Hash + Clone + Drop,
-    V: Clone + Drop,
-    E: Clone + Drop,
+    K: Eq + Hash + Exact,
+    V: Exact,
+    E: Exact,
     L: Listener<K, V>,
     S: Drop,
 {
@@ -87,7 +87,6 @@ where
         named: &mut Option<K>,
         moment: u64,
     )
-        requires keys { IsExact K.is_clone }
         requires may { MayPoll stage.old }
         ensures begins { Begins K.eq (called (rules_of self.now) A.start) stage.old stage.new }
         ensures names { IsNamed A.named stage.old named.old stage.new named.new }
@@ -109,7 +108,6 @@ where
         named: &mut Option<K>,
         moment: u64,
     )
-        requires keys { IsExact K.is_clone }
         requires fresh { (begin : A) × (stage.old ≡ Stage.Fresh begin) }
         ensures begins { Begins K.eq (called (rules_of self.now) A.start) stage.old stage.new }
         ensures names { IsNamed A.named stage.old named.old stage.new named.new }
@@ -130,7 +128,6 @@ where
         named: &mut Option<K>,
         moment: u64,
     )
-        requires keys { IsExact K.is_clone }
         requires spent { stage.old ≡ Stage.Spent }
         ensures begins { Begins K.eq (called (rules_of self.now) A.start) (Stage.Fresh begin)
             stage.new }
@@ -179,9 +176,9 @@ impl<A, K, V, E, Q, L, S> CacheCall<'_, A, K, V, E, Q, L, S>
 where
     A: Begin<K, V, E>,
     Q: Asked<K, V, E>,
-    K: Eq + Hash + Clone + Drop,
-    V: Clone + Drop,
-    E: Clone + Drop,
+    K: Eq + Hash + Exact,
+    V: Exact,
+    E: Exact,
     L: Listener<K, V>,
     S: Drop,
 {
@@ -194,9 +191,6 @@ where
         cx: &mut Context<'_>,
         moment: u64,
     ) -> Poll<Result<A::Output, PollError>>
-        requires keys { IsExact K.is_clone }
-        requires values { IsExact V.is_clone }
-        requires errors { IsExact E.is_clone }
         requires may { MayPoll self.old.stage }
         requires asks { Q.can_poll self.old.asked }
         requires tells { Tells K.eq (Q.gives self.old.asked)
@@ -291,9 +285,9 @@ where
     R: Wait,
     A: Begin<K, V, E>,
     Q: Asked<K, V, E>,
-    K: Eq + Hash + Clone + Drop,
-    V: Clone + Drop,
-    E: Clone + Drop,
+    K: Eq + Hash + Exact,
+    V: Exact,
+    E: Exact,
     L: Listener<K, V>,
     S: Drop,
 {
@@ -301,8 +295,7 @@ where
 
     type Output = A::Output;
 
-    ghost can_poll = { λ call. IsExact K.is_clone × IsExact V.is_clone × IsExact E.is_clone
-        × MayPoll call.stage × Q.can_poll call.asked
+    ghost can_poll = { λ call. MayPoll call.stage × Q.can_poll call.asked
         × Tells K.eq (Q.gives call.asked)
         (called (rules_of call.cache.now) A.start) A.output call.stage };
 

@@ -19,6 +19,7 @@ use crate::entry::EntrySelector;
 use crate::key::CallKey;
 use crate::listener::{Listener, NoListener};
 use moka_hist::{Answer, CompResult, Op, Start};
+use moka_values::Exact;
 use std::hash::Hash;
 
 /// What a compute is of.
@@ -27,7 +28,7 @@ pub struct ToCompute<'a, K> {
     key: CallKey<'a, K>,
 }
 
-impl<K: Clone + Drop, V: Drop, E: Drop> Begin<K, V, E> for ToCompute<'_, K> {
+impl<K: Exact, V: Drop, E: Drop> Begin<K, V, E> for ToCompute<'_, K> {
     type Output = CompResult<K, V>;
 
     ghost start = { λ compute. Start.Compute (key_of compute.key) };
@@ -68,9 +69,9 @@ pub type ComputeWith<'a, K, V, E, C, L = NoListener, S = FixedSeed> = CacheCall<
 
 impl<'a, K, V, E, L, S> EntrySelector<'a, K, V, E, L, S>
 where
-    K: Eq + Hash + Clone + Drop,
-    V: Clone + Drop,
-    E: Clone + Drop,
+    K: Eq + Hash + Exact,
+    V: Exact,
+    E: Exact,
     L: Listener<K, V>,
     S: Drop,
 {

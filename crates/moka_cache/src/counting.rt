@@ -1,19 +1,19 @@
 //! What a cache tells of its records, in one hold of the lock, and by no call.
 ghost use Rattle.std.specs.Prelude.{◌≡◌, ◌≤◌, IfOk};
-ghost use Rattle.moka_hist.specs.Finite.{IsExact};
 ghost use Rattle.moka_hist.specs.State.{World};
 ghost use Rattle.moka_kept.specs.Counts.{Behind, sees};
 
 use crate::cache::{Cache, Shared};
+use moka_values::Exact;
 use std::alloc::AllocError;
 use std::hash::Hash;
 use std::sync::Wait;
 
 impl<K, V, E, L, S> Cache<K, V, E, L, S>
 where
-    K: Eq + Hash + Clone + Drop,
-    V: Clone + Drop,
-    E: Clone + Drop,
+    K: Eq + Hash + Exact,
+    V: Exact,
+    E: Exact,
     L: Drop,
     S: Drop,
 {
@@ -21,8 +21,6 @@ where
     /// the clock. It is no access to the record. An error comes where memory is wanting for a copy
     /// of the key or of its record, and nothing but the clock has changed then.
     pub fn contains_key<R: Wait>(&self, rt: &R, key: &K, moment: u64) -> Result<bool, AllocError>
-        requires keys { IsExact K.is_clone }
-        requires values { IsExact V.is_clone }
         ensures { IfOk result (λ there.
             Behind K.eq (λ (w : World K V E). (moment ≤ w.desk.clock)
             × (there ≡ sees w key.now))) }

@@ -3,7 +3,6 @@ ghost use Rattle.std.specs.Prelude.{◌≡◌, ◌⊎◌, ◌↔◌, Bool, Optio
 ghost use Rattle.std.specs.Prelude.{OnOk, OnErr};
 ghost use Rattle.futures.specs.Poll.{IfReady, OnPending};
 ghost use Rattle.futures.specs.Task.{IsArmed, Keeps};
-ghost use Rattle.moka_hist.specs.Finite.{IsExact};
 ghost use Rattle.moka_hist.specs.declared.events.Told.{Told};
 ghost use Rattle.moka_init.specs.FlowPlan.{call_of, tested_in};
 ghost use Rattle.moka_kept.specs.Kept.{NumbersSpent};
@@ -21,15 +20,16 @@ use futures::task::{Context, Poll};
 use moka_hist::{Answer, Start};
 use moka_init::Flow;
 use moka_kept::{Brought, Heard, Number};
+use moka_values::Exact;
 use std::hash::Hash;
 use std::mem;
 use std::sync::Wait;
 
 impl<K, V, E, L, S> Cache<K, V, E, L, S>
 where
-    K: Eq + Hash + Clone + Drop,
-    V: Clone + Drop,
-    E: Clone + Drop,
+    K: Eq + Hash + Exact,
+    V: Exact,
+    E: Exact,
     L: Listener<K, V>,
     S: Drop,
 {
@@ -70,9 +70,6 @@ where
         cx: &mut Context<'_>,
         moment: u64,
     ) -> Poll<Result<Answer<K, V, E>, PollError>>
-        requires keys { IsExact K.is_clone }
-        requires values { IsExact V.is_clone }
-        requires errors { IsExact E.is_clone }
         requires may { MayPoll stage.old }
         requires asks { Q.can_poll asked.old }
         // What was done.
@@ -138,9 +135,6 @@ where
         cx: &mut Context<'_>,
         moment: u64,
     ) -> Poll<Result<Answer<K, V, E>, PollError>>
-        requires keys { IsExact K.is_clone }
-        requires values { IsExact V.is_clone }
-        requires errors { IsExact E.is_clone }
         requires rests { Rests flow.old }
         requires asks { Q.can_poll asked.old }
         ensures polled { PollIs K.eq (Accords (Q.gives asked.old) (Q.tests asked.old))
@@ -178,9 +172,6 @@ where
         cx: &mut Context<'_>,
         moment: u64,
     ) -> Turned<Result<Answer<K, V, E>, PollError>>
-        requires keys { IsExact K.is_clone }
-        requires values { IsExact V.is_clone }
-        requires errors { IsExact E.is_clone }
         requires rests { Rests flow.old }
         requires asks { Q.can_poll asked.old }
         ensures turns { TurnIs K.eq (Accords (Q.gives asked.old) (Q.tests asked.old))
@@ -213,9 +204,6 @@ where
         cx: &mut Context<'_>,
         moment: u64,
     ) -> Turned<Result<Answer<K, V, E>, PollError>>
-        requires keys { IsExact K.is_clone }
-        requires values { IsExact V.is_clone }
-        requires errors { IsExact E.is_clone }
         requires rests { Rests flow.old }
         requires asks { Q.can_poll asked.old }
         ensures turns { TurnIs K.eq (Accords (Q.gives asked.old) (Q.tests asked.old))
@@ -258,9 +246,6 @@ where
         cx: &mut Context<'_>,
         moment: u64,
     ) -> Turned<Result<Answer<K, V, E>, PollError>>
-        requires keys { IsExact K.is_clone }
-        requires values { IsExact V.is_clone }
-        requires errors { IsExact E.is_clone }
         requires rests { Rests flow.old }
         requires asks { Q.can_poll asked.old }
         ensures turns { TurnIs K.eq (Brings (tested_in (call_of flow.old).plan) brought)

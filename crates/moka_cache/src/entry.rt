@@ -5,6 +5,7 @@ ghost use Rattle.moka_cache.specs.Keys.{key_of};
 use crate::cache::{Cache, FixedSeed};
 use crate::key::CallKey;
 use crate::listener::{Listener, NoListener};
+use moka_values::Exact;
 use std::hash::Hash;
 
 /// A key of a cache that a call is to be made for. Each of its calls takes it, and gives the state
@@ -37,9 +38,9 @@ pub type RefKeyEntrySelector<'a, K, V, E, L = NoListener, S = FixedSeed> = Entry
 
 impl<K, V, E, L, S> Cache<K, V, E, L, S>
 where
-    K: Eq + Hash + Clone + Drop,
-    V: Clone + Drop,
-    E: Clone + Drop,
+    K: Eq + Hash + Exact,
+    V: Exact,
+    E: Exact,
     L: Listener<K, V>,
     S: Drop,
 {

@@ -10,6 +10,7 @@ use crate::cache::{Cache, FixedSeed};
 use crate::call::CacheCall;
 use crate::listener::{Listener, NoListener};
 use moka_hist::{Answer, Start};
+use moka_values::Exact;
 use std::hash::Hash;
 
 /// What a get looks up.
@@ -30,7 +31,7 @@ pub type Get<'a, K, V, E, L = NoListener, S = FixedSeed> = CacheCall<
     S,
 >;
 
-impl<K: Clone + Drop, V: Drop, E: Drop> Begin<K, V, E> for ToGet<'_, K> {
+impl<K: Exact, V: Drop, E: Drop> Begin<K, V, E> for ToGet<'_, K> {
     type Output = Option<V>;
 
     ghost start = { λ get. Start.Get get.key.now };
@@ -55,9 +56,9 @@ impl<K: Clone + Drop, V: Drop, E: Drop> Begin<K, V, E> for ToGet<'_, K> {
 
 impl<K, V, E, L, S> Cache<K, V, E, L, S>
 where
-    K: Eq + Hash + Clone + Drop,
-    V: Clone + Drop,
-    E: Clone + Drop,
+    K: Eq + Hash + Exact,
+    V: Exact,
+    E: Exact,
     L: Listener<K, V>,
     S: Drop,
 {

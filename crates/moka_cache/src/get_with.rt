@@ -18,6 +18,7 @@ use crate::init::Init;
 use crate::key::CallKey;
 use crate::listener::{Listener, NoListener};
 use moka_hist::{Answer, Start};
+use moka_values::Exact;
 use std::hash::Hash;
 
 /// What a load looks up, and stores where it is absent.
@@ -53,7 +54,7 @@ pub type GetWithIf<'a, K, V, E, I, F, L = NoListener, S = FixedSeed> = CacheCall
     S,
 >;
 
-impl<K: Clone + Drop, V: Drop, E: Drop> Begin<K, V, E> for ToLoad<'_, K> {
+impl<K: Exact, V: Drop, E: Drop> Begin<K, V, E> for ToLoad<'_, K> {
     type Output = Result<V, RetriesExhausted>;
 
     ghost start = { λ load. Start.GetWith (key_of load.key) load.replace };
@@ -84,9 +85,9 @@ impl<K: Clone + Drop, V: Drop, E: Drop> Begin<K, V, E> for ToLoad<'_, K> {
 
 impl<K, V, E, L, S> Cache<K, V, E, L, S>
 where
-    K: Eq + Hash + Clone + Drop,
-    V: Clone + Drop,
-    E: Clone + Drop,
+    K: Eq + Hash + Exact,
+    V: Exact,
+    E: Exact,
     L: Listener<K, V>,
     S: Drop,
 {

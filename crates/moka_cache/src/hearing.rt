@@ -18,6 +18,7 @@ use futures::task::{Context, Poll};
 use moka_hist::{Answer, Ask, Cause, Entry};
 use moka_init::Flow;
 use moka_kept::{Heard, Stop};
+use moka_values::Exact;
 use std::hash::Hash;
 
 /// How a turn of a poll leaves its call. It has no `Drop`, so that no end of a notice is let go.
@@ -31,9 +32,9 @@ pub(crate) enum Turned<T> {
 
 impl<K, V, E, L, S> Shared<K, V, E, L, S>
 where
-    K: Eq + Hash + Clone + Drop,
-    V: Clone + Drop,
-    E: Clone + Drop,
+    K: Eq + Hash + Exact,
+    V: Exact,
+    E: Exact,
     L: Listener<K, V>,
     S: Drop,
 {

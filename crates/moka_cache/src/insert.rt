@@ -10,6 +10,7 @@ use crate::cache::{Cache, FixedSeed};
 use crate::call::CacheCall;
 use crate::listener::{Listener, NoListener};
 use moka_hist::{Answer, Start};
+use moka_values::Exact;
 use std::hash::Hash;
 
 /// What an insert stores.
@@ -31,7 +32,7 @@ pub type Insert<'a, K, V, E, L = NoListener, S = FixedSeed> = CacheCall<
     S,
 >;
 
-impl<K: Clone + Drop, V: Drop, E: Drop> Begin<K, V, E> for ToInsert<K, V> {
+impl<K: Exact, V: Drop, E: Drop> Begin<K, V, E> for ToInsert<K, V> {
     type Output = ();
 
     ghost start = { λ insert. Start.Insert insert.key insert.value };
@@ -54,9 +55,9 @@ impl<K: Clone + Drop, V: Drop, E: Drop> Begin<K, V, E> for ToInsert<K, V> {
 
 impl<K, V, E, L, S> Cache<K, V, E, L, S>
 where
-    K: Eq + Hash + Clone + Drop,
-    V: Clone + Drop,
-    E: Clone + Drop,
+    K: Eq + Hash + Exact,
+    V: Exact,
+    E: Exact,
     L: Listener<K, V>,
     S: Drop,
 {

@@ -10,6 +10,7 @@ use crate::cache::{Cache, FixedSeed};
 use crate::call::CacheCall;
 use crate::listener::{Listener, NoListener};
 use moka_hist::{Answer, Start};
+use moka_values::Exact;
 use std::hash::Hash;
 
 /// What an invalidation takes out.
@@ -30,7 +31,7 @@ pub type Invalidate<'a, K, V, E, L = NoListener, S = FixedSeed> = CacheCall<
     S,
 >;
 
-impl<K: Clone + Drop, V: Drop, E: Drop> Begin<K, V, E> for ToInvalidate<'_, K> {
+impl<K: Exact, V: Drop, E: Drop> Begin<K, V, E> for ToInvalidate<'_, K> {
     type Output = ();
 
     ghost start = { λ invalidate. Start.Invalidate invalidate.key.now };
@@ -55,9 +56,9 @@ impl<K: Clone + Drop, V: Drop, E: Drop> Begin<K, V, E> for ToInvalidate<'_, K> {
 
 impl<K, V, E, L, S> Cache<K, V, E, L, S>
 where
-    K: Eq + Hash + Clone + Drop,
-    V: Clone + Drop,
-    E: Clone + Drop,
+    K: Eq + Hash + Exact,
+    V: Exact,
+    E: Exact,
     L: Listener<K, V>,
     S: Drop,
 {

@@ -1,8 +1,8 @@
 //! The key that a call is handed.
 ghost use Rattle.std.specs.Prelude.{◌≡◌, IfOk, IfErr};
-ghost use Rattle.moka_hist.specs.Finite.{IsExact};
 ghost use Rattle.moka_cache.specs.Keys.{key_of};
 
+use moka_values::Exact;
 use std::alloc::AllocError;
 
 /// The key of a call: its own, or one that it is lent, which its first poll copies.
@@ -12,10 +12,9 @@ pub enum CallKey<'a, K> {
     Lent(&'a K),
 }
 
-impl<K: Clone + Drop> CallKey<'_, K> {
+impl<K: Exact> CallKey<'_, K> {
     /// Gives the key. Without memory for a copy it gives itself back.
     pub(crate) fn into_key(self) -> Result<K, Self>
-        requires { IsExact K.is_clone }
         ensures ok { IfOk result (λ key. key ≡ key_of self.entry) }
         ensures err { IfErr result (λ kept. kept ≡ self.entry) }
     {
@@ -31,7 +30,6 @@ impl<K: Clone + Drop> CallKey<'_, K> {
     /// Gives the key twice: for the call, and for the entry that it answers. Without memory for
     /// copies it gives itself back.
     pub(crate) fn into_two(self) -> Result<(K, K), Self>
-        requires { IsExact K.is_clone }
         ensures one { IfOk result (λ keys. keys.0 ≡ key_of self.entry) }
         ensures other { IfOk result (λ keys. keys.1 ≡ key_of self.entry) }
         ensures err { IfErr result (λ kept. kept ≡ self.entry) }
@@ -44,7 +42,6 @@ impl<K: Clone + Drop> CallKey<'_, K> {
 
     // Gives the key, beside this copy.
     fn with(self, copy: K) -> Result<(K, K), Self>
-        requires { IsExact K.is_clone }
         ensures one { IfOk result (λ keys. keys.0 ≡ key_of self.entry) }
         ensures other { IfOk result (λ keys. keys.1 ≡ copy) }
         ensures err { IfErr result (λ kept. kept ≡ self.entry) }
@@ -57,7 +54,6 @@ impl<K: Clone + Drop> CallKey<'_, K> {
 
     // A copy of the key.
     fn copy(&self) -> Result<K, AllocError>
-        requires { IsExact K.is_clone }
         ensures { IfOk result (λ key. key ≡ key_of self.now) }
     {
         match self {

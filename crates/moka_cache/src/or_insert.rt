@@ -18,6 +18,7 @@ use crate::key::CallKey;
 use crate::listener::{Listener, NoListener};
 use crate::or_insert_with::loaded_entry;
 use moka_hist::{Answer, Entry, Start};
+use moka_values::Exact;
 use std::hash::Hash;
 
 /// What is stored where a key has no value.
@@ -39,7 +40,7 @@ pub type OrInsert<'a, K, V, E, L = NoListener, S = FixedSeed> = CacheCall<
     S,
 >;
 
-impl<K: Clone + Drop, V: Drop, E: Drop> Begin<K, V, E> for ToInsertEntry<'_, K, V> {
+impl<K: Exact, V: Drop, E: Drop> Begin<K, V, E> for ToInsertEntry<'_, K, V> {
     type Output = Entry<K, V>;
 
     ghost start = { λ insert. Start.OrInsert (key_of insert.key) insert.value };
@@ -69,9 +70,9 @@ impl<K: Clone + Drop, V: Drop, E: Drop> Begin<K, V, E> for ToInsertEntry<'_, K, 
 
 impl<'a, K, V, E, L, S> EntrySelector<'a, K, V, E, L, S>
 where
-    K: Eq + Hash + Clone + Drop,
-    V: Clone + Drop,
-    E: Clone + Drop,
+    K: Eq + Hash + Exact,
+    V: Exact,
+    E: Exact,
     L: Listener<K, V>,
     S: Drop,
 {
@@ -96,9 +97,9 @@ where
 
 impl<'a, K, V, E, L, S> EntrySelector<'a, K, V, E, L, S>
 where
-    K: Eq + Hash + Clone + Drop,
-    V: Clone + Default + Drop,
-    E: Clone + Drop,
+    K: Eq + Hash + Exact,
+    V: Exact + Default + Drop,
+    E: Exact,
     L: Listener<K, V>,
     S: Drop,
 {

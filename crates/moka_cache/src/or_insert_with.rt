@@ -19,6 +19,7 @@ use crate::init::Init;
 use crate::key::CallKey;
 use crate::listener::{Listener, NoListener};
 use moka_hist::{Answer, Entry, Start};
+use moka_values::Exact;
 use std::hash::Hash;
 
 /// What a load of an entry looks up, and stores where it is absent.
@@ -54,7 +55,7 @@ pub type OrInsertWithIf<'a, K, V, E, I, F, L = NoListener, S = FixedSeed> = Cach
     S,
 >;
 
-impl<K: Clone + Drop, V: Drop, E: Drop> Begin<K, V, E> for ToLoadEntry<'_, K> {
+impl<K: Exact, V: Drop, E: Drop> Begin<K, V, E> for ToLoadEntry<'_, K> {
     type Output = Result<Entry<K, V>, RetriesExhausted>;
 
     ghost start = { λ load. Start.GetWith (key_of load.key) load.replace };
@@ -85,9 +86,9 @@ impl<K: Clone + Drop, V: Drop, E: Drop> Begin<K, V, E> for ToLoadEntry<'_, K> {
 
 impl<'a, K, V, E, L, S> EntrySelector<'a, K, V, E, L, S>
 where
-    K: Eq + Hash + Clone + Drop,
-    V: Clone + Drop,
-    E: Clone + Drop,
+    K: Eq + Hash + Exact,
+    V: Exact,
+    E: Exact,
     L: Listener<K, V>,
     S: Drop,
 {

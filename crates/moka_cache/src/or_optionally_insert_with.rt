@@ -20,6 +20,7 @@ use crate::key::CallKey;
 use crate::listener::{Listener, NoListener};
 use crate::or_insert_with::loaded_entry;
 use moka_hist::{Answer, Entry, Start};
+use moka_values::Exact;
 use std::hash::Hash;
 
 /// What an optional load of an entry looks up, and stores where it is absent and its initializer
@@ -41,7 +42,7 @@ pub type OrOptionallyInsertWith<'a, K, V, E, I, L = NoListener, S = FixedSeed> =
     S,
 >;
 
-impl<K: Clone + Drop, V: Drop, E: Drop> Begin<K, V, E> for ToLoadEntryOptionally<'_, K> {
+impl<K: Exact, V: Drop, E: Drop> Begin<K, V, E> for ToLoadEntryOptionally<'_, K> {
     type Output = Result<Option<Entry<K, V>>, RetriesExhausted>;
 
     ghost start = { λ load. Start.Optional (key_of load.key) };
@@ -75,9 +76,9 @@ impl<K: Clone + Drop, V: Drop, E: Drop> Begin<K, V, E> for ToLoadEntryOptionally
 
 impl<'a, K, V, E, L, S> EntrySelector<'a, K, V, E, L, S>
 where
-    K: Eq + Hash + Clone + Drop,
-    V: Clone + Drop,
-    E: Clone + Drop,
+    K: Eq + Hash + Exact,
+    V: Exact,
+    E: Exact,
     L: Listener<K, V>,
     S: Drop,
 {

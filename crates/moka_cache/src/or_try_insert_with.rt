@@ -20,6 +20,7 @@ use crate::key::CallKey;
 use crate::listener::{Listener, NoListener};
 use crate::or_insert_with::loaded_entry;
 use moka_hist::{Answer, Entry, Start};
+use moka_values::Exact;
 use std::hash::Hash;
 
 /// What a load of an entry looks up that may fail, and stores where it is absent and its
@@ -41,7 +42,7 @@ pub type OrTryInsertWith<'a, K, V, E, I, L = NoListener, S = FixedSeed> = CacheC
     S,
 >;
 
-impl<K: Clone + Drop, V: Drop, E: Drop> Begin<K, V, E> for ToTryLoadEntry<'_, K> {
+impl<K: Exact, V: Drop, E: Drop> Begin<K, V, E> for ToTryLoadEntry<'_, K> {
     type Output = Result<Entry<K, V>, LoadError<E>>;
 
     ghost start = { λ load. Start.Try (key_of load.key) };
@@ -72,9 +73,9 @@ impl<K: Clone + Drop, V: Drop, E: Drop> Begin<K, V, E> for ToTryLoadEntry<'_, K>
 
 impl<'a, K, V, E, L, S> EntrySelector<'a, K, V, E, L, S>
 where
-    K: Eq + Hash + Clone + Drop,
-    V: Clone + Drop,
-    E: Clone + Drop,
+    K: Eq + Hash + Exact,
+    V: Exact,
+    E: Exact,
     L: Listener<K, V>,
     S: Drop,
 {

@@ -11,6 +11,7 @@ use crate::call::CacheCall;
 use crate::get::value_in;
 use crate::listener::{Listener, NoListener};
 use moka_hist::{Answer, Start};
+use moka_values::Exact;
 use std::hash::Hash;
 
 /// What a removal takes out.
@@ -31,7 +32,7 @@ pub type Remove<'a, K, V, E, L = NoListener, S = FixedSeed> = CacheCall<
     S,
 >;
 
-impl<K: Clone + Drop, V: Drop, E: Drop> Begin<K, V, E> for ToRemove<'_, K> {
+impl<K: Exact, V: Drop, E: Drop> Begin<K, V, E> for ToRemove<'_, K> {
     type Output = Option<V>;
 
     ghost start = { λ remove. Start.Remove remove.key.now };
@@ -56,9 +57,9 @@ impl<K: Clone + Drop, V: Drop, E: Drop> Begin<K, V, E> for ToRemove<'_, K> {
 
 impl<K, V, E, L, S> Cache<K, V, E, L, S>
 where
-    K: Eq + Hash + Clone + Drop,
-    V: Clone + Drop,
-    E: Clone + Drop,
+    K: Eq + Hash + Exact,
+    V: Exact,
+    E: Exact,
     L: Listener<K, V>,
     S: Drop,
 {

@@ -18,6 +18,7 @@ use crate::entry::EntrySelector;
 use crate::key::CallKey;
 use crate::listener::{Listener, NoListener};
 use moka_hist::{Answer, CompResult, Start};
+use moka_values::Exact;
 use std::hash::Hash;
 
 /// What a compute is of that may fail.
@@ -26,7 +27,7 @@ pub struct ToTryCompute<'a, K> {
     key: CallKey<'a, K>,
 }
 
-impl<K: Clone + Drop, V: Drop, E: Drop> Begin<K, V, E> for ToTryCompute<'_, K> {
+impl<K: Exact, V: Drop, E: Drop> Begin<K, V, E> for ToTryCompute<'_, K> {
     type Output = Result<CompResult<K, V>, E>;
 
     ghost start = { λ compute. Start.TryCompute (key_of compute.key) };
@@ -60,7 +61,7 @@ pub struct ToComputeAlone<'a, K> {
     key: CallKey<'a, K>,
 }
 
-impl<K: Clone + Drop, V: Drop, E: Drop> Begin<K, V, E> for ToComputeAlone<'_, K> {
+impl<K: Exact, V: Drop, E: Drop> Begin<K, V, E> for ToComputeAlone<'_, K> {
     type Output = Result<CompResult<K, V>, E>;
 
     ghost start = { λ compute. Start.ComputeAlone (key_of compute.key) };
@@ -115,9 +116,9 @@ pub type TryComputeAlone<'a, K, V, E, C, L = NoListener, S = FixedSeed> = CacheC
 
 impl<'a, K, V, E, L, S> EntrySelector<'a, K, V, E, L, S>
 where
-    K: Eq + Hash + Clone + Drop,
-    V: Clone + Drop,
-    E: Clone + Drop,
+    K: Eq + Hash + Exact,
+    V: Exact,
+    E: Exact,
     L: Listener<K, V>,
     S: Drop,
 {

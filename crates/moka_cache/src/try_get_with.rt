@@ -18,6 +18,7 @@ use crate::init::Init;
 use crate::key::CallKey;
 use crate::listener::{Listener, NoListener};
 use moka_hist::{Answer, Start};
+use moka_values::Exact;
 use std::hash::Hash;
 
 /// What a load that may fail looks up, and stores where it is absent and its initializer gives it.
@@ -38,7 +39,7 @@ pub type TryGetWith<'a, K, V, E, I, L = NoListener, S = FixedSeed> = CacheCall<
     S,
 >;
 
-impl<K: Clone + Drop, V: Drop, E: Drop> Begin<K, V, E> for ToTryLoad<'_, K> {
+impl<K: Exact, V: Drop, E: Drop> Begin<K, V, E> for ToTryLoad<'_, K> {
     type Output = Result<V, LoadError<E>>;
 
     ghost start = { λ load. Start.Try (key_of load.key) };
@@ -69,9 +70,9 @@ impl<K: Clone + Drop, V: Drop, E: Drop> Begin<K, V, E> for ToTryLoad<'_, K> {
 
 impl<K, V, E, L, S> Cache<K, V, E, L, S>
 where
-    K: Eq + Hash + Clone + Drop,
-    V: Clone + Drop,
-    E: Clone + Drop,
+    K: Eq + Hash + Exact,
+    V: Exact,
+    E: Exact,
     L: Listener<K, V>,
     S: Drop,
 {

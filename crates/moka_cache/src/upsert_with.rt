@@ -20,6 +20,7 @@ use crate::entry::EntrySelector;
 use crate::key::CallKey;
 use crate::listener::{Listener, NoListener};
 use moka_hist::{Answer, CompResult, Entry, Op, Start};
+use moka_values::Exact;
 use std::hash::Hash;
 
 /// What an upsert is of.
@@ -28,7 +29,7 @@ pub struct ToUpsert<'a, K> {
     key: CallKey<'a, K>,
 }
 
-impl<K: Clone + Drop, V: Drop, E: Drop> Begin<K, V, E> for ToUpsert<'_, K> {
+impl<K: Exact, V: Drop, E: Drop> Begin<K, V, E> for ToUpsert<'_, K> {
     type Output = Entry<K, V>;
 
     ghost start = { λ upsert. Start.Upsert (key_of upsert.key) };
@@ -69,9 +70,9 @@ pub type UpsertWith<'a, K, V, E, C, L = NoListener, S = FixedSeed> = CacheCall<
 
 impl<'a, K, V, E, L, S> EntrySelector<'a, K, V, E, L, S>
 where
-    K: Eq + Hash + Clone + Drop,
-    V: Clone + Drop,
-    E: Clone + Drop,
+    K: Eq + Hash + Exact,
+    V: Exact,
+    E: Exact,
     L: Listener<K, V>,
     S: Drop,
 {

@@ -2,12 +2,12 @@
 //!
 //! What runs a call is generic over it. That a call is a `State` is shown in `CacheCall::block_on`,
 //! and not where each test runs one.
-ghost use Rattle.moka_hist.specs.Finite.{IsExact};
 ghost use Rattle.moka_cache.specs.Settings.{rules_of};
 ghost use Rattle.moka_cache_runs.specs.Runs.{CanRun};
 
 use crate::at::At;
 use moka_cache::{Asked, Begin, CacheCall, Listener, PollError};
+use moka_values::Exact;
 use std::alloc::AllocGlobal;
 use std::hash::Hash;
 use std::io;
@@ -22,15 +22,12 @@ pub fn run<R, A, K, V, E, Q, L, S>(
 where
     R: Wait + RandomSource + AllocGlobal,
     A: Begin<K, V, E>,
-    K: Eq + Hash + Clone + Drop,
-    V: Clone + Drop,
-    E: Clone + Drop,
+    K: Eq + Hash + Exact,
+    V: Exact,
+    E: Exact,
     Q: Asked<K, V, E>,
     L: Listener<K, V>,
     S: Drop,
-    requires keys { IsExact K.is_clone }
-    requires values { IsExact V.is_clone }
-    requires errors { IsExact E.is_clone }
     requires can { CanRun K.eq A.start A.output Q.can_poll Q.gives (rules_of call.cache.now)
         call.stage call.asked }
 {

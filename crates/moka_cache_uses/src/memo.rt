@@ -1,9 +1,11 @@
 //! A memo table.
 ghost use Rattle.std.specs.Prelude.{◌≡◌, ◌*◌, IfOk};
+ghost use Rattle.std.proofs.Common.{rules};
 
 use crate::answers::{At, answered};
 use futures::task::{Context, Poll};
 use moka_cache::{Cache, Init};
+use moka_values::Exact;
 use std::alloc::{AllocGlobal, Global};
 use std::io;
 use std::random::RandomSource;
@@ -16,6 +18,10 @@ struct Square {
     root: u32,
     area: u64,
     ghost squared: { area ≡ root * root },
+}
+
+impl Exact for Square {
+    ghost exact = { Prim.search rules };
 }
 
 impl Square {

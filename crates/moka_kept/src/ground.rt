@@ -2,7 +2,6 @@
 ghost use Rattle.std.specs.Prelude.{◌≡◌, ℕ, List, Some, None, cond, false};
 ghost use Rattle.std.specs.Prelude.{IfNone, IfOk, IfSome, OnErr};
 ghost use Rattle.std.proofs.Common.{◌∙◌, refl};
-ghost use Rattle.moka_hist.specs.Finite.{IsExact};
 ghost use Rattle.moka_layers.specs.Counted.{counted};
 ghost use Rattle.moka_sync.specs.Waiting.{waits};
 ghost use Rattle.moka_kept.specs.Kept.{IsKept, ReachIs, MayReach, in_hand};
@@ -15,6 +14,7 @@ use moka_init::{Alone, Ground};
 use moka_layers::Layers;
 use moka_sync::CallList;
 use moka_table::{PlainCall, PlainTable};
+use moka_values::Exact;
 use std::alloc::AllocError;
 use std::hash::Hash;
 
@@ -26,7 +26,7 @@ pub(crate) struct Reach<K: Eq + Hash, V, E> {
     woken: Option<CallList>,
 }
 
-impl<K: Eq + Hash + Clone + Drop, V: Clone + Drop, E: Clone + Drop> Reach<K, V, E> {
+impl<K: Eq + Hash + Exact, V: Exact, E: Exact> Reach<K, V, E> {
     /// Over these layers, whose last visit handed nobody out.
     pub(crate) fn over(layers: Layers<K, V, E, PlainTable<K, V>, PlainCall<K, V>, InHand>) -> Self
         ensures { result.layers ≡ layers }
@@ -70,8 +70,7 @@ impl<K: Eq + Hash + Clone + Drop, V: Clone + Drop, E: Clone + Drop> Reach<K, V, 
     }
 }
 
-impl<K: Eq + Hash + Clone + Drop, V: Clone + Drop, E: Clone + Drop> Ground<K, V, E>
-    for Reach<K, V, E> {
+impl<K: Eq + Hash + Exact, V: Exact, E: Exact> Ground<K, V, E> for Reach<K, V, E> {
     ghost use Rattle.moka_hist.specs.State.{World};
     ghost use Rattle.moka_init.specs.Grounds.{Accesses, Gives, Lacks, NeedsMemory, OfWanted};
     ghost use Rattle.moka_layers.specs.Layers.{account_of};
@@ -99,9 +98,6 @@ impl<K: Eq + Hash + Clone + Drop, V: Clone + Drop, E: Clone + Drop> Ground<K, V,
         stands.ground };
 
     fn access(&mut self, want: Want<K, V, E>) -> Result<Got<K, V, E>, AllocError>
-        requires keys { IsExact K.is_clone }
-        requires values { IsExact V.is_clone }
-        requires errors { IsExact E.is_clone }
         requires fits { MayReach K.eq self.old.layers want }
         // What it gives, and what is told then.
         ensures gives { IfOk result (λ given.

@@ -1,7 +1,6 @@
 //! What lies under the lock of a cache, behind that lock.
 ghost use Rattle.std.specs.Prelude.{◌≡◌, ◌≤◌, IfNone, IfOk, IfSome};
 ghost use Rattle.futures.specs.Task.{IsArmed, Keeps};
-ghost use Rattle.moka_hist.specs.Finite.{IsExact};
 ghost use Rattle.moka_hist.specs.State.{World};
 ghost use Rattle.moka_init.specs.FlowPlan.{call_of, tested_in};
 ghost use Rattle.moka_kept.specs.Counts.{Behind, sees};
@@ -19,6 +18,7 @@ use crate::stop::Stop;
 use futures::task::Context;
 use moka_hist::{Rules, Start};
 use moka_init::Flow;
+use moka_values::Exact;
 use std::alloc::{AllocError, Global};
 use std::collections::LinkedList;
 use std::hash::Hash;
@@ -35,7 +35,7 @@ pub struct Guarded<K: Eq + Hash, V, E> {
     kept: Mutex<Kept<K, V, E>>,
 }
 
-impl<K: Eq + Hash + Clone + Drop, V: Clone + Drop, E: Clone + Drop> Guarded<K, V, E> {
+impl<K: Eq + Hash + Exact, V: Exact, E: Exact> Guarded<K, V, E> {
     /// Makes what an empty cache keeps, where this call number and those before it were given out.
     /// It is an error only where memory is wanting.
     pub fn starting_after(alloc: Global, rules: Rules, last: u64) -> Result<Self, AllocError>
@@ -72,9 +72,6 @@ impl<K: Eq + Hash + Clone + Drop, V: Clone + Drop, E: Clone + Drop> Guarded<K, V
         cx: &mut Context<'_>,
         moment: u64,
     ) -> Stop<K, V, E>
-        requires keys { IsExact K.is_clone }
-        requires values { IsExact V.is_clone }
-        requires errors { IsExact E.is_clone }
         requires rests { Rests flow.old }
         ensures stops { StopIs K.eq (Brings (tested_in (call_of flow.old).plan) brought)
             flow.old result flow.new }
@@ -97,9 +94,6 @@ impl<K: Eq + Hash + Clone + Drop, V: Clone + Drop, E: Clone + Drop> Guarded<K, V
         moment: u64,
         woken: &mut Wakers,
     ) -> Stop<K, V, E>
-        requires keys { IsExact K.is_clone }
-        requires values { IsExact V.is_clone }
-        requires errors { IsExact E.is_clone }
         requires rests { Rests flow.old }
         ensures stops { StopIs K.eq (Brings (tested_in (call_of flow.old).plan) brought)
             flow.old result flow.new }
@@ -133,8 +127,6 @@ impl<K: Eq + Hash + Clone + Drop, V: Clone + Drop, E: Clone + Drop> Guarded<K, V
     /// where memory is wanting for a copy of the key or of its record, and nothing but the clock
     /// has changed then.
     pub fn contains_key<R: Wait>(&self, rt: &R, key: &K, moment: u64) -> Result<bool, AllocError>
-        requires keys { IsExact K.is_clone }
-        requires values { IsExact V.is_clone }
         ensures { IfOk result (λ there.
             Behind K.eq (λ (w : World K V E). (moment ≤ w.desk.clock)
             × (there ≡ sees w key.now))) }

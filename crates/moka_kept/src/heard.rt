@@ -9,6 +9,7 @@ ghost use Rattle.moka_kept.specs.Taking.{end_told};
 
 use crate::ground::Reach;
 use crate::parked::HandedOut;
+use moka_values::Exact;
 use std::hash::Hash;
 
 /// How a listener ends a notice.
@@ -38,7 +39,7 @@ impl Heard {
 
     /// Tells the desk that the notice has ended so, and gives those that it hands out. Answers None
     /// where that doesn't run; nothing has changed then.
-    pub(crate) fn tell<K: Eq + Hash + Clone + Drop, V: Clone + Drop, E: Clone + Drop>(
+    pub(crate) fn tell<K: Eq + Hash + Exact, V: Exact, E: Exact>(
         self,
         reach: &mut Reach<K, V, E>,
     ) -> Option<HandedOut>

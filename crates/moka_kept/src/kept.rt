@@ -1,6 +1,5 @@
 //! What lies under the lock of a cache.
 ghost use Rattle.std.specs.Prelude.{◌≡◌, None, IfNone, IfSome};
-ghost use Rattle.moka_hist.specs.Finite.{IsExact};
 ghost use Rattle.moka_kept.specs.Kept.{IsKept};
 
 use crate::brought::Brought;
@@ -13,6 +12,7 @@ use crate::stop::Stop;
 use futures::task::{Context, Poll};
 use moka_hist::{Answer, Rules, Turn};
 use moka_init::Flow;
+use moka_values::Exact;
 use std::alloc::{AllocError, Global};
 use std::hash::Hash;
 use std::marker::Model;
@@ -37,7 +37,7 @@ impl<K: Eq + Hash, V, E> Model for Kept<K, V, E> {
     ghost invariant = { λ k. IsKept K.eq k.reach.layers };
 }
 
-impl<K: Eq + Hash + Clone + Drop, V: Clone + Drop, E: Clone + Drop> Kept<K, V, E> {
+impl<K: Eq + Hash + Exact, V: Exact, E: Exact> Kept<K, V, E> {
     ghost use Rattle.futures.specs.Task.{IsArmed, Keeps};
     ghost use Rattle.moka_kept.specs.Kept.{IsLast, NumbersSpent};
     ghost use Rattle.moka_kept.specs.Rests.{Rests};
@@ -99,9 +99,6 @@ impl<K: Eq + Hash + Clone + Drop, V: Clone + Drop, E: Clone + Drop> Kept<K, V, E
         cx: &mut Context<'_>,
         woken: &mut Wakers,
     ) -> Stop<K, V, E>
-        requires keys { IsExact K.is_clone }
-        requires values { IsExact V.is_clone }
-        requires errors { IsExact E.is_clone }
         requires rests { Rests flow.old }
         ensures stops { StopIs K.eq (Brings (tested_in (call_of flow.old).plan) brought)
             flow.old result flow.new }
@@ -129,9 +126,6 @@ impl<K: Eq + Hash + Clone + Drop, V: Clone + Drop, E: Clone + Drop> Kept<K, V, E
         brought: Brought<V, E>,
         woken: &mut Wakers,
     ) -> Result<Turn<K, V, E>, AllocError>
-        requires keys { IsExact K.is_clone }
-        requires values { IsExact V.is_clone }
-        requires errors { IsExact E.is_clone }
         requires rests { Rests flow.old }
         requires untested { brought ≡ Brought.Nothing → tested_in (call_of flow.old).plan ≡ None }
         ensures stops { StopIs K.eq (Brings (tested_in (call_of flow.old).plan) brought)

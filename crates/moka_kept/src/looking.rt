@@ -1,7 +1,6 @@
 //! What a look under the lock tells, by no call.
 ghost use Rattle.std.specs.Prelude.{◌≡◌, ◌≤◌, IfOk, is_some};
 ghost use Rattle.std.specs.HashMap.{hash_map_len};
-ghost use Rattle.moka_hist.specs.Finite.{IsExact};
 ghost use Rattle.moka_hist.specs.State.{World};
 ghost use Rattle.moka_table.specs.Map.{SameMap};
 ghost use Rattle.moka_table.specs.Plain.{map_of, peak_of};
@@ -11,16 +10,15 @@ use crate::ground::Reach;
 use crate::kept::Kept;
 use moka_hist::{TableAnswer, TableOp, TableTurn};
 use moka_table::{PlainTable, Table};
+use moka_values::Exact;
 use std::alloc::AllocError;
 use std::hash::Hash;
 
-impl<K: Eq + Hash + Clone + Drop, V: Clone + Drop, E: Clone + Drop> Kept<K, V, E> {
+impl<K: Eq + Hash + Exact, V: Exact, E: Exact> Kept<K, V, E> {
     /// Whether the table has the key, once the clock has moved on to the moment. An error comes
     /// where memory is wanting for a copy of the key or of its record, and nothing but the clock
     /// has changed then.
     pub(crate) fn contains_key(&mut self, key: &K, moment: u64) -> Result<bool, AllocError>
-        requires keys { IsExact K.is_clone }
-        requires values { IsExact V.is_clone }
         ensures { IfOk result (λ there.
             Behind K.eq (λ (w : World K V E). (moment ≤ w.desk.clock)
             × (there ≡ sees w key.now))) }
@@ -37,15 +35,13 @@ impl<K: Eq + Hash + Clone + Drop, V: Clone + Drop, E: Clone + Drop> Kept<K, V, E
     }
 }
 
-impl<K: Eq + Hash + Clone + Drop, V: Clone + Drop, E: Clone + Drop> Reach<K, V, E> {
+impl<K: Eq + Hash + Exact, V: Exact, E: Exact> Reach<K, V, E> {
     ghost use Rattle.moka_layers.specs.Layers.{WorldIs};
     ghost use Rattle.moka_table.specs.Plain.{plain_table};
     ghost use Rattle.moka_kept.specs.Kept.{IsKept, in_hand};
 
     // Whether the table has the key, by one look.
     fn contains_key(&mut self, key: &K) -> Result<bool, AllocError>
-        requires keys { IsExact K.is_clone }
-        requires values { IsExact V.is_clone }
         requires kept { IsKept K.eq self.old.layers }
         ensures kept { IsKept K.eq self.new.layers }
         ensures sees { IfOk result (λ there. (w : World K V E)
@@ -56,12 +52,10 @@ impl<K: Eq + Hash + Clone + Drop, V: Clone + Drop, E: Clone + Drop> Reach<K, V, 
 }
 
 // Whether the table has the key, by one look, which changes nothing.
-fn has_key<K: Eq + Hash + Clone + Drop, V: Clone + Drop>(
+fn has_key<K: Eq + Hash + Exact, V: Exact>(
     table: &mut PlainTable<K, V>,
     key: &K,
 ) -> Result<bool, AllocError>
-    requires keys { IsExact K.is_clone }
-    requires values { IsExact V.is_clone }
     ensures there { IfOk result (λ there. there ≡ is_some (map_of K.eq table.old key.now)) }
     ensures map { SameMap (map_of K.eq table.old) (map_of K.eq table.new) }
     ensures count { hash_map_len table.new.pairs ≡ hash_map_len table.old.pairs }

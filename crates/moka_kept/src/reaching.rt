@@ -3,7 +3,6 @@ ghost use Rattle.std.specs.Prelude.{◌≡◌, ◌≤◌, Some, None, Bool, fals
 ghost use Rattle.std.specs.Prelude.{OnErr, OnOk, OnSome, is_some, ◌+◌};
 ghost use Rattle.std.specs.Bool.{OnFalse, OnTrue};
 ghost use Rattle.std.specs.Option.{option_map};
-ghost use Rattle.moka_hist.specs.Finite.{IsExact};
 ghost use Rattle.moka_hist.specs.State.{DeskPart};
 ghost use Rattle.moka_hist.specs.Visits.{is_running};
 ghost use Rattle.moka_hist.specs.Telling.{is_asked, told};
@@ -36,13 +35,14 @@ use moka_init::{Flow, step};
 use moka_layers::Layers;
 use moka_needs::Need;
 use moka_table::PlainTable;
+use moka_values::Exact;
 use std::alloc::{AllocError, Global};
 use std::hash::Hash;
 
 /// How many writes the log has room for.
 const LOG_LENGTH: usize = 384;
 
-impl<K: Eq + Hash + Clone + Drop, V: Clone + Drop, E: Clone + Drop> Reach<K, V, E> {
+impl<K: Eq + Hash + Exact, V: Exact, E: Exact> Reach<K, V, E> {
     /// Nothing is stored. This call number and those before it were given out.
     pub(crate) fn starting_after(alloc: Global, rules: Rules, last: u64) -> Result<Self, AllocError>
         ensures { IfOk result (λ reach. IsKept K.eq reach.layers) }
@@ -187,9 +187,6 @@ impl<K: Eq + Hash + Clone + Drop, V: Clone + Drop, E: Clone + Drop> Reach<K, V, 
         parked: &mut Parked,
         woken: &mut Wakers,
     ) -> Result<Turn<K, V, E>, AllocError>
-        requires keys { IsExact K.is_clone }
-        requires values { IsExact V.is_clone }
-        requires errors { IsExact E.is_clone }
         requires kept { IsKept K.eq self.old.layers }
         requires rests { Rests flow.old }
         ensures kept { IsKept K.eq self.new.layers }
@@ -224,9 +221,6 @@ impl<K: Eq + Hash + Clone + Drop, V: Clone + Drop, E: Clone + Drop> Reach<K, V, 
 
     // Makes one step of a flow whose next visit the desk allows.
     fn step_allowed(&mut self, flow: &mut Flow<K, V, E>) -> Result<Turn<K, V, E>, AllocError>
-        requires keys { IsExact K.is_clone }
-        requires values { IsExact V.is_clone }
-        requires errors { IsExact E.is_clone }
         requires kept { IsKept K.eq self.old.layers }
         requires rests { Rests flow.old }
         requires may { (w : DeskPart K V E) → StandsFor K.eq self.old.layers.desk w
@@ -316,12 +310,11 @@ fn is_of_call<V, E>(answer: &Told<V, E>) -> bool
 // Whether the call has a number that was given out, and the desk allows its next visit, which takes
 // the answer to its own ask, if `takes`, and doesn't, if not; and an owner's end that it reads is
 // one of the kind that it waits for. False too where memory is wanting to tell.
-fn may_step<K: Eq + Hash + Clone + Drop, V: Clone + Drop, E: Clone + Drop>(
+fn may_step<K: Eq + Hash + Exact, V: Exact, E: Exact>(
     desk: &Desk<K, V, E>,
     flow: &Flow<K, V, E>,
     takes: bool,
 ) -> bool
-    requires { IsExact K.is_clone }
     ensures may { OnTrue result ((w : DeskPart K V E) → StandsFor K.eq desk.now w
         → (flow.now.call ≤ w.last)
         × AllowsAlike K.eq desk.now w (λ v. MayMake v (access_at flow.now))) }
@@ -346,7 +339,7 @@ fn may_step<K: Eq + Hash + Clone + Drop, V: Clone + Drop, E: Clone + Drop>(
 
 // Whether an owner's end that the flow's next visit reads, if it reads one, is one of the kind that
 // its call waits for.
-fn reads_its_kind<K: Eq + Hash + Clone + Drop, V: Drop, E: Drop>(
+fn reads_its_kind<K: Eq + Hash + Exact, V: Drop, E: Drop>(
     desk: &Desk<K, V, E>,
     flow: &Flow<K, V, E>,
 ) -> bool
@@ -361,7 +354,7 @@ fn reads_its_kind<K: Eq + Hash + Clone + Drop, V: Drop, E: Drop>(
 
 // Whether the desk allows the call each visit that needs this, and such a visit takes the answer to
 // the own ask, if `takes`, and doesn't, if not.
-fn may_visit<K: Eq + Hash + Clone + Drop, V: Drop, E: Drop>(
+fn may_visit<K: Eq + Hash + Exact, V: Drop, E: Drop>(
     desk: &Desk<K, V, E>,
     call: u64,
     need: Need<K>,
@@ -386,8 +379,7 @@ fn needs_answer<K>(need: &Need<K>) -> bool
 }
 
 /// Whether the flow's next visit takes the answer to its own ask, which is open.
-pub fn is_asking<K: Clone + Drop, V, E>(flow: &Flow<K, V, E>) -> bool
-    requires { IsExact K.is_clone }
+pub fn is_asking<K: Exact, V, E>(flow: &Flow<K, V, E>) -> bool
     ensures { result ≡ is_taking (access_at flow.now) }
 {
     match flow.need() {

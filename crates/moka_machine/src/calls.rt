@@ -2,7 +2,7 @@
 ghost use Rattle.std.specs.Prelude.{◌≡◌, ℕ, ◌<◌, Some, None, IfOk, OnOk, OnSome};
 ghost use Rattle.std.specs.Option.{option_map};
 ghost use Rattle.std.specs.HashMap.{spare};
-ghost use Rattle.moka_hist.specs.Finite.{IsExact, put_at};
+ghost use Rattle.moka_hist.specs.Finite.{put_at};
 ghost use Rattle.moka_machine.specs.Calls.{place_at, emptied, running_at, held_in, due_in};
 ghost use Rattle.moka_machine.specs.Calls.{HasPlace, AreDue, AreNumbered};
 ghost use Rattle.moka_machine.specs.Machine.{call_in};
@@ -12,6 +12,7 @@ use crate::lists::number_owed;
 use crate::machine::TheCall;
 use moka_hist::Visit;
 use moka_init::Flow;
+use moka_values::Exact;
 use std::alloc::{AllocError, Global};
 use std::collections::HashMap;
 
@@ -119,11 +120,9 @@ impl<K: Drop, V: Drop, E: Drop> Calls<K, V, E> {
     /// Lists the visits that open the notices of running calls that are due.
     pub(crate) fn due(&self, alloc: Global) -> Result<Vec<Visit<K, V, E>>, AllocError>
     where
-        K: Clone,
-        V: Clone,
-        E: Clone,
-        requires keys { IsExact K.is_clone }
-        requires values { IsExact V.is_clone }
+        K: Exact,
+        V: Exact,
+        E: Exact,
         ensures { IfOk result (λ visits. AreNumbered (running_at self.now)
             → AreDue visits.items (λ n. option_map call_in (running_at self.now n))) }
     {
@@ -138,11 +137,9 @@ impl<K: Drop, V: Drop, E: Drop> Calls<K, V, E> {
 }
 
 /// The visit that opens the notice of the call of this place, where that is due.
-fn due_at<K: Clone + Drop, V: Clone + Drop, E: Clone + Drop>(
+fn due_at<K: Exact, V: Exact, E: Exact>(
     place: &Option<Running<K, V, E>>,
 ) -> Result<Option<Visit<K, V, E>>, AllocError>
-    requires keys { IsExact K.is_clone }
-    requires values { IsExact V.is_clone }
     ensures { IfOk result (λ due. due ≡ due_in place.now) }
 {
     match place {

@@ -1,6 +1,6 @@
 //! The lists of a machine's state: what is stored, and where each write stands.
 ghost use Rattle.std.specs.Prelude.{◌≡◌, ◌++◌, ℕ, List, map, nat_eq, IfOk, OnOk};
-ghost use Rattle.moka_hist.specs.Finite.{IsExact, Lists};
+ghost use Rattle.moka_hist.specs.Finite.{Lists};
 ghost use Rattle.moka_hist.specs.State.{Call, State};
 ghost use Rattle.moka_hist.specs.Visits.{number_of};
 ghost use Rattle.moka_table.specs.Map.{ListsPairs};
@@ -10,6 +10,7 @@ ghost use Rattle.moka_machine.specs.Listed.{at_place, all_places, ArePlaces};
 use crate::machine::Machine;
 use moka_hist::{Listing, Owed, Place, Tests, Write};
 use moka_table::{EntryList, Table};
+use moka_values::Exact;
 use std::alloc::{AllocError, Global};
 use std::collections::VecDeque;
 use std::hash::Hash;
@@ -79,16 +80,9 @@ fn push_queue(
     Ok(())
 }
 
-impl<K: Eq + Hash + Clone + Drop, V: Clone + Drop, E: Clone + Drop, T: Tests<K, V> + Drop> Machine<
-    K,
-    V,
-    E,
-    T,
-> {
+impl<K: Eq + Hash + Exact, V: Exact, E: Exact, T: Tests<K, V> + Drop> Machine<K, V, E, T> {
     /// Lists each stored pair once, in any order.
     pub fn entries(&self, alloc: Global) -> Result<EntryList<K, V>, AllocError>
-        requires keys { IsExact K.is_clone }
-        requires values { IsExact V.is_clone }
         ensures { IfOk result (λ pairs. (s : State K V E) → MachineIs K.eq T.Tests self.now s
             → ListsPairs K.eq pairs s.world.table.stored) }
     {

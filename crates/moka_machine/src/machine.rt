@@ -1,6 +1,5 @@
 //! The machine: a table, a desk and the live calls.
 ghost use Rattle.std.specs.Prelude.{◌≡◌, ◌≤◌, IfOk, IfErr, OnErr};
-ghost use Rattle.moka_hist.specs.Finite.{IsExact};
 
 use crate::calls::Calls;
 use crate::serving::unpolled;
@@ -10,6 +9,7 @@ use moka_hist::{Event, Reply, Rules, Tests};
 use moka_init::Unfinished;
 use moka_layers::Layers;
 use moka_table::{PlainCall, PlainTable};
+use moka_values::Exact;
 use std::alloc::{AllocError, Global};
 use std::hash::Hash;
 
@@ -20,24 +20,19 @@ pub(crate) type TheCall<K, V> = PlainCall<K, V>;
 
 /// A cache on one thread whose calls are driven event by event.
 ///
-/// What `run` asks of keys and values is that a clone equals its original, as contracts see the
-/// two. It holds of numbers, `bool`, `char`, `&'static str`, the `ByteStr` and `Bytes` of the crate
-/// `bytes`, and of arrays, tuples, `Option`s and derived structs and enums of these; keys have
-/// equality and hash too. It doesn't of `String`, `Vec<u8>`, `Box<T>` and `Arc<T>`: of a `String`
-/// make a `ByteStr` (`ByteStr::from_string`), of a `Vec<u8>` a `Bytes`, and for an `Arc<T>` take
-/// the `Shared<T>` of `moka_uses`, whose callers show each.
+/// Keys, values and errors are `Exact`: a clone equals its original, as contracts see the two. Numbers,
+/// `bool`, `char`, `&'static str`, the `ByteStr` and `Bytes` of the crate `bytes` are, and arrays,
+/// pairs and `Option`s of these, and by one line a derived struct or enum of one's own; keys have
+/// equality and hash too. `String`, `Vec<u8>`, `Box<T>` and `Arc<T>` are not: of a `String` make a
+/// `ByteStr` (`ByteStr::from_string`), of a `Vec<u8>` a `Bytes`, and for an `Arc<T>` take `Shared<T>`
+/// of `moka_values`. The callers of `moka_uses` show each.
 #[derive(Drop)]
 pub struct Machine<K: Eq + Hash, V, E, T> {
     pub(crate) layers: Layers<K, V, E, TheTable<K, V>, TheCall<K, V>, T>,
     pub(crate) calls: Calls<K, V, E>,
 }
 
-impl<K: Eq + Hash + Clone + Drop, V: Clone + Drop, E: Clone + Drop, T: Tests<K, V> + Drop> Machine<
-    K,
-    V,
-    E,
-    T,
-> {
+impl<K: Eq + Hash + Exact, V: Exact, E: Exact, T: Tests<K, V> + Drop> Machine<K, V, E, T> {
     ghost use Rattle.moka_hist.specs.State.{State, fresh};
     ghost use Rattle.moka_text.specs.ScheduleText.{rules_from};
     ghost use Rattle.moka_machine.specs.Machine.{MachineIs, IsValid, ServesEvent, Stops};
@@ -80,9 +75,6 @@ impl<K: Eq + Hash + Clone + Drop, V: Clone + Drop, E: Clone + Drop, T: Tests<K, 
     /// Carries one event out, or refuses it. At want of memory it tells how many steps of a poll
     /// were made; of any other event nothing was done then.
     pub fn serve(&mut self, event: &Event<K, V, E>) -> Result<Reply<K, V, E>, Unfinished>
-        requires keys { IsExact K.is_clone }
-        requires values { IsExact V.is_clone }
-        requires errors { IsExact E.is_clone }
         requires valid { IsValid K.eq T.Tests self.old }
         ensures serves { IfOk result (λ r. ServesEvent K.eq T.Tests self.old event.now r self.new) }
         ensures stops { IfErr result (λ u. Stops K.eq T.Tests self.old event.now u.steps self.new) }

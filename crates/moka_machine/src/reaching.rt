@@ -1,20 +1,17 @@
 //! The machine as the ground of the call that was taken out.
 ghost use Rattle.std.specs.Prelude.{◌≡◌, IfOk, OnErr};
 ghost use Rattle.std.proofs.Common.{refl, ◌∙◌};
-ghost use Rattle.moka_hist.specs.Finite.{IsExact};
 ghost use Rattle.moka_layers.specs.Counted.{counted};
 
 use crate::machine::Machine;
 use moka_hist::{Got, Tests, Want};
 use moka_init::{Alone, Ground};
+use moka_values::Exact;
 use std::alloc::AllocError;
 use std::hash::Hash;
 
-impl<K: Eq + Hash + Clone + Drop, V: Clone + Drop, E: Clone + Drop, T: Tests<K, V> + Drop> Ground<
-    K,
-    V,
-    E,
-> for Machine<K, V, E, T> {
+impl<K: Eq + Hash + Exact, V: Exact, E: Exact, T: Tests<K, V> + Drop> Ground<K, V, E>
+    for Machine<K, V, E, T> {
     ghost use Rattle.moka_hist.specs.State.{World};
     ghost use Rattle.moka_init.specs.Grounds.{Accesses, Gives, Lacks, NeedsMemory, OfWanted};
     ghost use Rattle.moka_layers.specs.Layers.{account_of};
@@ -40,9 +37,6 @@ impl<K: Eq + Hash + Clone + Drop, V: Clone + Drop, E: Clone + Drop, T: Tests<K, 
     ghost counts = { λ m w stands. counted (the_table K.eq) T.Tests K.eq m.layers w stands.layers };
 
     fn access(&mut self, want: Want<K, V, E>) -> Result<Got<K, V, E>, AllocError>
-        requires keys { IsExact K.is_clone }
-        requires values { IsExact V.is_clone }
-        requires errors { IsExact E.is_clone }
         requires fits { AllowsEvent K.eq T.Tests self.old want }
         // What it gives, and what is told then.
         ensures gives { IfOk result (λ given.
@@ -67,8 +61,5 @@ impl<K: Eq + Hash + Clone + Drop, V: Clone + Drop, E: Clone + Drop, T: Tests<K, 
     }
 }
 
-impl<K: Eq + Hash + Clone + Drop, V: Clone + Drop, E: Clone + Drop, T: Tests<K, V> + Drop> Alone<
-    K,
-    V,
-    E,
-> for Machine<K, V, E, T> {}
+impl<K: Eq + Hash + Exact, V: Exact, E: Exact, T: Tests<K, V> + Drop> Alone<K, V, E>
+    for Machine<K, V, E, T> {}

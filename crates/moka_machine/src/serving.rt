@@ -1,22 +1,17 @@
 //! The events of a schedule, one at a time.
 ghost use Rattle.std.specs.Prelude.{◌≡◌, ◌<◌, ℕ, Some, None, IsSome, IfOk, IfErr, is_ok, false, OnOk, OnErr, MatchResult, if◌then◌else◌};
 ghost use Rattle.std.specs.HashMap.{spare};
-ghost use Rattle.moka_hist.specs.Finite.{IsExact};
-ghost use Rattle.moka_machine.specs.WantOfMemory.{OpNeedsMemory, ToldNeedsMemory};
+ghost use Rattle.moka_machine.specs.WantOfMemory.{ToldNeedsMemory};
 
 use crate::calls::Running;
 use crate::machine::Machine;
-use moka_hist::{Mode, Op, Refusal, Reply, Start, Tests, Told};
+use moka_hist::{Mode, Refusal, Reply, Start, Tests, Told};
 use moka_init::{Flow, Unfinished};
+use moka_values::Exact;
 use std::alloc::AllocError;
 use std::hash::Hash;
 
-impl<K: Eq + Hash + Clone + Drop, V: Clone + Drop, E: Clone + Drop, T: Tests<K, V> + Drop> Machine<
-    K,
-    V,
-    E,
-    T,
-> {
+impl<K: Eq + Hash + Exact, V: Exact, E: Exact, T: Tests<K, V> + Drop> Machine<K, V, E, T> {
     ghost use Rattle.moka_hist.specs.declared.events.Event.{Event};
     ghost use Rattle.moka_hist.specs.Dropping.{dropped};
     ghost use Rattle.moka_laws.specs.Held.{MayAllLeave};
@@ -43,14 +38,11 @@ impl<K: Eq + Hash + Clone + Drop, V: Clone + Drop, E: Clone + Drop, T: Tests<K, 
 
     /// Starts a call under the next number.
     pub(crate) fn start(&mut self, start: &Start<K, V>) -> Result<Reply<K, V, E>, AllocError>
-        requires keys { IsExact K.is_clone }
-        requires values { IsExact V.is_clone }
-        requires errors { IsExact E.is_clone }
         ensures serves { IfOk result (λ r.
             ServesEvent K.eq T.Tests self.old (Event.Start start.now) r self.new) }
         ensures err { OnErr result (KeepsState K.eq T.Tests self.old self.new) }
     {
-        let start = cloned_start(start)?;
+        let start = start.clone()?;
         self.make_room()?;
         self.enter(start)
     }
@@ -94,14 +86,12 @@ impl<K: Eq + Hash + Clone + Drop, V: Clone + Drop, E: Clone + Drop, T: Tests<K, 
         call: u64,
         answer: &Told<V, E>,
     ) -> Result<Reply<K, V, E>, AllocError>
-        requires values { IsExact V.is_clone }
-        requires errors { IsExact E.is_clone }
         ensures serves { IfOk result (λ r.
             ServesEvent K.eq T.Tests self.old (Event.Tell call answer.now) r self.new) }
         ensures err { OnErr result (KeepsState K.eq T.Tests self.old self.new) }
         ensures err_needs { OnErr result (ToldNeedsMemory answer.now) }
     {
-        let answer = cloned_told(answer)?;
+        let answer = answer.clone()?;
         if self.tell_desk(call, answer) {
             Ok(Reply::Told)
         } else {
@@ -171,120 +161,6 @@ impl<K: Eq + Hash + Clone + Drop, V: Clone + Drop, E: Clone + Drop, T: Tests<K, 
         let _ = self.layers.desk.leave(call, held);
         self.end(call);
         Reply::Dropped
-    }
-}
-
-fn cloned_start<K: Clone + Drop, V: Clone + Drop>(
-    start: &Start<K, V>,
-) -> Result<Start<K, V>, AllocError>
-    requires keys { IsExact K.is_clone }
-    requires values { IsExact V.is_clone }
-    ensures { IfOk result (λ same. same ≡ start.now) }
-{
-    match start {
-        Start::Get { key } => {
-            let key = key.clone()?;
-            Ok(Start::Get { key })
-        }
-        Start::Insert { key, value } => {
-            let key = key.clone()?;
-            let value = value.clone()?;
-            Ok(Start::Insert { key, value })
-        }
-        Start::GetWith { key, replace } => {
-            let key = key.clone()?;
-            Ok(Start::GetWith {
-                key,
-                replace: *replace,
-            })
-        }
-        Start::Optional { key } => {
-            let key = key.clone()?;
-            Ok(Start::Optional { key })
-        }
-        Start::Try { key } => {
-            let key = key.clone()?;
-            Ok(Start::Try { key })
-        }
-        Start::OrInsert { key, value } => {
-            let key = key.clone()?;
-            let value = value.clone()?;
-            Ok(Start::OrInsert { key, value })
-        }
-        Start::Compute { key } => {
-            let key = key.clone()?;
-            Ok(Start::Compute { key })
-        }
-        Start::TryCompute { key } => {
-            let key = key.clone()?;
-            Ok(Start::TryCompute { key })
-        }
-        Start::ComputeAlone { key } => {
-            let key = key.clone()?;
-            Ok(Start::ComputeAlone { key })
-        }
-        Start::Upsert { key } => {
-            let key = key.clone()?;
-            Ok(Start::Upsert { key })
-        }
-        Start::Invalidate { key } => {
-            let key = key.clone()?;
-            Ok(Start::Invalidate { key })
-        }
-        Start::Remove { key } => {
-            let key = key.clone()?;
-            Ok(Start::Remove { key })
-        }
-        Start::Evict { key, stamp, cause } => {
-            let key = key.clone()?;
-            Ok(Start::Evict {
-                key,
-                stamp: *stamp,
-                cause: *cause,
-            })
-        }
-    }
-}
-
-fn cloned_told<V: Clone + Drop, E: Clone + Drop>(
-    answer: &Told<V, E>,
-) -> Result<Told<V, E>, AllocError>
-    requires values { IsExact V.is_clone }
-    requires errors { IsExact E.is_clone }
-    ensures same { IfOk result (λ same. same ≡ answer.now) }
-    ensures err { OnErr result (ToldNeedsMemory answer.now) }
-{
-    match answer {
-        Told::Value(value) => {
-            let value = value.clone()?;
-            Ok(Told::Value(value))
-        }
-        Told::Nothing => Ok(Told::Nothing),
-        Told::Err(error) => {
-            let error = error.clone()?;
-            Ok(Told::Err(error))
-        }
-        Told::Op(op) => {
-            let op = cloned_op(op)?;
-            Ok(Told::Op(op))
-        }
-        Told::Done => Ok(Told::Done),
-        Told::Off => Ok(Told::Off),
-    }
-}
-
-fn cloned_op<V: Clone + Drop>(op: &Op<V>) -> Result<Op<V>, AllocError>
-    requires { IsExact V.is_clone }
-    ensures same { IfOk result (λ same. same ≡ op.now) }
-    ensures err { OnErr result (OpNeedsMemory op.now) }
-{
-    match op {
-        Op::Nop => Ok(Op::Nop),
-        Op::Put(value) => {
-            let value = value.clone()?;
-            Ok(Op::Put(value))
-        }
-        Op::Remove => Ok(Op::Remove),
     }
 }
 

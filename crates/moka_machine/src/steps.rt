@@ -1,20 +1,16 @@
 //! Steps and polls of the live calls.
 ghost use Rattle.std.specs.Prelude.{◌≡◌, ◌<◌, ℕ, Option, Some, None, IfOk, IfErr, IfSome, IfNone, OnErr, OnSome};
-ghost use Rattle.moka_hist.specs.Finite.{IsExact, put_at};
+ghost use Rattle.moka_hist.specs.Finite.{put_at};
 
 use crate::calls::Running;
 use crate::machine::Machine;
 use moka_hist::{Answer, Refusal, Reply, Tests, Turn};
 use moka_init::{Flow, Unfinished, poll, step};
+use moka_values::Exact;
 use std::alloc::AllocError;
 use std::hash::Hash;
 
-impl<K: Eq + Hash + Clone + Drop, V: Clone + Drop, E: Clone + Drop, T: Tests<K, V> + Drop> Machine<
-    K,
-    V,
-    E,
-    T,
-> {
+impl<K: Eq + Hash + Exact, V: Exact, E: Exact, T: Tests<K, V> + Drop> Machine<K, V, E, T> {
     ghost use Rattle.moka_hist.specs.State.{Call, State, World};
     ghost use Rattle.moka_hist.specs.Run.{reply_of};
     ghost use Rattle.moka_hist.specs.declared.events.Event.{Event};
@@ -31,9 +27,6 @@ impl<K: Eq + Hash + Clone + Drop, V: Clone + Drop, E: Clone + Drop, T: Tests<K, 
 
     /// Makes one step of a call. After want of memory nothing has changed.
     pub(crate) fn step(&mut self, call: u64) -> Result<Reply<K, V, E>, AllocError>
-        requires keys { IsExact K.is_clone }
-        requires values { IsExact V.is_clone }
-        requires errors { IsExact E.is_clone }
         requires valid { IsValid K.eq T.Tests self.old }
         ensures serves { IfOk result (λ r.
             ServesEvent K.eq T.Tests self.old (Event.Step call) r self.new) }
@@ -52,9 +45,6 @@ impl<K: Eq + Hash + Clone + Drop, V: Clone + Drop, E: Clone + Drop, T: Tests<K, 
     /// Makes steps of a call up to the first whose reply is not Going. After want of memory the
     /// steps made so far stand.
     pub(crate) fn poll(&mut self, call: u64) -> Result<Reply<K, V, E>, Unfinished>
-        requires keys { IsExact K.is_clone }
-        requires values { IsExact V.is_clone }
-        requires errors { IsExact E.is_clone }
         requires valid { IsValid K.eq T.Tests self.old }
         ensures serves { IfOk result (λ r.
             ServesEvent K.eq T.Tests self.old (Event.Poll call) r self.new) }
@@ -198,9 +188,6 @@ impl<K: Eq + Hash + Clone + Drop, V: Clone + Drop, E: Clone + Drop, T: Tests<K, 
         call: u64,
         mut flow: Box<Flow<K, V, E>>,
     ) -> Result<Reply<K, V, E>, AllocError>
-        requires keys { IsExact K.is_clone }
-        requires values { IsExact V.is_clone }
-        requires errors { IsExact E.is_clone }
         requires place { HasPlace self.old.calls call }
         requires out { IsOut K.eq self.old flow.value }
         requires may { (w : World K V E) × Reaches K.eq T.Tests self.old w
@@ -227,9 +214,6 @@ impl<K: Eq + Hash + Clone + Drop, V: Clone + Drop, E: Clone + Drop, T: Tests<K, 
         call: u64,
         mut flow: Box<Flow<K, V, E>>,
     ) -> Result<Reply<K, V, E>, Unfinished>
-        requires keys { IsExact K.is_clone }
-        requires values { IsExact V.is_clone }
-        requires errors { IsExact E.is_clone }
         requires place { HasPlace self.old.calls call }
         requires out { IsOut K.eq self.old flow.value }
         requires safe { (w : World K V E) × Reaches K.eq T.Tests self.old w

@@ -1,6 +1,5 @@
 //! What `run` answers.
 ghost use Rattle.std.specs.Prelude.{◌≡◌, IfOk};
-ghost use Rattle.moka_hist.specs.Finite.{IsExact};
 ghost use Rattle.moka_hist.specs.State.{State};
 ghost use Rattle.moka_machine.specs.Machine.{MachineIs};
 ghost use Rattle.moka_run.specs.Report.{Reports};
@@ -8,6 +7,7 @@ ghost use Rattle.moka_run.specs.Report.{Reports};
 use moka_hist::{Listing, Reply, Tests};
 use moka_machine::{Machine, NoticeList, PlaceList};
 use moka_table::EntryList;
+use moka_values::Exact;
 use std::alloc::{AllocError, Global};
 use std::hash::Hash;
 
@@ -42,14 +42,10 @@ pub(crate) struct ReportLists<K, V> {
 }
 
 /// Makes the lists of a report on the machine's state.
-pub(crate) fn list_all<
-    K: Eq + Hash + Clone + Drop,
-    V: Clone + Drop,
-    E: Clone + Drop,
-    T: Tests<K, V> + Drop,
->(alloc: Global, machine: &Machine<K, V, E, T>) -> Result<ReportLists<K, V>, AllocError>
-    requires keys { IsExact K.is_clone }
-    requires values { IsExact V.is_clone }
+pub(crate) fn list_all<K: Eq + Hash + Exact, V: Exact, E: Exact, T: Tests<K, V> + Drop>(
+    alloc: Global,
+    machine: &Machine<K, V, E, T>,
+) -> Result<ReportLists<K, V>, AllocError>
     ensures { IfOk result (λ lists. (s : State K V E) → MachineIs K.eq T.Tests machine.now s
         → Reports K.eq lists.entries lists.places lists.notices s) }
 {

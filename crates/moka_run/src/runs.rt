@@ -1,7 +1,6 @@
 //! Runs of events on a machine.
 ghost use Rattle.std.specs.Prelude.{◌≡◌, ◌+◌, ◌<◌, ◌≤◌, ◌++◌, ◌∷◌, [], ℕ, IfOk, IfErr, length, vec_len};
 ghost use Rattle.std.specs.Vec.{vec_capacity};
-ghost use Rattle.moka_hist.specs.Finite.{IsExact};
 ghost use Rattle.moka_hist.specs.State.{State};
 ghost use Rattle.moka_hist.specs.Run.{IsReached};
 ghost use Rattle.moka_laws.specs.Laws.{LawsOfReached};
@@ -12,6 +11,7 @@ ghost use Rattle.moka_run.specs.Report.{Reports};
 use crate::report::{Memory, ReplyList, Report, list_all, report_of};
 use moka_hist::{Event, Reply, Tests};
 use moka_machine::Machine;
+use moka_values::Exact;
 use std::alloc::Global;
 use std::hash::Hash;
 
@@ -25,14 +25,11 @@ use std::hash::Hash;
 ///
 /// Of every state that a run can reach, all laws of `moka_laws` hold: `laws` is their record, with a
 /// field for each.
-pub fn run<K: Eq + Hash + Clone + Drop, V: Clone + Drop, E: Clone + Drop, T: Tests<K, V> + Drop>(
+pub fn run<K: Eq + Hash + Exact, V: Exact, E: Exact, T: Tests<K, V> + Drop>(
     alloc: Global,
     cache: &mut Machine<K, V, E, T>,
     events: &[Event<K, V, E>],
 ) -> Result<Report<K, V, E>, Memory<K, V, E>>
-    requires keys { IsExact K.is_clone }
-    requires values { IsExact V.is_clone }
-    requires errors { IsExact E.is_clone }
     requires valid { IsValid K.eq T.Tests cache.old }
     ensures run { IfOk result (λ report. (s : State K V E)
         → MachineIs K.eq T.Tests cache.old s → IsReached K.eq s
@@ -61,19 +58,11 @@ pub fn run<K: Eq + Hash + Clone + Drop, V: Clone + Drop, E: Clone + Drop, T: Tes
 }
 
 /// The replies to the events, in order.
-pub(crate) fn run_events<
-    K: Eq + Hash + Clone + Drop,
-    V: Clone + Drop,
-    E: Clone + Drop,
-    T: Tests<K, V> + Drop,
->(
+pub(crate) fn run_events<K: Eq + Hash + Exact, V: Exact, E: Exact, T: Tests<K, V> + Drop>(
     alloc: Global,
     cache: &mut Machine<K, V, E, T>,
     events: &[Event<K, V, E>],
 ) -> Result<Vec<Reply<K, V, E>>, Memory<K, V, E>>
-    requires keys { IsExact K.is_clone }
-    requires values { IsExact V.is_clone }
-    requires errors { IsExact E.is_clone }
     requires valid { IsValid K.eq T.Tests cache.old }
     ensures run { IfOk result (λ replies. (s : State K V E)
         → MachineIs K.eq T.Tests cache.old s → IsReached K.eq s

@@ -1,7 +1,6 @@
 //! How many accesses a step makes, on a ground that counts them.
 ghost use Rattle.std.specs.Prelude.{◌≡◌, IfOk, OnErr, nat_eq};
 ghost use Rattle.std.proofs.Common.{refl, ◌∙◌};
-ghost use Rattle.moka_hist.specs.Finite.{IsExact};
 ghost use Rattle.moka_hist.specs.State.{State};
 ghost use Rattle.moka_hist.specs.Step.{May};
 ghost use Rattle.moka_hist.specs.Run.{IsReached};
@@ -15,6 +14,7 @@ use crate::fresh::{machine_for, schedule_of};
 use moka_hist::{Event, Got, Refusal, Reply, Tests, Want};
 use moka_init::{Alone, Flow, Ground, step};
 use moka_run::{Machine, NumberTests, run};
+use moka_values::Exact;
 use std::alloc::{AllocError, Global};
 use std::hash::Hash;
 use std::process::Abort;
@@ -28,11 +28,8 @@ struct Counting<K: Eq + Hash, V, E, T> {
     accesses: u64,
 }
 
-impl<K: Eq + Hash + Clone + Drop, V: Clone + Drop, E: Clone + Drop, T: Tests<K, V> + Drop> Ground<
-    K,
-    V,
-    E,
-> for Counting<K, V, E, T> {
+impl<K: Eq + Hash + Exact, V: Exact, E: Exact, T: Tests<K, V> + Drop> Ground<K, V, E>
+    for Counting<K, V, E, T> {
     ghost use Rattle.moka_hist.specs.State.{World};
     ghost use Rattle.moka_init.specs.Grounds.{Accesses, Gives, Lacks, NeedsMemory, OfWanted};
     ghost use Rattle.moka_layers.specs.Layers.{account_of};
@@ -59,9 +56,6 @@ impl<K: Eq + Hash + Clone + Drop, V: Clone + Drop, E: Clone + Drop, T: Tests<K, 
         counted (the_table K.eq) T.Tests K.eq c.machine.layers w stands.layers };
 
     fn access(&mut self, want: Want<K, V, E>) -> Result<Got<K, V, E>, AllocError>
-        requires keys { IsExact K.is_clone }
-        requires values { IsExact V.is_clone }
-        requires errors { IsExact E.is_clone }
         requires fits { AllowsEvent K.eq T.Tests self.old.machine want }
         // What it gives, and what is told then.
         ensures gives { IfOk result (λ given.
@@ -88,11 +82,8 @@ impl<K: Eq + Hash + Clone + Drop, V: Clone + Drop, E: Clone + Drop, T: Tests<K, 
     }
 }
 
-impl<K: Eq + Hash + Clone + Drop, V: Clone + Drop, E: Clone + Drop, T: Tests<K, V> + Drop> Alone<
-    K,
-    V,
-    E,
-> for Counting<K, V, E, T> {}
+impl<K: Eq + Hash + Exact, V: Exact, E: Exact, T: Tests<K, V> + Drop> Alone<K, V, E>
+    for Counting<K, V, E, T> {}
 
 // A machine after a step, with the reply, or None where memory was wanting, and the accesses made.
 #[derive(Drop)]
@@ -103,14 +94,11 @@ struct Counted<K: Eq + Hash, V, E, T> {
 }
 
 // Makes a step of the call that was taken out, on a ground that counts.
-fn step_out<K: Eq + Hash + Clone + Drop, V: Clone + Drop, E: Clone + Drop, T: Tests<K, V> + Drop>(
+fn step_out<K: Eq + Hash + Exact, V: Exact, E: Exact, T: Tests<K, V> + Drop>(
     machine: Machine<K, V, E, T>,
     call: u64,
     mut flow: Box<Flow<K, V, E>>,
 ) -> Counted<K, V, E, T>
-    requires keys { IsExact K.is_clone }
-    requires values { IsExact V.is_clone }
-    requires errors { IsExact E.is_clone }
     requires place { HasPlace machine.calls call }
     requires out { IsOut K.eq machine flow.value }
     requires taken { (s : State K V E) × TakenOut K.eq T.Tests machine call flow.value s
@@ -149,15 +137,10 @@ fn step_out<K: Eq + Hash + Clone + Drop, V: Clone + Drop, E: Clone + Drop, T: Te
 }
 
 // Makes a step of a call, on a ground that counts.
-fn counted_step<
-    K: Eq + Hash + Clone + Drop,
-    V: Clone + Drop,
-    E: Clone + Drop,
-    T: Tests<K, V> + Drop,
->(mut machine: Machine<K, V, E, T>, call: u64) -> Counted<K, V, E, T>
-    requires keys { IsExact K.is_clone }
-    requires values { IsExact V.is_clone }
-    requires errors { IsExact E.is_clone }
+fn counted_step<K: Eq + Hash + Exact, V: Exact, E: Exact, T: Tests<K, V> + Drop>(
+    mut machine: Machine<K, V, E, T>,
+    call: u64,
+) -> Counted<K, V, E, T>
     requires valid { IsValid K.eq T.Tests machine }
     ensures { IsValid K.eq T.Tests result.machine }
 {

@@ -10,6 +10,7 @@ ghost use Rattle.moka_uses.specs.ReadBack.{no_tests};
 use moka_hist::{Answer, Ask, CompResult, Entry, Event, Op, Reply, Rules, Start, Told};
 use moka_run::{Machine, run};
 use moka_uses::NoTests;
+use moka_values::Exact;
 use std::alloc::{AllocError, Global};
 use std::hash::{Hash, Hasher};
 use std::test::Fail;
@@ -31,6 +32,10 @@ const LOG: usize = 8;
 struct Name {
     number: u32,
     spelled: char,
+}
+
+impl Exact for Name {
+    ghost exact = { Prim.search rules };
 }
 
 impl PartialEq for Name {

@@ -11,6 +11,7 @@ use moka_cache_runs::asks::Asks;
 use moka_cache_runs::inits::{Act, After, op_of};
 use moka_cache_runs::run::run;
 use moka_hist::{CompResult, Entry, Op};
+use moka_values::Exact;
 use std::alloc::AllocGlobal;
 use std::cell::Cell;
 use std::hash::{Hash, Hasher};
@@ -24,6 +25,10 @@ use std::test::Fail;
 struct Letter {
     number: u32,
     spelled: char,
+}
+
+impl Exact for Letter {
+    ghost exact = { Prim.search rules };
 }
 
 impl PartialEq for Letter {

@@ -4,10 +4,9 @@
 
 mod callers;
 mod reading;
-mod shared;
 mod types;
 
 pub use callers::{read_back_shared, read_back_text};
+pub use moka_values::Shared;
 pub use reading::{NoTests, read_back};
-pub use shared::Shared;
 pub use types::{Page, Request, is_taken, taken_types};

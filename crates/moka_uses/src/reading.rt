@@ -1,6 +1,5 @@
 //! A caller for any keys and values that the cache takes.
 ghost use Rattle.std.specs.Prelude.{◌≡◌, ◌∷◌, [], ℕ, IfOk, length};
-ghost use Rattle.moka_hist.specs.Finite.{IsExact};
 ghost use Rattle.moka_hist.specs.State.{State};
 ghost use Rattle.moka_hist.specs.Run.{IsReached};
 ghost use Rattle.moka_hist.specs.declared.replies.Reply.{Reply};
@@ -10,6 +9,7 @@ ghost use Rattle.moka_uses.specs.ReadBack.{IsReadBack, found_in, looking, no_tes
 
 use moka_hist::{Answer, Event, Reply, Rules, Start, Tests};
 use moka_run::{Machine, Report, run};
+use moka_values::Exact;
 use std::alloc::{AllocError, Global};
 use std::hash::Hash;
 
@@ -40,13 +40,11 @@ impl<K, V> Tests<K, V> for NoTests {
 }
 
 /// Runs the events, and tells want of memory alone.
-fn run_all<K: Eq + Hash + Clone + Drop, V: Clone + Drop>(
+fn run_all<K: Eq + Hash + Exact, V: Exact>(
     alloc: Global,
     cache: &mut Machine<K, V, u16, NoTests>,
     events: &[Event<K, V, u16>],
 ) -> Result<Report<K, V, u16>, AllocError>
-    requires keys { IsExact K.is_clone }
-    requires values { IsExact V.is_clone }
     requires valid { IsValid K.eq no_tests cache.old }
     ensures run { IfOk result (λ report. (s : State K V ℕ) → MachineIs K.eq no_tests cache.old s
         → IsReached K.eq s → Answers K.eq no_tests events.now report.replies cache.new s) }
@@ -60,8 +58,7 @@ fn run_all<K: Eq + Hash + Clone + Drop, V: Clone + Drop>(
 }
 
 /// A copy of the value that the answer found.
-fn found_by<K, V: Clone>(answer: &Answer<K, V, u16>) -> Result<Option<V>, AllocError>
-    requires exact { IsExact V.is_clone }
+fn found_by<K, V: Exact>(answer: &Answer<K, V, u16>) -> Result<Option<V>, AllocError>
     ensures { IfOk result (λ found. found ≡ found_in (Reply.Answer answer.now)) }
 {
     match answer {
@@ -71,8 +68,7 @@ fn found_by<K, V: Clone>(answer: &Answer<K, V, u16>) -> Result<Option<V>, AllocE
 }
 
 /// A copy of the value that the reply says was found.
-fn found_by_reply<K, V: Clone>(reply: &Reply<K, V, u16>) -> Result<Option<V>, AllocError>
-    requires exact { IsExact V.is_clone }
+fn found_by_reply<K, V: Exact>(reply: &Reply<K, V, u16>) -> Result<Option<V>, AllocError>
     ensures { IfOk result (λ found. found ≡ found_in reply.now) }
 {
     match reply {
@@ -82,8 +78,7 @@ fn found_by_reply<K, V: Clone>(reply: &Reply<K, V, u16>) -> Result<Option<V>, Al
 }
 
 /// A copy of the value that the last of two replies found.
-fn found<K, V: Clone>(replies: &[Reply<K, V, u16>]) -> Result<Option<V>, AllocError>
-    requires exact { IsExact V.is_clone }
+fn found<K, V: Exact>(replies: &[Reply<K, V, u16>]) -> Result<Option<V>, AllocError>
     requires two { length replies.now ≡ 2 }
     ensures { IfOk result (λ found. (call : Reply K V ℕ) × (last : Reply K V ℕ)
         × (replies.now ≡ call ∷ last ∷ []) × (found ≡ found_in last)) }
@@ -119,13 +114,11 @@ fn looking<K: Drop, V: Drop>(alloc: Global, key: K) -> Result<Vec<Event<K, V, u1
 
 /// Builds a cache that tests no record, and whose loads may fail with a status. Stores the value
 /// under the key in one run, and in a second looks the key up. Answers what that found.
-pub fn read_back<K: Eq + Hash + Clone + Drop, V: Clone + Drop>(
+pub fn read_back<K: Eq + Hash + Exact, V: Exact>(
     alloc: Global,
     key: K,
     value: V,
 ) -> Result<Option<V>, AllocError>
-    requires keys { IsExact K.is_clone }
-    requires values { IsExact V.is_clone }
     ensures { IfOk result (λ found. IsReadBack K.eq key value found) }
 {
     moka_laws::reached_by_lawful_run::<K, V, u16>();

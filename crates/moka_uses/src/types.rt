@@ -1,14 +1,19 @@
 //! Which types can be keys and values.
-ghost use Rattle.moka_hist.specs.Finite.{IsExact};
+ghost use Rattle.std.proofs.Common.{rules};
 
 use crate::Shared;
 use bytes::{ByteStr, Bytes};
+use moka_values::Exact;
 
 /// A request's name and the number of its tries: a struct of parts that can be keys.
 #[derive(Clone, PartialEq, Eq, Hash, Debug, Drop)]
 pub struct Request {
     pub name: ByteStr,
     pub tries: u32,
+}
+
+impl Exact for Request {
+    ghost exact = { Prim.search rules };
 }
 
 /// A page, or where it has moved: an enum of parts that can be values.
@@ -19,11 +24,13 @@ pub enum Page {
     Gone,
 }
 
+impl Exact for Page {
+    ghost exact = { Prim.search rules };
+}
+
 /// What `run` asks of keys, of values and of errors: a clone equals its original, as contracts see
 /// the two.
-pub fn is_taken<T: Clone>()
-    requires { IsExact T.is_clone }
-{}
+pub fn is_taken<T: Exact>() {}
 
 /// Each of these can be a value or an error, and each but the shared ones and `Page` a key, since
 /// they have equality and hash.

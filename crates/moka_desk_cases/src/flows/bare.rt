@@ -4,12 +4,12 @@
 //! that isn't Going.
 ghost use Rattle.std.specs.Prelude.{◌≡◌, ◌≤◌, Some, None, IfOk, OnOk, OnErr};
 ghost use Rattle.std.proofs.Common.{refl};
-ghost use Rattle.moka_hist.specs.Finite.{IsExact};
 ghost use Rattle.moka_desk_cases.specs.EmptyCache.{NotesOne, NotesPoll};
 
 use crate::flows::given::RULES;
 use moka_hist::{Answer, Found, Got, Start, TableAnswer, TableOp, TableTurn, Turn, Visit, Want};
 use moka_init::{Alone, Flow, Ground, Unfinished, poll, step};
+use moka_values::Exact;
 use std::alloc::{AllocError, Global};
 
 // An empty cache, for the looks of one call alone. Any other access is refused.
@@ -26,7 +26,7 @@ struct Bare<K, V, E> {
     ghost few: { undecided ≤ 255 },
 }
 
-impl<K: Eq + Clone + Drop, V: Clone + Drop, E: Clone + Drop> Bare<K, V, E> {
+impl<K: Eq + Exact, V: Exact, E: Exact> Bare<K, V, E> {
     ghost use Rattle.moka_hist.specs.Step.{Access, On_table, On_desk};
     ghost use Rattle.moka_hist.specs.declared.accesses.Want.{Want};
     ghost use Rattle.moka_hist.specs.declared.tables.TableOp.{TableOp};
@@ -59,7 +59,6 @@ impl<K: Eq + Clone + Drop, V: Clone + Drop, E: Clone + Drop> Bare<K, V, E> {
 
     // Begins a look.
     fn begin(&mut self, key: K) -> Result<Got<K, V, E>, AllocError>
-        requires { IsExact K.is_clone }
         ensures serves { IfOk result (λ given. BareServes K.eq self.old.notes.items
             self.old.undecided (On_table (TableOp.Get key)) (Want.Begin (TableOp.Get key)) given
             self.new.begun self.new.notes.items self.new.undecided) }
@@ -73,7 +72,6 @@ impl<K: Eq + Clone + Drop, V: Clone + Drop, E: Clone + Drop> Bare<K, V, E> {
 
     // A further step of the look that was begun.
     fn resume(&mut self) -> Result<Got<K, V, E>, AllocError>
-        requires { IsExact K.is_clone }
         ensures serves { IfOk result (λ given. (o : TableOp K V) → self.old.begun ≡ Some o
             → BareServes K.eq self.old.notes.items self.old.undecided (On_table o)
             (Want.Begin o) given self.new.begun self.new.notes.items self.new.undecided) }
@@ -108,7 +106,6 @@ impl<K: Eq + Clone + Drop, V: Clone + Drop, E: Clone + Drop> Bare<K, V, E> {
 
     // Serves what is wanted: a look, or what is owed.
     fn give(&mut self, want: Want<K, V, E>) -> Result<Got<K, V, E>, AllocError>
-        requires { IsExact K.is_clone }
         ensures serves { IfOk result (λ given. (access : Access K V E)
             → wanted self.old.begun want ≡ Some access → (wish : Want K V E)
             × BareServes K.eq self.old.notes.items self.old.undecided access wish given
@@ -130,7 +127,6 @@ impl<K: Eq + Clone + Drop, V: Clone + Drop, E: Clone + Drop> Bare<K, V, E> {
 
     // Serves what is wanted, where memory is left for it: a look, or what is owed.
     fn serve(&mut self, want: Want<K, V, E>) -> Result<Got<K, V, E>, AllocError>
-        requires { IsExact K.is_clone }
         ensures gives { IfOk result (λ given. (access : Access K V E)
             → wanted self.old.begun want ≡ Some access
             → BareGives K.eq self.old.undecided access given self.new.undecided) }
@@ -153,7 +149,7 @@ impl<K: Eq + Clone + Drop, V: Clone + Drop, E: Clone + Drop> Bare<K, V, E> {
     }
 }
 
-impl<K: Eq + Clone + Drop, V: Clone + Drop, E: Clone + Drop> Ground<K, V, E> for Bare<K, V, E> {
+impl<K: Eq + Exact, V: Exact, E: Exact> Ground<K, V, E> for Bare<K, V, E> {
     ghost use Rattle.moka_hist.specs.State.{World};
     ghost use Rattle.moka_desk_cases.specs.EmptyCache.{BareAllows, IsBare, bare_account, bare_counts};
     ghost use Rattle.moka_init.specs.Grounds.{Accesses, Gives, Lacks, OfWanted, any_access};
@@ -177,9 +173,6 @@ impl<K: Eq + Clone + Drop, V: Clone + Drop, E: Clone + Drop> Ground<K, V, E> for
     ghost counts = { λ g w stands. bare_counts g.call g.undecided w stands };
 
     fn access(&mut self, want: Want<K, V, E>) -> Result<Got<K, V, E>, AllocError>
-        requires keys { IsExact K.is_clone }
-        requires values { IsExact V.is_clone }
-        requires errors { IsExact E.is_clone }
         requires fits { BareAllows self.old.undecided self.old.begun want }
         ensures gives { IfOk result (λ given. OfWanted
             (bare_account self.old.call self.old.begun self.old.notes.items self.old.undecided) want
@@ -205,7 +198,7 @@ impl<K: Eq + Clone + Drop, V: Clone + Drop, E: Clone + Drop> Ground<K, V, E> for
     }
 }
 
-impl<K: Eq + Clone + Drop, V: Clone + Drop, E: Clone + Drop> Alone<K, V, E> for Bare<K, V, E> {}
+impl<K: Eq + Exact, V: Exact, E: Exact> Alone<K, V, E> for Bare<K, V, E> {}
 
 // A bare ground on which others may make accesses meanwhile: it stands for no world, and tells its
 // call's accesses.
@@ -214,7 +207,7 @@ struct Shared<K, V, E> {
     bare: Bare<K, V, E>,
 }
 
-impl<K: Eq + Clone + Drop, V: Clone + Drop, E: Clone + Drop> Ground<K, V, E> for Shared<K, V, E> {
+impl<K: Eq + Exact, V: Exact, E: Exact> Ground<K, V, E> for Shared<K, V, E> {
     ghost use Rattle.moka_hist.specs.State.{World};
     ghost use Rattle.moka_desk_cases.specs.EmptyCache.{AnyWant, NoWorld, bare_account};
     ghost use Rattle.moka_init.specs.Grounds.{Accesses, Gives, Lacks, OfWanted, any_access};
@@ -239,9 +232,6 @@ impl<K: Eq + Clone + Drop, V: Clone + Drop, E: Clone + Drop> Ground<K, V, E> for
     ghost counts = { λ g w stands. absurd stands };
 
     fn access(&mut self, want: Want<K, V, E>) -> Result<Got<K, V, E>, AllocError>
-        requires keys { IsExact K.is_clone }
-        requires values { IsExact V.is_clone }
-        requires errors { IsExact E.is_clone }
         requires fits { AnyWant want }
         ensures gives { IfOk result (λ given. OfWanted (bare_account self.old.bare.call
             self.old.bare.begun self.old.bare.notes.items self.old.bare.undecided) want
@@ -267,13 +257,10 @@ impl<K: Eq + Clone + Drop, V: Clone + Drop, E: Clone + Drop> Ground<K, V, E> for
 }
 
 // Makes the first step of a get where others may make accesses meanwhile: just one access is noted.
-fn step_get<K: Eq + Clone + Drop, V: Clone + Drop, E: Clone + Drop>(
+fn step_get<K: Eq + Exact, V: Exact, E: Exact>(
     key: K,
     ground: &mut Shared<K, V, E>,
 ) -> Result<Turn<K, V, E>, AllocError>
-    requires keys { IsExact K.is_clone }
-    requires values { IsExact V.is_clone }
-    requires errors { IsExact E.is_clone }
     requires call { ground.old.bare.call ≡ 1 }
     requires begun { ground.old.bare.begun ≡ None }
     ensures { OnOk result
@@ -286,13 +273,10 @@ fn step_get<K: Eq + Clone + Drop, V: Clone + Drop, E: Clone + Drop>(
 }
 
 // Polls a fresh get on an empty cache: each access is noted, and nothing else.
-fn poll_get<K: Eq + Clone + Drop, V: Clone + Drop, E: Clone + Drop>(
+fn poll_get<K: Eq + Exact, V: Exact, E: Exact>(
     key: K,
     ground: &mut Bare<K, V, E>,
 ) -> Result<Turn<K, V, E>, Unfinished>
-    requires keys { IsExact K.is_clone }
-    requires values { IsExact V.is_clone }
-    requires errors { IsExact E.is_clone }
     requires call { ground.old.call ≡ 1 }
     requires begun { ground.old.begun ≡ None }
     ensures { OnOk result (NotesPoll key ground.old.notes.items ground.new.notes.items) }

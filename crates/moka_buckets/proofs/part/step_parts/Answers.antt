@@ -7,19 +7,21 @@ use Rattle.moka_buckets.proofs.Going.{goes_over, had_few, has_few}
 use Rattle.moka_buckets.proofs.Spread.{keys_within}
 use Rattle.moka_buckets.proofs.part.step_parts.Goals as goal
 
-pub step_at-turn-requires-clause-can : goal.step_at-turn-requires-clause-can
-step_at-turn-requires-clause-can g c =
+pub step_at-turn-requires : goal.step_at-turn-requires
+step_at-turn-requires g c =
     let (hash, first, most, can) = c.requires.can in
     let at = c.segment_of-index.ensures.is ∙ ap (λ n. segment_of n c.args.call.now.hash) (c.len.ensures ∙ c.args.parts.now.ok.0) in
     let there = ap (slice_get c.args.parts.now.items) at ∙ can.fits.there in
-    let well = can.well.each c.segment_of-index.result can.fits.part there in (
-      hash,
-      first,
-      can.fits.part,
-      there,
-      well.placed,
-      record { respects = can.respects; well = well.well; fits = can.fits.fits },
-    )
+    let well = can.well.each c.segment_of-index.result can.fits.part there in record {
+      can = (
+        hash,
+        first,
+        can.fits.part,
+        there,
+        well.placed,
+        record { respects = can.respects; well = well.well; fits = can.fits.fits },
+      );
+    }
 
 pub overflow_sub-len : goal.overflow_sub-len
 overflow_sub-len g c =

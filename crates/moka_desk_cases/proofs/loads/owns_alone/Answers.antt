@@ -11,13 +11,13 @@ use Rattle.moka_desk_cases.proofs.loads.owns_alone.Goals as goal
 abbrev alone : Rules → DeskPart ℕ ℕ ℕ
 alone rules = claimed nat_eq (untouched rules) 1 (record { key = 5; kind = kind.Compute }) None
 
-pub owned-requires-clause-free : goal.owned-requires-clause-free
-owned-requires-clause-free c = (untouched c.requires.0, c.requires.1, (refl, refl))
+pub owned-requires : goal.owned-requires
+owned-requires c = record { free = (untouched c.requires.0, c.requires.1, (refl, refl)) }
 
-pub owned-requires-2-clause-free : goal.owned-requires-2-clause-free
-owned-requires-2-clause-free c =
+pub owned-requires-2 : goal.owned-requires-2
+owned-requires-2 c =
     let rules = c.requires.0 in
-    (alone rules, c.in_ok-alone.ensures.makes (untouched rules) c.requires.1 (refl, refl), (refl, refl))
+    record { free = (alone rules, c.in_ok-alone.ensures.makes (untouched rules) c.requires.1 (refl, refl), (refl, refl)) }
 
 pub settle-requires : goal.settle-requires
 settle-requires c =

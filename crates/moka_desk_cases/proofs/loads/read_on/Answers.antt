@@ -25,13 +25,13 @@ has_owner rules Optional = refl
 has_owner rules Try = refl
 has_owner rules Compute = refl
 
-pub wait_or_own-requires-clause-free : goal.wait_or_own-requires-clause-free
-wait_or_own-requires-clause-free c = (untouched c.requires.new.0, c.requires.new.1, (refl, refl, λ owner e. refl))
+pub wait_or_own-requires : goal.wait_or_own-requires
+wait_or_own-requires c = record { free = (untouched c.requires.new.0, c.requires.new.1, (refl, refl, λ owner e. refl)) }
 
-pub wait_or_own-requires-2-clause-free : goal.wait_or_own-requires-2-clause-free
-wait_or_own-requires-2-clause-free c =
+pub wait_or_own-requires-2 : goal.wait_or_own-requires-2
+wait_or_own-requires-2 c =
     let rules = c.requires.new.0 in
-    (owned rules c.args.kind, c.in_ok-wait_or_own.ensures.makes (untouched rules) c.requires.new.1 (refl, refl, λ owner e. refl), (refl, refl, λ owner e. refl))
+    record { free = (owned rules c.args.kind, c.in_ok-wait_or_own.ensures.makes (untouched rules) c.requires.new.1 (refl, refl, λ owner e. refl), (refl, refl, λ owner e. refl)) }
 
 pub settle-requires : goal.settle-requires
 settle-requires c =
@@ -44,11 +44,11 @@ settle-requires c =
       c.requires.may,
     )
 
-pub read_settled-requires-clause-waits : goal.read_settled-requires-clause-waits
-read_settled-requires-clause-waits c =
+pub read_settled-requires : goal.read_settled-requires
+read_settled-requires c =
     let rules = c.requires.new.0 in
     let kind = c.args.kind in
     let owns = c.in_ok-wait_or_own.ensures.makes (untouched rules) c.requires.new.1 (refl, refl, λ owner e. refl) in
     let joins = subst (λ o. StandsFor nat_eq c.wait_or_own-2.new.self (claimed nat_eq (owned rules kind) 2 (load_of kind) o)) (has_owner rules kind)
     (c.in_ok-wait_or_own-2.ensures.makes (owned rules kind) owns (refl, refl, λ owner e. refl)) in
-    (settled_as (joined rules kind) 1 c.args.with, c.settle.ensures.makes (joined rules kind) joins c.requires.may, refl)
+    record { waits = (settled_as (joined rules kind) 1 c.args.with, c.settle.ensures.makes (joined rules kind) joins c.requires.may, refl) }

@@ -20,34 +20,34 @@ locked rules = locked_by nat_eq (owned rules) 1 5 true
 abbrev joined : Rules → DeskPart ℕ ℕ ℕ
 joined rules = claimed nat_eq (locked rules) 2 load (Some 1)
 
-pub wait_or_own-requires-clause-free : goal.wait_or_own-requires-clause-free
-wait_or_own-requires-clause-free c = (untouched c.requires.0, c.requires.1, (refl, refl, λ owner e. refl))
+pub wait_or_own-requires : goal.wait_or_own-requires
+wait_or_own-requires c = record { free = (untouched c.requires.0, c.requires.1, (refl, refl, λ owner e. refl)) }
 
-pub lock_key-requires-clause-free : goal.lock_key-requires-clause-free
-lock_key-requires-clause-free c =
+pub lock_key-requires : goal.lock_key-requires
+lock_key-requires c =
     let rules = c.requires.0 in
-    (owned rules, c.in_ok-wait_or_own.ensures.makes (untouched rules) c.requires.1 (refl, refl, λ owner e. refl), refl)
+    record { free = (owned rules, c.in_ok-wait_or_own.ensures.makes (untouched rules) c.requires.1 (refl, refl, λ owner e. refl), refl) }
 
-pub wait_or_own-requires-2-clause-free : goal.wait_or_own-requires-2-clause-free
-wait_or_own-requires-2-clause-free c =
+pub wait_or_own-requires-2 : goal.wait_or_own-requires-2
+wait_or_own-requires-2 c =
     let rules = c.requires.0 in
     let owns = c.in_ok-wait_or_own.ensures.makes (untouched rules) c.requires.1 (refl, refl, λ owner e. refl) in
-    (locked rules, c.in_ok-lock_key.ensures.makes (owned rules) owns refl, (refl, refl, λ owner e. refl))
+    record { free = (locked rules, c.in_ok-lock_key.ensures.makes (owned rules) owns refl, (refl, refl, λ owner e. refl)) }
 
-pub read_settled-requires-clause-waits : goal.read_settled-requires-clause-waits
-read_settled-requires-clause-waits c =
+pub read_settled-requires : goal.read_settled-requires
+read_settled-requires c =
     let rules = c.requires.0 in
     let owns = c.in_ok-wait_or_own.ensures.makes (untouched rules) c.requires.1 (refl, refl, λ owner e. refl) in
     let locks = c.in_ok-lock_key.ensures.makes (owned rules) owns refl in
-    (joined rules, c.in_ok-wait_or_own-2.ensures.makes (locked rules) locks (refl, refl, λ owner e. refl), refl)
+    record { waits = (joined rules, c.in_ok-wait_or_own-2.ensures.makes (locked rules) locks (refl, refl, λ owner e. refl), refl) }
 
-pub lock_key-requires-2-clause-free : goal.lock_key-requires-2-clause-free
-lock_key-requires-2-clause-free c =
+pub lock_key-requires-2 : goal.lock_key-requires-2
+lock_key-requires-2 c =
     let rules = c.requires.0 in
     let owns = c.in_ok-wait_or_own.ensures.makes (untouched rules) c.requires.1 (refl, refl, λ owner e. refl) in
     let locks = c.in_ok-lock_key.ensures.makes (owned rules) owns refl in
     let joins = c.in_ok-wait_or_own-2.ensures.makes (locked rules) locks (refl, refl, λ owner e. refl) in
-    (joined rules, c.in_ok-read_settled.ensures.makes (joined rules) joins refl, refl)
+    record { free = (joined rules, c.in_ok-read_settled.ensures.makes (joined rules) joins refl, refl) }
 
 pub returns : goal.returns
 returns c =

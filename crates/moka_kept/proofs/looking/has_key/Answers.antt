@@ -12,7 +12,7 @@ returns-clause-there g c =
     let moves = c.in_ok-turn.ensures.moves (op.Get key) c.begin-look.ensures.operation in
     c.is_found.ensures
     ∙ looked_found eq key _ _ _ _ c.in_ok-turn.turn (λ going. let nearer = c.in_ok-turn.ensures.nears going in omega (arith, nearer)) moves
-    ∙ ap (λ k. is_some (map_of eq c.args.table.now k)) (c.requires.keys _ _ c.in_ok-key.ensures.cases)
+    ∙ ap (λ k. is_some (map_of eq c.args.table.now k)) (g.met.K.Exact.exact _ _ c.in_ok-key.ensures.cases)
 
 pub returns-clause-map : goal.returns-clause-map
 returns-clause-map g c =

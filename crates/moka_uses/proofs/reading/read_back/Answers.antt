@@ -8,7 +8,7 @@ use Rattle.moka_uses.proofs.reading.read_back.Goals as goal
 pub returns : goal.returns
 returns g c =
     let eq = g.K.PartialEq.eq in
-    let same = c.requires.keys c.args.key c.in_ok-clone.field-0 c.in_ok-clone.ensures.cases in
+    let same = g.met.K.Exact.exact c.args.key c.in_ok-clone.field-0 c.in_ok-clone.ensures.cases in
     let looks = c.deref-2.ensures.value ∙ c.in_ok-looks.ensures ∙ ap looking same in
     IfOk-weaker c.found.result _ (λ found. IsReadBack eq c.args.key c.args.value found)
     (λ found is. read_back_of eq c.in_ok-cache.cache c.run_all.new.cache c.run_all-looked.new.cache c.args.key c.args.value c.deref.result.now
@@ -17,6 +17,5 @@ returns g c =
     c.in-Ok.ensures.run looks c.in_ok-report.ensures.run (sym c.as_slice.ensures ∙ is.2) is.3)
     c.found.ensures
 
-pub found-requires-clause-two : goal.found-requires-clause-two
-found-requires-clause-two g c =
-    ap length c.as_slice.ensures ∙ c.in_ok-report.ensures.answered ∙ ap length (c.deref-2.ensures.value ∙ c.in_ok-looks.ensures)
+pub found-requires : goal.found-requires
+found-requires g c = record { two = ap length c.as_slice.ensures ∙ c.in_ok-report.ensures.answered ∙ ap length (c.deref-2.ensures.value ∙ c.in_ok-looks.ensures) }

@@ -3,8 +3,8 @@ use Rattle.std.proofs.lemmas.Result.{on_err_weaker}
 use Rattle.moka_kept.proofs.Reached.{gives_all, none_then, stays_reach}
 use Rattle.moka_kept.proofs.ground.ReachGround.access.Goals as goal
 
-pub access_waking-requires-clause-allows : goal.access_waking-requires-clause-allows
-access_waking-requires-clause-allows g c = (c.requires.fits.0, c.requires.fits.1.ground, c.requires.fits.2)
+pub access_waking-requires : goal.access_waking-requires
+access_waking-requires g c = record { allows = (c.requires.fits.0, c.requires.fits.1.ground, c.requires.fits.2) }
 
 pub returns-clause-gives : goal.returns-clause-gives
 returns-clause-gives g c =
