@@ -50,6 +50,12 @@ module _ {K V E : Type 0} where
       option_map (λ test. found.value) (replace_of aim)
   tested_in _ = None
 
+  -- the plan's first item takes the answer to its call's own ask
+  abbrev pub takes_told : List (Item K V E) → Bool
+  takes_told (plan.Told load ∷ rest) = true
+  takes_told (plan.Told_op compute pair ∷ rest) = true
+  takes_told _ = false
+
   -- the visit that opens the notice of the flow's call, where that is due
   abbrev pub due_of : Flow K V E → Option (Visit K V E)
   due_of flow = opening flow.call (call_of flow).plan

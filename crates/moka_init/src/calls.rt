@@ -6,7 +6,7 @@ ghost use Rattle.moka_hist.specs.Plan.{hearing};
 ghost use Rattle.std.specs.Option.{option_map};
 ghost use Rattle.moka_needs.specs.Reads.{kind_read};
 ghost use Rattle.moka_init.specs.PointPlan.{aim_of, posting_plan, listening_plan};
-ghost use Rattle.moka_init.specs.FlowPlan.{opening, owed_in, tested_in};
+ghost use Rattle.moka_init.specs.FlowPlan.{opening, owed_in, takes_told, tested_in};
 
 use crate::copies::replace_of;
 use crate::flow::Flow;
@@ -96,6 +96,17 @@ impl<K, V, E> Flow<K, V, E> {
         }
     }
 
+    /// Whether the call's next visit takes the answer to its own ask.
+    pub fn takes_told(&self) -> bool
+        ensures { result ≡ takes_told (call_of self.now).plan }
+    {
+        match &self.point {
+            Point::Loading(Loading::Told(_)) => true,
+            Point::Computing(Computing::Told { .. }) => true,
+            _ => false,
+        }
+    }
+
     /// Whether the call has answered: nothing is left for it to do.
     pub fn has_answered(&self) -> bool
         ensures { result ≡ is_over (call_of self.now).plan }
@@ -111,38 +122,16 @@ impl<K, V, E> Flow<K, V, E> {
         ensures { result ≡ owed_by self.now.call (call_of self.now) }
     {
         match &self.point {
-            Point::Posting(posting) => self.held_in_posting(posting),
-            Point::Listening(listening) => self.held_in_listening(listening),
-            _ => None,
-        }
-    }
-
-    // The write that a call holds that passes it on, with the notice that it hears.
-    fn held_in_posting(&self, posting: &Posting<K, V>) -> Option<Owed>
-        ensures { result ≡ owed_in {E = E} self.now.call (posting_plan posting.now) }
-    {
-        match posting {
-            Posting::Drain(_) => None,
-            Posting::Held { step, write, .. } => {
+            Point::Posting(Posting::Held { step, write, .. }) => {
                 Some(held_at::<K, V, E>(self.call, *step, *write))
-            },
-        }
-    }
-
-    // The write that a call holds which is to tell the listener of a record, or awaits the end of
-    // an owed write's notice.
-    fn held_in_listening(&self, listening: &Listening<K, V>) -> Option<Owed>
-        ensures { result ≡ owed_in {E = E} self.now.call (listening_plan listening.now) }
-    {
-        match listening {
-            Listening::Ended { notice, write, .. } => Some(Owed {
+            }
+            Point::Listening(Listening::Ended { notice, write, .. }) => Some(Owed {
                 write: *write,
                 notice: Some(*notice),
             }),
-            Listening::Lock(_) => None,
-            Listening::Notice { write, .. } => Some(unheard(*write)),
-            Listening::Uncopied { write, .. } => Some(unheard(*write)),
-            Listening::Release(_) => None,
+            Point::Listening(Listening::Notice { write, .. }) => Some(unheard(*write)),
+            Point::Listening(Listening::Uncopied { write, .. }) => Some(unheard(*write)),
+            _ => None,
         }
     }
 }
@@ -173,11 +162,7 @@ fn held_at<K, V, E>(call: u64, step: PostStep, write: Write) -> Owed
             write,
             notice: Some(call),
         },
-        PostStep::Unlock => unheard(write),
-        PostStep::Post => unheard(write),
-        PostStep::Turn => unheard(write),
-        PostStep::Apply => unheard(write),
-        PostStep::End => unheard(write),
+        _ => unheard(write),
     }
 }
 

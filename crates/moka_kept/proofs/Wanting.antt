@@ -21,8 +21,8 @@ use Rattle.moka_hist.specs.declared.visits.Visit.TheVariants as visit
 use Rattle.moka_kept.specs.Taking.{Answered, NoAnswer, Taken, Tested, is_passed, is_taking, needs_answer, taken_in, taken_made, takes_answer, tested_by, tested_made}
 use Rattle.moka_needs.specs.declared.needs.Need.{Need}
 use Rattle.moka_hist.specs.declared.visits.Visit.{Visit}
-use Rattle.moka_init.specs.FlowPlan.{tested_in}
-use Rattle.moka_init.specs.Needs.{is_claim, need_at}
+use Rattle.moka_init.specs.FlowPlan.{takes_told, tested_in}
+use Rattle.moka_init.specs.Needs.{need_at}
 use Rattle.moka_desk.specs.Past.{AllowsAlike}
 use Rattle.moka_desk.specs.StandsFor.{StandsFor}
 use Rattle.moka_desk.specs.declared.state.Desk.{Desk}
@@ -115,14 +115,17 @@ module _ {K V E : Type 0} where
   taking_none (On_table operation) is = refl
   taking_none (On_desk made) is = absurd (cc)
 
-  -- what claims takes no answer
-  claim_takes : (made : Visit K V E) → is_claim (Some (need_of made)) ≡ true → takes_answer made ≡ false
-  claim_takes (visit.TakeTold n) claims = absurd (false≢true claims)
-  claim_takes _ claims = refl
+  -- a call's next access takes the answer to its own ask where its plan does
+  told_item : (n : ℕ) (item : Item K V E) (rest : List (Item K V E)) → is_taking (access_for n item) ≡ takes_told (item ∷ rest)
+  told_item n (plan.Told load) rest = refl
+  told_item n (plan.Told_op compute pair) rest = refl
+  told_item n _ rest = refl
 
-  pub taking_claim : (a : Access K V E) → is_claim (need_at a) ≡ true → is_taking a ≡ false
-  taking_claim (On_table operation) claims = refl
-  taking_claim (On_desk made) claims = claim_takes made claims
+  pub told_at : (n : ℕ) (c : Call K V E) → is_taking (access_of n c) ≡ takes_told c.plan
+  told_at n c = by c.plan where
+    by : (items : List (Item K V E)) → is_taking (access_of n (record c { plan = items })) ≡ takes_told items
+    by [] = refl
+    by (item ∷ rest) = told_item n item rest
 
   -- a call's next access asks the test that its plan does
   tested_item : (n : ℕ) (item : Item K V E) (rest : List (Item K V E)) → tested_by (access_for n item) ≡ tested_in (item ∷ rest)

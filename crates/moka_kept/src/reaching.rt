@@ -379,15 +379,10 @@ fn needs_answer<K>(need: &Need<K>) -> bool
 }
 
 /// Whether the flow's next visit takes the answer to its own ask, which is open.
-pub fn is_asking<K: Exact, V, E>(flow: &Flow<K, V, E>) -> bool
+pub fn is_asking<K, V, E>(flow: &Flow<K, V, E>) -> bool
     ensures { result ≡ is_taking (access_at flow.now) }
 {
-    match flow.need() {
-        Ok(Some(need)) => needs_answer(&need),
-        Ok(None) => false,
-        // (only a claim wants memory to be told, and it takes no answer)
-        Err(_) => false,
-    }
+    flow.takes_told()
 }
 
 // Whether the flow's next visit judges a record by its call's replace test.
