@@ -18,10 +18,10 @@ use Rattle.moka_hist.specs.declared.replies.Answer.TheVariants as answer
 use Rattle.moka_hist.specs.declared.rules.Rules.{Rules}
 use Rattle.moka_hist.specs.declared.visits.Settled.{Settled}
 use Rattle.moka_hist.specs.declared.visits.Settled.TheVariants as settled
-use Rattle.moka_laws.specs.Loads.{may_answer}
+use Rattle.moka_laws.specs.Starts.{kind_loaded, may_answer}
 use Rattle.moka_laws.proofs.Counting.{none_some, some_same}
 use Rattle.moka_shapes.specs.Computes.{taken}
-use Rattle.moka_shapes.specs.Loads.{FollowsEnd, FollowsTold, LoadsTell, MayGiveLoad, MayLeadLoad, judged, kind_loaded, looked, read}
+use Rattle.moka_shapes.specs.Loads.{FollowsEnd, FollowsTold, LoadsTell, MayGiveLoad, MayLeadLoad, judged, looked, read}
 use Rattle.moka_kept.specs.Paths.{EndedWith, IsGiven, LeadsWith}
 use Rattle.moka_kept.specs.Taking.{Answered, Taken}
 use Rattle.moka_cache.specs.Asked.{TellsOption, TellsResult, TellsValue, ToldSuch}

@@ -13,8 +13,8 @@ use Rattle.moka_hist.specs.declared.replies.Answer.{Answer}
 use Rattle.moka_hist.specs.declared.replies.Answer.TheVariants as answer
 use Rattle.moka_hist.specs.declared.rules.Rules.{Rules}
 use Rattle.moka_init.specs.FlowPlan.{call_of}
-use Rattle.moka_laws.specs.Loads.{may_answer}
-use Rattle.moka_laws.specs.Shapes.{Fits, MayBeGiven, MayLead, ShapesFit, asks_nobody}
+use Rattle.moka_laws.specs.Starts.{asks_nobody, may_answer}
+use Rattle.moka_laws.specs.Shapes.{Fits, MayBeGiven, MayLead, ShapesFit}
 use Rattle.moka_kept.specs.Paths.{CameWith, EndedWith, IsGiven, LeadsWith}
 use Rattle.moka_kept.specs.Taking.{Answered, NoAnswer, Taken, Tested}
 use Rattle.moka_cache.specs.Asked.{Accords, ToldSuch}

@@ -21,8 +21,8 @@ use Rattle.moka_hist.specs.declared.visits.Found.{Found}
 use Rattle.moka_hist.specs.declared.visits.Found.TheVariants as found
 use Rattle.moka_hist.specs.declared.visits.Visit.{Visit}
 use Rattle.moka_hist.specs.declared.visits.Visit.TheVariants as visit
-use Rattle.moka_shapes.specs.Computes.{ComputesTell, Follows, is_alone, other_goes, taken}
-use Rattle.moka_laws.specs.Computes.{computed_key}
+use Rattle.moka_shapes.specs.Computes.{ComputesTell, Follows, other_goes, taken}
+use Rattle.moka_laws.specs.Starts.{computed_key, is_alone}
 use Rattle.moka_kept.specs.Paths.{EndedWith, LeadsWith}
 use Rattle.moka_kept.specs.Taking.{Answered, Taken, taken_in, taken_made}
 use Rattle.moka_cache.specs.Asked.{TellsDone, TellsPut, ToldSuch}

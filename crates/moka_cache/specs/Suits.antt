@@ -6,8 +6,8 @@ use Rattle.moka_hist.specs.declared.events.Told.{Told}
 use Rattle.moka_hist.specs.declared.replies.Answer.{Answer}
 use Rattle.moka_init.specs.FlowPlan.{call_of}
 use Rattle.moka_hist.specs.declared.rules.Rules.{Rules}
-use Rattle.moka_laws.specs.Loads.{may_answer}
-use Rattle.moka_laws.specs.Shapes.{Fits, asks_nobody}
+use Rattle.moka_laws.specs.Starts.{asks_nobody, may_answer}
+use Rattle.moka_laws.specs.Shapes.{Fits}
 use Rattle.moka_cache.specs.Asked.{ToldSuch}
 use Rattle.moka_kept.specs.Taking.{Taken}
 use Rattle.moka_cache.specs.Stages.{AnswersWith, name_in}

@@ -32,7 +32,8 @@ use Rattle.moka_hist.specs.declared.rules.Rules.{Rules}
 use Rattle.moka_hist.specs.declared.visits.Settled.{Settled}
 use Rattle.moka_hist.specs.declared.visits.Settled.TheVariants as settled
 use Rattle.moka_hist.specs.declared.visits.Found.TheVariants as found
-use Rattle.moka_laws.specs.Loads.{may_answer, AnswersFit}
+use Rattle.moka_laws.specs.Loads.{AnswersFit}
+use Rattle.moka_laws.specs.Starts.{may_answer}
 use Rattle.moka_laws.specs.Starting.{Leads}
 use Rattle.moka_laws.proofs.Counting.{none_some, some_same, put_here, put_there, put_cases, differ}
 use Rattle.moka_laws.proofs.TakesFit.{AllTake, ToldFits, load_takes_no_op, compute_loses_none}

@@ -16,7 +16,8 @@ use Rattle.moka_hist.specs.declared.events.Start.{Start}
 use Rattle.moka_hist.specs.declared.events.Start.TheVariants as start
 use Rattle.moka_hist.specs.declared.replies.Reply.TheVariants as reply
 use Rattle.moka_hist.specs.declared.rules.Rules.{Rules}
-use Rattle.moka_laws.specs.Computes.{ActingComputesOwn, Acts, AloneWaitsForNobody, AsksCarryFound, ComputesAnswerTold, NopsAnswerAsked, OwnsComputes, computed_key}
+use Rattle.moka_laws.specs.Computes.{ActingComputesOwn, Acts, AloneWaitsForNobody, AsksCarryFound, ComputesAnswerTold, NopsAnswerAsked, OwnsComputes}
+use Rattle.moka_laws.specs.Starts.{computed_key}
 use Rattle.moka_laws.specs.Starting.{Leads, WasStarted}
 use Rattle.moka_laws.proofs.Computing.{Result, Stage, StageIf, stage_if_on, stage_step}
 use Rattle.moka_laws.proofs.Counting.{differ, none_some, put_here, put_there, some_same}

@@ -18,7 +18,8 @@ use Rattle.moka_hist.specs.declared.records.Mode.TheVariants as mode
 use Rattle.moka_hist.specs.declared.replies.Refusal.{Refusal}
 use Rattle.moka_hist.specs.declared.replies.Reply.{Reply}
 use Rattle.moka_hist.specs.declared.replies.Reply.TheVariants as reply
-use Rattle.moka_laws.specs.Given.{GivesByEvent, HasStarted, WasGiven, brought, key_started}
+use Rattle.moka_laws.specs.Given.{GivesByEvent, HasStarted, WasGiven}
+use Rattle.moka_laws.specs.Starts.{brought, key_started}
 
 module _ {K V E : Type 0} (P : K → V → Type 0) (Q : ℕ → K → Type 0) where
   -- whatever the event gives is P

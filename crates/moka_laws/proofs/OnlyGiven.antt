@@ -43,7 +43,8 @@ use Rattle.moka_hist.specs.declared.visits.Found.TheVariants as found
 use Rattle.moka_hist.specs.declared.visits.Settled.{Settled}
 use Rattle.moka_hist.specs.declared.visits.Settled.TheVariants as settled
 use Rattle.moka_hist.specs.declared.writes.Write.TheVariants.{Remove, Upsert}
-use Rattle.moka_laws.specs.Given.{HandedIsGiven, SteppedIsGiven, StoredIsGiven, HasStarted, WasGiven, handed, key_started, value_of, asked_key, brought, value_in}
+use Rattle.moka_laws.specs.Given.{HandedIsGiven, SteppedIsGiven, StoredIsGiven, HasStarted, WasGiven, handed, value_of, asked_key, value_in}
+use Rattle.moka_laws.specs.Starts.{brought, key_started}
 use Rattle.moka_laws.proofs.Counting.{none_some, some_same, put_cases, put_here, put_there}
 use Rattle.moka_laws.proofs.Owning.{and_left}
 use Rattle.moka_laws.proofs.Rules.{abort_next, shown_next, chosen_next, kept_next, loaded_plans, put_plans, read_key_next}

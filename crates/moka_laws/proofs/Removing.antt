@@ -23,7 +23,8 @@ use Rattle.moka_hist.specs.declared.replies.Answer.{Answer}
 use Rattle.moka_hist.specs.declared.replies.Answer.TheVariants as answer
 use Rattle.moka_hist.specs.declared.rules.Rules.{Rules}
 use Rattle.moka_hist.specs.declared.writes.Write.TheVariants.{Remove}
-use Rattle.moka_laws.specs.Removals.{EvictedIsOut, EvictedThat, IsAsked, RemovalsAnswer, RemoveAnswersTaken, SaysNothing, SaysTaken, StandsAs, TookOut, removal_started}
+use Rattle.moka_laws.specs.Removals.{EvictedIsOut, EvictedThat, IsAsked, RemovalsAnswer, RemoveAnswersTaken, SaysNothing, SaysTaken, StandsAs, TookOut}
+use Rattle.moka_laws.specs.Starts.{removal_started}
 use Rattle.moka_laws.specs.Starting.{Leads, WasStarted}
 use Rattle.moka_laws.proofs.Counting.{differ, none_some, some_same, put_here, put_there}
 use Rattle.moka_laws.proofs.OnePlace.{contains_times, times_contains}

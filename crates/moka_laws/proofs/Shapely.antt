@@ -11,8 +11,8 @@ use Rattle.moka_hist.specs.declared.events.Start.{Start}
 use Rattle.moka_hist.specs.declared.events.Start.TheVariants as start
 use Rattle.moka_hist.specs.declared.loads.Kind.{Kind}
 use Rattle.moka_hist.specs.declared.replies.Answer.TheVariants as answer
-use Rattle.moka_laws.specs.Loads.{may_answer}
-use Rattle.moka_laws.specs.Shapes.{MayBeGiven, MayLead, ShapesFit, asks_nobody}
+use Rattle.moka_laws.specs.Starts.{asks_nobody, may_answer}
+use Rattle.moka_laws.specs.Shapes.{MayBeGiven, MayLead, ShapesFit}
 use Rattle.moka_laws.proofs.AnswersFit.{kind_of, AllSuit, Leaves, ReadsFit, on_plan, fresh_suits}
 use Rattle.moka_laws.proofs.Counting.{none_some}
 use Rattle.moka_laws.proofs.Owning.{plan_left}

@@ -29,7 +29,8 @@ use Rattle.moka_hist.specs.declared.replies.Answer.TheVariants as reply
 use Rattle.moka_hist.specs.declared.visits.Settled.{Settled}
 use Rattle.moka_hist.specs.declared.visits.Settled.TheVariants as settled
 use Rattle.moka_hist.specs.declared.visits.Found.TheVariants as found
-use Rattle.moka_laws.specs.Answered.{StoredIsCommitted, has_put, is_done, is_fresh, says_stored}
+use Rattle.moka_laws.specs.Answered.{StoredIsCommitted}
+use Rattle.moka_laws.specs.Starts.{has_put, is_done, is_fresh, says_stored}
 use Rattle.moka_laws.proofs.Counting.{differ, none_some, some_same, put_cases, put_here, put_there, same_number}
 use Rattle.moka_laws.proofs.Weights.{weigh, weigh_call}
 use Rattle.moka_laws.proofs.Balance.{times_last}

@@ -8,6 +8,7 @@ use Rattle.moka_hist.specs.Entries.{put_answer, removed_value, unchanged}
 use Rattle.moka_hist.specs.Tables.{by_pair, removed}
 use Rattle.moka_hist.specs.Step.{Step}
 use Rattle.moka_hist.specs.Run.{IsReached}
+use Rattle.moka_laws.specs.Starts.{computed_key}
 use Rattle.moka_hist.specs.declared.accesses.Turn.{Turn}
 use Rattle.moka_hist.specs.declared.accesses.Turn.TheVariants as turn
 use Rattle.moka_hist.specs.declared.events.Op.TheVariants as op
@@ -24,22 +25,6 @@ use Rattle.moka_hist.specs.declared.replies.Answer.{Answer}
 use Rattle.moka_hist.specs.declared.replies.Answer.TheVariants as answer
 use Rattle.moka_hist.specs.declared.replies.Ask.TheVariants as ask
 use Rattle.moka_laws.specs.Starting.{Leads, WasStarted}
-
--- the key that a call is started to compute
-abbrev pub computed_key : {K V : Type 0} → Start K V → Option K
-computed_key (start.Compute key) = Some key
-computed_key (start.TryCompute key) = Some key
-computed_key (start.ComputeAlone key) = Some key
-computed_key (start.Upsert key) = Some key
-computed_key (start.Get key) = None
-computed_key (start.Insert key value) = None
-computed_key (start.GetWith key replace) = None
-computed_key (start.Optional key) = None
-computed_key (start.Try key) = None
-computed_key (start.OrInsert key value) = None
-computed_key (start.Invalidate key) = None
-computed_key (start.Remove key) = None
-computed_key (start.Evict key stamp cause) = None
 
 -- ---- one at a time
 

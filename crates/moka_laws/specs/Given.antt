@@ -6,6 +6,7 @@ use Rattle.moka_hist.specs.Plan.{Item}
 use Rattle.moka_hist.specs.Plan as plan
 use Rattle.moka_hist.specs.Run.{Happens, Run, Any, reply_of}
 use Rattle.moka_hist.specs.Step.{Step}
+use Rattle.moka_laws.specs.Starts.{brought, key_started}
 use Rattle.moka_hist.specs.declared.accesses.Turn.{Turn}
 use Rattle.moka_hist.specs.declared.entries.CompResult.{CompResult}
 use Rattle.moka_hist.specs.declared.entries.CompResult.TheVariants as done
@@ -23,22 +24,6 @@ use Rattle.moka_hist.specs.declared.replies.Ask.TheVariants as ask
 use Rattle.moka_hist.specs.declared.replies.Reply.{Reply}
 use Rattle.moka_hist.specs.declared.replies.Reply.TheVariants as reply
 use Rattle.moka_hist.specs.declared.rules.Rules.{Rules}
-
--- the pair that a call is started with, to store it
-abbrev pub brought : {K V : Type 0} → Start K V → Option (K × V)
-brought (start.Insert key value) = Some (key, value)
-brought (start.OrInsert key value) = Some (key, value)
-brought (start.Get key) = None
-brought (start.GetWith key replace) = None
-brought (start.Optional key) = None
-brought (start.Try key) = None
-brought (start.Compute key) = None
-brought (start.TryCompute key) = None
-brought (start.Upsert key) = None
-brought (start.ComputeAlone key) = None
-brought (start.Invalidate key) = None
-brought (start.Remove key) = None
-brought (start.Evict key stamp cause) = None
 
 -- the value that an initializer gives, if any
 abbrev pub value_in : {V E : Type 0} → Told V E → Option V
@@ -110,22 +95,6 @@ StoredIsGiven K V E eq =
     (run : Run eq Any (fresh K V E rules size tests) es rs s) (q : K) (p : K × Stored V) →
     s.world.table.stored q ≡ Some p →
     WasGiven eq (fresh K V E rules size tests) es rs s run p.0 p.1.value
-
--- the key that a call is started for
-abbrev pub key_started : {K V : Type 0} → Start K V → K
-key_started (start.Get key) = key
-key_started (start.Insert key value) = key
-key_started (start.GetWith key replace) = key
-key_started (start.Optional key) = key
-key_started (start.Try key) = key
-key_started (start.OrInsert key value) = key
-key_started (start.Compute key) = key
-key_started (start.TryCompute key) = key
-key_started (start.Upsert key) = key
-key_started (start.ComputeAlone key) = key
-key_started (start.Invalidate key) = key
-key_started (start.Remove key) = key
-key_started (start.Evict key stamp cause) = key
 
 -- the value of what a compute did, if any
 abbrev pub value_done : {K V : Type 0} → CompResult K V → Option V

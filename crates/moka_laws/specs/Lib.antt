@@ -1,4 +1,5 @@
 pub mod Starting
+pub mod Starts
 pub mod Reaching
 pub mod Held
 pub mod Waiting

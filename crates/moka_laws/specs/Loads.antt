@@ -9,6 +9,7 @@ use Rattle.moka_hist.specs.Plan as plan
 use Rattle.moka_hist.specs.Visits.{is_seen, settlement_for}
 use Rattle.moka_hist.specs.Step.{Step, replace_of}
 use Rattle.moka_hist.specs.Run.{Happens, Any, IsReached}
+use Rattle.moka_laws.specs.Starts.{may_answer}
 use Rattle.moka_hist.specs.declared.accesses.Turn.{Turn}
 use Rattle.moka_hist.specs.declared.accesses.Turn.TheVariants as turn
 use Rattle.moka_hist.specs.declared.events.Event.TheVariants as event
@@ -305,31 +306,6 @@ SettlementsFit K V E eq =
     (load : Load K) (with : Settled V E) →
     IsReached eq s → s.calls n ≡ Some c → c.plan ≡ item ∷ rest → waits_for item ≡ Some load →
     settlement_for s.world.desk n ≡ Some with → may_end load.kind with ≡ true
-
--- a call that was started for this may answer so
-abbrev pub may_answer : {K V E : Type 0} → Start K V → Answer K V E → Bool
-may_answer (start.Get key) (answer.Found value) = true
-may_answer (start.Insert key value) answer.Done = true
-may_answer (start.GetWith key replace) (answer.Loaded value fresh) = true
-may_answer (start.GetWith key replace) answer.RetriesExhausted = true
-may_answer (start.Optional key) (answer.Loaded value fresh) = true
-may_answer (start.Optional key) answer.Nothing = true
-may_answer (start.Optional key) answer.RetriesExhausted = true
-may_answer (start.Try key) (answer.Loaded value fresh) = true
-may_answer (start.Try key) (answer.InitErr error) = true
-may_answer (start.Try key) answer.RetriesExhausted = true
-may_answer (start.OrInsert key own) (answer.Loaded value fresh) = true
-may_answer (start.Compute key) (answer.Computed done) = true
-may_answer (start.TryCompute key) (answer.Computed done) = true
-may_answer (start.TryCompute key) (answer.ComputeErr error) = true
-may_answer (start.ComputeAlone key) (answer.Computed done) = true
-may_answer (start.ComputeAlone key) (answer.ComputeErr error) = true
-may_answer (start.Upsert key) (answer.Computed done) = true
-may_answer (start.Invalidate key) answer.Done = true
-may_answer (start.Remove key) (answer.Found value) = true
-may_answer (start.Evict key stamp cause) answer.Evicted = true
-may_answer (start.Evict key stamp cause) answer.Kept = true
-may_answer _ _ = false
 
 -- a call answers as what it was started for may: a `get_with` neither nothing nor an error, an
 -- `optional` no error, a `try` not nothing, and no compute gives up

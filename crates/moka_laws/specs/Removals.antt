@@ -10,6 +10,7 @@ use Rattle.moka_hist.specs.Writing.{stamp_asked, removed_answer, nothing_answer,
 use Rattle.moka_hist.specs.Step.{Step}
 use Rattle.moka_hist.specs.Places.{Holds}
 use Rattle.moka_hist.specs.Run.{IsReached}
+use Rattle.moka_laws.specs.Starts.{removal_started}
 use Rattle.moka_hist.specs.declared.accesses.Turn.{Turn}
 use Rattle.moka_hist.specs.declared.accesses.Turn.TheVariants as turn
 use Rattle.moka_hist.specs.declared.events.Start.{Start}
@@ -68,22 +69,6 @@ abbrev pub PlacesComeBack : (K V E : Type 0) → (K → K → Bool) → Type 0
 PlacesComeBack K V E eq = (s : State K V E) (n : ℕ) → IsReached eq s → PlacesAreUsed s n
 
 -- ---- what a removal answers
-
--- what a call is started to take out, and from under which key
-abbrev pub removal_started : {K V : Type 0} → Start K V → Option (Removal K × K)
-removal_started (start.Get key) = None
-removal_started (start.Insert key value) = None
-removal_started (start.GetWith key replace) = None
-removal_started (start.Optional key) = None
-removal_started (start.Try key) = None
-removal_started (start.OrInsert key value) = None
-removal_started (start.Compute key) = None
-removal_started (start.TryCompute key) = None
-removal_started (start.ComputeAlone key) = None
-removal_started (start.Upsert key) = None
-removal_started (start.Invalidate key) = Some (plan.To_invalidate, key)
-removal_started (start.Remove key) = Some (plan.To_remove, key)
-removal_started (start.Evict key stamp cause) = Some (plan.To_evict_chosen stamp cause, key)
 
 -- the stamp is the one that is asked for, if any is
 abbrev pub IsAsked : Option ℕ → ℕ → Type 0

@@ -9,7 +9,7 @@ use Rattle.moka_hist.specs.declared.events.Start.{Start}
 use Rattle.moka_hist.specs.declared.events.Start.TheVariants as start
 use Rattle.moka_hist.specs.declared.replies.Answer.{Answer}
 use Rattle.moka_hist.specs.declared.rules.Rules.{Rules}
-use Rattle.moka_laws.specs.Loads.{may_answer}
+use Rattle.moka_laws.specs.Starts.{asks_nobody, may_answer}
 
 -- some world may give the call of this number this for its next access
 pub record MayBeGiven {K V E : Type 0} (eq : K → K → Bool) (n : ℕ) (c : Call K V E) (given : Got K V E)
@@ -25,22 +25,6 @@ MayLead eq n c [] d = d ≡ c
 MayLead {K} {V} {E} eq n c (given ∷ more) d =
     (mid : Call K V E) × MayBeGiven eq n c given × ((next_of n c given).left ≡ Some mid)
     × MayLead eq n mid more d
-
--- a call that is started for this asks its caller for nothing, and waits for no load and no compute
-abbrev pub asks_nobody : {K V : Type 0} → Start K V → Bool
-asks_nobody (start.Get key) = true
-asks_nobody (start.Insert key value) = true
-asks_nobody (start.OrInsert key value) = true
-asks_nobody (start.Invalidate key) = true
-asks_nobody (start.Remove key) = true
-asks_nobody (start.Evict key stamp cause) = true
-asks_nobody (start.GetWith key replace) = false
-asks_nobody (start.Optional key) = false
-asks_nobody (start.Try key) = false
-asks_nobody (start.Compute key) = false
-asks_nobody (start.TryCompute key) = false
-asks_nobody (start.ComputeAlone key) = false
-asks_nobody (start.Upsert key) = false
 
 -- from here on the call answers as one that was started for this may, whatever it is given
 abbrev pub Fits : {K V E : Type 0} → (K → K → Bool) → ℕ → Start K V → Call K V E → Type 0

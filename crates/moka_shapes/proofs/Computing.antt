@@ -31,7 +31,7 @@ use Rattle.moka_laws.proofs.Owning.{plan_left}
 use Rattle.moka_laws.proofs.Rules.{put_plans, read_key_next}
 use Rattle.moka_laws.proofs.StepCases.{OnStep, by_plan}
 use Rattle.moka_shapes.specs.Computes.{ComputeAnswers, ComputesTell, Follows, other_goes, taken}
-use Rattle.moka_laws.specs.Computes.{computed_key}
+use Rattle.moka_laws.specs.Starts.{computed_key}
 use Rattle.moka_shapes.proofs.Leaving.{AllSuit, Leaves, answers_so, goes_suits, on}
 
 -- ---- what suits a compute of the key, which is told such, and may answer so

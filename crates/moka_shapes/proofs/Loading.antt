@@ -39,7 +39,8 @@ use Rattle.moka_laws.proofs.Rules.{loaded_plans}
 use Rattle.moka_laws.proofs.StepCases.{OnStep, by_plan}
 use Rattle.moka_needs.specs.Reads.{EndedAs, ReadsItsKind, kind_read}
 use Rattle.moka_shapes.specs.Computes.{taken}
-use Rattle.moka_shapes.specs.Loads.{FollowsEnd, FollowsTold, LoadAnswers, LoadsTell, MayGiveLoad, MayLeadLoad, judged, kind_loaded, looked, read}
+use Rattle.moka_shapes.specs.Loads.{FollowsEnd, FollowsTold, LoadAnswers, LoadsTell, MayGiveLoad, MayLeadLoad, judged, looked, read}
+use Rattle.moka_laws.specs.Starts.{kind_loaded}
 use Rattle.moka_shapes.proofs.Leaving.{AllSuit, Leaves, answers_so, goes_suits, on}
 
 -- what a load of this kind may answer that is given this

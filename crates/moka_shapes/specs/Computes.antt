@@ -16,14 +16,8 @@ use Rattle.moka_hist.specs.declared.replies.Answer.{Answer}
 use Rattle.moka_hist.specs.declared.replies.Answer.TheVariants as answer
 use Rattle.moka_hist.specs.declared.rules.Rules.{Rules}
 use Rattle.moka_hist.specs.declared.visits.Found.TheVariants as found
-use Rattle.moka_laws.specs.Computes.{computed_key}
+use Rattle.moka_laws.specs.Starts.{computed_key, is_alone}
 use Rattle.moka_laws.specs.Shapes.{MayBeGiven, MayLead}
-
--- a call that is started for this asks nothing where another compute of the key goes: that is of one
--- start alone
-abbrev pub is_alone : {K V : Type 0} → Start K V → Bool
-is_alone (start.ComputeAlone key) = true
-is_alone _ = false
 
 module _ {K V E : Type 0} where
   -- what an access gave by which a call takes this as the answer to its own ask

@@ -4,6 +4,7 @@ use Rattle.moka_hist.specs.State.{Call}
 use Rattle.moka_hist.specs.Conditions.{may_end}
 use Rattle.moka_hist.specs.Step.{next_of}
 use Rattle.moka_hist.specs.Run.{fresh_call}
+use Rattle.moka_laws.specs.Starts.{kind_loaded}
 use Rattle.moka_hist.specs.declared.accesses.Got.{Got}
 use Rattle.moka_hist.specs.declared.accesses.Got.TheVariants as got
 use Rattle.moka_hist.specs.declared.accesses.Turn.TheVariants as turn
@@ -26,22 +27,6 @@ use Rattle.moka_laws.specs.Loads.{said_of}
 use Rattle.moka_laws.specs.Shapes.{MayBeGiven}
 use Rattle.moka_needs.specs.Reads.{ReadsItsKind}
 use Rattle.moka_shapes.specs.Computes.{taken}
-
--- the kind of load that a call is started for, if it is one
-abbrev pub kind_loaded : {K V : Type 0} → Start K V → Option Kind
-kind_loaded (start.GetWith key replace) = Some kind.GetWith
-kind_loaded (start.Optional key) = Some kind.Optional
-kind_loaded (start.Try key) = Some kind.Try
-kind_loaded (start.Get key) = None
-kind_loaded (start.Insert key value) = None
-kind_loaded (start.OrInsert key value) = None
-kind_loaded (start.Compute key) = None
-kind_loaded (start.TryCompute key) = None
-kind_loaded (start.Upsert key) = None
-kind_loaded (start.ComputeAlone key) = None
-kind_loaded (start.Invalidate key) = None
-kind_loaded (start.Remove key) = None
-kind_loaded (start.Evict key stamp cause) = None
 
 module _ {K V E : Type 0} where
   -- what an access gave by which a call reads that its owner ended so
