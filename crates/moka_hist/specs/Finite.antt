@@ -47,7 +47,3 @@ pub record Lists {K A : Type 0} (eq : K → K → Bool) (pairs : List (K × A)) 
     : Type 0 where
   pub distinct : IsDistinct eq (keys_of pairs)
   pub same : (q : K) → lookup (eq q) pairs ≡ f q
-
--- a clone equals its original
-abbrev pub IsExact : {A : Type 0} → (A → A → Type 0) → Type 0
-IsExact {A} is_clone = (x y : A) → is_clone x y → y ≡ x
