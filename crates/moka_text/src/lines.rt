@@ -68,7 +68,7 @@ fn evict_of(bytes: &[u8]) -> Option<(u32, (u64, Cause))>
 
 /// The replace test of a load: none where no bytes are left.
 #[tactic(auto, unfolding(crate::specs::ScheduleReading::replace_in))]
-fn replace_of(bytes: &[u8]) -> Option<Option<u64>>
+fn replace_in(bytes: &[u8]) -> Option<Option<u64>>
     ensures { result ≡ replace_in bytes.now }
 {
     if bytes.is_empty() {

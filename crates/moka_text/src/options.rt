@@ -76,7 +76,7 @@ fn switch_of(said: Option<&[u8]>) -> Option<bool>
 
 /// The rules of a cache of this capacity, where one is set, with a listener or without one, and no
 /// other rule.
-fn rules_of(capacity: Option<u64>, set: bool) -> Rules
+fn rules_from(capacity: Option<u64>, set: bool) -> Rules
     ensures { result ≡ rules_from capacity set }
 {
     Rules {
