@@ -1,5 +1,6 @@
 pub mod Turning
 pub mod Staging
+pub mod Staying
 pub mod Advancing
 pub mod Suiting
 pub mod Taking

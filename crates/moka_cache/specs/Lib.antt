@@ -9,4 +9,5 @@ pub mod Hearing
 pub mod Polls
 pub mod Stages
 pub mod Starts
+pub mod Stays
 pub mod Suits

@@ -1,14 +1,13 @@
 //! The polls of all states: steps under the lock, hold by hold.
-ghost use Rattle.std.specs.Prelude.{◌≡◌, ◌⊎◌, ◌↔◌, Bool, Option, IfOk, IfErr, IfNone, IfSome};
+ghost use Rattle.std.specs.Prelude.{◌≡◌, ◌⊎◌, ◌↔◌, Option, IfOk, IfErr, IfNone, IfSome};
 ghost use Rattle.std.specs.Prelude.{OnOk, OnErr};
 ghost use Rattle.futures.specs.Poll.{IfReady, OnPending};
-ghost use Rattle.futures.specs.Task.{IsArmed, Keeps};
-ghost use Rattle.moka_hist.specs.declared.events.Told.{Told};
 ghost use Rattle.moka_init.specs.FlowPlan.{call_of, tested_in};
 ghost use Rattle.moka_kept.specs.Kept.{NumbersSpent};
 ghost use Rattle.moka_kept.specs.Rests.{Rests};
 ghost use Rattle.moka_kept.specs.Taking.{Brings, Taken};
 ghost use Rattle.moka_cache.specs.Asked.{Accords, IsAskedFor};
+ghost use Rattle.moka_cache.specs.Stays.{AskedStays, ContextStays};
 
 use crate::asked::{Asked, is_polled};
 use crate::cache::{Cache, Shared};
@@ -102,13 +101,9 @@ where
         ensures begun { IfReady result (λ r. OnOk r ((names : A → Option K) (kept : Option K)
             → name_in names stage.old kept ≡ kept)) }
         // Who is asked can still be polled, and may give no other answer.
-        ensures asks { Q.can_poll asked.new }
-        ensures same { (told : Told V E) → Q.gives asked.new told → Q.gives asked.old told }
-        ensures tested { (value : V) (replaced : Bool) → Q.tests asked.new value replaced
-            → Q.tests asked.old value replaced }
+        ensures asked { AskedStays Q.can_poll Q.gives Q.tests asked.old asked.new }
         // The task is woken.
-        ensures armed { OnPending result (IsArmed cx.new) }
-        ensures kept { Keeps cx.old cx.new }
+        ensures context { ContextStays cx.old cx.new (Some result) }
     {
         match stage {
             Stage::Running(flow) => match self.go_on(rt, flow, asked, cx, moment) {
@@ -144,12 +139,8 @@ where
             ⊎ CameToAsk K.eq (Accords (Q.gives asked.old) (Q.tests asked.old)) flow.old }
         ensures cause { OnPending result (Pends K.eq Q.pends
             (Unheard L.pends (listener_of self.now)) asked.new flow.new) }
-        ensures asks { Q.can_poll asked.new }
-        ensures same { (told : Told V E) → Q.gives asked.new told → Q.gives asked.old told }
-        ensures tested { (value : V) (replaced : Bool) → Q.tests asked.new value replaced
-            → Q.tests asked.old value replaced }
-        ensures armed { OnPending result (IsArmed cx.new) }
-        ensures kept { Keeps cx.old cx.new }
+        ensures asked { AskedStays Q.can_poll Q.gives Q.tests asked.old asked.new }
+        ensures context { ContextStays cx.old cx.new (Some result) }
     {
         let mut heard = None;
         for _ in rt.forever() {
@@ -180,12 +171,8 @@ where
             ⊎ CameToAsk K.eq (Accords (Q.gives asked.old) (Q.tests asked.old)) flow.old }
         ensures cause { IfSome (over_in result) (λ poll. OnPending poll (Pends K.eq Q.pends
             (Unheard L.pends (listener_of self.now)) asked.new flow.new)) }
-        ensures asks { Q.can_poll asked.new }
-        ensures same { (told : Told V E) → Q.gives asked.new told → Q.gives asked.old told }
-        ensures tested { (value : V) (replaced : Bool) → Q.tests asked.new value replaced
-            → Q.tests asked.old value replaced }
-        ensures armed { IfSome (over_in result) (λ poll. OnPending poll (IsArmed cx.new)) }
-        ensures kept { Keeps cx.old cx.new }
+        ensures asked { AskedStays Q.can_poll Q.gives Q.tests asked.old asked.new }
+        ensures context { ContextStays cx.old cx.new (over_in result) }
     {
         match heard {
             Some(heard) => self.round(rt, flow, asked, Brought::Nothing, Some(heard), cx, moment),
@@ -212,12 +199,8 @@ where
             ⊎ CameToAsk K.eq (Accords (Q.gives asked.old) (Q.tests asked.old)) flow.old }
         ensures cause { IfSome (over_in result) (λ poll. OnPending poll (Pends K.eq Q.pends
             (Unheard L.pends (listener_of self.now)) asked.new flow.new)) }
-        ensures asks { Q.can_poll asked.new }
-        ensures same { (told : Told V E) → Q.gives asked.new told → Q.gives asked.old told }
-        ensures tested { (value : V) (replaced : Bool) → Q.tests asked.new value replaced
-            → Q.tests asked.old value replaced }
-        ensures armed { IfSome (over_in result) (λ poll. OnPending poll (IsArmed cx.new)) }
-        ensures kept { Keeps cx.old cx.new }
+        ensures asked { AskedStays Q.can_poll Q.gives Q.tests asked.old asked.new }
+        ensures context { ContextStays cx.old cx.new (over_in result) }
     {
         if !is_polled(asked, flow) {
             let brought = ask_test(asked, flow);
@@ -254,12 +237,8 @@ where
             ⊎ CameToAsk K.eq (Brings (tested_in (call_of flow.old).plan) brought) flow.old }
         ensures cause { IfSome (over_in result) (λ poll. OnPending poll (Waits K.eq flow.new
             ⊎ Awaits (Unheard L.pends (listener_of self.now)) flow.new)) }
-        ensures asks { Q.can_poll asked.new }
-        ensures same { (told : Told V E) → Q.gives asked.new told → Q.gives asked.old told }
-        ensures tested { (value : V) (replaced : Bool) → Q.tests asked.new value replaced
-            → Q.tests asked.old value replaced }
-        ensures armed { IfSome (over_in result) (λ poll. OnPending poll (IsArmed cx.new)) }
-        ensures kept { Keeps cx.old cx.new }
+        ensures asked { AskedStays Q.can_poll Q.gives Q.tests asked.old asked.new }
+        ensures context { ContextStays cx.old cx.new (over_in result) }
     {
         let shared: &Shared<K, V, E, L, S> = &self.shared;
         let stop = shared.guarded.hold(rt, flow, brought, heard, cx, moment);
@@ -282,10 +261,7 @@ fn ask_test<K, V, E, Q: Asked<K, V, E>>(asked: &mut Q, flow: &Flow<K, V, E>) -> 
         → Accords (Q.gives asked.old) (Q.tests asked.old) taken }
     ensures once { IsAskedFor Q.asks (tested_in (call_of flow.now).plan) asked.old result
         asked.new }
-    ensures asks { Q.can_poll asked.new }
-    ensures same { (told : Told V E) → Q.gives asked.new told → Q.gives asked.old told }
-    ensures tested { (value : V) (replaced : Bool) → Q.tests asked.new value replaced
-        → Q.tests asked.old value replaced }
+    ensures asked { AskedStays Q.can_poll Q.gives Q.tests asked.old asked.new }
 {
     match flow.tested() {
         Some(value) => Brought::Tested(asked.replaces(value)),

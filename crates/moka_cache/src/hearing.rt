@@ -1,14 +1,14 @@
 //! What follows a hold of the lock, without it: who is asked begins, and the listener is started,
 //! and polled.
-ghost use Rattle.std.specs.Prelude.{◌≡◌, ◌⊎◌, Bool, Some, None, IfNone, IfSome, IsSome};
+ghost use Rattle.std.specs.Prelude.{◌≡◌, ◌⊎◌, Some, None, IfNone, IfSome, IsSome};
 ghost use Rattle.futures.specs.Poll.{IfReady, OnPending};
 ghost use Rattle.futures.specs.Task.{IsArmed, Keeps};
-ghost use Rattle.moka_hist.specs.declared.events.Told.{Told};
 ghost use Rattle.moka_cache.specs.Asked.{BegunBy, BegunFor, entry_of};
 ghost use Rattle.moka_hist.specs.Plan.{hearing};
 ghost use Rattle.moka_init.specs.FlowPlan.{call_of};
 ghost use Rattle.moka_cache.specs.Hearing.{Awaits, Ends, FollowsStop, IsHeard, MayPend, Unheard};
 ghost use Rattle.moka_cache.specs.Hearing.{WasPolled, heard_in, over_in};
+ghost use Rattle.moka_cache.specs.Stays.{AskedStays};
 
 use crate::asked::Asked;
 use crate::cache::Shared;
@@ -51,10 +51,7 @@ where
         requires waits { stop ≡ Stop.Waits → IsArmed cx.old }
         requires asks { Q.can_poll asked.old }
         ensures begun { BegunBy Q.begins stop asked.old asked.new }
-        ensures asks { Q.can_poll asked.new }
-        ensures same { (told : Told V E) → Q.gives asked.new told → Q.gives asked.old told }
-        ensures tested { (value : V) (replaced : Bool) → Q.tests asked.new value replaced
-            → Q.tests asked.old value replaced }
+        ensures asked { AskedStays Q.can_poll Q.gives Q.tests asked.old asked.new }
         ensures follows { FollowsStop stop (over_in result) }
         ensures cause { over_in result ≡ Some Poll.Pending
             → (stop ≡ Stop.Waits) ⊎ Awaits (Unheard L.pends self.now.listener) flow.now }
@@ -86,10 +83,7 @@ where
     ) -> Turned<Result<Answer<K, V, E>, PollError>>
         requires asks { Q.can_poll asked.old }
         ensures begun { BegunFor Q.begins ask asked.old asked.new }
-        ensures asks { Q.can_poll asked.new }
-        ensures same { (told : Told V E) → Q.gives asked.new told → Q.gives asked.old told }
-        ensures tested { (value : V) (replaced : Bool) → Q.tests asked.new value replaced
-            → Q.tests asked.old value replaced }
+        ensures asked { AskedStays Q.can_poll Q.gives Q.tests asked.old asked.new }
         ensures pends { MayPend (over_in result) }
         ensures cause { over_in result ≡ Some Poll.Pending
             → Awaits (Unheard L.pends self.now.listener) flow.now }
@@ -133,10 +127,7 @@ where
     fn start<Q: Asked<K, V, E>>(&self, flow: &Flow<K, V, E>, ask: Ask<K, V>, asked: &mut Q)
         requires asks { Q.can_poll asked.old }
         ensures begun { BegunFor Q.begins ask asked.old asked.new }
-        ensures asks { Q.can_poll asked.new }
-        ensures same { (told : Told V E) → Q.gives asked.new told → Q.gives asked.old told }
-        ensures tested { (value : V) (replaced : Bool) → Q.tests asked.new value replaced
-            → Q.tests asked.old value replaced }
+        ensures asked { AskedStays Q.can_poll Q.gives Q.tests asked.old asked.new }
     {
         match ask {
             Ask::Listener { key, value, cause } => self.open(flow.number(), &key, &value, cause),
@@ -175,10 +166,7 @@ where
 fn begin_with<K: Drop, V: Drop, E, Q: Asked<K, V, E>>(asked: &mut Q, found: Option<(K, V)>)
     requires { Q.can_poll asked.old }
     ensures begun { Q.begins asked.old (entry_of found) asked.new }
-    ensures asks { Q.can_poll asked.new }
-    ensures same { (told : Told V E) → Q.gives asked.new told → Q.gives asked.old told }
-    ensures tested { (value : V) (replaced : Bool) → Q.tests asked.new value replaced
-        → Q.tests asked.old value replaced }
+    ensures asked { AskedStays Q.can_poll Q.gives Q.tests asked.old asked.new }
 {
     let entry = entry_of(found);
     asked.begin(entry.as_ref());

@@ -2,6 +2,7 @@
 use Rattle.std.proofs.Common.{refl, sym, ap, ◌∙◌}
 use Rattle.std.specs.Option.{option_map}
 use Rattle.moka_init.specs.FlowPlan.{call_of, tested_in}
+use Rattle.moka_cache.proofs.Staying.{asked_still}
 use Rattle.moka_cache.proofs.Taking.{asked_for, tested_accords, unasked_for}
 use Rattle.moka_cache.proofs.driver.ask_test.Goals as goal
 
@@ -23,3 +24,9 @@ returns-in-None-clause-brings g c = λ taken none. absurd none
 pub returns-in-None-clause-once : goal.returns-in-None-clause-once
 returns-in-None-clause-once g c =
     unasked_for g.row.E.Denot g.Q.Asked.asks c.args.asked.now c.args.asked.now (tested_in (call_of c.args.flow.now).plan) (sym c.tested.ensures ∙ ap (option_map (λ v. v.now)) c.in-None.is) refl
+
+pub returns-in-Some-clause-asked : goal.returns-in-Some-clause-asked
+returns-in-Some-clause-asked g c = record { asks = c.replaces.ensures.again; same = c.replaces.ensures.same; tested = c.replaces.ensures.tested }
+
+pub returns-in-None-clause-asked : goal.returns-in-None-clause-asked
+returns-in-None-clause-asked g c = asked_still g.Q.Asked.can_poll g.Q.Asked.gives g.Q.Asked.tests c.args.asked.now c.requires

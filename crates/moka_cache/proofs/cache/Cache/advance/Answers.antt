@@ -1,6 +1,7 @@
 -- A state whose call was begun goes on as its flow does.
 use Rattle.moka_cache.specs.Asked.{Accords}
 use Rattle.moka_cache.proofs.Advancing.{answers_at, came_at, failed_at, named_at, names_at, rests_at, unasked_at, unspent}
+use Rattle.moka_cache.proofs.Staying.{asked_still}
 use Rattle.moka_cache.proofs.cache.Cache.advance.Goals as goal
 
 pub go_on-requires-clause-rests : goal.go_on-requires-clause-rests
@@ -27,17 +28,11 @@ returns-in-Ready-Ok-clause-over g c = c.end.ensures
 pub returns-in-Ready-Ok-clause-begun : goal.returns-in-Ready-Ok-clause-begun
 returns-in-Ready-Ok-clause-begun g c = named_at c.args.stage.now c.in-Running.flow c.in-Running.is
 
-pub returns-in-Ready-Ok-clause-asks : goal.returns-in-Ready-Ok-clause-asks
-returns-in-Ready-Ok-clause-asks g c = c.go_on.ensures.asks
+pub returns-in-Ready-Ok-clause-asked : goal.returns-in-Ready-Ok-clause-asked
+returns-in-Ready-Ok-clause-asked g c = c.go_on.ensures.asked
 
-pub returns-in-Ready-Ok-clause-same : goal.returns-in-Ready-Ok-clause-same
-returns-in-Ready-Ok-clause-same g c = c.go_on.ensures.same
-
-pub returns-in-Ready-Ok-clause-tested : goal.returns-in-Ready-Ok-clause-tested
-returns-in-Ready-Ok-clause-tested g c = c.go_on.ensures.tested
-
-pub returns-in-Ready-Ok-clause-kept : goal.returns-in-Ready-Ok-clause-kept
-returns-in-Ready-Ok-clause-kept g c = c.go_on.ensures.kept
+pub returns-in-Ready-Ok-clause-context : goal.returns-in-Ready-Ok-clause-context
+returns-in-Ready-Ok-clause-context g c = record { kept = c.go_on.ensures.context.kept; armed = tt }
 
 -- ---- it found no memory
 
@@ -66,17 +61,11 @@ returns-in-Ready-Err-clause-again g c =
 pub returns-in-Ready-Err-clause-names_on : goal.returns-in-Ready-Err-clause-names_on
 returns-in-Ready-Err-clause-names_on g c = names_at c.args.stage.now c.in-Running.flow c.in-Running.is c.go_on.new.flow
 
-pub returns-in-Ready-Err-clause-asks : goal.returns-in-Ready-Err-clause-asks
-returns-in-Ready-Err-clause-asks g c = c.go_on.ensures.asks
+pub returns-in-Ready-Err-clause-asked : goal.returns-in-Ready-Err-clause-asked
+returns-in-Ready-Err-clause-asked g c = c.go_on.ensures.asked
 
-pub returns-in-Ready-Err-clause-same : goal.returns-in-Ready-Err-clause-same
-returns-in-Ready-Err-clause-same g c = c.go_on.ensures.same
-
-pub returns-in-Ready-Err-clause-tested : goal.returns-in-Ready-Err-clause-tested
-returns-in-Ready-Err-clause-tested g c = c.go_on.ensures.tested
-
-pub returns-in-Ready-Err-clause-kept : goal.returns-in-Ready-Err-clause-kept
-returns-in-Ready-Err-clause-kept g c = c.go_on.ensures.kept
+pub returns-in-Ready-Err-clause-context : goal.returns-in-Ready-Err-clause-context
+returns-in-Ready-Err-clause-context g c = record { kept = c.go_on.ensures.context.kept; armed = tt }
 
 -- ---- it isn't ready
 
@@ -99,17 +88,22 @@ returns-in-Pending-clause-pending g c = c.in-Pending.ensures.polled.rests
 pub returns-in-Pending-clause-names : goal.returns-in-Pending-clause-names
 returns-in-Pending-clause-names g c = names_at c.args.stage.now c.in-Running.flow c.in-Running.is c.go_on.new.flow
 
-pub returns-in-Pending-clause-asks : goal.returns-in-Pending-clause-asks
-returns-in-Pending-clause-asks g c = c.go_on.ensures.asks
+pub returns-in-Pending-clause-asked : goal.returns-in-Pending-clause-asked
+returns-in-Pending-clause-asked g c = c.go_on.ensures.asked
 
-pub returns-in-Pending-clause-same : goal.returns-in-Pending-clause-same
-returns-in-Pending-clause-same g c = c.go_on.ensures.same
+pub returns-in-Pending-clause-context : goal.returns-in-Pending-clause-context
+returns-in-Pending-clause-context g c = c.in-Pending.ensures.context
 
-pub returns-in-Pending-clause-tested : goal.returns-in-Pending-clause-tested
-returns-in-Pending-clause-tested g c = c.go_on.ensures.tested
+-- ---- it was not begun
 
-pub returns-in-Pending-clause-armed : goal.returns-in-Pending-clause-armed
-returns-in-Pending-clause-armed g c = c.in-Pending.ensures.armed
+pub returns-in-Fresh-clause-asked : goal.returns-in-Fresh-clause-asked
+returns-in-Fresh-clause-asked g c = asked_still g.Q.Asked.can_poll g.Q.Asked.gives g.Q.Asked.tests c.args.asked.now c.requires.asks
 
-pub returns-in-Pending-clause-kept : goal.returns-in-Pending-clause-kept
-returns-in-Pending-clause-kept g c = c.go_on.ensures.kept
+pub returns-in-Fresh-clause-context : goal.returns-in-Fresh-clause-context
+returns-in-Fresh-clause-context g c = record { kept = λ fact holds. holds; armed = tt }
+
+pub returns-in-Spent-clause-asked : goal.returns-in-Spent-clause-asked
+returns-in-Spent-clause-asked g c = asked_still g.Q.Asked.can_poll g.Q.Asked.gives g.Q.Asked.tests c.args.asked.now c.requires.asks
+
+pub returns-in-Spent-clause-context : goal.returns-in-Spent-clause-context
+returns-in-Spent-clause-context g c = record { kept = λ fact holds. holds; armed = tt }

@@ -5,6 +5,7 @@ use Rattle.moka_kept.specs.Taking.{Brings}
 use Rattle.moka_kept.specs.declared.brought.Brought.TheVariants as brought
 use Rattle.moka_cache.specs.Asked.{Accords}
 use Rattle.moka_cache.specs.Hearing.{over_in}
+use Rattle.moka_cache.proofs.Staying.{asked_since, context_since}
 use Rattle.moka_cache.proofs.Taking.{told_accords}
 use Rattle.moka_cache.proofs.Turning.{asked_here, asks_weaker, pends_by, turns_weaker, unasked_or}
 use Rattle.moka_cache.proofs.cache.Cache.ask.Goals as goal
@@ -54,3 +55,28 @@ returns-in-Ready-None-clause-unasked g c =
 pub returns-in-Pending-clause-unasked : goal.returns-in-Pending-clause-unasked
 returns-in-Pending-clause-unasked g c =
     asked_here g.K.PartialEq.eq (Accords (g.Q.Asked.gives c.args.asked.now) (g.Q.Asked.tests c.args.asked.now)) c.args.flow.now c.requires.rests c.if-not-is_polled.ensures.asking c.args.asked.now c.poll.new.self
+
+pub returns-then-not-is_polled-clause-asked : goal.returns-then-not-is_polled-clause-asked
+returns-then-not-is_polled-clause-asked g c = asked_since g.Q.Asked.can_poll g.Q.Asked.gives g.Q.Asked.tests _ _ _ c.ask_test-brought.ensures.asked c.round.ensures.asked
+
+pub returns-in-Ready-Some-clause-asked : goal.returns-in-Ready-Some-clause-asked
+returns-in-Ready-Some-clause-asked g c =
+    asked_since g.Q.Asked.can_poll g.Q.Asked.gives g.Q.Asked.tests _ c.poll.new.self _ (record { asks = c.poll.ensures.again; same = c.poll.ensures.same; tested = c.poll.ensures.tested }) c.round-in-Ready-Some.ensures.asked
+
+pub returns-in-Ready-Some-clause-context : goal.returns-in-Ready-Some-clause-context
+returns-in-Ready-Some-clause-context g c = context_since _ _ _ (over_in c.round-in-Ready-Some.result) c.poll.ensures.kept c.round-in-Ready-Some.ensures.context
+
+pub returns-in-Ready-None-clause-asked : goal.returns-in-Ready-None-clause-asked
+returns-in-Ready-None-clause-asked g c = record { asks = c.poll.ensures.again; same = c.poll.ensures.same; tested = c.poll.ensures.tested }
+
+pub returns-in-Ready-None-clause-context : goal.returns-in-Ready-None-clause-context
+returns-in-Ready-None-clause-context g c = record { kept = c.poll.ensures.kept; armed = tt }
+
+pub returns-in-Pending-clause-asked : goal.returns-in-Pending-clause-asked
+returns-in-Pending-clause-asked g c = record { asks = c.poll.ensures.again; same = c.poll.ensures.same; tested = c.poll.ensures.tested }
+
+pub returns-in-Pending-clause-context : goal.returns-in-Pending-clause-context
+returns-in-Pending-clause-context g c = record { kept = c.poll.ensures.kept; armed = c.in-Pending.ensures.armed }
+
+pub round-requires-clause-asks : goal.round-requires-clause-asks
+round-requires-clause-asks g c = c.ask_test-brought.ensures.asked.asks

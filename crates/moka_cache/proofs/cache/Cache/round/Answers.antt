@@ -17,11 +17,11 @@ returns-clause-cause g c =
     waits_still g.K.PartialEq.eq (Brings (tested_in (call_of c.args.flow.now).plan) c.args.brought) _ c.args.flow.now c.hold-stop.result c.hold-stop.new.flow c.hold-stop.ensures.stops
     (subst (λ s. (c.hold-stop.result ≡ stop.Waits) ⊎ Awaits (Unheard g.L.Listener.pends s.listener) c.hold-stop.new.flow) c.deref-shared.ensures (c.after.ensures.cause pending)))
 
-pub returns-clause-armed : goal.returns-clause-armed
-returns-clause-armed g c = pending_by _ (over_in c.after.result) c.after.ensures.armed
-
-pub returns-clause-kept : goal.returns-clause-kept
-returns-clause-kept g c = λ fact holds. c.after.ensures.kept fact (c.hold-stop.ensures.kept fact holds)
+pub returns-clause-context : goal.returns-clause-context
+returns-clause-context g c = record {
+  kept = λ fact holds. c.after.ensures.kept fact (c.hold-stop.ensures.kept fact holds);
+  armed = pending_by _ (over_in c.after.result) c.after.ensures.armed;
+}
 
 pub returns-clause-unasked : goal.returns-clause-unasked
 returns-clause-unasked g c =

@@ -67,7 +67,7 @@ returns-in-Pending-clause-names g c =
 pub returns-in-Pending-clause-tells : goal.returns-in-Pending-clause-tells
 returns-in-Pending-clause-tells g c =
     let begins = called {E = g.row.E.Denot} (rules_of c.args.self.now.cache.now) g.A.Begin.start in
-    tells_on g.K.PartialEq.eq (Accords (g.Q.Asked.gives c.args.self.now.asked) (g.Q.Asked.tests c.args.self.now.asked)) (g.Q.Asked.gives c.advance.new.asked) (g.Q.Asked.gives c.args.self.now.asked) c.advance.ensures.same (accords_told (g.Q.Asked.gives c.args.self.now.asked) (g.Q.Asked.tests c.args.self.now.asked)) begins g.A.Begin.output c.args.self.now.stage c.advance.new.stage
+    tells_on g.K.PartialEq.eq (Accords (g.Q.Asked.gives c.args.self.now.asked) (g.Q.Asked.tests c.args.self.now.asked)) (g.Q.Asked.gives c.advance.new.asked) (g.Q.Asked.gives c.args.self.now.asked) c.advance.ensures.asked.same (accords_told (g.Q.Asked.gives c.args.self.now.asked) (g.Q.Asked.tests c.args.self.now.asked)) begins g.A.Begin.output c.args.self.now.stage c.advance.new.stage
     (came_since g.K.PartialEq.eq (Accords (g.Q.Asked.gives c.args.self.now.asked) (g.Q.Asked.tests c.args.self.now.asked)) begins c.args.self.now.stage c.begin.new.stage c.advance.new.stage c.begin.ensures.begins (c.in-Pending.ensures.came begins))
     c.requires.tells
 
@@ -80,7 +80,7 @@ returns-in-Ready-Err-clause-names_on g c =
 pub returns-in-Ready-Err-clause-tells : goal.returns-in-Ready-Err-clause-tells
 returns-in-Ready-Err-clause-tells g c =
     let begins = called {E = g.row.E.Denot} (rules_of c.args.self.now.cache.now) g.A.Begin.start in
-    tells_on g.K.PartialEq.eq (Accords (g.Q.Asked.gives c.args.self.now.asked) (g.Q.Asked.tests c.args.self.now.asked)) (g.Q.Asked.gives c.advance.new.asked) (g.Q.Asked.gives c.args.self.now.asked) c.advance.ensures.same (accords_told (g.Q.Asked.gives c.args.self.now.asked) (g.Q.Asked.tests c.args.self.now.asked)) begins g.A.Begin.output c.args.self.now.stage c.advance.new.stage
+    tells_on g.K.PartialEq.eq (Accords (g.Q.Asked.gives c.args.self.now.asked) (g.Q.Asked.tests c.args.self.now.asked)) (g.Q.Asked.gives c.advance.new.asked) (g.Q.Asked.gives c.args.self.now.asked) c.advance.ensures.asked.same (accords_told (g.Q.Asked.gives c.args.self.now.asked) (g.Q.Asked.tests c.args.self.now.asked)) begins g.A.Begin.output c.args.self.now.stage c.advance.new.stage
     (failed_since g.K.PartialEq.eq (Accords (g.Q.Asked.gives c.args.self.now.asked) (g.Q.Asked.tests c.args.self.now.asked)) begins c.args.self.now.stage c.begin.new.stage c.advance.new.stage c.in-Ready-Err.field-0 c.in-Ready-Err.e c.in-Ready-Err.field-0-is
     c.begin.ensures.begins c.in-Ready-Err.ensures.failed)
     c.requires.tells
@@ -119,40 +119,40 @@ pub returns-in-Pending-clause-pending : goal.returns-in-Pending-clause-pending
 returns-in-Pending-clause-pending g c = c.in-Pending.ensures.pending
 
 pub returns-in-Pending-clause-armed : goal.returns-in-Pending-clause-armed
-returns-in-Pending-clause-armed g c = c.in-Pending.ensures.armed
+returns-in-Pending-clause-armed g c = c.in-Pending.ensures.context.armed
 
 pub returns-in-Ready-Ok-clause-asks : goal.returns-in-Ready-Ok-clause-asks
-returns-in-Ready-Ok-clause-asks g c = c.advance.ensures.asks
+returns-in-Ready-Ok-clause-asks g c = c.advance.ensures.asked.asks
 
 pub returns-in-Ready-Ok-clause-same : goal.returns-in-Ready-Ok-clause-same
-returns-in-Ready-Ok-clause-same g c = c.advance.ensures.same
+returns-in-Ready-Ok-clause-same g c = c.advance.ensures.asked.same
 
 pub returns-in-Ready-Ok-clause-tested : goal.returns-in-Ready-Ok-clause-tested
-returns-in-Ready-Ok-clause-tested g c = c.advance.ensures.tested
+returns-in-Ready-Ok-clause-tested g c = c.advance.ensures.asked.tested
 
 pub returns-in-Ready-Ok-clause-kept : goal.returns-in-Ready-Ok-clause-kept
-returns-in-Ready-Ok-clause-kept g c = c.advance.ensures.kept
+returns-in-Ready-Ok-clause-kept g c = c.advance.ensures.context.kept
 
 pub returns-in-Ready-Err-clause-asks : goal.returns-in-Ready-Err-clause-asks
-returns-in-Ready-Err-clause-asks g c = c.advance.ensures.asks
+returns-in-Ready-Err-clause-asks g c = c.advance.ensures.asked.asks
 
 pub returns-in-Ready-Err-clause-same : goal.returns-in-Ready-Err-clause-same
-returns-in-Ready-Err-clause-same g c = c.advance.ensures.same
+returns-in-Ready-Err-clause-same g c = c.advance.ensures.asked.same
 
 pub returns-in-Ready-Err-clause-tested : goal.returns-in-Ready-Err-clause-tested
-returns-in-Ready-Err-clause-tested g c = c.advance.ensures.tested
+returns-in-Ready-Err-clause-tested g c = c.advance.ensures.asked.tested
 
 pub returns-in-Ready-Err-clause-kept : goal.returns-in-Ready-Err-clause-kept
-returns-in-Ready-Err-clause-kept g c = c.advance.ensures.kept
+returns-in-Ready-Err-clause-kept g c = c.advance.ensures.context.kept
 
 pub returns-in-Pending-clause-asks : goal.returns-in-Pending-clause-asks
-returns-in-Pending-clause-asks g c = c.advance.ensures.asks
+returns-in-Pending-clause-asks g c = c.advance.ensures.asked.asks
 
 pub returns-in-Pending-clause-same : goal.returns-in-Pending-clause-same
-returns-in-Pending-clause-same g c = c.advance.ensures.same
+returns-in-Pending-clause-same g c = c.advance.ensures.asked.same
 
 pub returns-in-Pending-clause-tested : goal.returns-in-Pending-clause-tested
-returns-in-Pending-clause-tested g c = c.advance.ensures.tested
+returns-in-Pending-clause-tested g c = c.advance.ensures.asked.tested
 
 pub returns-in-Pending-clause-kept : goal.returns-in-Pending-clause-kept
-returns-in-Pending-clause-kept g c = c.advance.ensures.kept
+returns-in-Pending-clause-kept g c = c.advance.ensures.context.kept
