@@ -1,6 +1,7 @@
 //! How many steps an operation makes in a row.
 
-/// How many steps an operation may make in a row, from its beginning or from the step of another on, where the
+/// How many steps an operation may make in a row, from its beginning or from the step of another
+/// on, where the
 /// first arrays were so long and there were never more keys; stops at the greatest number.
 pub(crate) fn most_steps(first: u64, peak: usize) -> u64 {
     let words = (peak as u64).saturating_mul(3).saturating_add(first);

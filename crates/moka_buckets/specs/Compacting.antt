@@ -13,7 +13,8 @@ use Rattle.moka_buckets.specs.declared.part.Part.{Part}
 use Rattle.moka_buckets.specs.Building.{HasNone, HasRoot}
 use Rattle.moka_buckets.specs.Parts.{memory_at, peak_at}
 
--- How many words so many keys get, of which there are some: the least power of two that is at least 128 and of which they are at most seven
+-- How many words so many keys get, of which there are some: the least power of two that is at least
+-- 128 and of which they are at most seven
 -- tenths.
 pub record IsCompact (keys size : ℕ) : Type 0 where
   pub power : IsPowerOfTwo size
@@ -39,7 +40,8 @@ module _ {K V : Type 0} where
   abbrev pub live_nodes : Part K V → List (Node K V)
   live_nodes p = nodes_stored p.nodes.items (words_of (memory_at p) (root (memory_at p)))
 
-  -- The arrays have a root in which these nodes are laid out, by their places in the list; without nodes no array.
+  -- The arrays have a root in which these nodes are laid out, by their places in the list; without
+  -- nodes no array.
   pub record AreLaid (nodes : List (Node K V)) (s : Arrays) : Type 0 where
     pub size : ℕ
     pub begins : ((nodes ≡ []) × HasNone s) ⊎

@@ -67,7 +67,8 @@ module _ {K V : Type 0} where
     pub fits : FitsKeys eq hash parts c
     pub going : IsGoing c.table
 
-  -- calls that list keys, while others make their steps: they fit, have listed the same keys, and cover what they covered of the keys that were in
+  -- calls that list keys, while others make their steps: they fit, have listed the same keys, and
+  -- cover what they covered of the keys that were in
   -- the map
   pub record KeepsKeys (eq : K → K → Bool) (hash : K → ℕ) (old new : List (Part K V)) : Type 0 where
     pub fits : (c : KeysCall) → FitsKeys eq hash old c → FitsKeys eq hash new c
@@ -76,7 +77,8 @@ module _ {K V : Type 0} where
         segment_of (length old) (hash key) ≡ c.segment
         → IsSome (map_over eq hash old key) → CoversIt eq old c key → CoversIt eq new c key
 
-  -- What a step of a call does to all segments: the map stays. It is nearer to its end, or has ended; what it lists anew was in the map, and a key that was
+  -- What a step of a call does to all segments: the map stays. It is nearer to its end, or has
+  -- ended; what it lists anew was in the map, and a key that was
   -- there it goes on to cover. In a segment that isn't there it ends. All other calls fit.
   pub record WalksOver (eq : K → K → Bool) (hash : K → ℕ) (first : ℕ) (old : List (Part K V))
       (most len : ℕ) (before : KeysCall)

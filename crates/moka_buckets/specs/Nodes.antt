@@ -15,7 +15,8 @@ is_one_key eq (Some k) None = false
 is_one_key eq (Some k) (Some l) = eq k l
 
 module _ {K : Type 0} where
-  -- what `keys`, the key of each number, says of numbers: their hashes, which two have one key, and which have this one
+  -- what `keys`, the key of each number, says of numbers: their hashes, which two have one key, and
+  -- which have this one
   abbrev pub hash_by : (K → ℕ) → (keys : ℕ → Option K) → ℕ → ℕ
   hash_by hash keys n = option_map_or hash (keys n) 0
 

@@ -16,7 +16,8 @@ use Rattle.moka_buckets.specs.Tables.{map_of, left_in, IsWell}
 use Rattle.moka_buckets.specs.Steps.{FitsCall, Done, Adds}
 use Rattle.moka_buckets.specs.Listed.{listed_in}
 
--- the segment of a hash, of so many segments: each has as many hashes, in their order; of a power of two segments it is the top bits
+-- the segment of a hash, of so many segments: each has as many hashes, in their order; of a power
+-- of two segments it is the top bits
 abbrev pub segment_of : (count hash : ℕ) → ℕ
 segment_of count hash = hash * count / 2 ^ 64
 
@@ -44,7 +45,8 @@ module _ {K V : Type 0} where
   map_over eq hash parts q = option_map_or (λ p. map_at eq p q)
       (slice_get parts (segment_of (length parts) (hash q))) None
 
-  -- The segment of this number, of so many: it is well for the most keys that it had, which are no more than the table's, and has nodes of its own
+  -- The segment of this number, of so many: it is well for the most keys that it had, which are no
+  -- more than the table's, and has nodes of its own
   -- keys alone.
   pub record IsPart (eq : K → K → Bool) (hash : K → ℕ) (count first most i : ℕ) (p : Part K V) : Type 0 where
     pub placed : ArePlaced p.arrays
@@ -72,7 +74,7 @@ module _ {K V : Type 0} where
   abbrev pub left_over : (first : ℕ) → List (Part K V) → BucketCall K V → ℕ
   left_over first parts c =
       option_map_or (λ p. left_in first (peak_at p) (memory_at p) c.table)
-          (slice_get parts (segment_of (length parts) c.hash)) 0
+      (slice_get parts (segment_of (length parts) c.hash)) 0
 
   -- what a step of a call to these segments may rest on
   pub record CanGo (eq : K → K → Bool) (hash : K → ℕ) (parts : List (Part K V)) (first most len : ℕ)
@@ -90,12 +92,13 @@ module _ {K V : Type 0} where
     pub peak : new.peak ≡ peak_at old
     pub adds : Adds before.hash old.nodes.items new.nodes.items
 
-  -- And to all segments: it is undecided, or decides by the map, or without memory leaves all as it was. All other calls fit; those to other
+  -- And to all segments: it is undecided, or decides by the map, or without memory leaves all as it
+  -- was. All other calls fit; those to other
   -- segments have as much left as before.
   pub record GoesOver (eq : K → K → Bool) (hash : K → ℕ) (first : ℕ) (old : List (Part K V))
       (most len : ℕ) (before : BucketCall K V)
       (gives : Result (TableTurn K V) AllocError) (new : List (Part K V)) (all : ℕ)
-          (after : BucketCall K V) : Type 0 where
+      (after : BucketCall K V) : Type 0 where
     pub well : AreParts eq hash new first (max most all) all
     pub operation : after.operation ≡ before.operation
     pub moves : IfOk gives (λ t. Moves eq before.operation (map_over eq hash old) len t

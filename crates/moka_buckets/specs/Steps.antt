@@ -51,9 +51,9 @@ module _ {K V : Type 0} where
     pub table : after.table ≡ before.table
     pub grown : ((new ≡ old) × (after.node ≡ before.node))
         ⊎ ((key : K) × (stored : Stored V) × (stored_by before.operation ≡ Some (key, stored)) ×
-            (before.node ≡ None)
+        (before.node ≡ None)
         × (new ≡ old ++ record { key = key; stored = stored; hash = before.hash } ∷ []) ×
-            (after.node ≡ Some (length old)))
+        (after.node ≡ Some (length old)))
 
   -- each node that was made has this hash
   abbrev pub Adds : (hash : ℕ) → (old new : List (Node K V)) → Type 0
@@ -78,7 +78,8 @@ module _ {K V : Type 0} where
         RunsOn eq hash old nodes p kept other → RunsOn eq hash new nodes p kept other
     pub later : (keys : ℕ → Option K) → Agrees keys nodes → LaterMemory (same_by eq keys) old new
 
-  -- what a step of a call may rest on: hashes that equal keys share, a table that is well, and a node for the pair to be stored
+  -- what a step of a call may rest on: hashes that equal keys share, a table that is well, and a
+  -- node for the pair to be stored
   pub record CanStep (eq : K → K → Bool) (hash : K → ℕ) (m : Memory) (nodes : List (Node K V))
       (first peak : ℕ) (c : BucketCall K V) : Type 0 where
     pub respects : (x y : K) → eq x y ≡ true → hash x ≡ hash y
@@ -93,19 +94,20 @@ module _ {K V : Type 0} where
     pub well : IsWell eq hash m nodes first peak
     pub fits : FitsCall eq hash m nodes c
 
-  -- What a step does, with a node that it may have made: it is undecided, or decides by the map, or without memory leaves all as it was. The
+  -- What a step does, with a node that it may have made: it is undecided, or decides by the map, or
+  -- without memory leaves all as it was. The
   -- table stays well, and all other calls fit.
   pub record Done (eq : K → K → Bool) (hash : K → ℕ) (first peak : ℕ) (old : Memory)
       (nodes : List (Node K V)) (before : BucketCall K V)
       (gives : Result (TableTurn K V) AllocError) (new : Memory) (more_nodes : List (Node K V))
-          (after : BucketCall K V) : Type 0 where
+      (after : BucketCall K V) : Type 0 where
     pub well : (more : ℕ) → peak ≤ more → new.len ≤ more → IsWell eq hash new more_nodes first more
     pub operation : after.operation ≡ before.operation
     pub moves : IfOk gives (λ t. Moves eq before.operation (map_of eq old nodes) old.len t
         (map_of eq new more_nodes) new.len)
     pub going : IfOk gives (λ t. t ≡ turn.Going
         → FitsCall eq hash new more_nodes after ×
-            (left_in first peak new after.table < left_in first peak old before.table))
+        (left_in first peak new after.table < left_in first peak old before.table))
     pub others : (other : BucketCall K V) → FitsCall eq hash old nodes other →
         FitsCall eq hash new more_nodes other
     pub later : (keys : ℕ → Option K) → Agrees keys more_nodes → LaterMemory (same_by eq keys) old new

@@ -74,7 +74,8 @@ module _ {K V : Type 0} where
   abbrev pub map_of : (K → K → Bool) → Memory → List (Node K V) → Pairs K V
   map_of eq m nodes key = pair_at nodes (find (own_by eq (key_in nodes) key) (present_nodes m))
 
-  -- The segment is sound, and short for the most keys that it had; the count of keys is right. Of keys that are still to come nothing is said:
+  -- The segment is sound, and short for the most keys that it had; the count of keys is right. Of
+  -- keys that are still to come nothing is said:
   -- so it stays whatever nodes come.
   pub record IsWell (eq : K → K → Bool) (hash : K → ℕ) (m : Memory) (nodes : List (Node K V))
       (first peak : ℕ) : Type 0 where

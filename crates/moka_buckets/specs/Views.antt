@@ -16,7 +16,8 @@ use Rattle.moka_buckets.specs.declared.keys_call.KeysCall.{KeysCall}
 use Rattle.moka_buckets.specs.Keys.{FitsKeys, ListsIt, CoversIt, left_keys}
 use Rattle.moka_buckets.specs.Parts.{memory_at, map_over, segment_of, FitsParts, left_over}
 
--- segments, the hasher, how long the first arrays were, the most keys before the last step, and how many there are
+-- segments, the hasher, how long the first arrays were, the most keys before the last step, and how
+-- many there are
 pub record Buckets (K V S : Type 0) : Type 0 where
   pub parts : List (Part K V)
   pub hasher : S

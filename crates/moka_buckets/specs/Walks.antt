@@ -49,7 +49,8 @@ module _ {K V : Type 0} where
   abbrev pub AreNodes : List (Node K V) → List ℕ → Type 0
   AreNodes nodes ns = (x n : ℕ) → slice_get ns x ≡ Some n → IsSome (key_in nodes n)
 
-  -- A call that goes on, whatever keys are still to come: it has listed no key twice, and none but those of buckets that it passed.
+  -- A call that goes on, whatever keys are still to come: it has listed no key twice, and none but
+  -- those of buckets that it passed.
   pub record Walks (eq : K → K → Bool) (hash : K → ℕ) (m : Memory) (nodes : List (Node K V))
       (c : Call) : Type 0 where
     pub kind : c.kind ≡ kind.Keys
@@ -78,9 +79,10 @@ module _ {K V : Type 0} where
   AreOfMap eq m nodes before after =
       (x n : ℕ) → slice_get after x ≡ Some n →
       ((y : ℕ) × (slice_get before y ≡ Some n)) ⊎
-          ((key : K) → key_in nodes n ≡ Some key → IsSome (map_of eq m nodes key))
+      ((key : K) → key_in nodes n ≡ Some key → IsSome (map_of eq m nodes key))
 
-  -- What one step of the call does: the map stays, and so does the count of keys; it is nearer to its end, or has ended. What it lists anew was in the
+  -- What one step of the call does: the map stays, and so does the count of keys; it is nearer to
+  -- its end, or has ended. What it lists anew was in the
   -- map, and a key that was there it goes on to cover. Operations on the segment still fit.
   pub record Lead (eq : K → K → Bool) (hash : K → ℕ) (nodes : List (Node K V)) (first peak : ℕ)
       (old : Memory) (before : Step)
