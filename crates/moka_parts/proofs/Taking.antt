@@ -1,0 +1,61 @@
+-- What a taking out answers.
+use Rattle.std.proofs.Common.{◌≡◌, Bool, true, false, List, Option, None, Some, MatchOption, refl, sym, subst, ◌∙◌}
+use Rattle.std.proofs.lemmas.Bool.{true≢false, false≢true}
+use Rattle.std.specs.Prelude.{⊤, Result, Ok, Err, IfOk, OnOk, OnErr, IsErr}
+use Rattle.std.specs.Option.{option_map}
+use Rattle.std.proofs.lemmas.Result.{IfOk-weaker}
+use denote.Ref.{Bor}
+use denote.Param.Members.{Once}
+use Rattle.moka_parts.specs.declared.note.Note.{Note}
+use Rattle.moka_parts.specs.Calls.{Judged, Stays, TakesOut}
+use Rattle.moka_parts.specs.Changes.{change_of}
+use Rattle.moka_parts.specs.Logs.{changes_in}
+use Rattle.moka_parts.specs.Tables.{Adds}
+use Rattle.moka_parts.proofs.Histories.{adds}
+
+module _ {P : Type 0} where
+  -- where nothing is found or the condition fails, nothing goes
+  pub stays : (J : P → Type 0) (b : Bool) (o now : Option P) → o ≡ now → MatchOption o (b ≡ false) J → MatchOption now ⊤ J
+  stays J b o now same h =
+      let by : (o : Option P) → MatchOption o (b ≡ false) J → MatchOption o ⊤ J = elim [ None ↦ (λ h. tt) | Some p ↦ (λ h. h) ] in
+      subst (λ (o : Option P). MatchOption o ⊤ J) same (by o h)
+
+  -- where the condition holds, what is found is taken out
+  pub takes : (J X : P → Type 0) (N : Type 0) (E : Option P → Type 0) (o taken : Option P) → taken ≡ o → MatchOption o (true ≡ false) J → E o
+      → ((p : P) → E (Some p) → J p → X p) → MatchOption taken N X
+  takes J X N E o taken same h e to =
+      let by : (o : Option P) → MatchOption o (true ≡ false) J → E o → MatchOption o N X = elim [ None ↦ (λ h e. absurd (true≢false h)) | Some p ↦ (λ h e. to p e h) ] in
+      subst (λ (o : Option P). MatchOption o N X) (sym same) (by o h e)
+
+-- what a taking out answers, as the caller's seat shows it
+pub taken_seen : {F K V S E : Type 0} (g : Once F (Bor K × (Bor V × Unit {0})) Bool) (condition : F) (key : K) (found : Option (K × V)) (old new : List (Note K V S))
+    (r : Result (Option (K × V)) E) → IfOk r (λ taken. TakesOut g condition key found taken old new)
+    → IfOk r (λ taken. MatchOption taken (Stays g condition found) (λ p. Adds (change_of key None (Some p)) (changes_in old) (changes_in new) × Judged g condition p true))
+taken_seen {F} {K} {V} {S} {E} g condition key found old new r h =
+    IfOk-weaker r (λ taken. TakesOut g condition key found taken old new) _ by h
+  where
+    by : (taken : Option (K × V)) → TakesOut g condition key found taken old new
+        → MatchOption taken (Stays g condition found) (λ p. Adds (change_of key None (Some p)) (changes_in old) (changes_in new) × Judged g condition p true)
+    by None h = h
+    by (Some p) h = (adds (change_of key None (Some p)) old new h.0, h.1)
+
+-- a pair without a value is none
+pub no_value : {K V : Type 0} (o : Option (K × V)) → option_map (λ p. p.1) o ≡ None → o ≡ None
+no_value None h = refl
+no_value (Some p) h = absurd (cc)
+
+-- where nothing stood, what was put is the change of an absent key
+pub absent_put : {P V E A : Type 0} (put : Result (Option P) E) (answer : Result (Option V) A) (Ends : Option P → Type 0) (X : V → Type 0) (now : Option P)
+    → OnOk put (answer ≡ Ok None) → OnErr put (IsErr answer) → IfOk put Ends → IfOk put (λ b. b ≡ now) → now ≡ None
+    → IfOk answer (λ there. MatchOption there (Ends None) X)
+absent_put {P} {V} {E} {A} (Ok b) answer Ends X now ok err ends was none =
+    let e : Ends None = subst Ends (was ∙ none) ends in
+    subst (λ (r : Result (Option V) A). IfOk r (λ there. MatchOption there (Ends None) X)) (sym ok) e
+absent_put (Err x) (Ok there) Ends X now ok err ends was none = absurd (false≢true err)
+absent_put (Err x) (Err y) Ends X now ok err ends was none = tt
+
+-- an answer of `put_if_absent`, as the caller's seat shows it
+pub put_seen : {V E : Type 0} (r : Result (Option V) E) (A B : Type 0) (X : V → Type 0) → (A → B) → IfOk r (λ there. MatchOption there A X) → IfOk r (λ there. MatchOption there B X)
+put_seen (Ok None) A B X to h = to h
+put_seen (Ok (Some v)) A B X to h = h
+put_seen (Err e) A B X to h = tt

@@ -1,0 +1,12 @@
+use Rattle.std.proofs.Common.{Some}
+use Rattle.std.proofs.lemmas.Result.{IfOk-weaker}
+use Rattle.moka_parts.specs.Changes.{change_of}
+use Rattle.moka_parts.proofs.Histories.{changes_in-prefix, adds}
+use Rattle.moka_parts.proofs.named.NamedParts.replace_in.Goals as goal
+
+pub returns-clause-grows : goal.returns-clause-grows
+returns-clause-grows g c = rw (← c.seat.view_is) (changes_in-prefix c.seat.inside.front c.put.new.me c.put.ensures.grows)
+
+pub returns-clause-puts : goal.returns-clause-puts
+returns-clause-puts g c = rw (← c.seat.view_is)
+    (IfOk-weaker c.put.result _ _ (λ before e. adds (change_of c.args.key (Some c.args.value) before) c.seat.inside.front c.put.new.me e) c.put.ensures.ends)

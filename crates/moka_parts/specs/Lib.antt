@@ -1,0 +1,9 @@
+pub mod Changes
+pub mod Hashing
+pub mod Pairs
+pub mod Logs
+pub mod Rules
+pub mod Asks
+pub mod Parts
+pub mod Calls
+pub mod Tables

@@ -1,0 +1,141 @@
+//! What lies under the lock of a part whose history has no name.
+ghost use Rattle.std.specs.Prelude.{◌≡◌, true, is_some, None, Some, IfNone, IfSome, MatchOption};
+ghost use Rattle.std.specs.Prelude.{IfOk, OnOk, OnErr};
+ghost use denote.Ref.{Bor};
+ghost use Rattle.std.specs.List.{IsDistinct};
+ghost use Rattle.std.specs.Option.{option_map};
+ghost use Rattle.std.specs.Set.{is_member};
+ghost use Rattle.moka_parts.specs.Calls.{Judged, Stays};
+ghost use Rattle.moka_parts.specs.Pairs.{lent, pair_in, PutsAt, SamePairs};
+
+use crate::part::{copied, holds_of};
+use crate::{Fact, pairs};
+use moka_values::Exact;
+use std::alloc::{AllocError, Global};
+use std::collections::HashMap;
+use std::hash::{BuildHasher, Hash};
+use std::marker::{Model, PhantomData};
+
+/// The map of a part, whose pairs meet the fact. Contracts see its entries.
+#[derive(Drop)]
+pub(crate) struct Bare<K: Eq + Hash, V, S: BuildHasher, F: Fact<K, V>> {
+    map: HashMap<K, V, S>,
+    of: PhantomData<F>,
+}
+
+impl<K: Eq + Hash, V, S: BuildHasher, F: Fact<K, V>> Model for Bare<K, V, S, F> {
+    ghost use Rattle.std.specs.Prelude.{List};
+    ghost use Rattle.moka_parts.specs.Pairs.{MeetsFact};
+
+    ghost Value = { List (K × V) };
+
+    ghost view = { λ b. b.map.entries };
+
+    ghost invariant = { λ b. MeetsFact K.eq F.holds b.map.entries };
+}
+
+impl<K: Eq + Hash, V, S: BuildHasher, F: Fact<K, V>> Bare<K, V, S, F> {
+    /// A part without pairs.
+    pub(crate) fn new(alloc: Global, hasher: S) -> Self {
+        Bare {
+            map: HashMap::with_hasher(alloc, hasher),
+            of: PhantomData,
+        }
+    }
+
+    /// Lends the pair at the key.
+    pub(crate) fn find(&self, key: &K) -> Option<(&K, &V)>
+        ensures pair { lent result ≡ pair_in K.eq self.now key.now }
+        ensures fact { IfSome result (λ p. F.holds key.now p.1.now) }
+    {
+        pairs::find(&self.map, key)
+    }
+
+    /// Puts the pair, and answers the one that stood there. Where memory is wanting the pair comes
+    /// back, and the map is as before.
+    pub(crate) fn put(&mut self, key: K, value: V) -> Result<Option<(K, V)>, (K, V)>
+    where
+        K: Drop,
+        V: Drop,
+        requires fact { F.holds key value }
+        ensures pair { IfOk result (λ before. before ≡ pair_in K.eq self.old key) }
+        ensures map { OnOk result (PutsAt K.eq key (Some (key, value)) self.old self.new) }
+        ensures err { OnErr result (SamePairs K.eq self.old self.new) }
+        ensures fact { IfOk result (λ before. IfSome before (λ p. F.holds key p.1)) }
+    {
+        if pairs::make_room(&mut self.map).is_err() {
+            return Err((key, value));
+        }
+        let before = pairs::take(&mut self.map, &key);
+        pairs::put(&mut self.map, key, value);
+        Ok(before)
+    }
+
+    /// Puts the pair where none stands at the key: answers None, or a copy of the value that stands
+    /// there. A pair that isn't put comes back beside the answer. Where memory is wanting the map
+    /// is as before.
+    pub(crate) fn put_if_absent(
+        &mut self,
+        key: K,
+        value: V,
+    ) -> (Result<Option<V>, AllocError>, Option<(K, V)>)
+    where
+        K: Drop,
+        V: Exact + Drop,
+        requires fact { F.holds key value }
+        ensures answers { IfOk result.0 (λ there. MatchOption there
+            ((pair_in K.eq self.old key ≡ None)
+            × PutsAt K.eq key (Some (key, value)) self.old self.new)
+            (λ v. (option_map (λ p. p.1) (pair_in K.eq self.old key) ≡ Some v)
+            × SamePairs K.eq self.old self.new)) }
+        ensures err { OnErr result.0 (SamePairs K.eq self.old self.new) }
+        ensures fact { IfOk result.0 (λ there. IfSome there (F.holds key)) }
+    {
+        if let Some((_, there)) = pairs::find(&self.map, &key) {
+            return (copied(there), Some((key, value)));
+        }
+        if pairs::make_room(&mut self.map).is_err() {
+            return (Err(AllocError), Some((key, value)));
+        }
+        pairs::put(&mut self.map, key, value);
+        (Ok(None), None)
+    }
+
+    /// Takes the pair at the key out, where the condition holds of it.
+    pub(crate) fn take_out_if<C: FnOnce(&K, &V) -> bool>(
+        &mut self,
+        key: &K,
+        condition: C,
+    ) -> Option<(K, V)>
+        requires callable { (k : Bor K) (v : Bor V) → F.holds key.now v.now
+            → C.pre condition k v }
+        ensures none { IfNone result (Stays C.FnOnce condition (pair_in K.eq self.old key.now)
+            × SamePairs K.eq self.old self.new) }
+        ensures some { IfSome result (λ p. (pair_in K.eq self.old key.now ≡ Some p)
+            × PutsAt K.eq key.now None self.old self.new × Judged C.FnOnce condition p true) }
+        ensures fact { IfSome result (λ p. F.holds key.now p.1) }
+    {
+        if !holds_of(condition, pairs::find(&self.map, key)) {
+            return None;
+        }
+        pairs::take(&mut self.map, key)
+    }
+
+    /// Copies of the keys.
+    pub(crate) fn keys(&self, alloc: Global) -> Result<Vec<K>, AllocError>
+    where
+        K: Exact + Drop,
+        ensures distinct { IfOk result (λ keys. IsDistinct K.eq keys.items) }
+        ensures listed { IfOk result (λ keys. (q : K)
+            → is_member K.eq keys.items q ≡ is_some (pair_in K.eq self.now q)) }
+        ensures fact { IfOk result (λ keys. (q : K) → is_member K.eq keys.items q ≡ true
+            → (v : V) × F.holds q v) }
+    {
+        pairs::keys(alloc, &self.map)
+    }
+
+    /// How many pairs there are.
+    pub(crate) fn len(&self) -> usize {
+        self.map.len()
+    }
+}

@@ -1,0 +1,10 @@
+//! One change of a table.
+
+/// What a history has of one change: the key, the value that was put, or None where the pair was
+/// taken out, and the pair that stood there before. The code keeps no list of them.
+#[derive(Drop)]
+pub struct Change<K, V> {
+    pub key: K,
+    pub put: Option<V>,
+    pub before: Option<(K, V)>,
+}

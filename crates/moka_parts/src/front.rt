@@ -1,0 +1,117 @@
+//! A beginning of a history that was seen.
+ghost use Rattle.std.specs.Prelude.{◌≡◌, ◌+◌, ◌<◌, ◌^◌, [], ◌∷◌};
+ghost use Rattle.moka_parts.specs.declared.note.Note.TheVariants.{Opened};
+ghost use Rattle.std.specs.Bool.{OnTrue};
+ghost use mathlib.Core.List.{IsPrefix};
+ghost use Rattle.moka_parts.specs.Hashing.{part_in};
+ghost use Rattle.moka_parts.specs.Logs.{Counts, IsLog, Stands, Grows};
+ghost use Rattle.moka_parts.specs.Rules.{word_of};
+ghost use Rattle.moka_parts.specs.Asks.{asked_change};
+
+use crate::Note;
+use crate::asked::Asked;
+use crate::book::{Add, Law, Look, Naming, Nothing};
+use logbook::{Offer, Seen, Word};
+use std::hash::{BuildHasher, Hash};
+use std::marker::{Model, PhantomData};
+
+/// A beginning of the history of the book that J names. Contracts see it as the book's log.
+#[derive(Drop)]
+pub(crate) struct Front<K: Eq + Hash, V, S: BuildHasher, J: Naming> {
+    seen: Seen<Note<K, V, S>, u64, Law>,
+    of: PhantomData<J>,
+}
+
+impl<K: Eq + Hash, V, S: BuildHasher, J: Naming> Model for Front<K, V, S, J> {
+    ghost use Rattle.std.specs.Prelude.{◌≡◌, List};
+    ghost use Rattle.moka_parts.specs.declared.note.Note.{Note};
+    ghost use Rattle.moka_parts.specs.Logs.{IsLog};
+
+    ghost Value = { List (Note K V S) };
+
+    ghost view = { λ f. f.seen.log };
+
+    ghost invariant = { λ f. (f.seen.book ≡ J.book) × IsLog K.eq f.seen.log };
+}
+
+impl<K: Eq + Hash, V, S: BuildHasher, J: Naming> Front<K, V, S, J> {
+    /// What a book was opened with was seen.
+    pub(crate) fn of(seen: Seen<Note<K, V, S>, u64, Law>) -> Front<K, V, S, J>
+        requires book { seen.book ≡ J.book }
+        requires log { (s : S) × (seen.log ≡ Opened s ∷ []) }
+        ensures { result ≡ seen.log }
+    {
+        Front {
+            seen,
+            of: PhantomData,
+        }
+    }
+
+    /// A copy.
+    pub(crate) fn again(&self) -> Front<K, V, S, J>
+        ensures same { result ≡ self.now }
+        ensures log { IsLog K.eq result }
+    {
+        Front {
+            seen: self.seen.again(),
+            of: PhantomData,
+        }
+    }
+
+    /// Sees what either has seen.
+    pub(crate) fn learn(&mut self, other: &Front<K, V, S, J>)
+        ensures this { IsPrefix self.old self.new }
+        ensures other { IsPrefix other.now self.new }
+        ensures log { IsLog K.eq self.new }
+    {
+        self.seen.learn(&other.seen);
+    }
+
+    /// Sees the history as it is, and answers how many changes of the part it has.
+    pub(crate) fn look(&mut self, word: &Word<Note<K, V, S>, u64, Law>, number: usize) -> u64
+        requires word { (word.now ≡ word_of J.book number) × (number < 64) }
+        ensures grows { IsPrefix self.old self.new }
+        ensures log { IsLog K.eq self.new }
+        ensures counts { (s : S) × Counts K.eq
+            (part_in S.BuildHasher S.Hasher.Hasher K.hash_input) s number result self.new }
+    {
+        let mut offer: Offer<Note<K, V, S>, u64, Law, Nothing> = self
+            .seen
+            .plain::<Nothing, (), Look>(&());
+        word.load::<Look, Nothing>(&mut self.seen, &mut offer)
+    }
+
+    /// Adds the change to a history that begins with what was seen. Answers false where the part
+    /// has another count of changes; then nothing is added.
+    pub(crate) fn add(
+        &mut self,
+        word: &Word<Note<K, V, S>, u64, Law>,
+        number: usize,
+        count: u64,
+        asked: &Asked<'_, K, V>,
+    ) -> bool
+        requires word { (word.now ≡ word_of J.book number) × (number < 64) }
+        requires room { count + 1 < 2 ^ 64 }
+        requires stands { (s : S) × Stands K.eq
+            (part_in S.BuildHasher S.Hasher.Hasher K.hash_input) s number count
+            (asked_change asked.now) self.old }
+        ensures log { IsLog K.eq self.new }
+        ensures grows { IsPrefix self.old self.new }
+        ensures added { OnTrue result (Grows K.eq
+            (part_in S.BuildHasher S.Hasher.Hasher K.hash_input) number (count + 1)
+            (asked_change asked.now) self.old self.new) }
+    {
+        let mut offer: Offer<Note<K, V, S>, u64, Law, Nothing> = self
+            .seen
+            .plain::<Nothing, Asked<'_, K, V>, Add>(asked);
+        let mut pen = self.seen.no_pen();
+        let found = word.compare_exchange::<Add, Nothing>(
+            count,
+            count + 1,
+            &mut self.seen,
+            &mut offer,
+            &mut pen,
+        );
+        found == count
+    }
+}
