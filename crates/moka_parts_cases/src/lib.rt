@@ -1,0 +1,13 @@
+//! Worked cases of `Parts` and `NamedParts`: what no clause of them says.
+#![tactic(auto)]
+
+#[cfg(test)]
+mod alone;
+#[cfg(test)]
+mod memory;
+#[cfg(test)]
+mod seats;
+#[cfg(test)]
+mod together;
+#[cfg(test)]
+mod zeros;
