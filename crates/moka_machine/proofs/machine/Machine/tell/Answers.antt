@@ -1,5 +1,5 @@
 -- The ask is answered, or none is open that takes the answer.
-use Rattle.std.proofs.Common.{◌≡◌, Bool, true, false, cond, refl, sym, subst, ◌∙◌}
+use Rattle.std.proofs.Common.{◌≡◌, Bool, true, false, cond, refl, sym, subst, ◌∙◌, rules}
 use Rattle.moka_hist.specs.Run.{with_desk}
 use Rattle.moka_hist.specs.Telling.{is_asked, told}
 use Rattle.moka_hist.specs.declared.events.Told.{Told}
@@ -16,7 +16,7 @@ returns-then-tell_desk-clause-serves g c = λ s h reached.
     let w = s.world.desk in
     let n = c.args.call in
     let d = c.tell_desk.new.self.layers.desk in
-    let same : c.in_ok-answer.answer ≡ c.args.answer.now = c.in_ok-answer.ensures.same in
+    let same : c.in_ok-answer.answer ≡ c.args.answer.now = search (rules, c.in_ok-answer.ensures.cases, g.met.V.Exact.exact, g.met.E.Exact.exact) in
     let e : is_asked w n c.args.answer.now ≡ true =
     subst (λ (a : Told g.row.V.Denot g.row.E.Denot). is_asked w n a ≡ true) same (sym (c.tell_desk.ensures.finds w h.world.desk) ∙ c.if-tell_desk.true) in
     let made : desk.StandsFor eq d (told w n c.in_ok-answer.answer) =
@@ -34,7 +34,7 @@ returns-else-tell_desk-clause-serves g c = λ s h reached.
     let w = s.world.desk in
     let n = c.args.call in
     let d = c.tell_desk.new.self.layers.desk in
-    let same : c.in_ok-answer.answer ≡ c.args.answer.now = c.in_ok-answer.ensures.same in
+    let same : c.in_ok-answer.answer ≡ c.args.answer.now = search (rules, c.in_ok-answer.ensures.cases, g.met.V.Exact.exact, g.met.E.Exact.exact) in
     let e : is_asked w n c.args.answer.now ≡ false =
     subst (λ (a : Told g.row.V.Denot g.row.E.Denot). is_asked w n a ≡ false) same (sym (c.tell_desk.ensures.finds w h.world.desk) ∙ c.if-tell_desk.false) in
     let stands : desk.StandsFor eq d w =
