@@ -1,0 +1,9 @@
+//! What one whole poll of a call does, in a cache without a listener: its reply, what the call has
+//! still to do, and the table and the desk afterwards. No run need be at hand.
+//!
+//! Each law is the contract of a function that does nothing. To call it is to cite the law.
+#![tactic(auto)]
+
+mod gets;
+
+pub use gets::get_poll;
