@@ -1,2 +1,5 @@
 pub mod Phases
+pub mod Posting
+pub mod Putting
 pub mod Getting
+pub mod Inserting

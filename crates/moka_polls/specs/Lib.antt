@@ -1,2 +1,3 @@
 pub mod Polls
 pub mod Gets
+pub mod Writes

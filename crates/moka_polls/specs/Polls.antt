@@ -1,10 +1,11 @@
 -- One whole poll, in a cache without a listener: the states that the laws speak of, and what a poll
 -- leaves.
-use Rattle.std.specs.Prelude.{◌≡◌, ℕ, false, [], Option, Some, None}
+use Rattle.std.specs.Prelude.{◌≡◌, ℕ, Bool, false, [], Option, Some, None}
 use Rattle.std.specs.Option.{option_map}
 use Rattle.moka_hist.specs.Finite.{put_at}
 use Rattle.moka_hist.specs.Plan.{is_disabled}
 use Rattle.moka_hist.specs.State.{Call, DeskPart, State, TablePart}
+use Rattle.moka_hist.specs.Tables.{written}
 use Rattle.moka_hist.specs.Run.{fresh_call}
 use Rattle.moka_hist.specs.declared.rules.Rules.{Rules}
 use Rattle.moka_hist.specs.declared.events.Start.{Start}
@@ -29,6 +30,12 @@ module _ {K V E : Type 0} where
   -- the value that is stored under a key
   abbrev pub value_at : State K V E → K → Option V
   value_at s key = option_map (λ p. p.1.value) (s.world.table.stored key)
+
+  -- the table once the call of this number has stored the value under the key: its number is the
+  -- record's stamp, and the clock the moment
+  abbrev pub stored_now : (K → K → Bool) → State K V E → ℕ → K → V → TablePart K V
+  stored_now eq s n key value = written eq n s.world.table key
+      (record { value = value; stamp = n; modified = s.world.desk.clock })
 
   -- The desk but for writes on their way and for when records were last accessed: what calls hold,
   -- the log, what was applied, and how many of those stand.

@@ -5,5 +5,7 @@
 #![tactic(auto)]
 
 mod gets;
+mod writes;
 
 pub use gets::get_poll;
+pub use writes::insert_poll;

@@ -1,0 +1,19 @@
+-- What the poll of an insert does.
+use Rattle.std.specs.Prelude.{ℕ, Bool, None}
+use Rattle.moka_hist.specs.State.{State}
+use Rattle.moka_hist.specs.Tables.{written}
+use Rattle.moka_hist.specs.Run.{Any, Happens}
+use Rattle.moka_hist.specs.declared.events.Event.TheVariants as event
+use Rattle.moka_hist.specs.declared.events.Start.TheVariants as start
+use Rattle.moka_hist.specs.declared.replies.Answer.TheVariants as answer
+use Rattle.moka_hist.specs.declared.replies.Reply.{Reply}
+use Rattle.moka_hist.specs.declared.replies.Reply.TheVariants as reply
+use Rattle.moka_polls.specs.Polls.{IsQuiet, IsBegun, stored_now, PollGives}
+
+-- an insert is done, and is gone; its value is stored under its key as of now, and the desk stays
+abbrev pub InsertPoll : (K V E : Type 0) → (K → K → Bool) → Type 0
+InsertPoll K V E eq =
+    (s new : State K V E) (n : ℕ) (key : K) (value : V) (r : Reply K V E) →
+    IsQuiet s.world.desk → IsBegun s n (start.Insert key value) →
+    Happens eq Any s (event.Poll n) r new →
+    PollGives s n (reply.Answer answer.Done) None (stored_now eq s n key value) s.world.desk r new

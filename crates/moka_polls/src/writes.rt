@@ -1,0 +1,10 @@
+//! What the polls of calls that store a value do.
+
+ghost use Rattle.moka_polls.specs.Writes.{InsertPoll};
+
+/// The first poll of an insert answers that it is done. The value is stored under the call's key,
+/// with the call's number as its stamp and the clock as its moment. The call is gone, and what the
+/// desk keeps of calls stays as it was.
+pub fn insert_poll<K: Eq, V, E>()
+    ensures done { InsertPoll K V E K.eq }
+{}
