@@ -1,5 +1,9 @@
 pub mod Phases
 pub mod Posting
 pub mod Putting
+pub mod Looking
 pub mod Getting
 pub mod Inserting
+pub mod Loading
+pub mod Telling
+pub mod Waiting

@@ -16,7 +16,7 @@ use Rattle.moka_hist.specs.declared.replies.Reply.TheVariants as reply
 use Rattle.moka_laws.proofs.Counting.{some_same, put_here}
 use Rattle.moka_laws.proofs.StepCases.{OnStep, step_cases}
 use Rattle.moka_laws.proofs.Outcomes.{outcomes, put_same}
-use Rattle.moka_polls.specs.Polls.{PollGives, without_writes}
+use Rattle.moka_polls.specs.Polls.{HasToDo, PollGives, without_writes}
 
 -- what was put at a number is gone once another is put there
 put_twice : {A : Type 0} (f : ℕ → A) (n : ℕ) (v w : A) → put_at (put_at f n v) n w ≡ put_at f n w
@@ -58,6 +58,11 @@ module _ {K V E : Type 0} where
   -- the call, so far along its plan
   abbrev pub along : Call K V E → Mode → List (Item K V E) → Call K V E
   along c mode p = record c { mode = mode; plan = p }
+
+-- the live call is this far along
+pub to_do : {K V E : Type 0} (s : State K V E) (n : ℕ) (c : Call K V E) (p : List (Item K V E)) →
+    HasToDo s n c p → s.calls n ≡ Some (along c c.mode p)
+to_do s n c p h = h.live ∙ ap (λ q. Some (along c c.mode q)) h.plan
 
 module _ {K V E : Type 0} (c : Call K V E) (Phase : World K V E → List (Item K V E) → Type 0)
     (end : End K V E) where

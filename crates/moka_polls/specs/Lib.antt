@@ -1,3 +1,4 @@
 pub mod Polls
 pub mod Gets
 pub mod Writes
+pub mod Loads

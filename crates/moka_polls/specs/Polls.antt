@@ -1,12 +1,14 @@
 -- One whole poll, in a cache without a listener: the states that the laws speak of, and what a poll
 -- leaves.
-use Rattle.std.specs.Prelude.{◌≡◌, ℕ, Bool, false, [], Option, Some, None}
-use Rattle.std.specs.Option.{option_map}
+use Rattle.std.specs.Prelude.{◌≡◌, ℕ, Bool, false, cond, List, [], Option, Some, None}
+use Rattle.std.specs.Option.{option_map, option_and_then}
 use Rattle.moka_hist.specs.Finite.{put_at}
-use Rattle.moka_hist.specs.Plan.{is_disabled}
+use Rattle.moka_hist.specs.Plan.{Item, is_disabled}
 use Rattle.moka_hist.specs.State.{Call, DeskPart, State, TablePart}
+use Rattle.moka_hist.specs.Visits.{is_seen}
 use Rattle.moka_hist.specs.Tables.{written}
 use Rattle.moka_hist.specs.Run.{fresh_call}
+use Rattle.moka_hist.specs.declared.records.Mode.TheVariants as mode
 use Rattle.moka_hist.specs.declared.rules.Rules.{Rules}
 use Rattle.moka_hist.specs.declared.events.Start.{Start}
 use Rattle.moka_hist.specs.declared.replies.Reply.{Reply}
@@ -27,9 +29,24 @@ module _ {K V E : Type 0} where
   abbrev pub IsBegun : State K V E → ℕ → Start K V → Type 0
   IsBegun s n start = s.calls n ≡ Some (fresh_call s.world.desk.rules start)
 
+  -- the live call c of this number has this still to do
+  pub record HasToDo (s : State K V E) (n : ℕ) (c : Call K V E) (todo : List (Item K V E))
+      : Type 0 where
+    pub live : s.calls n ≡ Some c
+    pub plan : c.plan ≡ todo
+
+  -- the call as it waits, or waits to be told, with this still to do
+  abbrev pub parked : Call K V E → List (Item K V E) → Call K V E
+  parked c todo = record c { mode = mode.Parked; plan = todo }
+
   -- the value that is stored under a key
   abbrev pub value_at : State K V E → K → Option V
   value_at s key = option_map (λ p. p.1.value) (s.world.table.stored key)
+
+  -- the value that is stored under a key, where a call with this replace test, if any, sees it
+  abbrev pub seen_in : TablePart K V → DeskPart K V E → Option ℕ → K → Option V
+  seen_in t w replace key =
+      option_and_then (λ p. cond (is_seen w replace p.0 p.1) (Some p.1.value) None) (t.stored key)
 
   -- the table once the call of this number has stored the value under the key: its number is the
   -- record's stamp, and the clock the moment

@@ -5,7 +5,9 @@
 #![tactic(auto)]
 
 mod gets;
+mod loads;
 mod writes;
 
 pub use gets::get_poll;
+pub use loads::{loads_poll, told_poll, waits_poll};
 pub use writes::insert_poll;
