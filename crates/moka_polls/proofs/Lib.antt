@@ -7,3 +7,6 @@ pub mod Inserting
 pub mod Loading
 pub mod Telling
 pub mod Waiting
+pub mod Taking
+pub mod Removing
+pub mod Evicting

@@ -2,3 +2,4 @@ pub mod Polls
 pub mod Gets
 pub mod Writes
 pub mod Loads
+pub mod Removals

@@ -6,8 +6,10 @@
 
 mod gets;
 mod loads;
+mod removals;
 mod writes;
 
 pub use gets::get_poll;
 pub use loads::{loads_poll, told_poll, waits_poll};
+pub use removals::{evict_poll, invalidate_poll, remove_poll};
 pub use writes::insert_poll;
