@@ -22,7 +22,7 @@ use Rattle.moka_hist.specs.declared.rules.Cause.{Cause}
 use Rattle.moka_laws.proofs.Outcomes.{outcomes, done}
 use Rattle.moka_polls.specs.Polls.{IsQuiet, without_writes}
 use Rattle.moka_polls.specs.Removals.{EvictPoll, has_to_leave}
-use Rattle.moka_polls.proofs.Phases.{IsAt, End, Goes, Steps, along, on, stops, poll_gives}
+use Rattle.moka_polls.proofs.Phases.{IsAt, End, Ends, Goes, Steps, along, on, stops, poll_gives}
 use Rattle.moka_polls.proofs.Taking.{Takes, Stamps, out_of, takes_steps}
 
 -- the world has just this table and this desk
@@ -87,9 +87,9 @@ module _ {K V E : Type 0} (eq : K → K → Bool) (s : State K V E) (n : ℕ) (k
   -- the record stays
   stays : chosen ≡ false → (w : World K V E) (b : Call K V E) →
       b.rules.listener ≡ false → IsAsIt t s.world.desk w →
-      Goes Begun Phase end w (goes b (kept_rest b.rules.listener))
-  stays is w b unheard at = subst (λ l. Goes Begun Phase end w (goes b (kept_rest l))) (sym unheard)
-      (stops Begun Phase end _ _ (λ f. cc) (record {
+      Goes Begun Phase (Ends end) w (goes b (kept_rest b.rules.listener))
+  stays is w b unheard at = subst (λ l. Goes Begun Phase (Ends end) w (goes b (kept_rest l))) (sym unheard)
+      (stops Begun Phase (Ends end) _ _ (λ f. cc) (record {
         replies = ap replied (sym is);
         leaves = refl;
         found = ends false is w (record { table = at.table; desk = ap without_writes at.desk });
@@ -99,18 +99,18 @@ module _ {K V E : Type 0} (eq : K → K → Bool) (s : State K V E) (n : ℕ) (k
   chooses : (there : K) (found : Stored V) → t.stored key ≡ Some (there, found) → (b : Bool) →
       (found.stamp == stamp) ≡ b → (w : World K V E) (m : Mode) (p : List (Item K V E)) →
       IsAsIt t s.world.desk w →
-      Goes Begun Phase end w (chosen_or_not (along Begun m p) b key stamp cause there found)
+      Goes Begun Phase (Ends end) w (chosen_or_not (along Begun m p) b key stamp cause there found)
   chooses there found e true is w m p at =
-      on Begun Phase end w mode.Mid _ (Holds there found e is at)
+      on Begun Phase (Ends end) w mode.Mid _ (Holds there found e is at)
   chooses there found e false is w m p at =
       stays (ap chosen_of e ∙ ap (λ b. b && holds s.world.desk found) is) w (along Begun m p)
       quiet.plain.unheard at
 
-  steps : Steps Begun Phase end eq n
+  steps : Steps Begun Phase (Ends end) eq n
   steps w m p (Seeks at) =
-      outcomes eq (Goes Begun Phase end) w n (along Begun m p)
+      outcomes eq (Goes Begun Phase (Ends end)) w n (along Begun m p)
       (plan.Get (plan.To_evict key stamp cause) key) [] (
-        λ more. on Begun Phase end _ mode.Mid _
+        λ more. on Begun Phase (Ends end) _ mode.Mid _
             (Seeks (record { table = at.table; desk = at.desk })),
         λ none. stays (ap chosen_of (here ∙ none)) (done eq w n) (along Begun m p)
             quiet.plain.unheard (record { table = at.table; desk = at.desk }),
@@ -121,9 +121,9 @@ module _ {K V E : Type 0} (eq : K → K → Bool) (s : State K V E) (n : ℕ) (k
       here : t.stored key ≡ w.table.stored key
       here = sym (ap (λ v. v.stored key) at.table)
   steps w m p (Holds there found e is at) =
-      outcomes eq (Goes Begun Phase end) w n (along Begun m p)
+      outcomes eq (Goes Begun Phase (Ends end)) w n (along Begun m p)
       (plan.Holds key stamp cause there found) [] (
-        λ leaves. on Begun Phase end w mode.Mid _ (Taking there found e is (here true leaves) _
+        λ leaves. on Begun Phase (Ends end) w mode.Mid _ (Taking there found e is (here true leaves) _
             (Stamps (record { table = at.table; desk = ap without_writes at.desk }))),
         λ remains. stays (here false remains) w (along Begun m p) quiet.plain.unheard at,
       )
@@ -132,10 +132,10 @@ module _ {K V E : Type 0} (eq : K → K → Bool) (s : State K V E) (n : ℕ) (k
       here b it = ap chosen_of e ∙ ap (λ v. v && holds s.world.desk found) is ∙
           sym (ap (λ d. holds d found) at.desk) ∙ it
   steps w m p (Taking there found e is leaves q takes) =
-      takes_steps eq n Begun Phase end t s.world.desk quiet.free quiet.owes quiet.plain.unheard
+      takes_steps eq n Begun Phase (Ends end) t s.world.desk quiet.free quiet.owes quiet.plain.unheard
       removal key (λ v r i. Taking there found e is leaves r i)
       (λ v k r none at. absurd (cc out))
-      (λ v k r other old some at. stops Begun Phase end _ _ (λ f. cc) (record {
+      (λ v k r other old some at. stops Begun Phase (Ends end) _ _ (λ f. cc) (record {
         replies = ap replied (sym leaves);
         leaves = refl;
         found = ends true leaves v at;

@@ -14,7 +14,7 @@ use Rattle.moka_hist.specs.declared.replies.Reply.{Reply}
 use Rattle.moka_hist.specs.declared.replies.Reply.TheVariants as reply
 use Rattle.moka_polls.specs.Polls.{IsQuiet, IsBegun, PollGives, value_at}
 use Rattle.moka_polls.specs.Gets.{GetPoll}
-use Rattle.moka_polls.proofs.Phases.{End, Steps, stops, poll_gives}
+use Rattle.moka_polls.proofs.Phases.{End, Ends, Steps, stops, poll_gives}
 use Rattle.moka_polls.proofs.Looking.{Looks, Drains, looks_steps}
 
 module _ {K V E : Type 0} (eq : K → K → Bool) (s : State K V E) (n : ℕ) (key : K)
@@ -46,15 +46,15 @@ module _ {K V E : Type 0} (eq : K → K → Bool) (s : State K V E) (n : ℕ) (k
   sees None = refl
   sees (Some pair) = refl
 
-  steps : Steps Begun Phase end eq n
-  steps = looks_steps eq n Begun Phase end s.world.table s.world.desk quiet.owes aim key
+  steps : Steps Begun Phase (Ends end) eq n
+  steps = looks_steps eq n Begun Phase (Ends end) s.world.table s.world.desk quiet.owes aim key
       (λ b there found. refl) (λ w p i. i)
-      (λ w m p none at. stops Begun Phase end _ _ (λ f. cc) (record {
+      (λ w m p none at. stops Begun Phase (Ends end) _ _ (λ f. cc) (record {
         replies = ap answers (sym none ∙ sees (s.world.table.stored key));
         leaves = refl;
         found = at;
       }))
-      (λ w m p there value some at. stops Begun Phase end _ _ (λ f. cc) (record {
+      (λ w m p there value some at. stops Begun Phase (Ends end) _ _ (λ f. cc) (record {
         replies = ap answers (sym some ∙ sees (s.world.table.stored key));
         leaves = refl;
         found = at;

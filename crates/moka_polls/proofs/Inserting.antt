@@ -12,7 +12,7 @@ use Rattle.moka_hist.specs.declared.replies.Reply.{Reply}
 use Rattle.moka_hist.specs.declared.replies.Reply.TheVariants as reply
 use Rattle.moka_polls.specs.Polls.{IsQuiet, IsBegun, PollGives, stored_now}
 use Rattle.moka_polls.specs.Writes.{InsertPoll}
-use Rattle.moka_polls.proofs.Phases.{End, Steps, stops, poll_gives}
+use Rattle.moka_polls.proofs.Phases.{End, Ends, Steps, stops, poll_gives}
 use Rattle.moka_polls.proofs.Putting.{Puts, Drains, plain_put, puts_steps}
 
 module _ {K V E : Type 0} (eq : K → K → Bool) (s : State K V E) (n : ℕ) (key : K) (value : V)
@@ -34,10 +34,10 @@ module _ {K V E : Type 0} (eq : K → K → Bool) (s : State K V E) (n : ℕ) (k
   abbrev Phase : World K V E → List (Item K V E) → Type 0
   Phase = Puts eq s.world.table s.world.desk n key value done
 
-  steps : Steps Begun Phase end eq n
-  steps = puts_steps eq n Begun Phase end s.world.table s.world.desk quiet.free quiet.owes
+  steps : Steps Begun Phase (Ends end) eq n
+  steps = puts_steps eq n Begun Phase (Ends end) s.world.table s.world.desk quiet.free quiet.owes
       quiet.plain.unheard key value done (λ w p i. i)
-      (λ w m p at. stops Begun Phase end _ _ (λ f. cc)
+      (λ w m p at. stops Begun Phase (Ends end) _ _ (λ f. cc)
       (record { replies = refl; leaves = refl; found = at }))
 
   gives : (new : State K V E) (r : Reply K V E) → IsBegun s n (start.Insert key value) →

@@ -10,3 +10,5 @@ pub mod Waiting
 pub mod Taking
 pub mod Removing
 pub mod Evicting
+pub mod Calming
+pub mod Resting

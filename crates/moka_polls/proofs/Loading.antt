@@ -24,7 +24,7 @@ use Rattle.moka_laws.proofs.Counting.{some_same, put_here}
 use Rattle.moka_laws.proofs.Outcomes.{outcomes}
 use Rattle.moka_polls.specs.Polls.{IsQuiet, IsBegun, PollGives, parked, seen_in, without_writes}
 use Rattle.moka_polls.specs.Loads.{LoadHits, LoadAsks, LoadWaits, asking, sought_by, waiting}
-use Rattle.moka_polls.proofs.Phases.{IsAt, End, Goes, Steps, along, on, stops, poll_gives}
+use Rattle.moka_polls.proofs.Phases.{IsAt, End, Ends, Goes, Steps, along, on, stops, poll_gives}
 use Rattle.moka_polls.proofs.Looking.{Looks, Drains, Seeks, looks_steps}
 
 -- the plan of a call that loads
@@ -64,12 +64,12 @@ module _ {K V E : Type 0} (eq : K → K → Bool) (s : State K V E) (n : ℕ) (s
     desk = s.world.desk;
   }
 
-  hit_steps : (value : V) → seen ≡ Some value → Steps Begun Looking (hit value) eq n
+  hit_steps : (value : V) → seen ≡ Some value → Steps Begun Looking (Ends (hit value)) eq n
   hit_steps value sees =
-      looks_steps eq n Begun Looking (hit value) s.world.table s.world.desk quiet.owes
+      looks_steps eq n Begun Looking (Ends (hit value)) s.world.table s.world.desk quiet.owes
       (plan.To_load sought) sought.load.key (λ b there found. refl) (λ w p i. i)
       (λ w m p none at. absurd (cc))
-      (λ w m p there found some at. stops Begun Looking (hit value) _ _ (λ f. cc) (record {
+      (λ w m p there found some at. stops Begun Looking (Ends (hit value)) _ _ (λ f. cc) (record {
         replies = ap (λ v. reply.Answer (answer.Loaded v false)) (some_same (sym some ∙ sees));
         leaves = refl;
         found = at;
@@ -99,15 +99,15 @@ module _ {K V E : Type 0} (eq : K → K → Bool) (s : State K V E) (n : ℕ) (s
     desk = asking eq s.world.desk n sought.load;
   }
 
-  asks_steps : seen ≡ None → s.world.desk.owners sought.load ≡ None → Steps Begun Asks asked eq n
+  asks_steps : seen ≡ None → s.world.desk.owners sought.load ≡ None → Steps Begun Asks (Ends asked) eq n
   asks_steps unseen free w m p (Looks_first q looks) =
-      looks_steps eq n Begun Asks asked s.world.table s.world.desk quiet.owes (plan.To_load sought)
+      looks_steps eq n Begun Asks (Ends asked) s.world.table s.world.desk quiet.owes (plan.To_load sought)
       sought.load.key (λ b there found. refl) (λ v r i. Looks_first r i)
-      (λ v k r none at. on Begun Asks asked v mode.Mid _ (Owns at))
+      (λ v k r none at. on Begun Asks (Ends asked) v mode.Mid _ (Owns at))
       (λ v k r there found some at. absurd (cc)) w m p looks
   asks_steps unseen free w m p (Owns at) =
-      outcomes eq (Goes Begun Asks asked) w n (along Begun m p) (plan.Own sought) [] (
-        λ able none. on Begun Asks asked _ mode.Mid _ (Looks_again _ (Seeks (record {
+      outcomes eq (Goes Begun Asks (Ends asked)) w n (along Begun m p) (plan.Own sought) [] (
+        λ able none. on Begun Asks (Ends asked) _ mode.Mid _ (Looks_again _ (Seeks (record {
           table = at.table;
           desk = ap (λ v. claimed eq v n sought.load None) at.desk;
         }))),
@@ -118,13 +118,13 @@ module _ {K V E : Type 0} (eq : K → K → Bool) (s : State K V E) (n : ℕ) (s
       here : w.desk.owners sought.load ≡ None
       here = ap (λ v. v.owners sought.load) at.desk ∙ free
   asks_steps unseen free w m p (Looks_again q looks) =
-      looks_steps eq n Begun Asks asked s.world.table owning quiet.owes (plan.To_own sought)
+      looks_steps eq n Begun Asks (Ends asked) s.world.table owning quiet.owes (plan.To_own sought)
       sought.load.key (λ b there found. refl) (λ v r i. Looks_again r i)
-      (λ v k r none at. on Begun Asks asked v mode.Mid _ (Asks_now at))
+      (λ v k r none at. on Begun Asks (Ends asked) v mode.Mid _ (Asks_now at))
       (λ v k r there found some at. absurd (cc)) w m p looks
   asks_steps unseen free w m p (Asks_now at) =
-      outcomes eq (Goes Begun Asks asked) w n (along Begun m p) (plan.Ask sought.load) []
-      (stops Begun Asks asked _ _ (λ f. cc) (record {
+      outcomes eq (Goes Begun Asks (Ends asked)) w n (along Begun m p) (plan.Ask sought.load) []
+      (stops Begun Asks (Ends asked) _ _ (λ f. cc) (record {
         replies = refl;
         leaves = refl;
         found = record {
@@ -151,18 +151,18 @@ module _ {K V E : Type 0} (eq : K → K → Bool) (s : State K V E) (n : ℕ) (s
   }
 
   waits_steps : (owner : ℕ) → seen ≡ None → s.world.desk.owners sought.load ≡ Some owner →
-      s.world.desk.settled owner ≡ None → Steps Begun (Waits owner) (waits_for owner) eq n
+      s.world.desk.settled owner ≡ None → Steps Begun (Waits owner) (Ends (waits_for owner)) eq n
   waits_steps owner unseen owned runs w m p (Looks_up q looks) =
-      looks_steps eq n Begun (Waits owner) (waits_for owner) s.world.table s.world.desk quiet.owes
+      looks_steps eq n Begun (Waits owner) (Ends (waits_for owner)) s.world.table s.world.desk quiet.owes
       (plan.To_load sought) sought.load.key (λ b there found. refl) (λ v r i. Looks_up r i)
-      (λ v k r none at. on Begun (Waits owner) (waits_for owner) v mode.Mid _ (Joins at))
+      (λ v k r none at. on Begun (Waits owner) (Ends (waits_for owner)) v mode.Mid _ (Joins at))
       (λ v k r there found some at. absurd (cc)) w m p looks
   waits_steps owner unseen owned runs w m p (Joins at) =
-      outcomes eq (Goes Begun (Waits owner) (waits_for owner)) w n (along Begun m p)
+      outcomes eq (Goes Begun (Waits owner) (Ends (waits_for owner))) w n (along Begun m p)
       (plan.Own sought) [] (
         λ able none. absurd (cc here),
         λ disabled. absurd (false≢true (sym quiet.plain.stores ∙ disabled)),
-        λ other some. on Begun (Waits owner) (waits_for owner) _ mode.Mid _ (Reads (record {
+        λ other some. on Begun (Waits owner) (Ends (waits_for owner)) _ mode.Mid _ (Reads (record {
           table = at.table;
           desk = ap (λ v. claimed eq v n sought.load (Some other)) at.desk ∙
               ap (λ o. claimed eq (without_writes s.world.desk) n sought.load (Some o))
@@ -173,9 +173,9 @@ module _ {K V E : Type 0} (eq : K → K → Bool) (s : State K V E) (n : ℕ) (s
       here : w.desk.owners sought.load ≡ Some owner
       here = ap (λ v. v.owners sought.load) at.desk ∙ owned
   waits_steps owner unseen owned runs w m p (Reads at) =
-      outcomes eq (Goes Begun (Waits owner) (waits_for owner)) w n (along Begun m p)
+      outcomes eq (Goes Begun (Waits owner) (Ends (waits_for owner))) w n (along Begun m p)
       (plan.Read sought) [] (
-        λ none. stops Begun (Waits owner) (waits_for owner) _ _ (λ f. cc)
+        λ none. stops Begun (Waits owner) (Ends (waits_for owner)) _ _ (λ f. cc)
             (record { replies = refl; leaves = refl; found = at }),
         λ with some. absurd (cc here),
       )

@@ -14,7 +14,7 @@ use Rattle.moka_hist.specs.declared.records.Stored.{Stored}
 use Rattle.moka_laws.proofs.StepCases.{OnStep}
 use Rattle.moka_laws.proofs.Outcomes.{outcomes}
 use Rattle.moka_polls.specs.Polls.{seen_in}
-use Rattle.moka_polls.proofs.Phases.{IsAt, stay_at, End, Goes, along, drains, on}
+use Rattle.moka_polls.proofs.Phases.{IsAt, stay_at, Goes, along, drains, on}
 
 module _ {K V E : Type 0} (t : TablePart K V) (d : DeskPart K V E) (aim : Aim K V) (key : K) where
   -- where a call stands that looks a key up, at this table and this desk
@@ -30,35 +30,35 @@ seen_of d replace pair =
     option_and_then (λ p. cond (is_seen d replace p.0 p.1) (Some p.1.value) None) pair
 
 module _ {K V E : Type 0} (eq : K → K → Bool) (n : ℕ) (c : Call K V E)
-    (Phase : World K V E → List (Item K V E) → Type 0) (end : End K V E)
+    (Phase : World K V E → List (Item K V E) → Type 0) (Fin : World K V E → Next K V E → Type 0)
     (t : TablePart K V) (d : DeskPart K V E) (owes : d.owed ≡ []) (aim : Aim K V) (key : K)
     (judged : (b : Call K V E) (there : K) (found : Stored V) → finds_pair b aim there found ≡
     goes b (plan.Judge aim there found ∷ []))
     (into : (w : World K V E) (p : List (Item K V E)) → Looks t d aim key w p → Phase w p)
     (missed : (w : World K V E) (m : Mode) (p : List (Item K V E)) →
     seen_in t d (replace_of aim) key ≡ None → IsAt t d w →
-    Goes c Phase end w (misses (along c m p) aim))
+    Goes c Phase Fin w (misses (along c m p) aim))
     (hit : (w : World K V E) (m : Mode) (p : List (Item K V E)) (there : K) (value : V) →
     seen_in t d (replace_of aim) key ≡ Some value → IsAt t d w →
-    Goes c Phase end w (hits (along c m p) aim there value)) where
+    Goes c Phase Fin w (hits (along c m p) aim there value)) where
   pub looks_steps : (w : World K V E) (m : Mode) (p : List (Item K V E)) →
-      Looks t d aim key w p → OnStep eq (Goes c Phase end) w n (along c m p) p
+      Looks t d aim key w p → OnStep eq (Goes c Phase Fin) w n (along c m p) p
   looks_steps w m p (Drains at) =
-      drains c Phase end eq n w m (plan.Get aim key ∷ []) (ap (λ v. v.owed) at.desk ∙ owes)
-      (on c Phase end w mode.Mid _ (into _ _ (Seeks at)))
+      drains c Phase Fin eq n w m (plan.Get aim key ∷ []) (ap (λ v. v.owed) at.desk ∙ owes)
+      (on c Phase Fin w mode.Mid _ (into _ _ (Seeks at)))
   looks_steps w m p (Seeks at) =
-      outcomes eq (Goes c Phase end) w n (along c m p) (plan.Get aim key) [] (
-        λ more. on c Phase end _ mode.Mid _ (into _ _ (Seeks (stay_at _ _ w _ at))),
+      outcomes eq (Goes c Phase Fin) w n (along c m p) (plan.Get aim key) [] (
+        λ more. on c Phase Fin _ mode.Mid _ (into _ _ (Seeks (stay_at _ _ w _ at))),
         λ none. missed _ m p (ap (seen_of d (replace_of aim)) (here ∙ none)) (stay_at _ _ w _ at),
-        λ there found some. subst (Goes c Phase end _) (sym (judged (along c m p) there found))
-            (on c Phase end _ mode.Mid _
+        λ there found some. subst (Goes c Phase Fin _) (sym (judged (along c m p) there found))
+            (on c Phase Fin _ mode.Mid _
             (into _ _ (Judges there found (here ∙ some) (stay_at _ _ w _ at)))),
       )
     where
       here : t.stored key ≡ w.table.stored key
       here = sym (ap (λ v. v.stored key) at.table)
   looks_steps w m p (Judges there found e at) =
-      outcomes eq (Goes c Phase end) w n (along c m p) (plan.Judge aim there found) [] (
+      outcomes eq (Goes c Phase Fin) w n (along c m p) (plan.Judge aim there found) [] (
         λ sees. hit _ m p there found.value (seen true sees)
             (record { table = at.table; desk = at.desk }),
         λ unseen. missed _ m p (seen false unseen)

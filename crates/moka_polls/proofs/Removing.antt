@@ -16,7 +16,7 @@ use Rattle.moka_hist.specs.declared.replies.Reply.TheVariants as reply
 use Rattle.moka_hist.specs.declared.rules.Rules.{Rules}
 use Rattle.moka_polls.specs.Polls.{IsQuiet, value_at}
 use Rattle.moka_polls.specs.Removals.{InvalidatePoll, RemovePoll, taken_out}
-use Rattle.moka_polls.proofs.Phases.{IsAt, End, Steps, stops, poll_gives}
+use Rattle.moka_polls.proofs.Phases.{IsAt, End, Ends, Steps, stops, poll_gives}
 use Rattle.moka_polls.proofs.Taking.{Takes, Drains, takes_steps}
 
 -- a removal that asks for no stamp takes out what is there
@@ -25,7 +25,7 @@ any_out None = refl
 any_out (Some pair) = refl
 
 -- the plan of a removal where no listener is set
-plain_take_out : {K V E : Type 0} (P : List (Item K V E) → Type 0) (rules : Rules)
+pub plain_take_out : {K V E : Type 0} (P : List (Item K V E) → Type 0) (rules : Rules)
     (removal : Removal K) (key : K) → rules.listener ≡ false →
     P (plan.Drain ∷ plan.Moment (plan.To_take_out removal key) ∷ []) →
     P (take_out rules removal key)
@@ -61,14 +61,14 @@ module _ {K V E : Type 0} (eq : K → K → Bool) (s : State K V E) (n : ℕ) (k
   abbrev Invalidates : Call K V E
   Invalidates = fresh_call s.world.desk.rules (start.Invalidate key)
 
-  invalidate_steps : Steps Invalidates (Phase plan.To_invalidate) (end answer.Done) eq n
+  invalidate_steps : Steps Invalidates (Phase plan.To_invalidate) (Ends (end answer.Done)) eq n
   invalidate_steps =
-      takes_steps eq n Invalidates (Phase plan.To_invalidate) (end answer.Done) s.world.table
+      takes_steps eq n Invalidates (Phase plan.To_invalidate) (Ends (end answer.Done)) s.world.table
       s.world.desk quiet.free quiet.owes quiet.plain.unheard plan.To_invalidate key (λ w p i. i)
-      (λ w m p none at. stops Invalidates (Phase plan.To_invalidate) (end answer.Done) _ _ (λ f. cc)
+      (λ w m p none at. stops Invalidates (Phase plan.To_invalidate) (Ends (end answer.Done)) _ _ (λ f. cc)
       (record { replies = refl; leaves = refl; found = is_after None none w at }))
       (λ w m p there old some at.
-      stops Invalidates (Phase plan.To_invalidate) (end answer.Done) _ _ (λ f. cc)
+      stops Invalidates (Phase plan.To_invalidate) (Ends (end answer.Done)) _ _ (λ f. cc)
       (record { replies = refl; leaves = refl; found = is_after _ some w at }))
 
   abbrev Removes : Call K V E
@@ -81,17 +81,17 @@ module _ {K V E : Type 0} (eq : K → K → Bool) (s : State K V E) (n : ℕ) (k
   abbrev replied : Option (K × Stored V) → Reply K V E
   replied pair = reply.Answer (answer.Found (option_map (λ p. p.1.value) pair))
 
-  remove_steps : Steps Removes (Phase plan.To_remove) removed_end eq n
+  remove_steps : Steps Removes (Phase plan.To_remove) (Ends removed_end) eq n
   remove_steps =
-      takes_steps eq n Removes (Phase plan.To_remove) removed_end s.world.table
+      takes_steps eq n Removes (Phase plan.To_remove) (Ends removed_end) s.world.table
       s.world.desk quiet.free quiet.owes quiet.plain.unheard plan.To_remove key (λ w p i. i)
-      (λ w m p none at. stops Removes (Phase plan.To_remove) removed_end _ _ (λ f. cc) (record {
+      (λ w m p none at. stops Removes (Phase plan.To_remove) (Ends removed_end) _ _ (λ f. cc) (record {
         replies = ap replied (sym none ∙ any_out (s.world.table.stored key));
         leaves = refl;
         found = is_after None none w at;
       }))
       (λ w m p there old some at.
-      stops Removes (Phase plan.To_remove) removed_end _ _ (λ f. cc) (record {
+      stops Removes (Phase plan.To_remove) (Ends removed_end) _ _ (λ f. cc) (record {
         replies = ap replied (sym some ∙ any_out (s.world.table.stored key));
         leaves = refl;
         found = is_after _ some w at;

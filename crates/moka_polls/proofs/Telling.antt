@@ -4,7 +4,7 @@ use Rattle.moka_hist.specs.State.{State, World, Call, DeskPart, TablePart}
 use Rattle.moka_hist.specs.Plan.{Item, end_load, is_disabled, load_rest, loaded, told_on, under_lock}
 use Rattle.moka_hist.specs.Plan as plan
 use Rattle.moka_hist.specs.Visits.{settled_as, took_told}
-use Rattle.moka_hist.specs.Next.{goes}
+use Rattle.moka_hist.specs.Next.{Next, goes}
 use Rattle.moka_hist.specs.Loading.{after_told}
 use Rattle.moka_hist.specs.declared.events.Told.{Told}
 use Rattle.moka_hist.specs.declared.events.Told.TheVariants as told
@@ -23,7 +23,7 @@ use Rattle.moka_laws.proofs.StepCases.{OnStep}
 use Rattle.moka_laws.proofs.Outcomes.{outcomes, on_desk}
 use Rattle.moka_polls.specs.Polls.{HasToDo, IsPlain, parked, stored_now}
 use Rattle.moka_polls.specs.Loads.{ToldValue, ToldNothing, ToldError, NotTold, ending}
-use Rattle.moka_polls.proofs.Phases.{IsAt, End, Goes, Steps, along, on, stops, to_do, poll_gives}
+use Rattle.moka_polls.proofs.Phases.{IsAt, End, Ends, Goes, Steps, along, on, stops, to_do, poll_gives}
 use Rattle.moka_polls.proofs.Putting.{Puts, Drains, puts_steps}
 
 -- the plan of a load once it was told a value
@@ -53,27 +53,28 @@ module _ {K V E : Type 0} (eq : K → K → Bool) (s : State K V E) (n : ℕ) (c
   settles : (Phase : World K V E → List (Item K V E) → Type 0) (with : Settled V E)
       (a : Answer K V E) (table : TablePart K V) (w : World K V E) (m : Mode)
       (p : List (Item K V E)) → IsAt table taken w →
-      OnStep eq (Goes c Phase (ends_so with a table)) w n (along c m p) (end_load with a)
+      OnStep eq (Goes c Phase (Ends (ends_so with a table))) w n (along c m p) (end_load with a)
   settles Phase with a table w m p at =
-      outcomes eq (Goes c Phase (ends_so with a table)) w n (along c m p) (plan.Settle with)
-      (plan.Reply a ∷ []) (stops c Phase (ends_so with a table) _ _ (λ f. cc) (record {
+      outcomes eq (Goes c Phase (Ends (ends_so with a table))) w n (along c m p) (plan.Settle with)
+      (plan.Reply a ∷ []) (stops c Phase (Ends (ends_so with a table)) _ _ (λ f. cc) (record {
         replies = refl;
         leaves = refl;
         found = record { table = at.table; desk = ap (λ v. settled_as v n with) at.desk };
       }))
 
   -- the call takes what it was told, and goes on from there
-  takes : (Phase : World K V E → List (Item K V E) → Type 0) (end : End K V E)
+  takes : (Phase : World K V E → List (Item K V E) → Type 0)
+      (Fin : World K V E → Next K V E → Type 0)
       (given : Told V E) → s.world.desk.told n ≡ Some given → (w : World K V E) (m : Mode)
       (p : List (Item K V E)) → IsAt s.world.table s.world.desk w →
       ((v : World K V E) → IsAt s.world.table taken v →
-      Goes c Phase end v (after_told (along c m p) load (found.TakeTold (Some given)))) →
-      OnStep eq (Goes c Phase end) w n (along c m p) (plan.Told load ∷ [])
-  takes Phase end given is w m p at after =
-      outcomes eq (Goes c Phase end) w n (along c m p) (plan.Told load) [] (
+      Goes c Phase Fin v (after_told (along c m p) load (found.TakeTold (Some given)))) →
+      OnStep eq (Goes c Phase Fin) w n (along c m p) (plan.Told load ∷ [])
+  takes Phase Fin given is w m p at after =
+      outcomes eq (Goes c Phase Fin) w n (along c m p) (plan.Told load) [] (
         λ none. absurd (cc here),
         λ other some. subst
-            (λ x. Goes c Phase end took (after_told (along c m p) load (found.TakeTold (Some x))))
+            (λ x. Goes c Phase Fin took (after_told (along c m p) load (found.TakeTold (Some x))))
             (some_same (sym here ∙ some))
             (after took (record { table = at.table; desk = ap (λ v. took_told v n) at.desk })),
       )
@@ -94,12 +95,12 @@ module _ {K V E : Type 0} (eq : K → K → Bool) (s : State K V E) (n : ℕ) (c
   ending_steps : (given : Told V E) (with : Settled V E) (a : Answer K V E) →
       s.world.desk.told n ≡ Some given → ((b : Call K V E) →
       after_told b load (found.TakeTold (Some given)) ≡ goes b (end_load with a)) →
-      Steps c (Ending with a) (ends_so with a s.world.table) eq n
+      Steps c (Ending with a) (Ends (ends_so with a s.world.table)) eq n
   ending_steps given with a is so w m p (Takes at) =
-      takes (Ending with a) (ends_so with a s.world.table) given is w m p at
-      (λ v there. subst (Goes c (Ending with a) (ends_so with a s.world.table) v)
+      takes (Ending with a) (Ends (ends_so with a s.world.table)) given is w m p at
+      (λ v there. subst (Goes c (Ending with a) (Ends (ends_so with a s.world.table)) v)
       (sym (so (along c m p)))
-      (on c (Ending with a) (ends_so with a s.world.table) v mode.Mid _ (Settles there)))
+      (on c (Ending with a) (Ends (ends_so with a s.world.table)) v mode.Mid _ (Settles there)))
   ending_steps given with a is so w m p (Settles at) =
       settles (Ending with a) with a s.world.table w m p at
 
@@ -122,16 +123,16 @@ module _ {K V E : Type 0} (eq : K → K → Bool) (s : State K V E) (n : ℕ) (c
 
   storing_steps : (value : V) → IsPlain c.rules → s.world.desk.turn ≡ None →
       s.world.desk.owed ≡ [] → s.world.desk.told n ≡ Some (told.Value value) →
-      Steps c (Storing value) (valued value) eq n
+      Steps c (Storing value) (Ends (valued value)) eq n
   storing_steps value plain free owes is w m p (Valued at) =
-      takes (Storing value) (valued value) (told.Value value) is w m p at
-      (λ v there. subst (λ q. Goes c (Storing value) (valued value) v (goes (along c m p) q))
+      takes (Storing value) (Ends (valued value)) (told.Value value) is w m p at
+      (λ v there. subst (λ q. Goes c (Storing value) (Ends (valued value)) v (goes (along c m p) q))
       (sym (plain_loaded c.rules load value plain))
-      (on c (Storing value) (valued value) v mode.Mid _ (Puts_it _ (Drains there))))
+      (on c (Storing value) (Ends (valued value)) v mode.Mid _ (Puts_it _ (Drains there))))
   storing_steps value plain free owes is w m p (Puts_it q puts) =
-      puts_steps eq n c (Storing value) (valued value) s.world.table taken free owes plain.unheard
+      puts_steps eq n c (Storing value) (Ends (valued value)) s.world.table taken free owes plain.unheard
       load.key value (told_on value) (λ v r i. Puts_it r i)
-      (λ v k r there. on c (Storing value) (valued value) v mode.Mid _ (Told_on there)) w m p puts
+      (λ v k r there. on c (Storing value) (Ends (valued value)) v mode.Mid _ (Told_on there)) w m p puts
   storing_steps value plain free owes is w m p (Told_on at) =
       settles (Storing value) (settled.Ready value) (answer.Loaded value true) (table_with value)
       w m p at
@@ -149,10 +150,10 @@ module _ {K V E : Type 0} (eq : K → K → Bool) (s : State K V E) (n : ℕ) (c
     desk = s.world.desk;
   }
 
-  waiting_steps : s.world.desk.told n ≡ None → Steps c Untold waits_on eq n
+  waiting_steps : s.world.desk.told n ≡ None → Steps c Untold (Ends waits_on) eq n
   waiting_steps none w m p (Waits at) =
-      outcomes eq (Goes c Untold waits_on) w n (along c m p) (plan.Told load) [] (
-        λ _. stops c Untold waits_on _ _ (λ f. cc)
+      outcomes eq (Goes c Untold (Ends waits_on)) w n (along c m p) (plan.Told load) [] (
+        λ _. stops c Untold (Ends waits_on) _ _ (λ f. cc)
             (record { replies = refl; leaves = refl; found = at }),
         λ given some. absurd (cc here),
       )

@@ -19,7 +19,7 @@ use Rattle.moka_laws.proofs.Counting.{some_same}
 use Rattle.moka_laws.proofs.Outcomes.{outcomes, on_desk, was_read}
 use Rattle.moka_polls.specs.Polls.{HasToDo, PollGives, parked}
 use Rattle.moka_polls.specs.Loads.{WaiterAnswers, WaiterWaits, answer_to}
-use Rattle.moka_polls.proofs.Phases.{IsAt, End, Goes, Steps, along, stops, to_do, poll_gives}
+use Rattle.moka_polls.proofs.Phases.{IsAt, End, Ends, Goes, Steps, along, stops, to_do, poll_gives}
 
 module _ {K V E : Type 0} (t : TablePart K V) (d : DeskPart K V E) (sought : Sought K) where
   -- the call reads how the owner ended
@@ -50,18 +50,18 @@ module _ {K V E : Type 0} (eq : K → K → Bool) (s : State K V E) (n : ℕ) (c
   answers : (a : Answer K V E) (with : Settled V E) → answer_to with ≡ Some a →
       (b : Call K V E) (w : World K V E) →
       IsAt s.world.table (was_read eq s.world.desk n) w →
-      Goes c Phase (answers_so a) w (after_read b sought (found.ReadSettled with))
-  answers a (settled.Ready value) e b w at = stops c Phase (answers_so a) _ _ (λ f. cc) (record {
+      Goes c Phase (Ends (answers_so a)) w (after_read b sought (found.ReadSettled with))
+  answers a (settled.Ready value) e b w at = stops c Phase (Ends (answers_so a)) _ _ (λ f. cc) (record {
     replies = ap (λ x. reply.Answer x) (some_same e);
     leaves = refl;
     found = at;
   })
-  answers a (settled.Err error) e b w at = stops c Phase (answers_so a) _ _ (λ f. cc) (record {
+  answers a (settled.Err error) e b w at = stops c Phase (Ends (answers_so a)) _ _ (λ f. cc) (record {
     replies = ap (λ x. reply.Answer x) (some_same e);
     leaves = refl;
     found = at;
   })
-  answers a settled.Nothing e b w at = stops c Phase (answers_so a) _ _ (λ f. cc) (record {
+  answers a settled.Nothing e b w at = stops c Phase (Ends (answers_so a)) _ _ (λ f. cc) (record {
     replies = ap (λ x. reply.Answer x) (some_same e);
     leaves = refl;
     found = at;
@@ -69,12 +69,12 @@ module _ {K V E : Type 0} (eq : K → K → Bool) (s : State K V E) (n : ℕ) (c
   answers a _ e b w at = absurd (cc)
 
   ended_steps : (a : Answer K V E) (with : Settled V E) → answer_to with ≡ Some a →
-      settlement_for s.world.desk n ≡ Some with → Steps c Phase (answers_so a) eq n
+      settlement_for s.world.desk n ≡ Some with → Steps c Phase (Ends (answers_so a)) eq n
   ended_steps a with e ended w m p (Reads at) =
-      outcomes eq (Goes c Phase (answers_so a)) w n (along c m p) (plan.Read sought) [] (
+      outcomes eq (Goes c Phase (Ends (answers_so a))) w n (along c m p) (plan.Read sought) [] (
         λ none. absurd (cc here),
         λ other some. subst
-            (λ x. Goes c Phase (answers_so a) has_read
+            (λ x. Goes c Phase (Ends (answers_so a)) has_read
             (after_read (along c m p) sought (found.ReadSettled x)))
             (some_same (sym here ∙ some)) (answers a with e (along c m p) has_read
             (record { table = at.table; desk = ap (λ v. was_read eq v n) at.desk })),
@@ -86,10 +86,10 @@ module _ {K V E : Type 0} (eq : K → K → Bool) (s : State K V E) (n : ℕ) (c
       here : settlement_for w.desk n ≡ Some with
       here = ap (λ v. settlement_for v n) at.desk ∙ ended
 
-  waiting_steps : settlement_for s.world.desk n ≡ None → Steps c Phase waits_on eq n
+  waiting_steps : settlement_for s.world.desk n ≡ None → Steps c Phase (Ends waits_on) eq n
   waiting_steps none w m p (Reads at) =
-      outcomes eq (Goes c Phase waits_on) w n (along c m p) (plan.Read sought) [] (
-        λ _. stops c Phase waits_on _ _ (λ f. cc)
+      outcomes eq (Goes c Phase (Ends waits_on)) w n (along c m p) (plan.Read sought) [] (
+        λ _. stops c Phase (Ends waits_on) _ _ (λ f. cc)
             (record { replies = refl; leaves = refl; found = at }),
         λ with some. absurd (cc here),
       )

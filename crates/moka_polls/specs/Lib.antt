@@ -3,3 +3,4 @@ pub mod Gets
 pub mod Writes
 pub mod Loads
 pub mod Removals
+pub mod Calm

@@ -4,11 +4,13 @@
 //! Each law is the contract of a function that does nothing. To call it is to cite the law.
 #![tactic(auto)]
 
+mod calm;
 mod gets;
 mod loads;
 mod removals;
 mod writes;
 
+pub use calm::polls_leave_calm;
 pub use gets::get_poll;
 pub use loads::{loads_poll, told_poll, waits_poll};
 pub use removals::{evict_poll, invalidate_poll, remove_poll};
