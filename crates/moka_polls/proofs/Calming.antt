@@ -1,12 +1,12 @@
 -- A whole poll leaves a calm cache calm.
 use Rattle.std.proofs.Common.{◌≡◌, ◌+◌, ◌==◌, ℕ, Bool, true, false, cond, List, [], ◌∷◌, Option, Some, None, refl, sym, ap, ◌∙◌, subst}
 use Rattle.std.proofs.lemmas.Bool.{false≢true}
-use Rattle.moka_hist.specs.State.{State, World, Call, DeskPart, TablePart}
+use Rattle.moka_hist.specs.State.{World, Call, DeskPart, TablePart}
 use Rattle.moka_hist.specs.Plan.{Item, Aim, Change, Removal, is_disabled, load_rest, loaded, put, take_out, told_on}
 use Rattle.moka_hist.specs.Plan as plan
 use Rattle.moka_hist.specs.Next.{Next, goes, waits, asks, answers}
 use Rattle.moka_hist.specs.Looking.{misses, hits, shown, finds_pair, chosen_or_not, kept_rest}
-use Rattle.moka_hist.specs.Loading.{after_abort, after_read, after_told, retries}
+use Rattle.moka_hist.specs.Loading.{after_read, after_told, retries}
 use Rattle.moka_hist.specs.Computing.{after_read_key, after_told_op, end_compute, put_told}
 use Rattle.moka_hist.specs.Writing.{nothing_answer, removed_answer, said}
 use Rattle.moka_hist.specs.Entries.{unchanged}
@@ -35,7 +35,7 @@ use Rattle.moka_laws.proofs.Counting.{some_same}
 use Rattle.moka_laws.proofs.StepCases.{OnStep, more_step}
 use Rattle.moka_laws.proofs.Outcomes.{Outcomes, OwnsKey, alone_of, outcomes}
 use Rattle.moka_polls.specs.Calm.{IsApart, HoldsNothing, IsAtRest}
-use Rattle.moka_polls.proofs.Phases.{IsAt, Comes, Goes, along, on, stops}
+use Rattle.moka_polls.proofs.Phases.{Comes, Goes, along, on, stops}
 use Rattle.moka_polls.proofs.Posting.{Posts, Posting, posts_steps}
 use Rattle.moka_polls.proofs.Putting.{plain_put}
 use Rattle.moka_polls.proofs.Removing.{plain_take_out}

@@ -1,7 +1,6 @@
 -- The poll of an eviction.
 use Rattle.std.specs.Option.{option_map_or}
 use Rattle.std.proofs.Common.{◌≡◌, ℕ, ◌==◌, ◌&&◌, Bool, true, false, cond, List, [], ◌∷◌, Option, Some, None, refl, sym, ap, ◌∙◌, subst}
-use Rattle.std.proofs.lemmas.Bool.{false≢true}
 use Rattle.moka_hist.specs.State.{State, World, Call, DeskPart, TablePart}
 use Rattle.moka_hist.specs.Plan.{Item, Removal, look, under_lock, plan_of}
 use Rattle.moka_hist.specs.Plan as plan

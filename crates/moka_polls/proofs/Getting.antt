@@ -1,6 +1,5 @@
 -- The poll of a get.
-use Rattle.std.proofs.Common.{◌≡◌, ℕ, Bool, List, [], ◌∷◌, Option, Some, None, refl, sym, ap, ◌∙◌, subst}
-use Rattle.std.specs.Option.{option_map, option_and_then}
+use Rattle.std.proofs.Common.{ℕ, Bool, List, Option, None, refl, sym, ap, ◌∙◌, subst}
 use Rattle.moka_hist.specs.State.{State, World, Call}
 use Rattle.moka_hist.specs.Plan.{Item, Aim, get_plan, plan_of}
 use Rattle.moka_hist.specs.Plan as plan
@@ -8,14 +7,13 @@ use Rattle.moka_hist.specs.Run.{Any, Happens, fresh_call}
 use Rattle.moka_hist.specs.declared.events.Event.TheVariants as event
 use Rattle.moka_hist.specs.declared.events.Start.TheVariants as start
 use Rattle.moka_hist.specs.declared.records.Mode.TheVariants as mode
-use Rattle.moka_hist.specs.declared.records.Stored.{Stored}
 use Rattle.moka_hist.specs.declared.replies.Answer.TheVariants as answer
 use Rattle.moka_hist.specs.declared.replies.Reply.{Reply}
 use Rattle.moka_hist.specs.declared.replies.Reply.TheVariants as reply
 use Rattle.moka_polls.specs.Polls.{IsQuiet, IsBegun, PollGives, value_at}
 use Rattle.moka_polls.specs.Gets.{GetPoll}
 use Rattle.moka_polls.proofs.Phases.{End, Ends, Steps, stops, poll_gives}
-use Rattle.moka_polls.proofs.Looking.{Looks, Drains, looks_steps}
+use Rattle.moka_polls.proofs.Looking.{Looks, Drains, looks_steps, sees_stored}
 
 module _ {K V E : Type 0} (eq : K → K → Bool) (s : State K V E) (n : ℕ) (key : K)
     (quiet : IsQuiet s.world.desk) where
@@ -40,22 +38,16 @@ module _ {K V E : Type 0} (eq : K → K → Bool) (s : State K V E) (n : ℕ) (k
   abbrev answers : Option V → Reply K V E
   answers value = reply.Answer (answer.Found value)
 
-  -- a get sees what is stored
-  sees : (pair : Option (K × Stored V)) → option_and_then (λ p. Some p.1.value) pair ≡
-      option_map (λ p. p.1.value) pair
-  sees None = refl
-  sees (Some pair) = refl
-
   steps : Steps Begun Phase (Ends end) eq n
   steps = looks_steps eq n Begun Phase (Ends end) s.world.table s.world.desk quiet.owes aim key
       (λ b there found. refl) (λ w p i. i)
       (λ w m p none at. stops Begun Phase (Ends end) _ _ (λ f. cc) (record {
-        replies = ap answers (sym none ∙ sees (s.world.table.stored key));
+        replies = ap answers (sym none ∙ sees_stored (s.world.table.stored key));
         leaves = refl;
         found = at;
       }))
       (λ w m p there value some at. stops Begun Phase (Ends end) _ _ (λ f. cc) (record {
-        replies = ap answers (sym some ∙ sees (s.world.table.stored key));
+        replies = ap answers (sym some ∙ sees_stored (s.world.table.stored key));
         leaves = refl;
         found = at;
       }))

@@ -1,5 +1,5 @@
 -- The poll of an insert.
-use Rattle.std.proofs.Common.{◌≡◌, ℕ, Bool, List, [], ◌∷◌, Option, Some, None, refl, sym, ap, ◌∙◌, subst}
+use Rattle.std.proofs.Common.{ℕ, Bool, List, [], ◌∷◌, None, refl, sym, subst}
 use Rattle.moka_hist.specs.State.{State, World, Call}
 use Rattle.moka_hist.specs.Plan.{Item, insert_plan, plan_of}
 use Rattle.moka_hist.specs.Plan as plan

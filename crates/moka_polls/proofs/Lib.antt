@@ -4,6 +4,7 @@ pub mod Putting
 pub mod Looking
 pub mod Getting
 pub mod Inserting
+pub mod OrInserting
 pub mod Loading
 pub mod Telling
 pub mod Waiting

@@ -1,28 +1,24 @@
 -- The first poll of a load.
 use Rattle.std.specs.Option.{option_and_then}
-use Rattle.std.proofs.Common.{◌≡◌, ℕ, Bool, true, false, List, [], ◌∷◌, Option, Some, None, refl, sym, ap, ◌∙◌, subst}
+use Rattle.std.proofs.Common.{◌≡◌, ℕ, Bool, false, List, [], ◌∷◌, Option, Some, None, refl, sym, ap, ◌∙◌, subst}
 use Rattle.std.proofs.lemmas.Bool.{false≢true}
-use Rattle.moka_hist.specs.State.{State, World, Call, DeskPart, TablePart}
+use Rattle.moka_hist.specs.State.{State, World, Call, DeskPart}
 use Rattle.moka_hist.specs.Plan.{Item, is_disabled, load_plan, plan_of}
 use Rattle.moka_hist.specs.Plan as plan
 use Rattle.moka_hist.specs.Visits.{claimed, opened, settlement_for}
 use Rattle.moka_hist.specs.Step.{takes_of}
-use Rattle.moka_hist.specs.Run.{Any, Happens, fresh_call}
-use Rattle.moka_hist.specs.declared.events.Event.TheVariants as event
+use Rattle.moka_hist.specs.Run.{fresh_call}
 use Rattle.moka_hist.specs.declared.events.Start.{Start}
 use Rattle.moka_hist.specs.declared.events.Start.TheVariants as start
-use Rattle.moka_hist.specs.declared.loads.Load.{Load}
 use Rattle.moka_hist.specs.declared.loads.Sought.{Sought}
-use Rattle.moka_hist.specs.declared.records.Mode.{Mode}
 use Rattle.moka_hist.specs.declared.records.Mode.TheVariants as mode
 use Rattle.moka_hist.specs.declared.replies.Answer.TheVariants as answer
 use Rattle.moka_hist.specs.declared.replies.Ask.TheVariants as ask
-use Rattle.moka_hist.specs.declared.replies.Reply.{Reply}
 use Rattle.moka_hist.specs.declared.replies.Reply.TheVariants as reply
 use Rattle.moka_hist.specs.declared.rules.Rules.{Rules}
 use Rattle.moka_laws.proofs.Counting.{some_same, put_here}
 use Rattle.moka_laws.proofs.Outcomes.{outcomes}
-use Rattle.moka_polls.specs.Polls.{IsQuiet, IsBegun, PollGives, parked, seen_in, without_writes}
+use Rattle.moka_polls.specs.Polls.{IsQuiet, parked, seen_in, without_writes}
 use Rattle.moka_polls.specs.Loads.{LoadHits, LoadAsks, LoadWaits, asking, sought_by, waiting}
 use Rattle.moka_polls.proofs.Phases.{IsAt, End, Ends, Goes, Steps, along, on, stops, poll_gives}
 use Rattle.moka_polls.proofs.Looking.{Looks, Drains, Seeks, looks_steps}

@@ -1,5 +1,5 @@
 -- A call looks a key up, once no write is owed.
-use Rattle.std.specs.Option.{option_and_then}
+use Rattle.std.specs.Option.{option_and_then, option_map}
 use Rattle.std.proofs.Common.{◌≡◌, ℕ, Bool, true, false, cond, List, [], ◌∷◌, Option, Some, None, refl, sym, ap, ◌∙◌, subst}
 use Rattle.moka_hist.specs.State.{World, Call, DeskPart, TablePart}
 use Rattle.moka_hist.specs.Plan.{Item, Aim}
@@ -28,6 +28,12 @@ module _ {K V E : Type 0} (t : TablePart K V) (d : DeskPart K V E) (aim : Aim K 
 abbrev seen_of : {K V E : Type 0} → DeskPart K V E → Option ℕ → Option (K × Stored V) → Option V
 seen_of d replace pair =
     option_and_then (λ p. cond (is_seen d replace p.0 p.1) (Some p.1.value) None) pair
+
+-- a call without a replace test sees what is stored
+pub sees_stored : {K V : Type 0} (pair : Option (K × Stored V)) →
+    option_and_then (λ p. Some p.1.value) pair ≡ option_map (λ p. p.1.value) pair
+sees_stored None = refl
+sees_stored (Some pair) = refl
 
 module _ {K V E : Type 0} (eq : K → K → Bool) (n : ℕ) (c : Call K V E)
     (Phase : World K V E → List (Item K V E) → Type 0) (Fin : World K V E → Next K V E → Type 0)

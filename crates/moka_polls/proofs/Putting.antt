@@ -1,5 +1,5 @@
 -- A value is stored, by an insert or as a load was told it.
-use Rattle.std.proofs.Common.{◌≡◌, ℕ, Bool, true, false, List, [], ◌∷◌, Option, Some, None, refl, sym, ap, ◌∙◌, subst}
+use Rattle.std.proofs.Common.{◌≡◌, ℕ, Bool, false, List, [], ◌∷◌, None, sym, ap, ◌∙◌, subst}
 use Rattle.std.proofs.lemmas.Bool.{false≢true}
 use Rattle.moka_hist.specs.State.{World, Call, DeskPart, TablePart}
 use Rattle.moka_hist.specs.Plan.{Item, put, under_lock}
@@ -8,13 +8,11 @@ use Rattle.moka_hist.specs.Next.{Next, goes}
 use Rattle.moka_hist.specs.Tables.{written}
 use Rattle.moka_hist.specs.declared.records.Mode.{Mode}
 use Rattle.moka_hist.specs.declared.records.Mode.TheVariants as mode
-use Rattle.moka_hist.specs.declared.records.Stored.{Stored}
 use Rattle.moka_hist.specs.declared.rules.Rules.{Rules}
 use Rattle.moka_hist.specs.declared.writes.Write.{Write}
 use Rattle.moka_hist.specs.declared.writes.Write.TheVariants.{Upsert}
 use Rattle.moka_laws.proofs.StepCases.{OnStep}
 use Rattle.moka_laws.proofs.Outcomes.{outcomes}
-use Rattle.moka_polls.specs.Polls.{IsPlain, IsQuiet}
 use Rattle.moka_polls.proofs.Phases.{IsAt, stay_at, Goes, along, drains, on}
 use Rattle.moka_polls.proofs.Posting.{Posts, Posting, posts_steps}
 

@@ -2,12 +2,12 @@
 use Rattle.std.specs.Option.{option_map, option_to_list}
 use Rattle.std.proofs.Common.{◌≡◌, ◌==◌, ◌+◌, ◌++◌, nat_lt, ℕ, Bool, true, false, cond, List, [], ◌∷◌, Option, Some, None, MatchBool, MatchOption, refl, sym, ap, ◌∙◌, subst}
 use Rattle.moka_hist.specs.Finite.{put_at}
-use Rattle.moka_hist.specs.State.{State, World, Call, DeskPart}
+use Rattle.moka_hist.specs.State.{State, Call, DeskPart}
 use Rattle.moka_hist.specs.Plan.{Item, get_plan, held_by, hearing, insert_plan, is_disabled, load_plan, look, or_insert_plan, plan_of, seek, under_lock}
 use Rattle.moka_hist.specs.Plan as plan
 use Rattle.moka_hist.specs.Dropping.{dropped, owed_by, owed_with}
 use Rattle.moka_hist.specs.Telling.{is_asked, told}
-use Rattle.moka_hist.specs.Run.{Any, Becomes, Drops, Happens, Refuses, at_moment, fresh_call, last_call, started, with_desk}
+use Rattle.moka_hist.specs.Run.{Any, Becomes, Drops, Happens, Refuses, fresh_call, last_call, started, with_desk}
 use Rattle.moka_hist.specs.declared.events.Event.{Event}
 use Rattle.moka_hist.specs.declared.events.Event.TheVariants as event
 use Rattle.moka_hist.specs.declared.events.Start.{Start}
@@ -26,7 +26,6 @@ use Rattle.moka_hist.specs.declared.rules.Rules.{Rules}
 use Rattle.moka_hist.specs.declared.writes.Owed.{Owed}
 use Rattle.moka_hist.specs.declared.writes.Write.{Write}
 use Rattle.moka_laws.proofs.Counting.{some_same}
-use Rattle.moka_polls.specs.Polls.{IsQuiet}
 use Rattle.moka_polls.specs.Calm.{HoldsNothing, IsAtRest, IsCalm, IsWhole, CalmIsQuiet, FreshIsCalm, StaysCalm}
 use Rattle.moka_polls.proofs.Phases.{poll_ends}
 use Rattle.moka_polls.proofs.Calming.{Phase, Fin, Rests, calm_steps, put_holds, take_out_holds}

@@ -1,5 +1,5 @@
 -- The poll of a load that has asked.
-use Rattle.std.proofs.Common.{◌≡◌, ℕ, Bool, true, false, List, [], ◌∷◌, Option, Some, None, refl, sym, ap, ◌∙◌, subst}
+use Rattle.std.proofs.Common.{◌≡◌, ℕ, Bool, true, List, [], ◌∷◌, Some, None, refl, sym, ap, ◌∙◌, subst}
 use Rattle.moka_hist.specs.State.{State, World, Call, DeskPart, TablePart}
 use Rattle.moka_hist.specs.Plan.{Item, end_load, is_disabled, load_rest, loaded, told_on, under_lock}
 use Rattle.moka_hist.specs.Plan as plan
@@ -21,7 +21,7 @@ use Rattle.moka_hist.specs.declared.visits.Settled.TheVariants as settled
 use Rattle.moka_laws.proofs.Counting.{some_same}
 use Rattle.moka_laws.proofs.StepCases.{OnStep}
 use Rattle.moka_laws.proofs.Outcomes.{outcomes, on_desk}
-use Rattle.moka_polls.specs.Polls.{HasToDo, IsPlain, parked, stored_now}
+use Rattle.moka_polls.specs.Polls.{IsPlain, parked, stored_now}
 use Rattle.moka_polls.specs.Loads.{ToldValue, ToldNothing, ToldError, NotTold, ending}
 use Rattle.moka_polls.proofs.Phases.{IsAt, End, Ends, Goes, Steps, along, on, stops, to_do, poll_gives}
 use Rattle.moka_polls.proofs.Putting.{Puts, Drains, puts_steps}

@@ -1,23 +1,19 @@
 -- The poll of a load that waits for an owner.
-use Rattle.std.proofs.Common.{◌≡◌, ℕ, Bool, cond, List, [], ◌∷◌, Option, Some, None, is_some, refl, sym, ap, ◌∙◌, subst}
+use Rattle.std.proofs.Common.{◌≡◌, ℕ, Bool, cond, List, [], ◌∷◌, Some, None, is_some, refl, sym, ap, ◌∙◌, subst}
 use Rattle.moka_hist.specs.State.{State, World, Call, DeskPart, TablePart}
 use Rattle.moka_hist.specs.Plan.{Item}
 use Rattle.moka_hist.specs.Plan as plan
 use Rattle.moka_hist.specs.Visits.{read, settlement_for}
 use Rattle.moka_hist.specs.Loading.{after_read}
-use Rattle.moka_hist.specs.Run.{Any, Happens}
-use Rattle.moka_hist.specs.declared.events.Event.TheVariants as event
 use Rattle.moka_hist.specs.declared.loads.Sought.{Sought}
 use Rattle.moka_hist.specs.declared.replies.Answer.{Answer}
-use Rattle.moka_hist.specs.declared.replies.Answer.TheVariants as answer
-use Rattle.moka_hist.specs.declared.replies.Reply.{Reply}
 use Rattle.moka_hist.specs.declared.replies.Reply.TheVariants as reply
 use Rattle.moka_hist.specs.declared.visits.Found.TheVariants as found
 use Rattle.moka_hist.specs.declared.visits.Settled.{Settled}
 use Rattle.moka_hist.specs.declared.visits.Settled.TheVariants as settled
 use Rattle.moka_laws.proofs.Counting.{some_same}
 use Rattle.moka_laws.proofs.Outcomes.{outcomes, on_desk, was_read}
-use Rattle.moka_polls.specs.Polls.{HasToDo, PollGives, parked}
+use Rattle.moka_polls.specs.Polls.{PollGives, parked}
 use Rattle.moka_polls.specs.Loads.{WaiterAnswers, WaiterWaits, answer_to}
 use Rattle.moka_polls.proofs.Phases.{IsAt, End, Ends, Goes, Steps, along, stops, to_do, poll_gives}
 

@@ -14,4 +14,4 @@ pub use calm::polls_leave_calm;
 pub use gets::get_poll;
 pub use loads::{loads_poll, told_poll, waits_poll};
 pub use removals::{evict_poll, invalidate_poll, remove_poll};
-pub use writes::insert_poll;
+pub use writes::{insert_poll, or_insert_poll};
