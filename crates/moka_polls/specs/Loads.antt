@@ -30,14 +30,15 @@ sought_by (start.Try key) = Some (seek kind.Try key None)
 sought_by _ = None
 
 module _ {K V E : Type 0} where
-  -- the desk once the call owns the load and asks its initializer; once it waits for that owner; and
-  -- once it has taken what it was told and has ended its load so
+  -- the desk once the call owns the load and asks its initializer
   abbrev pub asking : (K → K → Bool) → DeskPart K V E → ℕ → Load K → DeskPart K V E
   asking eq w n load = opened (claimed eq w n load None) n (takes_of load.kind)
 
+  -- the desk once the call waits for this owner of the load
   abbrev pub waiting : (K → K → Bool) → DeskPart K V E → ℕ → Load K → ℕ → DeskPart K V E
   waiting eq w n load owner = claimed eq w n load (Some owner)
 
+  -- the desk once the call has taken what it was told, and has ended its load so
   abbrev pub ending : DeskPart K V E → ℕ → Settled V E → DeskPart K V E
   ending w n with = settled_as (took_told w n) n with
 
@@ -107,7 +108,7 @@ ToldNothing K V E eq =
     PollGives s n (reply.Answer answer.Nothing) None s.world.table
     (ending s.world.desk n settled.Nothing) r new
 
--- told an error likewise
+-- told an error it ends its load with that, answers it, and is gone; the table stays
 abbrev pub ToldError : (K V E : Type 0) → (K → K → Bool) → Type 0
 ToldError K V E eq =
     (s new : State K V E) (n : ℕ) (c : Call K V E) (load : Load K) (error : E) (r : Reply K V E) →
