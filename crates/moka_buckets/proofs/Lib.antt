@@ -28,3 +28,4 @@ pub mod Across
 pub mod Keyed
 pub mod Elsewhere
 pub mod Kept
+pub mod Once

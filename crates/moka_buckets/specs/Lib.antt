@@ -6,6 +6,7 @@ pub mod Steps
 pub mod Hashing
 pub mod Building
 pub mod Parts
+pub mod Accesses
 pub mod Compacting
 pub mod Views
 pub mod Listed

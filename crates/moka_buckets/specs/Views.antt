@@ -6,11 +6,14 @@ use Rattle.std.specs.List.{sum_by}
 use Rattle.std.specs.declared.hash.Hasher as hasher
 use Rattle.std.specs.declared.hash.BuildHasher as builder
 use Rattle.moka_hist.specs.declared.tables.TableOp.{TableOp}
+use Rattle.moka_hist.specs.Tables.{key_of}
+use Rattle.moka_words.specs.declared.accesses.Access.{Access}
 use Rattle.moka_words.specs.Effect.{root, words_of}
 use Rattle.moka_table.specs.Map.{Pairs}
 use Rattle.moka_table.specs.declared.table.Table as Table
 use Rattle.moka_buckets.specs.declared.part.Part.{Part}
 use Rattle.moka_buckets.specs.declared.bucket_call.BucketCall.{BucketCall}
+use Rattle.moka_buckets.specs.Accesses.{wanted_by}
 use Rattle.moka_buckets.specs.Hashing.{hash_in}
 use Rattle.moka_buckets.specs.declared.keys_call.KeysCall.{KeysCall}
 use Rattle.moka_buckets.specs.Keys.{FitsKeys, ListsIt, CoversIt, left_keys}
@@ -24,6 +27,18 @@ pub record Buckets (K V S : Type 0) : Type 0 where
   pub first : ℕ
   pub peak : ℕ
   pub len : ℕ
+
+-- the access that a call makes next, if it goes on
+abbrev pub want_of : {K V : Type 0} → BucketCall K V → Option Access
+want_of c = wanted_by c.table
+
+-- and a call that lists keys
+abbrev pub keys_want_of : KeysCall → Option Access
+keys_want_of c = wanted_by c.table
+
+-- the key that the call is for
+abbrev pub key_for : {K V : Type 0} → BucketCall K V → Option K
+key_for c = Some (key_of c.operation)
 
 -- what the call was begun for
 abbrev pub operation_of : {K V : Type 0} → BucketCall K V → Option (TableOp K V)

@@ -115,7 +115,9 @@ impl<K: Eq + Hash + Exact, V: Exact, S: BuildHasher + Drop> BucketTable<K, V, S>
     ghost use Rattle.std.specs.Option.{option_map};
     ghost use Rattle.moka_calls.specs.Standing.{IsGoing};
     ghost use Rattle.moka_buckets.specs.Keys.{IsListing};
-    ghost use Rattle.moka_buckets.specs.Views.{count_of, covers_in, first_of, fits_in, fits_keys_in, left_keys_of, left_of, lists_in, map_in, peak_of, segment_for};
+    ghost use Rattle.moka_buckets.specs.Accesses.{MovesOnce};
+    ghost use Rattle.moka_buckets.specs.Hashing.{hash_in};
+    ghost use Rattle.moka_buckets.specs.Views.{count_of, covers_in, first_of, fits_in, fits_keys_in, keys_want_of, left_keys_of, left_of, lists_in, map_in, peak_of, segment_for};
     ghost use Rattle.moka_buckets.specs.Walks.{is_ended};
     ghost use Rattle.moka_buckets.specs.declared.bucket_call.BucketCall.{BucketCall};
     ghost use Rattle.moka_buckets.specs.declared.keys_call.KeysCall.{KeysCall};
@@ -178,6 +180,10 @@ impl<K: Eq + Hash + Exact, V: Exact, S: BuildHasher + Drop> BucketTable<K, V, S>
         ensures fits { fits_keys_in S.BuildHasher S.Hasher.Hasher K.eq K.hash_input
             self.new call.new }
         ensures absent { length self.old.parts ≤ call.old.segment → result ≡ Ok true }
+        // It makes the access that it wanted, in its own segment; the others are as they were.
+        ensures one { MovesOnce K.eq
+            (hash_in S.BuildHasher S.Hasher.Hasher K.hash_input self.old.hasher) None
+            (keys_want_of call.old) call.old.segment result self.old.parts self.new.parts }
         ensures ended { IfOk result (λ done. done ≡ is_ended call.new.table) }
         ensures nears { IfOk result (λ done. done ≡ false
             → left_keys_of self.new call.new < left_keys_of self.old call.old) }
@@ -235,7 +241,9 @@ impl<K: Eq + Hash + Exact, V: Exact, S: BuildHasher + Drop> BucketTable<K, V, S>
 impl<K: Eq + Hash + Exact, V: Exact, S: BuildHasher + Drop> Table<K, V> for BucketTable<K, V, S> {
     type Call = BucketCall<K, V>;
 
-    ghost use Rattle.moka_buckets.specs.Views.{count_of, covers_in, first_of, fits_in, fits_keys_in, left_keys_of, left_of, lists_in, map_in, operation_of, peak_of, segment_for, segment_in};
+    ghost use Rattle.moka_buckets.specs.Accesses.{MovesOnce};
+    ghost use Rattle.moka_buckets.specs.Hashing.{hash_in};
+    ghost use Rattle.moka_buckets.specs.Views.{count_of, covers_in, first_of, fits_in, fits_keys_in, key_for, left_keys_of, left_of, lists_in, map_in, operation_of, peak_of, segment_for, segment_in, want_of};
     ghost use Rattle.moka_buckets.specs.declared.keys_call.KeysCall.{KeysCall};
     ghost use Rattle.moka_buckets.specs.declared.bucket_call.BucketCall.{BucketCall};
 
@@ -294,6 +302,11 @@ impl<K: Eq + Hash + Exact, V: Exact, S: BuildHasher + Drop> Table<K, V> for Buck
         ensures first { first_of self.new ≡ first_of self.old }
         ensures segments { length self.new.parts ≡ length self.old.parts }
         ensures hasher { self.new.hasher ≡ self.old.hasher }
+        // It makes the access that it wanted, in its own segment; the others are as they were.
+        ensures one { MovesOnce K.eq
+            (hash_in S.BuildHasher S.Hasher.Hasher K.hash_input self.old.hasher)
+            (key_for call.old) (want_of call.old) (segment_in self.old call.old) result
+            self.old.parts self.new.parts }
         // An undecided call is still begun, and nearer to its end.
         ensures undecided { IfOk result (λ turn. turn ≡ TableTurn.Going
             → (operation_of call.new ≡ operation_of call.old)

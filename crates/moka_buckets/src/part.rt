@@ -1,6 +1,8 @@
 //! The segments of a table.
 
 ghost use Rattle.std.specs.Prelude.{◌≡◌, ℕ, ◌-◌, ◌<◌, ◌^◌, Some, length, slice_set};
+ghost use Rattle.moka_hist.specs.Tables.{key_of};
+ghost use Rattle.moka_buckets.specs.Accesses.{MovesOnce, StepsOnce, wanted_by};
 ghost use Rattle.std.specs.List.{slice_get};
 ghost use Rattle.moka_buckets.specs.Arrays.{ArePlaced};
 ghost use Rattle.moka_buckets.specs.Steps.{CanBegin};
@@ -31,9 +33,13 @@ impl<K: Eq + Exact, V: Exact> Part<K, V> {
         requires placed { ArePlaced self.old.arrays }
         requires can { (hash : K → ℕ) × (first : ℕ) × CanBegin K.eq hash
             (memory_at self.old) self.old.nodes.items first (peak_at self.old) call.old }
-        ensures { (hash : K → ℕ) (first : ℕ) → CanBegin K.eq hash
+        ensures goes { (hash : K → ℕ) (first : ℕ) → CanBegin K.eq hash
             (memory_at self.old) self.old.nodes.items first (peak_at self.old) call.old
             → Goes K.eq hash first self.old call.old result self.new call.new }
+        ensures once { (hash : K → ℕ) (first : ℕ) → CanBegin K.eq hash
+            (memory_at self.old) self.old.nodes.items first (peak_at self.old) call.old
+            → StepsOnce K.eq hash (Some (key_of call.old.operation))
+            (wanted_by call.old.table) result self.old self.new }
     {
         self.peak = self.peak.max(self.arrays.segment.len);
         step(&mut self.arrays, &mut self.nodes, call)
@@ -72,6 +78,12 @@ fn step_at<K: Eq + Exact, V: Exact>(
         → CanBegin K.eq hash (memory_at p) p.nodes.items first (peak_at p) call.old
         → (new : Part K V) × (parts.new.items ≡ slice_set parts.old.items index new)
         × Goes K.eq hash first p call.old result new call.new }
+    ensures once { (hash : K → ℕ) (first : ℕ) (p : Part K V)
+        → slice_get parts.old.items index ≡ Some p
+        → CanBegin K.eq hash (memory_at p) p.nodes.items first (peak_at p) call.old
+        → (new : Part K V) × (parts.new.items ≡ slice_set parts.old.items index new)
+        × StepsOnce K.eq hash (Some (key_of call.old.operation))
+        (wanted_by call.old.table) result p new }
 {
     parts[index].step(call)
 }
@@ -92,6 +104,11 @@ pub fn step_parts<K: Eq + Exact, V: Exact>(
     ensures keys { (hash : K → ℕ) (first most : ℕ)
         → CanGo K.eq hash parts.old.items first most len.old call.old
         → KeepsKeys K.eq hash parts.old.items parts.new.items }
+    ensures one { (hash : K → ℕ) (first most : ℕ)
+        → CanGo K.eq hash parts.old.items first most len.old call.old
+        → MovesOnce K.eq hash (Some (key_of call.old.operation)) (wanted_by call.old.table)
+        (segment_of (length parts.old.items) call.old.hash) result
+        parts.old.items parts.new.items }
     ensures long { length parts.new.items ≡ length parts.old.items }
 {
     let index = segment_of(parts.len(), call.hash);

@@ -8,6 +8,7 @@ ghost use Rattle.moka_growth.specs.Calls.{Going, Decided, Nodes, call_from};
 ghost use Rattle.moka_buckets.specs.Nodes.{key_in};
 ghost use Rattle.moka_buckets.specs.Arrays.{ArePlaced, memory_of};
 ghost use Rattle.moka_buckets.specs.Walks.{CanWalk, Lead, is_ended, listed_by};
+ghost use Rattle.moka_buckets.specs.Accesses.{Accesses, MovesOnce, StepsOnce, wanted_by};
 ghost use Rattle.moka_buckets.specs.Keys.{CanList, Leads, WalksOver, keys_in, nodes_of};
 ghost use Rattle.moka_buckets.specs.Parts.{memory_at, peak_at};
 ghost use Rattle.moka_buckets.specs.declared.part.Part.{Part};
@@ -36,6 +37,10 @@ pub fn walk<K: Eq, V>(
         → CanWalk K.eq hash (memory_of arrays.old) nodes.now first peak table.old
         → IfOk result (λ done. Lead K.eq hash nodes.now first peak
         (memory_of arrays.old) table.old (memory_of arrays.new) table.new) }
+    ensures accesses { (hash : K → ℕ) (first peak : ℕ)
+        → CanWalk K.eq hash (memory_of arrays.old) nodes.now first peak table.old
+        → IfOk result (λ done. Accesses K.eq hash None (wanted_by table.old) nodes.now
+        (memory_of arrays.old) (memory_of arrays.new)) }
     ensures ended { IfOk result (λ done. done ≡ is_ended table.new) }
     ensures placed { ArePlaced arrays.new }
     ensures err { OnErr result ((memory_of arrays.new ≡ memory_of arrays.old)
@@ -60,9 +65,12 @@ impl<K: Eq, V> Part<K, V> {
         requires placed { ArePlaced self.old.arrays }
         requires can { (hash : K → ℕ) × (first : ℕ) × CanWalk K.eq hash
             (memory_at self.old) self.old.nodes.items first (peak_at self.old) table.old }
-        ensures { (hash : K → ℕ) (first : ℕ) → CanWalk K.eq hash
+        ensures leads { (hash : K → ℕ) (first : ℕ) → CanWalk K.eq hash
             (memory_at self.old) self.old.nodes.items first (peak_at self.old) table.old
             → Leads K.eq hash first self.old table.old result self.new table.new }
+        ensures once { (hash : K → ℕ) (first : ℕ) → CanWalk K.eq hash
+            (memory_at self.old) self.old.nodes.items first (peak_at self.old) table.old
+            → StepsOnce K.eq hash None (wanted_by table.old) result self.old self.new }
     {
         walk(&mut self.arrays, self.nodes.as_slice(), table)
     }
@@ -77,11 +85,16 @@ fn walk_at<K: Eq, V>(
     requires can { (hash : K → ℕ) × (first : ℕ) × (p : Part K V)
         × (slice_get parts.old.items index ≡ Some p) × ArePlaced p.arrays × CanWalk K.eq hash
         (memory_at p) p.nodes.items first (peak_at p) table.old }
-    ensures { (hash : K → ℕ) (first : ℕ) (p : Part K V)
+    ensures leads { (hash : K → ℕ) (first : ℕ) (p : Part K V)
         → slice_get parts.old.items index ≡ Some p
         → CanWalk K.eq hash (memory_at p) p.nodes.items first (peak_at p) table.old
         → (new : Part K V) × (parts.new.items ≡ slice_set parts.old.items index new)
         × Leads K.eq hash first p table.old result new table.new }
+    ensures once { (hash : K → ℕ) (first : ℕ) (p : Part K V)
+        → slice_get parts.old.items index ≡ Some p
+        → CanWalk K.eq hash (memory_at p) p.nodes.items first (peak_at p) table.old
+        → (new : Part K V) × (parts.new.items ≡ slice_set parts.old.items index new)
+        × StepsOnce K.eq hash None (wanted_by table.old) result p new }
 {
     parts[index].walk(table)
 }
@@ -108,10 +121,14 @@ pub fn walk_parts<K: Eq, V>(
 ) -> Result<bool, AllocError>
     requires can { (hash : K → ℕ) × (first most len : ℕ)
         × CanList K.eq hash parts.old.items first most len call.old }
-    ensures { (hash : K → ℕ) (first most len : ℕ)
+    ensures over { (hash : K → ℕ) (first most len : ℕ)
         → CanList K.eq hash parts.old.items first most len call.old
         → WalksOver K.eq hash first parts.old.items most len call.old result
         parts.new.items call.new }
+    ensures one { (hash : K → ℕ) (first most len : ℕ)
+        → CanList K.eq hash parts.old.items first most len call.old
+        → MovesOnce K.eq hash None (wanted_by call.old.table) call.old.segment result
+        parts.old.items parts.new.items }
 {
     if call.segment < parts.len() {
         walk_at(parts, call.segment, &mut call.table)

@@ -1,7 +1,10 @@
-use Rattle.std.proofs.Common.{ap, refl, subst, sym, ◌∙◌, arith}
+use Rattle.std.proofs.Common.{Some, ap, refl, subst, sym, ◌∙◌, arith}
 use Rattle.std.specs.List.{slice_get}
 use Rattle.moka_buckets.specs.Parts.{segment_of}
 use Rattle.moka_buckets.specs.Keys.{KeepsKeys}
+use Rattle.moka_hist.specs.Tables.{key_of}
+use Rattle.moka_buckets.specs.Accesses.{MovesOnce, wanted_by}
+use Rattle.moka_buckets.proofs.Once.{moves_once}
 use Rattle.moka_buckets.proofs.Kept.{keeps_keys}
 use Rattle.moka_buckets.proofs.Going.{goes_over, had_few, has_few}
 use Rattle.moka_buckets.proofs.Spread.{keys_within}
@@ -66,3 +69,16 @@ returns-clause-keys g c = λ hash first most can.
     subst (λ ps. KeepsKeys eq hash c.args.parts.now.items ps) (sym goes.1)
     (keeps_keys eq g.met.K.Eq.laws hash can.respects first most c.args.len.now c.args.parts.now.items can.well c.segment_of-index.result can.fits.part goes.0 there
     c.args.call.now c.step_at-turn.new.call c.step_at-turn.result goes.2)
+
+pub returns-clause-one : goal.returns-clause-one
+returns-clause-one g c = λ hash first most can.
+    let eq = g.K.PartialEq.eq in
+    let b = c.args.call.now in
+    let parts = c.args.parts.now.items in
+    let at = c.segment_of-index.ensures.is ∙ ap (λ n. segment_of n b.hash) (c.len.ensures ∙ c.args.parts.now.ok.0) in
+    let there = ap (slice_get parts) at ∙ can.fits.there in
+    let well = can.well.each c.segment_of-index.result can.fits.part there in
+    let once = c.step_at-turn.ensures.once hash first can.fits.part there (record { respects = can.respects; well = well.well; fits = can.fits.fits }) in
+    subst (λ i. MovesOnce eq hash (Some (key_of b.operation)) (wanted_by b.table) i c.step_at-turn.result parts c.step_at-turn.new.parts.items) at
+    (moves_once eq hash (Some (key_of b.operation)) (wanted_by b.table) c.step_at-turn.result parts c.step_at-turn.new.parts.items c.segment_of-index.result
+    can.fits.part once.0 there once.1 once.2)

@@ -5,6 +5,7 @@ use Rattle.moka_buckets.specs.Nodes.{hash_by, own_by, pair_at}
 use Rattle.moka_buckets.specs.Tables.{choose}
 use Rattle.moka_buckets.specs.Steps.{Turned, answered}
 use Rattle.moka_buckets.specs.Arrays.{memory_of}
+use Rattle.moka_buckets.proofs.Once.{wanted_is}
 use Rattle.moka_buckets.proofs.Advancing.{can_access, can_take, step_turned}
 use Rattle.moka_buckets.proofs.stepping.advance.Goals as goal
 
@@ -37,3 +38,13 @@ returns-clause-turned g c = λ hash first peak can.
     c.key_of.ensures (c.in_ok-saw.ensures.effect hash keys can.well.hashed agrees)) c.in_ok-saw.ensures.counts can.named c.answer.new.call.table
     (c.answer.ensures.table ∙ ap (λ s. answered (choose c.args.nodes.now b.operation b.node) s) c.in_ok-take.ensures.ok) c.in_ok-pair.pair
     (c.in_ok-pair.ensures ∙ ap (λ n. answer_of (pair_at c.args.nodes.now n)) c.found.ensures))
+
+pub returns-clause-accesses : goal.returns-clause-accesses
+returns-clause-accesses g c = λ hash first peak can. record {
+  access = c.want-access.result;
+  is = wanted_is c.args.call.now.table c.want-access.result c.want-access.ensures;
+  saw = c.in_ok-saw.saw;
+  effect = λ keys agrees. subst (λ k. Effect (hash_by hash keys) (own_by g.K.PartialEq.eq keys k) c.want-access.result c.in_ok-saw.saw
+      (memory_of c.args.arrays.now) (memory_of c.make.new.arrays)) c.key_of.ensures (c.in_ok-saw.ensures.effect hash keys can.well.hashed agrees);
+  counts = c.in_ok-saw.ensures.counts;
+}

@@ -1,7 +1,8 @@
-use Rattle.std.proofs.Common.{◌≡◌, ◌⊎◌, ◌↔◌, ℕ, ◌<◌, ◌≤◌, true, false, length, IsSome, Ok, OnErr, IfOk, ap, max, subst, sym}
+use Rattle.std.proofs.Common.{◌≡◌, ◌⊎◌, ◌↔◌, ℕ, ◌<◌, ◌≤◌, true, false, length, IsSome, None, Ok, OnErr, IfOk, ap, max, subst, sym}
 use Rattle.std.specs.List.{fold}
 use Rattle.moka_buckets.specs.declared.bucket_call.BucketCall.{BucketCall}
 use Rattle.moka_buckets.specs.declared.keys_call.KeysCall.{KeysCall}
+use Rattle.moka_buckets.specs.Accesses.{MovesOnce, wanted_by}
 use Rattle.moka_buckets.specs.Hashing.{hash_in}
 use Rattle.moka_buckets.specs.Keys.{CoversIt, FitsKeys, ListsIt, WalksOver, left_keys}
 use Rattle.moka_buckets.specs.Parts.{FitsParts, map_over}
@@ -18,7 +19,7 @@ H g c = hash_in g.S.BuildHasher g.S.Hasher.Hasher g.K.Hash.hash_input c.self.ins
 -- the step of the segments
 over : (g : given.Over) (c : goal.After-walk_parts g) → WalksOver g.K.PartialEq.eq (H g c) (max 128 c.self.inside.first) c.self.inside.parts.items
     (max c.self.inside.peak c.self.inside.len) c.self.inside.len c.args.call.now c.walk_parts.result c.walk_parts.new.parts.items c.walk_parts.new.call
-over g c = c.walk_parts.ensures (H g c) (max 128 c.self.inside.first) (max c.self.inside.peak c.self.inside.len) c.self.inside.len (record {
+over g c = c.walk_parts.ensures.over (H g c) (max 128 c.self.inside.first) (max c.self.inside.peak c.self.inside.len) c.self.inside.len (record {
   respects = λ x y e. ap (λ w. g.S.Hasher.Hasher.finish (fold g.S.Hasher.Hasher.write (g.S.BuildHasher.build_hasher c.self.inside.hasher) w)) (g.met.K.Hash.respects_eq x y e);
   well = c.self.invariant;
   fits = subst (λ o. fits_keys_in g.S.BuildHasher g.S.Hasher.Hasher g.K.PartialEq.eq g.K.Hash.hash_input o c.args.call.now) (sym c.self.view_is) c.requires.fits;
@@ -110,3 +111,13 @@ returns-clause-keys_covers g c = subst (λ o. (other : KeysCall) (key : g.row.K.
 pub returns-clause-err : goal.returns-clause-err
 returns-clause-err g c = subst (λ o. OnErr c.walk_parts.result ((c.walk_parts.new.call ≡ c.args.call.now)
     × (left_keys (max 128 c.self.inside.first) c.walk_parts.new.parts.items c.walk_parts.new.call ≡ left_keys_of o c.args.call.now))) c.self.view_is (over g c).err
+
+pub returns-clause-one : goal.returns-clause-one
+returns-clause-one g c = subst (λ o. MovesOnce g.K.PartialEq.eq (hash_in g.S.BuildHasher g.S.Hasher.Hasher g.K.Hash.hash_input o.hasher) None
+    (wanted_by c.args.call.now.table) c.args.call.now.segment c.walk_parts.result o.parts c.walk_parts.new.parts.items) c.self.view_is
+    (c.walk_parts.ensures.one (H g c) (max 128 c.self.inside.first) (max c.self.inside.peak c.self.inside.len) c.self.inside.len (record {
+      respects = λ x y e. ap (λ w. g.S.Hasher.Hasher.finish (fold g.S.Hasher.Hasher.write (g.S.BuildHasher.build_hasher c.self.inside.hasher) w)) (g.met.K.Hash.respects_eq x y e);
+      well = c.self.invariant;
+      fits = subst (λ o. fits_keys_in g.S.BuildHasher g.S.Hasher.Hasher g.K.PartialEq.eq g.K.Hash.hash_input o c.args.call.now) (sym c.self.view_is) c.requires.fits;
+      going = c.requires.going;
+    }))

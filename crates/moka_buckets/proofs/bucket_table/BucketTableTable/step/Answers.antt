@@ -1,12 +1,15 @@
-use Rattle.std.proofs.Common.{◌≡◌, ◌↔◌, ◌≤◌, IsSome, length, ap, max, subst, sym}
+use Rattle.std.proofs.Common.{◌≡◌, ◌↔◌, ◌≤◌, IsSome, Some, length, ap, max, subst, sym}
 use Rattle.std.specs.List.{fold}
 use Rattle.moka_table.specs.Map.{most_steps}
 use Rattle.moka_buckets.specs.declared.bucket_call.BucketCall.{BucketCall}
+use Rattle.moka_hist.specs.Tables.{key_of}
+use Rattle.moka_buckets.specs.Accesses.{MovesOnce, wanted_by}
+use Rattle.moka_buckets.proofs.Once.{moves_none}
 use Rattle.moka_buckets.specs.Hashing.{hash_in}
-use Rattle.moka_buckets.specs.Parts.{AreParts, GoesOver}
+use Rattle.moka_buckets.specs.Parts.{AreParts, GoesOver, segment_of}
 use Rattle.moka_buckets.specs.declared.keys_call.KeysCall.{KeysCall}
 use Rattle.moka_buckets.specs.Keys.{CoversIt, FitsKeys, KeepsKeys, ListsIt, left_keys}
-use Rattle.moka_buckets.specs.Views.{covers_in, fits_in, fits_keys_in, left_keys_of, left_of, lists_in, first_of, map_in, peak_of, segment_for}
+use Rattle.moka_buckets.specs.Views.{covers_in, fits_in, fits_keys_in, left_keys_of, left_of, lists_in, first_of, key_for, map_in, peak_of, segment_for, segment_in, want_of}
 use Rattle.moka_buckets.proofs.Going.{Does, does}
 use Rattle.moka_buckets.proofs.Keyed.{keys_bounded}
 use Rattle.moka_buckets.proofs.Spread.{bounded}
@@ -132,3 +135,19 @@ returns-then-self-clause-keys_left g c = subst (λ o. (other : KeysCall) →
     fits_keys_in g.S.BuildHasher g.S.Hasher.Hasher g.K.PartialEq.eq g.K.Hash.hash_input o other → left_keys_of o other ≤ most_steps (first_of o) (peak_of o)) c.self.view_is
     (λ other f. keys_bounded g.K.PartialEq.eq (hash_in g.S.BuildHasher g.S.Hasher.Hasher g.K.Hash.hash_input c.self.inside.hasher) (max 128 c.self.inside.first)
     c.self.inside.parts.items (max c.self.inside.peak c.self.inside.len) c.self.inside.len c.self.invariant other f)
+
+pub returns-clause-one : goal.returns-clause-one
+returns-clause-one g c = subst (λ o. MovesOnce g.K.PartialEq.eq (hash_in g.S.BuildHasher g.S.Hasher.Hasher g.K.Hash.hash_input o.hasher)
+    (Some (key_of c.args.call.now.operation)) (wanted_by c.args.call.now.table) (segment_of (length o.parts) c.args.call.now.hash) c.step_parts.result
+    o.parts c.step_parts.new.parts.items) c.self.view_is
+    (c.step_parts.ensures.one (hash_in g.S.BuildHasher g.S.Hasher.Hasher g.K.Hash.hash_input c.self.inside.hasher) (max 128 c.self.inside.first)
+    (max c.self.inside.peak c.self.inside.len) (record {
+      respects = λ x y e. ap (λ w. g.S.Hasher.Hasher.finish (fold g.S.Hasher.Hasher.write (g.S.BuildHasher.build_hasher c.self.inside.hasher) w)) (g.met.K.Hash.respects_eq x y e);
+      well = c.self.invariant;
+      fits = subst (λ o. fits_in g.S.BuildHasher g.S.Hasher.Hasher g.K.PartialEq.eq g.K.Hash.hash_input o c.args.call.now) (sym c.self.view_is) c.requires.fits;
+    }))
+
+pub returns-then-self-clause-one : goal.returns-then-self-clause-one
+returns-then-self-clause-one g c =
+    moves_none g.K.PartialEq.eq (hash_in g.S.BuildHasher g.S.Hasher.Hasher g.K.Hash.hash_input c.args.self.now.hasher) (key_for c.args.call.now)
+    (want_of c.args.call.now) c.args.self.now.parts (segment_in c.args.self.now c.args.call.now) _
