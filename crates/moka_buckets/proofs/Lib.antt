@@ -29,3 +29,4 @@ pub mod Keyed
 pub mod Elsewhere
 pub mod Kept
 pub mod Once
+pub mod Sought

@@ -7,6 +7,7 @@ pub mod Hashing
 pub mod Building
 pub mod Parts
 pub mod Accesses
+pub mod Looking
 pub mod Compacting
 pub mod Views
 pub mod Listed

@@ -12,11 +12,12 @@ use crate::calling::{key_of, kind_of};
 use crate::compacting::compact_parts;
 use crate::keys_call::KeysCall;
 use crate::listing::list_parts;
+use crate::looking::find_over;
 use crate::part::{Part, step_parts};
 use crate::walking::{listed_keys, walk_parts};
 use moka_calls::TableCall;
 use moka_growth::CallKind;
-use moka_hist::{TableOp, TableTurn};
+use moka_hist::{Stored, TableOp, TableTurn};
 use moka_table::{EntryList, Table};
 use moka_values::Exact;
 use std::alloc::{AllocError, Global};
@@ -61,6 +62,7 @@ impl<K: Eq + Hash + Drop, V: Drop, S: BuildHasher + Drop> BucketTable<K, V, S> {
     ghost use Rattle.std.specs.Int.{IsNextPowerOfTwo};
     ghost use Rattle.moka_table.specs.Empty.{IsEmptyTable};
     ghost use Rattle.moka_buckets.specs.Building.{AreFresh};
+    ghost use Rattle.std.specs.Option.{option_map};
     ghost use Rattle.moka_buckets.specs.Views.{IsFirst, bucket_table, count_of, first_of, map_in, peak_of, words_in};
 
     /// A table without keys, of so many segments, rounded up to a power of two. For a capacity each
@@ -96,6 +98,19 @@ impl<K: Eq + Hash + Drop, V: Drop, S: BuildHasher + Drop> BucketTable<K, V, S> {
             peak: 0,
             len: 0,
         })
+    }
+
+    /// The pair under the key, in the middle of growth too. It takes no memory, and makes no step of
+    /// an operation.
+    pub fn find(&self, key: &K) -> Option<(&K, &Stored<V>)>
+        ensures { option_map (λ pair. (pair.0.now, pair.1.now)) result
+            ≡ map_in S.BuildHasher S.Hasher.Hasher K.eq K.hash_input self.now key.now }
+    {
+        let hash = self.hasher.hash_one(key);
+        match find_over(&self.parts, hash, key) {
+            None => None,
+            Some(node) => Some((&node.key, &node.stored)),
+        }
     }
 
     /// How many words the roots have together; it stops at the greatest number.

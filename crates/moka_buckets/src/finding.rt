@@ -72,7 +72,8 @@ fn found_at<K: Eq, V>(nodes: &[Node<K, V>], key: &K, word: Word) -> Option<u64>
     }
 }
 
-fn has_key<K: Eq, V>(nodes: &[Node<K, V>], number: u64, key: &K) -> bool
+/// Whether the node of this number has the key.
+pub fn has_key<K: Eq, V>(nodes: &[Node<K, V>], number: u64, key: &K) -> bool
     ensures { result ≡ own_by K.eq (key_in nodes.now) key.now number }
 {
     match node_at(nodes, number) {

@@ -18,6 +18,7 @@ mod keys_call;
 mod linking;
 mod listing;
 mod loading;
+mod looking;
 mod making;
 mod node;
 mod nodes;

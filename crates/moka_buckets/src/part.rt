@@ -47,7 +47,7 @@ impl<K: Eq + Exact, V: Exact> Part<K, V> {
 }
 
 /// The segment of a hash, of so many segments.
-fn segment_of(count: usize, hash: u64) -> usize
+pub fn segment_of(count: usize, hash: u64) -> usize
     requires some { 0 < count }
     ensures is { result ≡ segment_of count hash }
     ensures within { result < count }

@@ -18,6 +18,6 @@ mod walking;
 mod words;
 
 pub use decision::{Decision, NodeList};
-pub use layout::lay_out;
+pub use layout::{bucket_at, lay_out};
 pub use seeing::{seen_is_taken, taken_is_maps};
 pub use table_call::TableCall;

@@ -1,0 +1,15 @@
+use Rattle.std.proofs.Common.{ℕ, Bool, arith, subst, sym, ◌∙◌}
+use Rattle.moka_words.specs.Words.{word_at}
+use Rattle.moka_words.specs.Later.{HasOther}
+use Rattle.moka_growth.proofs.Leading.{passed_more}
+use Rattle.moka_buckets.specs.Nodes.{key_in, own_by}
+use Rattle.moka_buckets.proofs.Sought.{passes}
+use Rattle.moka_buckets.proofs.looking.seek.Goals as goal
+
+pub loop-passed-preserved : goal.loop-passed-preserved
+loop-passed-preserved g c = λ k below.
+    let own : ℕ → Bool = own_by g.K.PartialEq.eq (key_in c.args.nodes.now) c.args.key.now in
+    let words = c.args.words.now in
+    passed_more own words c.args.hash c.loop-passed.passed c.loop-passed.invariant
+    (subst (λ i. HasOther own (word_at words i)) c.bucket_at.ensures.bucket
+    (passes own (word_at words c.bucket_at.result) (sym c.is_end.ensures ∙ c.if-is_end.false))) k (omega (arith, below))
