@@ -55,8 +55,9 @@ module _ {K V : Type 0} (eq : K → K → Bool) (hash : K → ℕ) (nodes more :
     fits = λ keys agrees. w.fits keys (agrees_less keys agrees);
     lists = λ keys agrees. w.lists keys (agrees_less keys agrees);
     named = named_more _ w.named;
+    few = w.few;
   }
-  walks_more m (Decided e) w = record { differ = differ_more (listed_in e) w.named w.differ; named = named_more (listed_in e) w.named }
+  walks_more m (Decided e) w = record { differ = differ_more (listed_in e) w.named w.differ; named = named_more (listed_in e) w.named; few = w.few }
 
   own_more : (key : K) (n : ℕ) → own_by eq (key_in nodes) key n ≡ true → own_by eq (key_in more) key n ≡ true
   own_more key n own = by (key_in nodes n) refl own

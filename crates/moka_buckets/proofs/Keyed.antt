@@ -43,6 +43,7 @@ module _ {K V : Type 0} (eq : K → K → Bool) (hash : K → ℕ) (parts : List
         fits = λ keys agrees. tt;
         lists = λ keys agrees. tt;
         named = λ x n e. absurd (no_item e);
+        few = tt;
       });
     }
 

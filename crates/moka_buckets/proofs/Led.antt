@@ -32,7 +32,8 @@ use Rattle.moka_growth.proofs.Lasts.{fits_lasts}
 use Rattle.moka_buckets.specs.declared.node.Node.{Node}
 use Rattle.moka_buckets.specs.Nodes.{hash_by, same_by, own_by, mine_by, key_in, pair_at, Agrees}
 use Rattle.moka_buckets.specs.Tables.{map_of, IsWell, RunsOn}
-use Rattle.moka_buckets.specs.Walks.{IsNoSeek, owns_none, AreNodes, AreOfMap, Covers, Walks, WalksOn, Lead}
+use Rattle.moka_buckets.specs.Walks.{IsNoSeek, owns_none, AreNodes, AreOfMap, Covers, Walks, WalksOn, Lead, listed_in}
+use Rattle.moka_buckets.proofs.Few.{FewAfter, few_course, few_ended, few_last}
 use Rattle.moka_buckets.proofs.Naming.{names_keys, is_own, is_key}
 use Rattle.moka_buckets.proofs.Found.{found_finds}
 use Rattle.moka_buckets.proofs.Turning.{Sound, agrees_now, found_is, map_kept, present_pair}
@@ -176,6 +177,7 @@ module _ {K V : Type 0} (eq : K → K → Bool) (laws : IsEquivalence eq) (hash 
             lists = λ keys agrees. (listing_goes_on (hash_by hash keys) (same_by eq keys) (mine_by keys) owns_none c d saw old new (makes keys agrees)
                 (walks.lists keys agrees) is).0;
             named = present_named (listed c.point) (listed d.point) walks.named present;
+            few = subst (λ s. FewAfter c.point s) is (few_course c walks.kind walks.few c.point walks.seeks walks.few saw);
           };
           falls = (left_falls (hash_by hash now) (same_by eq now) (mine_by now) owns_none c d saw old new first peak makes_now well.short is).0
               (seeks_rests c.point walks.seeks);
@@ -196,7 +198,14 @@ module _ {K V : Type 0} (eq : K → K → Bool) (laws : IsEquivalence eq) (hash 
           well = well_led keeps;
           map = map_kept eq laws hash respects nodes old new sound_led keeps;
           count = same_count keeps;
-          walks = record { differ = ends.0; named = present_named (listed c.point) ns walks.named ends.1 };
+          walks = record {
+            differ = ends.0;
+            named = present_named (listed c.point) ns walks.named ends.1;
+            few = few_last old new ns (well.sound now (agrees_now nodes))
+                (access_is_later (hash_by hash now) (same_by eq now) (mine_by now) owns_none c saw old new makes_now)
+                (few_ended (hash_by hash now) owns_none c.hash old c.point ns (walks.fits now (agrees_now nodes))
+                (subst (λ s. FewAfter c.point s) is (few_course c walks.kind walks.few c.point walks.seeks walks.few saw)));
+          };
           falls = tt;
           lists = of_map (listed c.point) ns ends.1;
           covers = λ key has covers.
@@ -237,7 +246,11 @@ module _ {K V : Type 0} (eq : K → K → Bool) (laws : IsEquivalence eq) (hash 
     }
 
     pub walks_last : (step : Step) → WalksOn eq hash old nodes step → WalksOn eq hash new nodes step
-    walks_last (Decided e) w = w
+    walks_last (Decided e) w = record {
+      differ = w.differ;
+      named = w.named;
+      few = few_last old new (listed_in e) (sound (key_in nodes) (agrees_now nodes)) (later (key_in nodes) (agrees_now nodes)) w.few;
+    }
     walks_last (Going c) w = record {
       kind = w.kind;
       seeks = w.seeks;
@@ -248,6 +261,7 @@ module _ {K V : Type 0} (eq : K → K → Bool) (laws : IsEquivalence eq) (hash 
           listing_lasts (hash_by hash keys) (same_by eq keys) (mine_by keys) owns_none c old new (names_keys eq laws hash respects keys) (sound keys agrees)
           (later keys agrees) (w.fits keys agrees) (w.lists keys agrees);
       named = w.named;
+      few = w.few;
     }
 
     pub covers_last : Sound eq laws hash respects nodes new → (key : K) → ((keys : ℕ → Option K) → Agrees keys nodes → HasKey (own_by eq keys key) old) →

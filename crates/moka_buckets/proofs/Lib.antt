@@ -30,3 +30,5 @@ pub mod Elsewhere
 pub mod Kept
 pub mod Once
 pub mod Sought
+pub mod Few
+pub mod KeyLists

@@ -1,7 +1,7 @@
 -- What a call knows that lists the keys of a segment, and what it has listed.
-use Rattle.std.specs.Prelude.{◌≡◌, ◌⊎◌, ℕ, ◌<◌, Bool, true, false, List, [], Option, Some, IsSome}
+use Rattle.std.specs.Prelude.{◌≡◌, ◌⊎◌, ℕ, ◌<◌, ◌≤◌, Bool, true, false, List, [], length, Option, Some, IsSome}
 use Rattle.std.specs.List.{slice_get}
-use Rattle.moka_words.specs.Effect.{Memory, LaterMemory}
+use Rattle.moka_words.specs.Effect.{Memory, LaterMemory, array_at}
 use Rattle.moka_growth.specs.declared.kinds.CallKind.TheVariants as kind
 use Rattle.moka_growth.specs.Calls.{Point, Call, Ending, Step, Going, Decided}
 use Rattle.moka_growth.specs.Calls as call
@@ -44,6 +44,15 @@ abbrev pub Falls : (first peak : ℕ) → (old : Memory) → Step → (new : Mem
 Falls first peak old before new (Going d) = left first peak new d < left_in first peak old before
 Falls first peak old before new (Decided e) = Unit {0}
 
+-- a call has listed no more nodes than it passed words
+abbrev pub ListsFew : Point → Type 0
+ListsFew (call.Walk array size index nodes) = length nodes ≤ index
+ListsFew p = Unit {0}
+
+-- no more nodes than some array of the segment has words
+abbrev pub AreFew : Memory → List ℕ → Type 0
+AreFew m ns = (ns ≡ []) ⊎ ((place a : ℕ) × (array_at m place ≡ Some a) × (length ns ≤ length (m.words a)))
+
 module _ {K V : Type 0} where
   -- each of them is a node
   abbrev pub AreNodes : List (Node K V) → List ℕ → Type 0
@@ -58,15 +67,17 @@ module _ {K V : Type 0} where
     pub fits : (keys : ℕ → Option K) → Agrees keys nodes → Fits (hash_by hash keys) owns_none m c
     pub lists : (keys : ℕ → Option K) → Agrees keys nodes → Lists (same_by eq keys) m c.point
     pub named : AreNodes nodes (listed c.point)
+    pub few : ListsFew c.point
 
   -- one that has ended has listed no key twice
-  pub record Walked (eq : K → K → Bool) (nodes : List (Node K V)) (e : Ending) : Type 0 where
+  pub record Walked (eq : K → K → Bool) (m : Memory) (nodes : List (Node K V)) (e : Ending) : Type 0 where
     pub differ : Differ (same_by eq (key_in nodes)) (listed_in e)
     pub named : AreNodes nodes (listed_in e)
+    pub few : AreFew m (listed_in e)
 
   abbrev pub WalksOn : (K → K → Bool) → (K → ℕ) → Memory → List (Node K V) → Step → Type 0
   WalksOn eq hash m nodes (Going c) = Walks eq hash m nodes c
-  WalksOn eq hash m nodes (Decided e) = Walked eq nodes e
+  WalksOn eq hash m nodes (Decided e) = Walked eq m nodes e
 
   -- the call lists this key, if the key stays: it has listed it, or has yet to come to its bucket
   abbrev pub Covers : (K → K → Bool) → Memory → List (Node K V) → (key : K) → Step → Type 0

@@ -126,6 +126,7 @@ impl<K: Eq + Hash + Drop, V: Drop, S: BuildHasher + Drop> BucketTable<K, V, S> {
 }
 
 impl<K: Eq + Hash + Exact, V: Exact, S: BuildHasher + Drop> BucketTable<K, V, S> {
+    ghost use Rattle.std.specs.List.{slice_get};
     ghost use Rattle.moka_buckets.specs.Compacting.{AllCompact};
     ghost use Rattle.std.specs.Option.{option_map};
     ghost use Rattle.moka_calls.specs.Standing.{IsGoing};
@@ -248,6 +249,15 @@ impl<K: Eq + Hash + Exact, V: Exact, S: BuildHasher + Drop> BucketTable<K, V, S>
         ensures listing { IfOk result (λ keys. (list : List K)
             → option_map (λ v. v.items) keys ≡ Some list
             → IsListing K.eq self.now.parts call.now list) }
+        // They are few, and of the call's segment.
+        ensures few { IfOk result (λ keys. (list : List K)
+            → option_map (λ v. v.items) keys ≡ Some list
+            → length list ≤ first_of self.now + 3 * peak_of self.now) }
+        ensures own { IfOk result (λ keys. (list : List K)
+            → option_map (λ v. v.items) keys ≡ Some list
+            → (x : ℕ) (key : K) → slice_get list x ≡ Some key
+            → segment_for S.BuildHasher S.Hasher.Hasher K.eq K.hash_input self.now key
+            ≡ call.now.segment) }
     {
         listed_keys(self.alloc, &self.parts, call)
     }
