@@ -25,9 +25,9 @@ settle-requires c =
     let owns = c.in_ok-alone.ensures.makes (untouched rules) c.requires.1 (refl, refl) in
     (alone rules, c.in_ok-beside.ensures.makes (alone rules) owns (refl, refl), refl)
 
-pub owned-requires-3-clause-free : goal.owned-requires-3-clause-free
-owned-requires-3-clause-free c =
+pub owned-requires-3 : goal.owned-requires-3
+owned-requires-3 c =
     let rules = c.requires.0 in
     let owns = c.in_ok-alone.ensures.makes (untouched rules) c.requires.1 (refl, refl) in
     let beside = c.in_ok-beside.ensures.makes (alone rules) owns (refl, refl) in
-    (settled_as (alone rules) 1 settled.Nothing, c.settle.ensures.makes (alone rules) beside refl, (refl, refl))
+    record { free = (settled_as (alone rules) 1 settled.Nothing, c.settle.ensures.makes (alone rules) beside refl, (refl, refl)) }
