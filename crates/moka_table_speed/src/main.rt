@@ -1,8 +1,8 @@
 //! The program: works on buckets, to be timed and counted.
 //!
 //! `moka_table_speed WORK NUMBER ..` makes each work that is named, over so many: `array` times one
-//! array of buckets beside std's map, `get` and `churn` look up and change the keys of a table that
-//! has grown, and any other word is its growth alone. Standard output has what was found.
+//! array of buckets beside std's map, `get`, `find` and `churn` look up and change the keys of a table
+//! that has grown, and any other word is its growth alone. Standard output has what was found.
 #![tactic(auto)]
 
 mod array;

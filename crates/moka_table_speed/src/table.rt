@@ -40,10 +40,11 @@ fn keys_asked(word: Option<&String>) -> u64 {
     }
 }
 
-/// Makes the work that is asked for: `get` or `churn`; any other word is none.
+/// Makes the work that is asked for: `get`, `find` or `churn`; any other word is none.
 fn work(table: &mut Numbers, word: &str, keys: u64) -> Result<u64, AllocError> {
     match word {
         "get" => get_all(table, keys),
+        "find" => Ok(find_all(table, keys)),
         "churn" => churn_all(table, keys),
         _ => Ok(0),
     }
@@ -75,6 +76,17 @@ fn get_all<C: Drop, T: Table<u64, u64, Call = C> + Drop>(
         }
     }
     Ok(found)
+}
+
+/// Finds each key past any operation, and tells how many are there.
+fn find_all(table: &Numbers, keys: u64) -> u64 {
+    let mut found = 0u64;
+    for key in 0..keys {
+        if table.find(&key).is_some() {
+            found = found.wrapping_add(1);
+        }
+    }
+    found
 }
 
 /// Takes each key out and stores a new one for it, and tells how many were there.
