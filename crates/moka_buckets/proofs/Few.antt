@@ -1,7 +1,6 @@
 -- How many nodes a call lists: no more than some array has words.
-use Rattle.std.proofs.Common.{◌≡◌, ℕ, suc, ◌+◌, ◌≤◌, nat_eq, nat_lt, List, [], ◌∷◌, ◌++◌, length, Option, Some, None, if◌then◌else◌, true, false, Bool, inl, inr, refl, sym, ap, subst, arith}
+use Rattle.std.proofs.Common.{◌≡◌, ℕ, suc, ◌≤◌, nat_eq, nat_lt, List, [], ◌∷◌, ◌++◌, length, Option, Some, None, if◌then◌else◌, true, false, Bool, inl, inr, refl, sym, subst, arith}
 use Rattle.std.specs.Option.{option_eq, option_to_list}
-use Rattle.std.specs.List.{flat_map}
 use Rattle.moka_words.specs.Words.{is_sealed, stored_in}
 use Rattle.moka_words.specs.declared.accesses.Seen.{Seen}
 use Rattle.moka_words.specs.declared.accesses.Seen.TheVariants as seen

@@ -1,8 +1,8 @@
 -- The list of a call is short, and of one segment's keys.
-use Rattle.std.proofs.Common.{◌≡◌, ℕ, ◌+◌, ◌*◌, ◌≤◌, max, Bool, true, is_some, List, length, Option, Some, None, Result, Ok, Err, IfOk, inl, inr, refl, sym, ap, subst, ◌∙◌, arith}
+use Rattle.std.proofs.Common.{◌≡◌, ℕ, ◌+◌, ◌*◌, ◌≤◌, Bool, true, is_some, List, length, Option, Some, None, Result, Ok, Err, IfOk, inl, inr, refl, sym, ap, ◌∙◌, arith}
 use Rattle.std.proofs.lemmas.Bool.{false≢true}
 use Rattle.std.specs.List.{slice_get}
-use Rattle.std.specs.Option.{option_map, option_map_or}
+use Rattle.std.specs.Option.{option_map}
 use Rattle.std.specs.declared.alloc.AllocError.{AllocError}
 use Rattle.moka_words.specs.Effect.{Memory}
 use Rattle.moka_growth.specs.Calls.{Step, Going, Decided}
@@ -10,7 +10,6 @@ use Rattle.moka_growth.specs.Left.{IsShort}
 use Rattle.moka_buckets.specs.declared.node.Node.{Node}
 use Rattle.moka_buckets.specs.declared.part.Part.{Part}
 use Rattle.moka_buckets.specs.declared.keys_call.KeysCall.{KeysCall}
-use Rattle.moka_buckets.specs.Nodes.{key_in}
 use Rattle.moka_buckets.specs.Keys.{FitsKeys, IsListing, ListsIt, keys_in, nodes_of}
 use Rattle.moka_buckets.specs.Parts.{memory_at, peak_at, segment_of, AreParts}
 use Rattle.moka_buckets.specs.Walks.{AreFew, WalksOn, is_ended, listed_by}

@@ -1,5 +1,5 @@
 -- What a look at a key finds.
-use Rattle.std.proofs.Common.{◌≡◌, ℕ, ◌<◌, ◌≤◌, Bool, true, false, List, [], length, Option, Some, None, inl, inr, zero, suc, refl, sym, ap, subst, ◌∙◌, arith}
+use Rattle.std.proofs.Common.{◌≡◌, ℕ, ◌<◌, Bool, true, false, List, length, Option, Some, None, inl, inr, zero, suc, refl, sym, ap, subst, ◌∙◌, arith}
 use Rattle.std.proofs.lemmas.Bool.{false≢true}
 use Rattle.std.specs.Cmp.{IsEquivalence}
 use Rattle.std.specs.Int.{IsPowerOfTwo}
@@ -18,7 +18,7 @@ use Rattle.moka_growth.specs.Maps.{Finds}
 use Rattle.moka_growth.proofs.Copying.{root_is_array}
 use Rattle.moka_growth.proofs.Finding.{FindsIn, absent_in}
 use Rattle.moka_buckets.specs.declared.node.Node.{Node}
-use Rattle.moka_buckets.specs.Nodes.{hash_by, same_by, own_by, mine_by, key_in, pair_at}
+use Rattle.moka_buckets.specs.Nodes.{hash_by, same_by, own_by, key_in, pair_at}
 use Rattle.moka_buckets.specs.Tables.{map_of, IsWell}
 use Rattle.moka_buckets.specs.Looking.{is_end, Seeks}
 use Rattle.moka_buckets.proofs.Naming.{is_key}

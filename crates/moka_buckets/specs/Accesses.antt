@@ -40,17 +40,18 @@ module _ {K V : Type 0} where
     pub nodes : new.nodes.items ≡ old.nodes.items
     pub peak : peak_at new ≡ peak_at old
 
-  -- What one step does to its own segment: it makes the access that the call wanted; without memory it makes none.
-  pub record StepsOnce {A : Type 0} (eq : K → K → Bool) (hash : K → ℕ) (key : Option K) (wanted : Option Access)
-      (gives : Result A AllocError) (old new : Part K V) : Type 0 where
+  -- What one step does to its own segment: it makes the access that the call wanted, or without memory none.
+  pub record StepsOnce {A : Type 0} (eq : K → K → Bool) (hash : K → ℕ) (key : Option K)
+      (wanted : Option Access) (gives : Result A AllocError) (old new : Part K V) : Type 0 where
     pub accesses : IfOk gives
         (λ a. Accesses eq hash key wanted new.nodes.items (memory_at old) (memory_at new))
     pub grows : GrowsByOne old.nodes.items new.nodes.items
     pub err : OnErr gives (IsAsBefore old new)
 
   -- And to all segments: the others are as they were.
-  pub record MovesOnce {A : Type 0} (eq : K → K → Bool) (hash : K → ℕ) (key : Option K) (wanted : Option Access)
-      (segment : ℕ) (gives : Result A AllocError) (old new : List (Part K V)) : Type 0 where
+  pub record MovesOnce {A : Type 0} (eq : K → K → Bool) (hash : K → ℕ) (key : Option K)
+      (wanted : Option Access) (segment : ℕ) (gives : Result A AllocError)
+      (old new : List (Part K V)) : Type 0 where
     pub others : (i : ℕ) → i ≢ segment → slice_get new i ≡ slice_get old i
     pub own : (p : Part K V) → slice_get old segment ≡ Some p →
         (q : Part K V) × (slice_get new segment ≡ Some q) × StepsOnce eq hash key wanted gives p q

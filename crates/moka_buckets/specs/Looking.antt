@@ -23,7 +23,8 @@ pub record Seeks (own : ℕ → Bool) (words : List Word) (hash : ℕ) (found : 
 
 module _ {K V : Type 0} where
   -- what a look may rest on, in the segment of its key and among all segments
-  pub record CanSeek (eq : K → K → Bool) (by : K → ℕ) (first : ℕ) (p : Part K V) (hash : ℕ) (key : K) : Type 0 where
+  pub record CanSeek (eq : K → K → Bool) (by : K → ℕ) (first : ℕ) (p : Part K V) (hash : ℕ)
+      (key : K) : Type 0 where
     pub respects : (x y : K) → eq x y ≡ true → by x ≡ by y
     pub well : IsWell eq by (memory_at p) p.nodes.items first (peak_at p)
     pub hashed : hash ≡ by key

@@ -1,11 +1,11 @@
-use Rattle.std.proofs.Common.{◌≡◌, IfOk, IsErr, Some, Result, Ok, Err, ap, refl, subst, sym, ◌∙◌}
+use Rattle.std.proofs.Common.{IfOk, IsErr, Some, Result, Ok, Err, subst, sym}
 use Rattle.std.proofs.lemmas.Bool.{false≢true}
 use Rattle.std.specs.declared.alloc.AllocError.{AllocError}
 use Rattle.moka_hist.specs.Tables.{key_of}
 use Rattle.moka_buckets.specs.Arrays.{memory_of}
 use Rattle.moka_buckets.specs.Accesses.{Accesses, wanted_by}
 use Rattle.moka_buckets.specs.Steps.{CanStep, Turned}
-use Rattle.moka_buckets.proofs.Once.{grows_named, grows_same, unnamed}
+use Rattle.moka_buckets.proofs.Once.{grows_named, grows_same}
 use Rattle.moka_buckets.proofs.Adding.{adds_none, adds_named}
 use Rattle.moka_buckets.proofs.Doing.{can_step, done, undone}
 use Rattle.moka_buckets.proofs.stepping.begin_step.Goals as goal

@@ -1,4 +1,4 @@
-use Rattle.std.proofs.Common.{◌≡◌, None, ap, max, subst, sym, ◌∙◌}
+use Rattle.std.proofs.Common.{ap, max, subst, sym, ◌∙◌}
 use Rattle.std.specs.List.{fold}
 use Rattle.std.specs.Option.{option_copied, option_map}
 use Rattle.moka_hist.specs.declared.records.Stored.{Stored}

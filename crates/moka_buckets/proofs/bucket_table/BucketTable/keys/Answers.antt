@@ -3,7 +3,6 @@ use Rattle.std.specs.Option.{option_map}
 use Rattle.std.specs.List.{slice_get}
 use Rattle.moka_buckets.specs.Hashing.{hash_in}
 use Rattle.moka_buckets.specs.Keys.{IsListing, keys_in, nodes_of}
-use Rattle.moka_buckets.specs.Parts.{segment_of}
 use Rattle.moka_buckets.specs.Views.{first_of, fits_keys_in, peak_of, segment_for}
 use Rattle.moka_buckets.specs.Walks.{listed_by}
 use Rattle.moka_buckets.proofs.Keyed.{listing_of}

@@ -1,9 +1,8 @@
-use Rattle.std.proofs.Common.{◌<◌, length, None, ap, subst, sym, ◌∙◌}
+use Rattle.std.proofs.Common.{◌<◌, length, ap, subst, sym, ◌∙◌}
 use Rattle.std.specs.Int.{IsPowerOfTwo}
 use Rattle.std.specs.List.{slice_get}
 use Rattle.std.specs.Option.{option_map}
 use Rattle.moka_hist.specs.declared.records.Stored.{Stored}
-use Rattle.moka_words.specs.Effect.{root, words_of}
 use Rattle.moka_buckets.specs.Nodes.{key_in, own_by, pair_at}
 use Rattle.moka_buckets.specs.Looking.{Seeks}
 use Rattle.moka_buckets.specs.Parts.{memory_at, peak_at}

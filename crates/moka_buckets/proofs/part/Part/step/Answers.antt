@@ -1,4 +1,4 @@
-use Rattle.std.proofs.Common.{◌≡◌, ◌≤◌, ℕ, max, Result, Ok, Err, OnErr, arith, ap, ◌∙◌}
+use Rattle.std.proofs.Common.{◌≡◌, ℕ, max, Result, Ok, Err, OnErr, arith, ap}
 use Rattle.std.specs.declared.alloc.AllocError.{AllocError}
 use Rattle.moka_buckets.specs.declared.part.Part.{Part}
 use Rattle.moka_buckets.specs.Accesses.{IsAsBefore}

@@ -1,4 +1,4 @@
-use Rattle.std.proofs.Common.{◌≡◌, ℕ, max, [], None, Result, Ok, Err, IfOk, OnErr, refl, subst, sym, arith, ap, ◌∙◌}
+use Rattle.std.proofs.Common.{◌≡◌, max, None, Result, Ok, Err, IfOk, OnErr, refl, subst, sym, ap, ◌∙◌}
 use Rattle.std.specs.declared.alloc.AllocError.{AllocError}
 use Rattle.moka_buckets.specs.declared.part.Part.{Part}
 use Rattle.moka_buckets.specs.Accesses.{Accesses, IsAsBefore, wanted_by}
