@@ -15,7 +15,8 @@ use moka_words::Seen;
 use std::alloc::AllocError;
 
 impl Course {
-    /// Goes to copy into the array that it saw. Where none is there it lays out the one to link.
+    /// Goes on to copy into the next array that the call saw. Where there is none, the call lays
+    /// out the array that it will link.
     pub fn take_next(
         &mut self,
         array: Option<u64>,
@@ -59,7 +60,7 @@ impl Course {
         Ok(())
     }
 
-    /// Goes to copy into the array that stands next, whoever has linked it.
+    /// Goes on to copy into the next array, whether this call linked it or another did.
     pub fn take_link(
         &mut self,
         array: Option<u64>,
@@ -133,7 +134,7 @@ impl Course {
         Ok(())
     }
 
-    /// Goes on to the next word, and after the last one to make the array the root.
+    /// Goes on to the next word, and after the last word to make the array the root.
     pub fn take_copy(&mut self, from: Option<u64>, array: u64, index: usize)
         requires undecided { self.old.decision ≡ None }
         requires within { index < length self.old.laid.items }
@@ -150,7 +151,7 @@ impl Course {
         }
     }
 
-    /// Goes on at the new root.
+    /// Goes on at the root that the segment has now.
     pub fn take_swing(&mut self)
         requires undecided { self.old.decision ≡ None }
         ensures step { step_of self.new ≡ goes (course_call self.old) (call.Root None) }

@@ -13,7 +13,7 @@ use moka_growth::CallKind;
 use moka_words::{Access, Seen, Word};
 use std::alloc::{AllocError, Global};
 
-/// An array, its length, and how many of its words the call has passed.
+/// A place in an array: the array, its length, and how many of its words the call has passed.
 #[derive(Clone, Copy)]
 pub struct Spot {
     pub array: u64,
@@ -24,82 +24,82 @@ pub struct Spot {
 /// Where a call stands.
 #[derive(Clone, Copy)]
 pub enum Point {
-    /// Loads the root; it has just met a sealed word in the array `met`.
+    /// The call loads the root. It has just met a sealed word in the array `met`, if in any.
     Root {
         met: Option<u64>,
     },
-    /// Loads a bucket of its probe.
+    /// The call loads a bucket of its probe.
     Probe {
         spot: Spot,
     },
-    /// Asks what is to be done, having found this word.
+    /// The call has found this word, and asks what to do.
     Choose {
         spot: Spot,
         found: Word,
     },
-    /// Exchanges that word.
+    /// The call exchanges that word.
     Change {
         spot: Spot,
         from: Word,
         to: Word,
     },
-    /// Lists the nodes, word by word.
+    /// The call lists the nodes, word by word.
     Walk {
         spot: Spot,
     },
-    /// Looks whether a word is sealed.
+    /// The call looks whether a word is sealed.
     Seal {
         spot: Spot,
     },
-    /// Seals the word that it found, whose node has this hash.
+    /// The call seals the word that it found. The word's node has this hash.
     Close {
         spot: Spot,
         word: Word,
         hash: u64,
     },
-    /// Loads the array after a sealed one.
+    /// The call loads the array after a sealed one.
     Next {
         array: Option<u64>,
         size: usize,
     },
-    /// Links one.
+    /// The call links a new array there.
     Link {
         array: Option<u64>,
         size: usize,
     },
-    /// Copies the words laid out into it.
+    /// The call copies the words that it laid out into that array.
     Copy {
         from: Option<u64>,
         array: u64,
         index: usize,
     },
-    /// Makes it the root.
+    /// The call makes that array the root.
     Swing {
         from: Option<u64>,
         array: u64,
     },
 }
 
-/// A call: what it is for, where it stands, and what it has gathered.
+/// A call: its kind, where it stands, and what it has gathered so far.
 #[derive(Drop)]
 pub struct Course {
     pub alloc: Global,
     pub kind: CallKind,
     pub hash: u64,
-    /// Whether it has grown an array by the hint.
+    /// Whether the call has grown an array by the hint.
     pub spent: bool,
     pub point: Point,
-    /// The nodes listed so far.
+    /// The nodes that the call has listed so far.
     pub nodes: Vec<u64>,
-    /// The nodes of the words sealed so far, with their hashes.
+    /// The nodes of the words that are sealed so far, with their hashes.
     pub kept: Vec<(u64, u64)>,
-    /// The words of the array after the sealed one.
+    /// The words that the array after the sealed one is to have.
     pub laid: Vec<Word>,
     pub decision: Option<Decision>,
 }
 
 impl Course {
-    /// Its next access.
+    /// Answers the next access of the call.
     pub fn access(&self) -> Access
         requires { IsOn self.now }
         ensures { result ≡ access_of (course_call self.now) }
@@ -147,7 +147,7 @@ impl Course {
         }
     }
 
-    /// Goes on, or ends, by what its access saw. Without memory it is as it was.
+    /// Goes on, or ends, by what the access saw. On want of memory the call is as before.
     pub fn take(&mut self, seen: Seen) -> Result<(), AllocError>
         requires undecided { self.old.decision ≡ None }
         requires on { IsOn self.old }
@@ -193,7 +193,7 @@ impl Course {
         }
     }
 
-    /// Ends.
+    /// Ends the call so.
     pub fn decide(&mut self, decision: Decision)
         ensures { self.new ≡ record self.old { decision = Some decision } }
     {
@@ -207,7 +207,7 @@ impl Course {
         self.point = point;
     }
 
-    /// Goes on sealing an array from its first word.
+    /// Goes on to seal an array, from its first word.
     pub fn seal_all(&mut self, array: u64, size: usize)
         requires undecided { self.old.decision ≡ None }
         requires size { IsSize size }

@@ -11,10 +11,10 @@ use crate::words::is_free;
 use moka_words::Word;
 use std::alloc::{AllocError, Global};
 
-/// How long the first array of a segment is.
+/// The length of the first array of a segment.
 const FIRST_SIZE: usize = 128;
 
-/// The bucket to which a probe comes after `passed` others.
+/// Answers the bucket to which a probe comes after `passed` others.
 pub fn bucket_at(size: usize, hash: u64, passed: usize) -> usize
     requires power { IsPowerOfTwo size }
     requires small { size ≤ 2 ^ 61 }
@@ -26,8 +26,8 @@ pub fn bucket_at(size: usize, hash: u64, passed: usize) -> usize
     ((hash as usize & mask) + passed) & mask
 }
 
-/// How long the array is that follows one of this size with so many stored nodes; without one
-/// before it, it is the first.
+/// Answers how long the array is that follows one of this size with so many stored nodes. Without
+/// an array before it, it is the first.
 pub fn next_size(array: Option<u64>, size: usize, stored: usize) -> usize
     requires { IsSizeOf array size }
     ensures size { result ≡ next_size array size stored }
@@ -55,7 +55,7 @@ fn grown_size(size: usize, stored: usize) -> usize
     }
 }
 
-/// The words of an array of this size in which these nodes stand, by their hashes.
+/// Gives the words of an array of this size in which these nodes stand, each by its hash.
 pub fn lay_out(alloc: Global, kept: &[(u64, u64)], size: usize) -> Result<Vec<Word>, AllocError>
     requires power { IsPowerOfTwo size }
     requires small { size ≤ 2 ^ 61 }

@@ -14,7 +14,7 @@ use moka_growth::CallKind;
 use moka_words::{Choice, Seen, Word};
 
 impl Course {
-    /// Goes on by the word of its probe's bucket.
+    /// Goes on by the word that the call saw in the bucket of its probe.
     pub fn take_word(&mut self, spot: Spot, seen: Seen)
         requires undecided { self.old.decision ≡ None }
         requires inside { IsIn spot }
@@ -118,7 +118,7 @@ impl Course {
         }
     }
 
-    /// Goes on by what is to be done.
+    /// Goes on by what the call was told to do.
     pub fn take_choice(&mut self, spot: Spot, found: Word, seen: Seen)
         requires undecided { self.old.decision ≡ None }
         requires inside { IsIn spot }
@@ -174,7 +174,8 @@ impl Course {
         }
     }
 
-    /// Ends where its exchange was made; one that met another word is tried anew.
+    /// Ends where the call made its exchange. Where the exchange met another word, the call tries
+    /// the bucket anew.
     pub fn take_change(&mut self, spot: Spot, from: Word, seen: Seen)
         requires undecided { self.old.decision ≡ None }
         requires inside { IsIn spot }

@@ -13,11 +13,11 @@ use crate::{Decision, NodeList};
 use moka_growth::CallKind;
 use moka_words::{RehashOp, Seen};
 
-/// A count as the hint takes it is at most this.
+/// The greatest count that the hint takes.
 const MOST: u64 = 1 << 60;
 
 impl Course {
-    /// Goes on by the root that it saw.
+    /// Goes on by the root that the call saw.
     pub fn take_root(&mut self, met: Option<u64>, seen: Seen)
         requires undecided { self.old.decision ≡ None }
         requires fits { MaySee access.LoadRoot seen }

@@ -17,8 +17,8 @@ use moka_words::{Seen, Word};
 use std::alloc::AllocError;
 
 impl Course {
-    /// Passes a word that is sealed, or goes to seal the one that it saw. The place of its node is
-    /// taken before.
+    /// Passes a sealed word, or goes on to seal the word that the call saw. The call takes the
+    /// memory for the word's node before.
     pub fn take_found(&mut self, spot: Spot, seen: Seen) -> Result<(), AllocError>
         requires undecided { self.old.decision ≡ None }
         requires inside { IsIn spot }
@@ -57,7 +57,8 @@ impl Course {
         }
     }
 
-    /// Passes the word that it has sealed; one that met another word is looked at anew.
+    /// Passes the word that the call has sealed. Where the exchange met another word, the call
+    /// looks at it anew.
     pub fn take_seal(&mut self, spot: Spot, word: Word, hash: u64, seen: Seen)
         requires undecided { self.old.decision ≡ None }
         requires inside { IsIn spot }

@@ -32,8 +32,8 @@ impl Model for TableCall {
 }
 
 impl TableCall {
-    /// A call that begins, under the hash of its key; one that lists keys ignores the hash. No
-    /// memory is taken.
+    /// Begins a call, under the hash of its key. A call that lists keys ignores the hash. Beginning
+    /// a call takes no memory.
     pub fn new(alloc: Global, kind: CallKind, hash: u64) -> TableCall
         ensures { result ≡ Going (call_from kind hash) }
     {
@@ -52,7 +52,7 @@ impl TableCall {
         }
     }
 
-    /// The access that it makes next.
+    /// Answers the access that the call makes next.
     pub fn want(&self) -> Access
         requires { IsGoing self.now }
         ensures { Wants self.now result }
@@ -60,7 +60,7 @@ impl TableCall {
         self.course.access()
     }
 
-    /// Goes on, or decides, by what its access saw. Without memory it is as it was.
+    /// Goes on, or ends, by what the access saw. On want of memory the call is as before.
     pub fn take(&mut self, seen: Seen) -> Result<(), AllocError>
         requires { Awaits self.old seen }
         ensures ok { OnOk result (self.new ≡ after self.old seen) }
@@ -69,7 +69,7 @@ impl TableCall {
         self.course.take(seen)
     }
 
-    /// How it ended; None exactly where it goes on.
+    /// Answers how the call ended, or `None` exactly where it goes on.
     pub fn decided(&self) -> Option<&Decision>
         ensures { option_map ending_of (option_copied result) ≡ ending_in self.now }
     {

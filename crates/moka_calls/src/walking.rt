@@ -17,7 +17,7 @@ use std::alloc::AllocError;
 use std::mem;
 
 impl Course {
-    /// Lists the node of the word that it saw; a sealed word drops the list.
+    /// Lists the node of the word that the call saw. At a sealed word the call drops its list.
     pub fn take_listed(&mut self, spot: Spot, seen: Seen) -> Result<(), AllocError>
         requires undecided { self.old.decision ≡ None }
         requires inside { IsIn spot }

@@ -6,7 +6,7 @@ ghost use Rattle.moka_growth.specs.Growing.{seal_of};
 
 use moka_words::Word;
 
-/// The node whose key and value are stored in the word.
+/// Answers the node whose pair the word stores, if it stores one.
 pub fn stored_in(word: Word) -> Option<u64>
     ensures { result ≡ stored_in word }
 {
@@ -16,7 +16,7 @@ pub fn stored_in(word: Word) -> Option<u64>
     }
 }
 
-/// Whether the word never changes again.
+/// Answers whether the word is sealed: it never changes again.
 pub fn is_sealed(word: Word) -> bool
     ensures { result ≡ is_sealed word }
 {
@@ -26,7 +26,7 @@ pub fn is_sealed(word: Word) -> bool
     }
 }
 
-/// Whether the bucket has no key.
+/// Answers whether the bucket of this word has no key.
 pub fn is_free(word: Word) -> bool
     ensures { result ≡ is_none (node_of word) }
 {
@@ -36,7 +36,7 @@ pub fn is_free(word: Word) -> bool
     }
 }
 
-/// The word sealed.
+/// Answers the sealed form of the word.
 pub fn seal_of(word: Word) -> Word
     ensures { result ≡ seal_of word }
 {

@@ -21,13 +21,13 @@ use moka_words::Word;
 use std::alloc::{AllocError, Global};
 use std::marker::Model;
 
-/// No array is longer.
+/// The length of the longest array.
 const MOST_BUCKETS: usize = 1 << 60;
 
-/// Buckets for pairs, as many as it was made with.
+/// An array of buckets for pairs of a key and a value. It keeps the length that it was made with.
 ///
-/// A bucket gets a key once, and keeps it: after a removal it is a tombstone, which only an insert
-/// of that key uses again.
+/// A bucket gets a key once and keeps it. A removal leaves a tombstone in the bucket, and only an
+/// insert of that key uses the bucket again.
 #[derive(Drop)]
 pub struct BucketArray<K: Eq, V> {
     words: Vec<Word>,
@@ -47,7 +47,8 @@ impl<K: Eq, V> Model for BucketArray<K, V> {
 }
 
 impl<K: Eq + Drop, V: Drop> BucketArray<K, V> {
-    /// An array of so many buckets, a power of two. More than 2^60 is want of memory.
+    /// Makes an array of `length` buckets, a power of two. A length of more than 2^60 is answered
+    /// as want of memory.
     pub fn with_length(alloc: Global, length: usize) -> Result<Self, AllocError>
         requires { IsPowerOfTwo length }
         ensures words { IfOk result (λ b. b.words ≡ replicate length Word.Empty) }
@@ -65,14 +66,15 @@ impl<K: Eq + Drop, V: Drop> BucketArray<K, V> {
         })
     }
 
-    /// How many keys it is meant for: half its buckets.
+    /// Answers how many keys the array is meant for: half of its length.
     pub fn capacity(&self) -> usize
         ensures { result ≡ length self.now.words / 2 }
     {
         self.words.len() / 2
     }
 
-    /// The value under the key that the test is true of.
+    /// Lends the value of the key for which `eq` answers true, or answers `None` where no such key
+    /// is stored.
     pub fn get<F: FnMut(&K) -> bool>(&self, hash: u64, eq: F) -> Option<&V>
         requires callable { F.IsAlwaysCallable eq }
         requires one { (q : K) × Asks F.FnMut K.eq self.now hash eq q }
@@ -85,8 +87,8 @@ impl<K: Eq + Drop, V: Drop> BucketArray<K, V> {
         }
     }
 
-    /// Removes the pair whose key the test is true of, where the condition holds of it, and gives
-    /// its value. The bucket is a tombstone then. It takes no memory.
+    /// Removes the pair of the key for which `eq` answers true, where `condition` holds of the
+    /// pair, and gives its value. The bucket becomes a tombstone. A removal takes no memory.
     pub fn remove_if<F: FnMut(&K) -> bool, C: FnMut(&K, &V) -> bool>(
         &mut self,
         hash: u64,
@@ -183,10 +185,10 @@ impl<K: Eq + Drop, V: Drop> BucketArray<K, V> {
         }
     }
 
-    /// Stores the value that the modifier makes of the stored pair, under the key handed in, and
-    /// gives the previous value; or the value handed in, where the key is absent. Where there is no
-    /// bucket free for it the key is dropped, and the value given back. Without memory key and
-    /// value are dropped, and the modifier may have been called.
+    /// Stores a value under `key`. Where the key is present, the array stores what the modifier
+    /// makes of the stored pair, and gives the previous value; where it is absent, the value handed
+    /// in. Where no bucket is free the array drops the key and gives the value back. On want of
+    /// memory it drops both, and may have called the modifier.
     pub fn insert_or_modify<F: FnMut(&K, &V) -> V>(
         &mut self,
         hash: u64,
@@ -216,7 +218,7 @@ impl<K: Eq + Drop, V: Drop> BucketArray<K, V> {
         }
     }
 
-    /// Lists what `with_key` makes of each live key, in the order of the buckets.
+    /// Lists what `with_key` makes of each stored key, in the order of the buckets.
     pub fn keys<T: Drop, F: FnMut(&K) -> T>(
         &self,
         alloc: Global,
@@ -238,8 +240,8 @@ impl<K: Eq + Drop, V: Drop> BucketArray<K, V> {
 }
 
 impl<K: Eq + Drop, V: Clone + Drop> BucketArray<K, V> {
-    /// Stores the pair, where its key is absent. Where it is present all stays, and a clone of the
-    /// value that stays is given.
+    /// Stores the pair where its key is absent. Where the key is present, nothing changes and the
+    /// caller gets a clone of the stored value.
     pub fn insert_if_not_present(
         &mut self,
         hash: u64,

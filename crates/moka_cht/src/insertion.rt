@@ -3,12 +3,12 @@
 /// What became of an insert.
 #[derive(Drop)]
 pub enum Insertion<V> {
-    /// A bucket without a key took it.
+    /// A bucket without a key took the pair.
     Inserted,
-    /// The bucket of a key that was removed took it.
+    /// The tombstone of this key took the pair.
     ReplacedTombstone,
-    /// The key was there already.
+    /// The key was present already.
     AlreadyPresent(V),
-    /// The array has neither a bucket of this key nor one without a key; the value comes back.
+    /// The array has neither a bucket of this key nor one without a key. The value comes back.
     NoFree(V),
 }

@@ -12,7 +12,7 @@ use crate::node::Node;
 use moka_words::Word;
 use std::alloc::{AllocError, Global};
 
-/// Lists what `with_key` makes of each live key, in the order of the buckets.
+/// Lists what `with_key` makes of each stored key, in the order of the buckets.
 pub fn list_keys<K, V, T: Drop, F: FnMut(&K) -> T>(
     alloc: Global,
     words: &[Word],

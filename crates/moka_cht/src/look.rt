@@ -13,7 +13,7 @@ use crate::node::Node;
 use crate::probe::{Aim, Ending, Place, Point, Probe, Step};
 use moka_words::{Access, Choice, Seen, Word};
 
-/// Loads buckets until the probe asks what to do, or has ended.
+/// Loads buckets until the probe asks what to do at one, or ends.
 pub fn look<K: Eq, V, F: FnMut(&K) -> bool>(
     words: &[Word],
     nodes: &[Node<K, V>],
@@ -109,7 +109,7 @@ fn is_own<K, F: FnMut(&K) -> bool>(key: &K, eq: &mut F) -> bool
     eq(key)
 }
 
-/// The live node of the key that the test is true of.
+/// Answers the number of the live node whose key `eq` accepts.
 pub fn find<K: Eq, V, F: FnMut(&K) -> bool>(
     words: &[Word],
     nodes: &[Node<K, V>],
@@ -129,7 +129,7 @@ pub fn find<K: Eq, V, F: FnMut(&K) -> bool>(
     }
 }
 
-/// The probe of a removal where it has found its key live.
+/// Leads the probe of a removal to the live bucket of its key, and gives it there.
 pub fn find_live<K: Eq, V, F: FnMut(&K) -> bool>(
     words: &[Word],
     nodes: &[Node<K, V>],
@@ -153,7 +153,8 @@ pub fn find_live<K: Eq, V, F: FnMut(&K) -> bool>(
     }
 }
 
-/// The probe of an insert where it has found its key, or a bucket without one.
+/// Leads the probe of an insert to the bucket of its key, or to one without a key, and gives it
+/// there.
 pub fn find_place<K: Eq, V>(
     words: &[Word],
     nodes: &[Node<K, V>],

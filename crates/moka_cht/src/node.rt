@@ -1,12 +1,13 @@
 //! What a node holds.
 
-/// What the words name by a number: a key with the hash under which it was filled, and its value.
+/// A node, which words name by its number: a key, the hash under which it was stored, and its
+/// value.
 #[derive(Drop)]
 pub enum Node<K, V> {
-    /// Nothing: no word names it.
+    /// The node is free: no word names it.
     Unused,
     /// A stored pair.
     Pair { hash: u64, key: K, value: V },
-    /// A key that was removed; its bucket is a tombstone.
+    /// A key whose pair was removed. Its bucket is a tombstone.
     Removed { hash: u64, key: K },
 }

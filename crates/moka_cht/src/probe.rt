@@ -14,7 +14,7 @@ ghost use Rattle.moka_cht.specs.Probes.{AfterLoad, Fits, IsOn, IsOwnPlace, EndsA
 
 use moka_words::{Access, Choice, Seen, Word};
 
-/// What a call is out for.
+/// What a call wants to do with its key.
 #[derive(Clone, Copy)]
 pub enum Aim {
     Get,
@@ -22,27 +22,27 @@ pub enum Aim {
     Remove,
 }
 
-/// The bucket at which a probe found what it seeks.
+/// The kind of bucket at which a probe stopped.
 #[derive(Clone, Copy)]
 pub enum Place {
-    /// It has no key.
+    /// The bucket has no key.
     Free,
-    /// It is a tombstone of the call's key.
+    /// The bucket is the tombstone of the call's key.
     Dead(u64),
-    /// It has the call's key, live.
+    /// The bucket has the call's key, and a stored pair.
     Stored(u64),
 }
 
-/// What a probe does next at its bucket.
+/// The next access of a probe.
 #[derive(Clone, Copy)]
 pub enum Point {
-    /// Loads the word.
+    /// The probe loads the bucket's word.
     Load,
-    /// Asks what is to be done.
+    /// The probe asks its caller what to do.
     Choose { at: Place },
-    /// Exchanges the word for the node's.
+    /// The probe exchanges the word for that of the caller's node.
     Put { at: Place, node: u64 },
-    /// Exchanges the live word for its tombstone.
+    /// The probe exchanges the live word for its tombstone.
     Remove { node: u64 },
 }
 
@@ -53,25 +53,25 @@ pub struct Probe {
     pub array: u64,
     pub length: usize,
     pub hash: u64,
-    /// How many buckets it has passed; each of them has another key.
+    /// How many buckets the probe has passed. Each of them has another key.
     pub passed: usize,
     pub point: Point,
 }
 
-/// How a call ended in this array.
+/// How a probe ended in this array.
 #[derive(Clone, Copy)]
 pub enum Ending {
-    /// It changed nothing, and found this live node of its key, or none.
+    /// The probe changed nothing, and found this live node of its key, or none.
     Kept { present: Option<u64> },
-    /// Its exchange was made at this place.
+    /// The probe made its exchange at this place.
     Changed { at: Place },
-    /// It found neither its key nor a bucket without one.
+    /// The probe found neither its key nor a bucket without one.
     NoFree,
-    /// It met a word that is sealed, or not set yet.
+    /// The probe met a word that is sealed, or not set yet.
     Closed,
 }
 
-/// What comes of an access.
+/// What an access leads to.
 #[derive(Clone, Copy)]
 pub enum Step {
     On(Probe),
@@ -79,7 +79,7 @@ pub enum Step {
 }
 
 impl Place {
-    /// The word of such a bucket.
+    /// Answers the word of a bucket of this kind.
     pub fn word(self) -> Word
         ensures { result ≡ word_of self }
     {
@@ -90,7 +90,7 @@ impl Place {
         }
     }
 
-    /// The live node of the call's key.
+    /// Answers the live node of the call's key, where the bucket has one.
     pub fn present(self) -> Option<u64>
         ensures { result ≡ present_of self }
     {
@@ -103,7 +103,7 @@ impl Place {
 }
 
 impl Probe {
-    /// A call at the first bucket of its probe.
+    /// Begins a probe, at the first bucket of its hash.
     pub fn begin(aim: Aim, array: u64, length: usize, hash: u64) -> Probe
         requires power { IsPowerOfTwo length }
         requires small { length ≤ 2 ^ 60 }
@@ -134,7 +134,7 @@ impl Probe {
         ((self.hash as usize & mask) + self.passed) & mask
     }
 
-    /// Its next access.
+    /// Answers the next access of the probe.
     pub fn access(&self) -> Access
         requires { IsOn self.now }
         ensures { result ≡ access_of self.now }
@@ -161,7 +161,7 @@ impl Probe {
         }
     }
 
-    /// The live node of its key, where it asks what to do.
+    /// Answers the live node of the probe's key, where the probe asks what to do.
     pub fn present(&self) -> Option<u64>
         ensures { (at : Place) → self.now.point ≡ Point.Choose at → result ≡ present_of at }
     {
@@ -171,7 +171,7 @@ impl Probe {
         }
     }
 
-    /// Goes on by what its access saw.
+    /// Goes on by what the access saw.
     pub fn take(self, seen: Seen) -> Step
         requires on { IsOn self }
         requires fits { Fits self.aim self.point seen }

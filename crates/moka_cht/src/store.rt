@@ -9,8 +9,8 @@ use crate::node::Node;
 use std::alloc::AllocError;
 use std::mem;
 
-/// Fills a node that nothing names, the spare one first, and gives its number. Without memory all
-/// stays, and key and value are dropped.
+/// Stores a key and its value in a free node, the spare one first, and gives its number. On want of
+/// memory no node changes, and key and value are dropped.
 pub fn fill<K: Drop, V: Drop>(
     nodes: &mut Vec<Node<K, V>>,
     spare: Option<u64>,
@@ -38,7 +38,7 @@ pub fn fill<K: Drop, V: Drop>(
     }
 }
 
-/// Takes out what the node holds.
+/// Takes out what the node holds, and leaves it free.
 pub fn release<K: Drop, V: Drop>(nodes: &mut Vec<Node<K, V>>, number: u64) -> Node<K, V>
     requires { number < length nodes.old.items }
     ensures node { result ≡ node_at nodes.old.items number }
@@ -47,7 +47,7 @@ pub fn release<K: Drop, V: Drop>(nodes: &mut Vec<Node<K, V>>, number: u64) -> No
     mem::replace(&mut nodes[number as usize], Node::Unused)
 }
 
-/// Takes the value out of the node, which keeps its key.
+/// Takes the value out of the node. The node keeps its key.
 pub fn retire<K: Drop, V: Drop>(nodes: &mut Vec<Node<K, V>>, number: u64) -> V
     requires within { number < length nodes.old.items }
     requires pair { IsSome (pair_in (node_at nodes.old.items number)) }
@@ -64,7 +64,7 @@ pub fn retire<K: Drop, V: Drop>(nodes: &mut Vec<Node<K, V>>, number: u64) -> V
     }
 }
 
-/// The stored value.
+/// Lends the value of the node, where it has a stored pair.
 pub fn value_in<K, V>(node: &Node<K, V>) -> Option<&V>
     ensures { option_copied result ≡ option_map (λ p. p.1) (pair_in node.now) }
 {
