@@ -74,6 +74,7 @@ impl Lines {
 
     /// Takes the list of those that wait for the thing of this number, which has come; None where
     /// nobody ever waited for it.
+    #[inline(always)]
     pub(crate) fn take(&mut self, number: u64) -> Option<WaitList>
         ensures all { calls_in result ≡ line_at self.old.lists number }
         ensures none { (n : ℕ) → line_at self.new.lists n ≡

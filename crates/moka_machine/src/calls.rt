@@ -84,6 +84,7 @@ impl<K: Drop, V: Drop, E: Drop> Calls<K, V, E> {
     }
 
     /// Puts a call back that was taken out. It takes no memory.
+    #[inline(always)]
     pub(crate) fn put_back(&mut self, call: u64, running: Running<K, V, E>)
         requires { HasPlace self.old call }
         ensures { (n : ℕ) → place_at self.new n

@@ -68,6 +68,7 @@ impl<K: Eq + Hash + Exact, V: Exact> PlainTable<K, V> {
 
     // Puts the pair under its key, and gives the one that was there. There is room, so it can't
     // fail.
+    #[inline(always)]
     fn put(&mut self, place: K, key: K, stored: Stored<V>) -> TableAnswer<K, V>
         requires room { 0 < spare self.old.pairs }
         requires place { place ≡ key }

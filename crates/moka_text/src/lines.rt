@@ -21,6 +21,7 @@ use moka_hist::{Cause, Event, Op, Start, Told};
 
 /// A key and a value, with one space between them.
 #[tactic(auto, unfolding(crate::specs::ScheduleReading::pair_of))]
+#[inline(always)]
 fn pair_of(bytes: &[u8]) -> Option<(u32, u32)>
     ensures { result ≡ pair_of bytes.now }
 {
@@ -80,6 +81,7 @@ fn replace_in(bytes: &[u8]) -> Option<Option<u64>>
 
 /// A key, and after it the replace test, where there is one.
 #[tactic(auto, unfolding(crate::specs::ScheduleReading::load_of))]
+#[inline(always)]
 fn load_of(bytes: &[u8]) -> Option<(u32, Option<u64>)>
     ensures { result ≡ load_of bytes.now }
 {

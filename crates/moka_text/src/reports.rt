@@ -129,6 +129,7 @@ fn cause_word(cause: Cause) -> &'static str
 }
 
 /// Appends a key and its value.
+#[inline(always)]
 fn push_pair(text: &mut String, key: u32, value: u32) -> Result<(), AllocError>
     ensures { OnOk result (string_bytes text.new
         ≡ string_bytes text.old ++ (decimal key ++ 32 ∷ decimal value)) }
