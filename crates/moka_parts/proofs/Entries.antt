@@ -3,7 +3,7 @@ use Rattle.std.proofs.Common.{◌≡◌, ◌<◌, ℕ, zero, suc, Bool, true, fa
 use Rattle.std.specs.Option.{option_map, is_some}
 use Rattle.std.specs.List.{Contains, IsDistinct, AllByRecursion}
 use Rattle.std.specs.List.Sorted.{IsPermutation}
-use Rattle.std.specs.Map.{lookup, lookup_key, lookup_entry, remove_entry, keys_of}
+use Rattle.std.specs.Map.{lookup, lookup_key, lookup_entry, remove_entry, set_value, keys_of}
 use Rattle.std.specs.Cmp.{IsEquivalence}
 use Rattle.std.proofs.lemmas.List.Sorted.{Contains-permutation, IsPermutation-sym, IsPermutation-map}
 use Rattle.std.proofs.lemmas.Map.Keys.{IsDistinct-IsPermutation}
@@ -125,6 +125,31 @@ module _ {K V : Type 0} {eq : K → K → Bool} (o : IsEquivalence eq) where
   pub lookup_added : (k q : K) (v : V) (es fs : List (K × V)) → IsDistinct eq (keys_of fs) → IsPermutation ((k, v) ∷ es) fs
       → lookup_entry (eq q) fs ≡ cond (eq k q) (Some (k, v)) (lookup_entry (eq q) es)
   lookup_added k q v es fs d p = rw (o.symm k q) (lookup_permuted q ((k, v) ∷ es) fs p d)
+
+  -- what is found once a value was put over another
+  pub lookup_set : (k q : K) (w : V) (es : List (K × V)) (e : K × V) → lookup_entry (eq k) es ≡ Some e
+      → lookup_entry (eq q) (set_value (eq k) es w) ≡ cond (eq k q) (Some (e.0, w)) (lookup_entry (eq q) es)
+  lookup_set k q w [] e h = absurd (cc)
+  lookup_set k q w (x ∷ xs) e h =
+      let after = lookup_entry (eq q) xs in
+      let by : (b : Bool) → eq k x.0 ≡ b → cond b (Some x) (lookup_entry (eq k) xs) ≡ Some e
+      → lookup_entry (eq q) (cond b ((x.0, w) ∷ xs) (x ∷ set_value (eq k) xs w)) ≡ cond (eq k q) (Some (e.0, w)) (cond (eq q x.0) (Some x) after) =
+      elim [
+        | true ↦ (λ t f.
+            let s : x ≡ e = cc in
+            let same : eq k q ≡ eq q x.0 = o.congr k x.0 q t ∙ o.symm x.0 q in
+            let first : (c : Bool) → cond c (Some (x.0, w)) after ≡ cond c (Some (x.0, w)) (cond c (Some x) after) = elim [ true ↦ refl | false ↦ refl ] in
+            subst (λ (c : Bool). cond (eq q x.0) (Some (x.0, w)) after ≡ cond c (Some (e.0, w)) (cond (eq q x.0) (Some x) after)) (sym same)
+            (subst (λ (p : K × V). cond (eq q x.0) (Some (x.0, w)) after ≡ cond (eq q x.0) (Some (p.0, w)) (cond (eq q x.0) (Some x) after)) s (first (eq q x.0))))
+        | false ↦ (λ t f.
+            let apart_ : (c d : Bool) → eq q x.0 ≡ c → eq k q ≡ d → cond c (Some x) (cond d (Some (e.0, w)) after) ≡ cond d (Some (e.0, w)) (cond c (Some x) after) =
+            elim [
+              | true ↦ elim [ true ↦ (λ u v. absurd (let p = o.congr k q x.0 v in cc)) | false ↦ (λ u v. refl) ]
+              | false ↦ elim [ true ↦ (λ u v. refl) | false ↦ (λ u v. refl) ]
+            ] in
+            ap (λ r. cond (eq q x.0) (Some x) r) (lookup_set k q w xs e f) ∙ apart_ (eq q x.0) (eq k q) refl refl)
+      ] in
+      by (eq k x.0) refl h
 
 -- nothing is found at a key without an entry
 pub lookup_none : {K V : Type 0} (test : K → Bool) (es : List (K × V)) → lookup_entry test es ≡ None → lookup test es ≡ None

@@ -6,3 +6,5 @@ pub mod Alike
 pub mod Parting
 pub mod Taking
 pub mod Lending
+pub mod Listing
+pub mod Holding

@@ -5,6 +5,7 @@ use Rattle.std.specs.HashMap.{HashMap}
 use mathlib.Core.List.{IsPrefix}
 use Rattle.logbook.specs.Pages.{Book, Named}
 use Rattle.moka_parts.specs.declared.change.Change.{Change}
+use Rattle.moka_parts.specs.declared.held.Held.{Held}
 use Rattle.moka_parts.specs.declared.note.Note.{Note}
 use Rattle.moka_parts.specs.declared.note.Note.TheVariants.{Changed}
 use Rattle.moka_parts.specs.Changes.{pair_put, pair_after, map_after, count_of}
@@ -24,7 +25,7 @@ module _ {K V S : Type 0} (eq : K → K → Bool) (part : S → K → ℕ) (hold
       let b : h ≡ t = opened_same h t front new r opened all in
       subst (λ (u : S). part u key ≡ number) (a ∙ sym b) here.2
 
-  module _ (book : Book) (number count : ℕ) (word : Named) (front : List (Note K V S)) (map : HashMap K V S) (p : IsPart eq part holds book number count word front map) where
+  module _ (book : Book) (number count : ℕ) (word : Named) (front : List (Note K V S)) (map : HashMap K (Held K V) S) (p : IsPart eq part holds book number count word front map) where
     -- the map has at a key of the part what its front says
     pub front_says : (key : K) → part p.hasher key ≡ number → pair_at eq map key ≡ map_after eq (changes_in front) key
     front_says key here = p.same key ∙ ap (λ (b : Bool). cond b (map_after eq (changes_in front) key) None) (eq-eqb (part p.hasher key) number here)
@@ -83,7 +84,7 @@ module _ {K V S : Type 0} (eq : K → K → Bool) (part : S → K → ℕ) (hold
           omega arith
 
       -- the map after the change is what the longer history says
-      pub map_follows : (new_map : HashMap K V S) → ((q : K) → pair_at eq new_map q ≡ cond (eq c.key q) (pair_put c) (pair_at eq map q))
+      pub map_follows : (new_map : HashMap K (Held K V) S) → ((q : K) → pair_at eq new_map q ≡ cond (eq c.key q) (pair_put c) (pair_at eq map q))
           → (q : K) → pair_at eq new_map q ≡ cond (part grows.hasher q == number) (map_after eq (changes_in new) q) None
       map_follows new_map made q =
           let t = part p.hasher in
@@ -106,7 +107,7 @@ module _ {K V S : Type 0} (eq : K → K → Bool) (part : S → K → ℕ) (hold
           subst (λ (u : S). pair_at eq new_map q ≡ cond (part u q == number) (map_after eq (changes_in new) q) None) one all
 
       -- the part after the change
-      pub part_follows : (new_map : HashMap K V S) → ((q : K) → pair_at eq new_map q ≡ cond (eq c.key q) (pair_put c) (pair_at eq map q))
+      pub part_follows : (new_map : HashMap K (Held K V) S) → ((q : K) → pair_at eq new_map q ≡ cond (eq c.key q) (pair_put c) (pair_at eq map q))
           → ((q : K) → eq c.key q ≡ true → IfSome (pair_put c) (λ p. holds q p.1))
           → IsPart eq part holds book number (count + 1) word new new_map
       part_follows new_map made owes =
@@ -116,8 +117,3 @@ module _ {K V S : Type 0} (eq : K → K → Bool) (part : S → K → ℕ) (hold
           elim [ true ↦ (λ e. owes q e) | false ↦ (λ e. p.meets q) ] in
           subst (λ (o : Option (K × V)). IfSome o (λ p. holds q p.1)) (sym (made q)) (by (eq c.key q) refl) in
           record { hasher = grows.hasher; small = p.small; word_is = p.word_is; counts = grows.counts; same = map_follows new_map made; meets = meets }
-
--- a pair that is put where one was taken out
-pub put_after_take : {K V : Type 0} (b : Bool) (x found : Option (K × V)) → cond b x (cond b None found) ≡ cond b x found
-put_after_take true x found = refl
-put_after_take false x found = refl

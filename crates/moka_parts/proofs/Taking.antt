@@ -45,14 +45,14 @@ no_value None h = refl
 no_value (Some p) h = absurd (cc)
 
 -- where nothing stood, what was put is the change of an absent key
-pub absent_put : {P V E A : Type 0} (put : Result (Option P) E) (answer : Result (Option V) A) (Ends : Option P → Type 0) (X : V → Type 0) (now : Option P)
-    → OnOk put (answer ≡ Ok None) → OnErr put (IsErr answer) → IfOk put Ends → IfOk put (λ b. b ≡ now) → now ≡ None
+pub absent_put : {P V E A T : Type 0} (put : Result T E) (answer : Result (Option V) A) (Ends : Option P → Type 0) (X : V → Type 0) (now : Option P)
+    → OnOk put (answer ≡ Ok None) → OnErr put (IsErr answer) → IfOk put (λ t. (found : Option P) × Ends found × (found ≡ now)) → now ≡ None
     → IfOk answer (λ there. MatchOption there (Ends None) X)
-absent_put {P} {V} {E} {A} (Ok b) answer Ends X now ok err ends was none =
-    let e : Ends None = subst Ends (was ∙ none) ends in
+absent_put {P} {V} {E} {A} (Ok t) answer Ends X now ok err ends none =
+    let e : Ends None = subst Ends (ends.2 ∙ none) ends.1 in
     subst (λ (r : Result (Option V) A). IfOk r (λ there. MatchOption there (Ends None) X)) (sym ok) e
-absent_put (Err x) (Ok there) Ends X now ok err ends was none = absurd (false≢true err)
-absent_put (Err x) (Err y) Ends X now ok err ends was none = tt
+absent_put (Err x) (Ok there) Ends X now ok err ends none = absurd (false≢true err)
+absent_put (Err x) (Err y) Ends X now ok err ends none = tt
 
 -- an answer of `put_if_absent`, as the caller's seat shows it
 pub put_seen : {V E : Type 0} (r : Result (Option V) E) (A B : Type 0) (X : V → Type 0) → (A → B) → IfOk r (λ there. MatchOption there A X) → IfOk r (λ there. MatchOption there B X)

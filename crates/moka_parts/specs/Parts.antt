@@ -4,6 +4,7 @@ use Rattle.std.specs.HashMap.{HashMap}
 use mathlib.Core.List.{IsPrefix}
 use Rattle.logbook.specs.Pages.{Book, Named}
 use Rattle.moka_parts.specs.declared.change.Change.{Change}
+use Rattle.moka_parts.specs.declared.held.Held.{Held}
 use Rattle.moka_parts.specs.declared.note.Note.{Note}
 use Rattle.moka_parts.specs.declared.note.Note.TheVariants.{Changed}
 use Rattle.moka_parts.specs.Changes.{map_after}
@@ -13,13 +14,13 @@ use Rattle.moka_parts.specs.Rules.{word_of}
 
 module _ {K V S : Type 0} (eq : K → K → Bool) (part : S → K → ℕ) (holds : K → V → Type 0) where
   -- each pair that is found meets the fact, under the key by which it is found
-  abbrev pub Meets : HashMap K V S → Type 0
+  abbrev pub Meets : HashMap K (Held K V) S → Type 0
   Meets map = (q : K) → IfSome (pair_at eq map q) (λ p. holds q p.1)
 
   -- the map has at the keys of its part what stands there after the changes that its front has
   -- seen; the front's count of these changes is the part's
   pub record IsPart (book : Book) (number count : ℕ) (word : Named) (front : List (Note K V S))
-      (map : HashMap K V S) : Type 0 where
+      (map : HashMap K (Held K V) S) : Type 0 where
     pub hasher : S
     pub small : number < 64
     pub word_is : word ≡ word_of book number

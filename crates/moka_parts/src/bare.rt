@@ -1,14 +1,17 @@
 //! What lies under the lock of a part whose history has no name.
-ghost use Rattle.std.specs.Prelude.{◌≡◌, true, is_some, None, Some, IfNone, IfSome, MatchOption};
+ghost use Rattle.std.specs.Prelude.{◌≡◌, true, is_some, Option, None, Some, IfNone, IfSome, MatchOption};
 ghost use Rattle.std.specs.Prelude.{IfOk, OnOk, OnErr};
 ghost use denote.Ref.{Bor};
 ghost use Rattle.std.specs.List.{IsDistinct};
 ghost use Rattle.std.specs.Option.{option_map};
 ghost use Rattle.std.specs.Set.{is_member};
-ghost use Rattle.moka_parts.specs.Calls.{Judged, Stays};
+ghost use Rattle.moka_parts.specs.Calls.{Judged, Shown, Stays};
+ghost use Rattle.moka_parts.specs.Hashing.{part_in};
 ghost use Rattle.moka_parts.specs.Pairs.{lent, pair_in, PutsAt, SamePairs};
 
+use crate::held::Held;
 use crate::part::{copied, holds_of};
+use crate::placing::are_of;
 use crate::{Fact, pairs};
 use moka_values::Exact;
 use std::alloc::{AllocError, Global};
@@ -19,15 +22,16 @@ use std::marker::{Model, PhantomData};
 /// The map of a part, whose pairs meet the fact. Contracts see its entries.
 #[derive(Drop)]
 pub(crate) struct Bare<K: Eq + Hash, V, S: BuildHasher, F: Fact<K, V>> {
-    map: HashMap<K, V, S>,
+    map: HashMap<K, Held<K, V>, S>,
     of: PhantomData<F>,
 }
 
 impl<K: Eq + Hash, V, S: BuildHasher, F: Fact<K, V>> Model for Bare<K, V, S, F> {
     ghost use Rattle.std.specs.Prelude.{List};
+    ghost use Rattle.moka_parts.specs.declared.held.Held.{Held};
     ghost use Rattle.moka_parts.specs.Pairs.{MeetsFact};
 
-    ghost Value = { List (K × V) };
+    ghost Value = { List (K × Held K V) };
 
     ghost view = { λ b. b.map.entries };
 
@@ -51,24 +55,37 @@ impl<K: Eq + Hash, V, S: BuildHasher, F: Fact<K, V>> Bare<K, V, S, F> {
         pairs::find(&self.map, key)
     }
 
-    /// Puts the pair, and answers the one that stood there. Where memory is wanting the pair comes
-    /// back, and the map is as before.
-    pub(crate) fn put(&mut self, key: K, value: V) -> Result<Option<(K, V)>, (K, V)>
+    /// Puts the pair, and answers what the closure gives, which is lent the pair that stood there.
+    /// What leaves the part comes beside the answer: where memory is wanting this is the pair, and
+    /// the map is as before.
+    pub(crate) fn put<T, W: FnOnce(Option<(&K, &V)>) -> T>(
+        &mut self,
+        key: K,
+        value: V,
+        with: W,
+    ) -> (Result<T, AllocError>, Option<Held<K, V>>)
     where
         K: Drop,
         V: Drop,
         requires fact { F.holds key value }
-        ensures pair { IfOk result (λ before. before ≡ pair_in K.eq self.old key) }
-        ensures map { OnOk result (PutsAt K.eq key (Some (key, value)) self.old self.new) }
-        ensures err { OnErr result (SamePairs K.eq self.old self.new) }
-        ensures fact { IfOk result (λ before. IfSome before (λ p. F.holds key p.1)) }
+        requires callable { (shown : Option (Bor K × Bor V))
+            → IfSome shown (λ p. F.holds key p.1.now) → W.pre with shown }
+        ensures shown { IfOk result.0 (Shown W.FnOnce with (pair_in K.eq self.old key)) }
+        ensures map { OnOk result.0 (PutsAt K.eq key (Some (key, value)) self.old self.new) }
+        ensures err { OnErr result.0 (SamePairs K.eq self.old self.new) }
+        ensures fact { OnOk result.0 (IfSome (pair_in K.eq self.old key) (λ p. F.holds key p.1)) }
     {
         if pairs::make_room(&mut self.map).is_err() {
-            return Err((key, value));
+            return (
+                Err(AllocError),
+                Some(Held {
+                    newer: Some(key),
+                    value,
+                }),
+            );
         }
-        let before = pairs::take(&mut self.map, &key);
-        pairs::put(&mut self.map, key, value);
-        Ok(before)
+        let (given, left) = pairs::replace(&mut self.map, key, value, with);
+        (Ok(given), left)
     }
 
     /// Puts the pair where none stands at the key: answers None, or a copy of the value that stands
@@ -78,7 +95,7 @@ impl<K: Eq + Hash, V, S: BuildHasher, F: Fact<K, V>> Bare<K, V, S, F> {
         &mut self,
         key: K,
         value: V,
-    ) -> (Result<Option<V>, AllocError>, Option<(K, V)>)
+    ) -> (Result<Option<V>, AllocError>, Option<Held<K, V>>)
     where
         K: Drop,
         V: Exact + Drop,
@@ -92,46 +109,71 @@ impl<K: Eq + Hash, V, S: BuildHasher, F: Fact<K, V>> Bare<K, V, S, F> {
         ensures fact { IfOk result.0 (λ there. IfSome there (F.holds key)) }
     {
         if let Some((_, there)) = pairs::find(&self.map, &key) {
-            return (copied(there), Some((key, value)));
+            return (
+                copied(there),
+                Some(Held {
+                    newer: Some(key),
+                    value,
+                }),
+            );
         }
         if pairs::make_room(&mut self.map).is_err() {
-            return (Err(AllocError), Some((key, value)));
+            return (
+                Err(AllocError),
+                Some(Held {
+                    newer: Some(key),
+                    value,
+                }),
+            );
         }
-        pairs::put(&mut self.map, key, value);
+        pairs::put_first(&mut self.map, key, value);
         (Ok(None), None)
     }
 
-    /// Takes the pair at the key out, where the condition holds of it.
+    /// Takes the pair at the key out, where the condition holds of it. The map's own key comes
+    /// beside it, where it isn't the pair's.
     pub(crate) fn take_out_if<C: FnOnce(&K, &V) -> bool>(
         &mut self,
         key: &K,
         condition: C,
-    ) -> Option<(K, V)>
+    ) -> (Option<(K, V)>, Option<K>)
         requires callable { (k : Bor K) (v : Bor V) → F.holds key.now v.now
             → C.pre condition k v }
-        ensures none { IfNone result (Stays C.FnOnce condition (pair_in K.eq self.old key.now)
+        ensures none { IfNone result.0 (Stays C.FnOnce condition (pair_in K.eq self.old key.now)
             × SamePairs K.eq self.old self.new) }
-        ensures some { IfSome result (λ p. (pair_in K.eq self.old key.now ≡ Some p)
+        ensures some { IfSome result.0 (λ p. (pair_in K.eq self.old key.now ≡ Some p)
             × PutsAt K.eq key.now None self.old self.new × Judged C.FnOnce condition p true) }
-        ensures fact { IfSome result (λ p. F.holds key.now p.1) }
+        ensures fact { IfSome result.0 (λ p. F.holds key.now p.1) }
     {
         if !holds_of(condition, pairs::find(&self.map, key)) {
-            return None;
+            return (None, None);
         }
         pairs::take(&mut self.map, key)
     }
 
-    /// Copies of the keys.
-    pub(crate) fn keys(&self, alloc: Global) -> Result<Vec<K>, AllocError>
+    /// Copies of the keys, which are of the part of this number. It is an error where memory is
+    /// wanting; or where a key is of another part, which no run leads to.
+    pub(crate) fn keys(
+        &self,
+        alloc: Global,
+        hasher: &S,
+        number: usize,
+    ) -> Result<Vec<K>, AllocError>
     where
         K: Exact + Drop,
         ensures distinct { IfOk result (λ keys. IsDistinct K.eq keys.items) }
+        ensures of_part { IfOk result (λ keys. (q : K) → is_member K.eq keys.items q ≡ true
+            → part_in S.BuildHasher S.Hasher.Hasher K.hash_input hasher.now q ≡ number) }
         ensures listed { IfOk result (λ keys. (q : K)
             → is_member K.eq keys.items q ≡ is_some (pair_in K.eq self.now q)) }
         ensures fact { IfOk result (λ keys. (q : K) → is_member K.eq keys.items q ≡ true
             → (v : V) × F.holds q v) }
     {
-        pairs::keys(alloc, &self.map)
+        let keys = pairs::keys(alloc, &self.map)?;
+        if !are_of(hasher, keys.as_slice(), number) {
+            return Err(AllocError);
+        }
+        Ok(keys)
     }
 
     /// How many pairs there are.

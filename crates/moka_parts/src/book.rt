@@ -68,12 +68,12 @@ impl<K: Eq + Hash, V, S: BuildHasher> Play<Note<K, V, S>, u64> for Add {
     ghost then = { Adds K.eq (part_in S.BuildHasher S.Hasher.Hasher K.hash_input) };
 }
 
-impl<'a, K, V, S> Plain<Asked<'a, K, V>, Note<K, V, S>, u64> for Add {
+impl<'a, K: Eq + Hash, V, S: BuildHasher> Plain<Asked<'a, K, V, S>, Note<K, V, S>, u64> for Add {
     ghost use Rattle.std.specs.Prelude.{None};
     ghost use Rattle.moka_parts.specs.declared.note.Note.TheVariants.{Changed};
     ghost use Rattle.moka_parts.specs.Asks.{asked_change};
 
-    ghost ask = { λ asked. Changed (asked_change asked) };
+    ghost ask = { λ asked. Changed (asked_change K.eq asked) };
 
     ghost state = { λ asked. None };
 }

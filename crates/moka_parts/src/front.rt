@@ -88,22 +88,22 @@ impl<K: Eq + Hash, V, S: BuildHasher, J: Naming> Front<K, V, S, J> {
         word: &Word<Note<K, V, S>, u64, Law>,
         number: usize,
         count: u64,
-        asked: &Asked<'_, K, V>,
+        asked: &Asked<'_, K, V, S>,
     ) -> bool
         requires word { (word.now ≡ word_of J.book number) × (number < 64) }
         requires room { count + 1 < 2 ^ 64 }
         requires stands { (s : S) × Stands K.eq
             (part_in S.BuildHasher S.Hasher.Hasher K.hash_input) s number count
-            (asked_change asked.now) self.old }
+            (asked_change K.eq asked.now) self.old }
         ensures log { IsLog K.eq self.new }
         ensures grows { IsPrefix self.old self.new }
         ensures added { OnTrue result (Grows K.eq
             (part_in S.BuildHasher S.Hasher.Hasher K.hash_input) number (count + 1)
-            (asked_change asked.now) self.old self.new) }
+            (asked_change K.eq asked.now) self.old self.new) }
     {
         let mut offer: Offer<Note<K, V, S>, u64, Law, Nothing> = self
             .seen
-            .plain::<Nothing, Asked<'_, K, V>, Add>(asked);
+            .plain::<Nothing, Asked<'_, K, V, S>, Add>(asked);
         let mut pen = self.seen.no_pen();
         let found = word.compare_exchange::<Add, Nothing>(
             count,

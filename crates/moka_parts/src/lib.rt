@@ -7,12 +7,14 @@ mod book;
 mod change;
 mod fact;
 mod front;
+mod held;
 mod named;
 mod note;
 mod open_book;
 mod pairs;
 mod part;
 mod parts;
+mod placing;
 mod table;
 
 pub use book::{Law, Naming};

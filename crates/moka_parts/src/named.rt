@@ -12,9 +12,11 @@ ghost use Rattle.moka_parts.specs.Tables.{Adds};
 
 use crate::book::Naming;
 use crate::front::Front;
+use crate::held::Held;
 use crate::open_book::{OpenBook, PARTS};
 use crate::part::Part;
-use crate::{Anything, Fact, SharedTable, pairs};
+use crate::placing::part_of;
+use crate::{Anything, Fact, SharedTable};
 use moka_values::Exact;
 use std::alloc::{AllocError, Global};
 use std::hash::{BuildHasher, Hash};
@@ -78,7 +80,7 @@ impl<K: Eq + Hash, V, S: BuildHasher, J: Naming, F: Fact<K, V>> NamedParts<K, V,
             ≡ part_in S.BuildHasher S.Hasher.Hasher K.hash_input self.now key.now }
         ensures small { result < 64 }
     {
-        (self.hasher.hash_one(key) % PARTS as u64) as usize
+        part_of(&self.hasher, key)
     }
 
     /// A seat that has seen nothing. It takes no memory.
@@ -118,8 +120,8 @@ impl<K: Eq + Hash, V, S: BuildHasher, J: Naming, F: Fact<K, V>> NamedParts<K, V,
     }
 
     /// Puts the pair, whose key takes the place of the stored one. Answers what the closure gives,
-    /// which is lent the pair that stood there, once the lock of the part is free. An error comes
-    /// where memory is wanting, and the table is as before.
+    /// which is lent the pair that stood there under the lock of the part, and may not call the
+    /// table. An error comes where memory is wanting, and the table is as before.
     pub fn put<R: Wait, T, W: FnOnce(Option<(&K, &V)>) -> T>(
         &self,
         rt: &R,
@@ -139,56 +141,37 @@ impl<K: Eq + Hash, V, S: BuildHasher, J: Naming, F: Fact<K, V>> NamedParts<K, V,
             Adds (change_of key (Some value) before) seat.old seat.new
             × IfSome before (λ p. F.holds key p.1))) }
     {
-        let before = self.replace(rt, seat, key, value)?;
-        Ok(with(pairs::lend(&before)))
+        let number = self.part_of(&key);
+        self.replace_in(rt, seat, number, key, value, with).0
     }
 
-    // Puts the pair, and answers the one that stood there.
-    fn replace<R: Wait>(
-        &self,
-        rt: &R,
-        seat: &mut NamedSeat<K, V, S, J>,
-        key: K,
-        value: V,
-    ) -> Result<Option<(K, V)>, AllocError>
-    where
-        K: Drop,
-        V: Drop,
-        requires fact { F.holds key value }
-        ensures grows { IsPrefix seat.old seat.new }
-        ensures puts { IfOk result (λ before.
-            Adds (change_of key (Some value) before) seat.old seat.new) }
-        ensures fact { IfOk result (λ before. IfSome before (λ p. F.holds key p.1)) }
-    {
-        match self.replace_in(rt, seat, self.part_of(&key), key, value) {
-            Ok(before) => Ok(before),
-            Err(_) => Err(AllocError),
-        }
-    }
-
-    // The same, under the lock of the part. A pair that isn't put comes back.
-    fn replace_in<R: Wait>(
+    // Takes the lock of the part, and puts the pair. What leaves the part comes beside the answer,
+    // so that it is dropped once the lock is free.
+    fn replace_in<R: Wait, T, W: FnOnce(Option<(&K, &V)>) -> T>(
         &self,
         rt: &R,
         seat: &mut NamedSeat<K, V, S, J>,
         number: usize,
         key: K,
         value: V,
-    ) -> Result<Option<(K, V)>, (K, V)>
+        with: W,
+    ) -> (Result<T, AllocError>, Option<Held<K, V>>)
     where
         K: Drop,
         V: Drop,
         requires part { (number ≡ part_in S.BuildHasher S.Hasher.Hasher K.hash_input self.now key)
             × (number < 64) }
         requires fact { F.holds key value }
+        requires callable { (shown : Option (Bor K × Bor V))
+            → IfSome shown (λ p. F.holds key p.1.now) → W.pre with shown }
         ensures grows { IsPrefix seat.old seat.new }
-        ensures puts { IfOk result (λ before.
-            Adds (change_of key (Some value) before) seat.old seat.new) }
-        ensures fact { IfOk result (λ before. IfSome before (λ p. F.holds key p.1)) }
+        ensures puts { IfOk result.0 (ShownSome W.FnOnce with (λ before.
+            Adds (change_of key (Some value) before) seat.old seat.new
+            × IfSome before (λ p. F.holds key p.1))) }
     {
         let mut guard = self.parts[number].lock(rt);
         let part = &mut *guard;
-        part.put(number, &self.start, &mut seat.front, key, value)
+        part.put(number, &self.start, &mut seat.front, key, value, with)
     }
 
     /// Puts the pair where none stands at the key: answers None, or a copy of the value that stands
@@ -214,7 +197,8 @@ impl<K: Eq + Hash, V, S: BuildHasher, J: Naming, F: Fact<K, V>> NamedParts<K, V,
         self.put_in(rt, seat, number, key, value).0
     }
 
-    // The same, under the lock of the part. A pair that isn't put comes back.
+    // Takes the lock of the part, and puts the pair where none stands at the key. A pair that isn't
+    // put comes beside the answer, so that it is dropped once the lock is free.
     fn put_in<R: Wait>(
         &self,
         rt: &R,
@@ -222,7 +206,7 @@ impl<K: Eq + Hash, V, S: BuildHasher, J: Naming, F: Fact<K, V>> NamedParts<K, V,
         number: usize,
         key: K,
         value: V,
-    ) -> (Result<Option<V>, AllocError>, Option<(K, V)>)
+    ) -> (Result<Option<V>, AllocError>, Option<Held<K, V>>)
     where
         K: Drop,
         V: Exact + Drop,
@@ -275,6 +259,8 @@ impl<K: Eq + Hash, V, S: BuildHasher, J: Naming, F: Fact<K, V>> NamedParts<K, V,
         key: &K,
         condition: C,
     ) -> Result<Option<(K, V)>, AllocError>
+    where
+        K: Drop,
         requires callable { (k : Bor K) (v : Bor V) → F.holds key.now v.now
             → C.pre condition k v }
         ensures grows { IsPrefix seat.old seat.new }
@@ -285,6 +271,30 @@ impl<K: Eq + Hash, V, S: BuildHasher, J: Naming, F: Fact<K, V>> NamedParts<K, V,
         ensures fact { IfOk result (λ taken. IfSome taken (λ p. F.holds key.now p.1)) }
     {
         let number = self.part_of(key);
+        self.take_in(rt, seat, number, key, condition).0
+    }
+
+    // Takes the lock of the part, and takes the pair out. A key that is left over comes beside the
+    // answer, so that it is dropped once the lock is free.
+    fn take_in<R: Wait, C: FnOnce(&K, &V) -> bool>(
+        &self,
+        rt: &R,
+        seat: &mut NamedSeat<K, V, S, J>,
+        number: usize,
+        key: &K,
+        condition: C,
+    ) -> (Result<Option<(K, V)>, AllocError>, Option<K>)
+        requires part { (number ≡ part_in S.BuildHasher S.Hasher.Hasher K.hash_input self.now
+            key.now) × (number < 64) }
+        requires callable { (k : Bor K) (v : Bor V) → F.holds key.now v.now
+            → C.pre condition k v }
+        ensures grows { IsPrefix seat.old seat.new }
+        ensures out { IfOk result.0 (λ taken. MatchOption taken
+            (Stays C.FnOnce condition (map_after K.eq seat.new key.now))
+            (λ p. Adds (change_of key.now None (Some p)) seat.old seat.new
+            × Judged C.FnOnce condition p true)) }
+        ensures fact { IfOk result.0 (λ taken. IfSome taken (λ p. F.holds key.now p.1)) }
+    {
         let mut guard = self.parts[number].lock(rt);
         let part = &mut *guard;
         part.take_out_if(number, &self.start, &mut seat.front, key, condition)
@@ -417,7 +427,10 @@ impl<K: Eq + Hash, V, S: BuildHasher, J: Naming, F: Fact<K, V>> SharedTable<K, V
         seat: &mut NamedSeat<K, V, S, J>,
         key: &K,
         condition: C,
-    ) -> Result<Option<(K, V)>, AllocError> {
+    ) -> Result<Option<(K, V)>, AllocError>
+    where
+        K: Drop,
+    {
         self.take_out_if(rt, seat, key, condition)
     }
 

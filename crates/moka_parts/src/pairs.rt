@@ -1,10 +1,14 @@
 //! The pairs of a hash map, found and changed with their keys.
-ghost use Rattle.std.specs.Prelude.{◌≡◌, ◌<◌, ◌≤◌, cond, is_some, None, Some, IfOk, OnOk};
+ghost use Rattle.std.specs.Prelude.{◌≡◌, ◌<◌, ◌≤◌, cond, is_some, Option, None, Some, IfOk, OnOk, IfErr, OnErr};
+ghost use denote.Ref.{Bor};
 ghost use Rattle.std.specs.List.{IsDistinct};
+ghost use Rattle.std.specs.Option.{option_map};
 ghost use Rattle.std.specs.Set.{is_member};
 ghost use Rattle.std.specs.HashMap.{spare};
-ghost use Rattle.moka_parts.specs.Pairs.{pair_at, lent};
+ghost use Rattle.moka_parts.specs.Calls.{Shown};
+ghost use Rattle.moka_parts.specs.Pairs.{entry_at, pair_at, pair_of, lent};
 
+use crate::held::Held;
 use moka_values::Exact;
 use std::alloc::{AllocError, Global};
 use std::collections::HashMap;
@@ -15,31 +19,179 @@ const FEW: usize = 64;
 
 /// Lends the pair at the key.
 pub(crate) fn find<'m, K: Eq + Hash, V, S: BuildHasher>(
-    map: &'m HashMap<K, V, S>,
+    map: &'m HashMap<K, Held<K, V>, S>,
     key: &K,
 ) -> Option<(&'m K, &'m V)>
     ensures { lent result ≡ pair_at K.eq map.now key.now }
 {
-    map.get_key_value(key)
+    match map.get_key_value(key) {
+        Some((stored, held)) => Some(held.pair(stored)),
+        None => None,
+    }
 }
 
-/// Takes the pair at the key out.
+/// Takes the pair at the key out. The map's own key is left over where it isn't the pair's.
 pub(crate) fn take<K: Eq + Hash, V, S: BuildHasher>(
-    map: &mut HashMap<K, V, S>,
+    map: &mut HashMap<K, Held<K, V>, S>,
     key: &K,
-) -> Option<(K, V)>
-    ensures pair { result ≡ pair_at K.eq map.old key.now }
+) -> (Option<(K, V)>, Option<K>)
+    ensures pair { result.0 ≡ pair_at K.eq map.old key.now }
     ensures map { (q : K) → pair_at K.eq map.new q
         ≡ cond (K.eq key.now q) None (pair_at K.eq map.old q) }
+{
+    match take_entry(map, key) {
+        Some((stored, held)) => {
+            let (pair, left) = held.into_pair(stored);
+            (Some(pair), left)
+        }
+        None => (None, None),
+    }
+}
+
+/// Takes the entry at the key out.
+fn take_entry<K: Eq + Hash, X, S: BuildHasher>(
+    map: &mut HashMap<K, X, S>,
+    key: &K,
+) -> Option<(K, X)>
+    ensures entry { result ≡ entry_at K.eq map.old key.now }
+    ensures map { (q : K) → entry_at K.eq map.new q
+        ≡ cond (K.eq key.now q) None (entry_at K.eq map.old q) }
     ensures room { spare map.old ≤ spare map.new }
 {
     let _ = map.len();
     map.remove_entry(key)
 }
 
-/// Puts a pair where none stands. There is room, so it can't fail.
-pub(crate) fn put<K: Eq + Hash + Drop, V: Drop, S: BuildHasher>(
-    map: &mut HashMap<K, V, S>,
+/// Puts an entry where none stands. There is room, so it can't fail.
+fn put<K: Eq + Hash + Drop, X: Drop, S: BuildHasher>(map: &mut HashMap<K, X, S>, key: K, value: X)
+    requires absent { entry_at K.eq map.old key ≡ None }
+    requires room { 0 < spare map.old }
+    ensures map { (q : K) → entry_at K.eq map.new q
+        ≡ cond (K.eq key q) (Some (key, value)) (entry_at K.eq map.old q) }
+{
+    match map.insert(key, value) {
+        Ok(_) => {}
+        Err(_) => unreachable!(),
+    }
+}
+
+/// Puts the pair, and answers what the closure gives, which is lent the pair that stood there. What
+/// leaves the map comes beside it. There is room, so it can't fail.
+#[inline(always)]
+pub(crate) fn replace<K: Eq + Hash + Drop, V: Drop, S: BuildHasher, T, W>(
+    map: &mut HashMap<K, Held<K, V>, S>,
+    key: K,
+    value: V,
+    with: W,
+) -> (T, Option<Held<K, V>>)
+where
+    W: FnOnce(Option<(&K, &V)>) -> T,
+    requires room { 0 < spare map.old }
+    requires callable { (shown : Option (Bor K × Bor V))
+        → lent shown ≡ pair_at K.eq map.old key → W.pre with shown }
+    ensures shown { Shown W.FnOnce with (pair_at K.eq map.old key) result.0 }
+    ensures map { (q : K) → pair_at K.eq map.new q
+        ≡ cond (K.eq key q) (Some (key, value)) (pair_at K.eq map.old q) }
+{
+    match renew(map, key, value) {
+        Ok((key, value)) => {
+            let given = with(Some((&key, &value)));
+            (
+                given,
+                Some(Held {
+                    newer: Some(key),
+                    value,
+                }),
+            )
+        }
+        Err((key, value)) => put_anew(map, key, value, with),
+    }
+}
+
+/// Replaces the pair where it lies, and answers the former one, if one was put there over another
+/// before. Else the pair comes back.
+#[inline(always)]
+fn renew<K: Eq + Hash, V, S: BuildHasher>(
+    map: &mut HashMap<K, Held<K, V>, S>,
+    key: K,
+    value: V,
+) -> Result<(K, V), (K, V)>
+    ensures former { IfOk result (λ p. pair_at K.eq map.old key ≡ Some p) }
+    ensures map { OnOk result ((q : K) → pair_at K.eq map.new q
+        ≡ cond (K.eq key q) (Some (key, value)) (pair_at K.eq map.old q)) }
+    ensures back { IfErr result (λ p. p ≡ (key, value)) }
+    ensures same { OnErr result ((q : K) → pair_at K.eq map.new q ≡ pair_at K.eq map.old q) }
+    ensures room { spare map.new ≡ spare map.old }
+{
+    match map.get_mut(&key) {
+        Some(held) => held.renew(key, value),
+        None => Err((key, value)),
+    }
+}
+
+/// Takes out what stands at the key, lends it, and puts the pair: under the key that the map had,
+/// if it had one, so that the next pair is put where this one lies.
+#[inline(never)]
+fn put_anew<K: Eq + Hash + Drop, V: Drop, S: BuildHasher, T, W>(
+    map: &mut HashMap<K, Held<K, V>, S>,
+    key: K,
+    value: V,
+    with: W,
+) -> (T, Option<Held<K, V>>)
+where
+    W: FnOnce(Option<(&K, &V)>) -> T,
+    requires room { 0 < spare map.old }
+    requires callable { (shown : Option (Bor K × Bor V))
+        → lent shown ≡ pair_at K.eq map.old key → W.pre with shown }
+    ensures shown { Shown W.FnOnce with (pair_at K.eq map.old key) result.0 }
+    ensures map { (q : K) → pair_at K.eq map.new q
+        ≡ cond (K.eq key q) (Some (key, value)) (pair_at K.eq map.old q) }
+{
+    let entry = take_entry(map, &key);
+    let given = with(lend(&entry));
+    match entry {
+        Some((stored, held)) => {
+            put(
+                map,
+                stored,
+                Held {
+                    newer: Some(key),
+                    value,
+                },
+            );
+            (given, Some(held))
+        }
+        None => {
+            put_first(map, key, value);
+            (given, None)
+        }
+    }
+}
+
+/// Lends the pair of an entry.
+fn lend<K, V>(entry: &Option<(K, Held<K, V>)>) -> Option<(&K, &V)>
+    ensures { lent result ≡ option_map pair_of entry.now }
+{
+    match entry {
+        Some((stored, held)) => Some(held.pair(stored)),
+        None => None,
+    }
+}
+
+/// Makes room for one more pair.
+#[inline(always)]
+pub(crate) fn make_room<K: Eq + Hash, V, S: BuildHasher>(
+    map: &mut HashMap<K, Held<K, V>, S>,
+) -> Result<(), AllocError>
+    ensures map { (q : K) → pair_at K.eq map.new q ≡ pair_at K.eq map.old q }
+    ensures ok { OnOk result (0 < spare map.new) }
+{
+    map.reserve(1)
+}
+
+/// Puts the pair where none stands at the key. There is room, so it can't fail.
+pub(crate) fn put_first<K: Eq + Hash + Drop, V: Drop, S: BuildHasher>(
+    map: &mut HashMap<K, Held<K, V>, S>,
     key: K,
     value: V,
 )
@@ -48,29 +200,15 @@ pub(crate) fn put<K: Eq + Hash + Drop, V: Drop, S: BuildHasher>(
     ensures map { (q : K) → pair_at K.eq map.new q
         ≡ cond (K.eq key q) (Some (key, value)) (pair_at K.eq map.old q) }
 {
-    match map.insert(key, value) {
-        Ok(_) => {}
-        Err(_) => unreachable!(),
-    }
-}
-
-/// Makes room for one more pair, and gives back what is far more than that.
-pub(crate) fn make_room<K: Eq + Hash, V, S: BuildHasher>(
-    map: &mut HashMap<K, V, S>,
-) -> Result<(), AllocError>
-    ensures map { (q : K) → pair_at K.eq map.new q ≡ pair_at K.eq map.old q }
-    ensures ok { OnOk result (0 < spare map.new) }
-{
-    map.reserve(1)?;
     give_back(map);
-    Ok(())
+    put(map, key, Held { newer: None, value });
 }
 
 /// Gives places back where there are many, and under an eighth of them is in use: twice as many as
-/// are needed for one more pair stay. Where there is no memory for the smaller map it stays as it is.
-fn give_back<K: Eq + Hash, V, S: BuildHasher>(map: &mut HashMap<K, V, S>)
+/// are needed for one more pair stay. Where memory is wanting the map stays as it is.
+fn give_back<K: Eq + Hash, V, S: BuildHasher>(map: &mut HashMap<K, Held<K, V>, S>)
     requires { 0 < spare map.old }
-    ensures map { (q : K) → pair_at K.eq map.new q ≡ pair_at K.eq map.old q }
+    ensures map { (q : K) → entry_at K.eq map.new q ≡ entry_at K.eq map.old q }
     ensures room { 0 < spare map.new }
 {
     let (places, pairs) = (map.capacity(), map.len());
@@ -79,20 +217,10 @@ fn give_back<K: Eq + Hash, V, S: BuildHasher>(map: &mut HashMap<K, V, S>)
     }
 }
 
-/// Lends a pair that was taken out.
-pub(crate) fn lend<K, V>(pair: &Option<(K, V)>) -> Option<(&K, &V)>
-    ensures { lent result ≡ pair.now }
-{
-    match pair {
-        Some((key, value)) => Some((key, value)),
-        None => None,
-    }
-}
-
-/// Copies of the keys.
+/// Copies of the keys: of each the one that the map has, which is equal to its pair's.
 pub(crate) fn keys<K: Eq + Hash + Exact + Drop, V, S: BuildHasher>(
     alloc: Global,
-    map: &HashMap<K, V, S>,
+    map: &HashMap<K, Held<K, V>, S>,
 ) -> Result<Vec<K>, AllocError>
     ensures distinct { IfOk result (λ keys. IsDistinct K.eq keys.items) }
     ensures listed { IfOk result (λ keys. (q : K)

@@ -1,5 +1,5 @@
 //! What lies under the lock of a part whose history has a name.
-ghost use Rattle.std.specs.Prelude.{◌≡◌, ◌<◌, ◌==◌, [], ◌∷◌, true, false, cond, is_some, Some, None, IfSome, IfOk, MatchOption};
+ghost use Rattle.std.specs.Prelude.{◌≡◌, ◌<◌, ◌==◌, [], ◌∷◌, true, false, cond, is_some, Option, Some, None, IfSome, IfOk, MatchOption};
 ghost use Rattle.std.specs.Prelude.{OnOk, OnErr, Ok, IsErr};
 ghost use denote.Ref.{Bor};
 ghost use Rattle.std.specs.List.{IsDistinct};
@@ -8,7 +8,7 @@ ghost use Rattle.std.specs.Set.{is_member};
 ghost use mathlib.Core.List.{IsPrefix};
 ghost use Rattle.logbook.specs.Pages.{nib, may_make_home};
 ghost use Rattle.moka_parts.specs.declared.note.Note.TheVariants.{Opened};
-ghost use Rattle.moka_parts.specs.Calls.{Judged, TakesOut};
+ghost use Rattle.moka_parts.specs.Calls.{Judged, ShownSome, TakesOut};
 ghost use Rattle.moka_parts.specs.Changes.{change_of, map_after};
 ghost use Rattle.moka_parts.specs.Hashing.{part_in};
 ghost use Rattle.moka_parts.specs.Logs.{changes_in, IsLog, IsOpenedFor};
@@ -18,6 +18,7 @@ ghost use Rattle.moka_parts.specs.Parts.{IsIn, EndsWith};
 use crate::asked::Asked;
 use crate::book::{Law, Naming};
 use crate::front::Front;
+use crate::held::Held;
 use crate::{Fact, Note, pairs};
 use logbook::{Pen, Word};
 use moka_values::Exact;
@@ -34,16 +35,17 @@ pub(crate) struct Part<K: Eq + Hash, V, S: BuildHasher, J: Naming, F: Fact<K, V>
     count: u64,
     word: Word<Note<K, V, S>, u64, Law>,
     front: Front<K, V, S, J>,
-    map: HashMap<K, V, S>,
+    map: HashMap<K, Held<K, V>, S>,
     of: PhantomData<F>,
 }
 
 impl<K: Eq + Hash, V, S: BuildHasher, J: Naming, F: Fact<K, V>> Model for Part<K, V, S, J, F> {
     ghost use Rattle.std.specs.Prelude.{List};
+    ghost use Rattle.moka_parts.specs.declared.held.Held.{Held};
     ghost use Rattle.moka_parts.specs.Hashing.{part_in};
     ghost use Rattle.moka_parts.specs.Parts.{IsPart};
 
-    ghost Value = { List (K × V) };
+    ghost Value = { List (K × Held K V) };
 
     ghost view = { λ p. p.map.entries };
 
@@ -101,56 +103,77 @@ impl<K: Eq + Hash, V, S: BuildHasher, J: Naming, F: Fact<K, V>> Part<K, V, S, J,
         Some(pairs::find(&self.map, key))
     }
 
-    /// Puts the pair, and answers the one that stood there. It is an error, in which the pair comes
-    /// back and the map is as before, where memory is wanting; or where the part isn't the one of
-    /// this number, or its count isn't the book's, which no run leads to.
-    pub(crate) fn put(
+    /// Puts the pair, and answers what the closure gives, which is lent the pair that stood there.
+    /// What leaves the part comes beside the answer. It is an error, in which this is the pair and
+    /// the map is as before, where memory is wanting; or where the part isn't the one of this
+    /// number, or its count isn't the book's, which no run leads to.
+    pub(crate) fn put<T, W: FnOnce(Option<(&K, &V)>) -> T>(
         &mut self,
         number: usize,
         start: &Front<K, V, S, J>,
         me: &mut Front<K, V, S, J>,
         key: K,
         value: V,
-    ) -> Result<Option<(K, V)>, (K, V)>
+        with: W,
+    ) -> (Result<T, AllocError>, Option<Held<K, V>>)
     where
         K: Drop,
         V: Drop,
         requires part { IsIn K.eq (part_in S.BuildHasher S.Hasher.Hasher K.hash_input) F.holds
             number key start.now }
         requires fact { F.holds key value }
+        requires callable { (shown : Option (Bor K × Bor V))
+            → IfSome shown (λ p. F.holds key p.1.now) → W.pre with shown }
         ensures grows { IsPrefix me.old me.new }
         ensures log { IsLog K.eq me.new }
-        ensures ends { IfOk result (λ before.
-            EndsWith (change_of key (Some value) before) me.old me.new) }
-        ensures pair { IfOk result (λ before. before ≡ pair_in K.eq self.old key) }
-        ensures map { OnOk result (PutsAt K.eq key (Some (key, value)) self.old self.new) }
-        ensures err { OnErr result (SamePairs K.eq self.old self.new) }
-        ensures fact { IfOk result (λ before. IfSome before (λ p. F.holds key p.1)) }
+        ensures ends { IfOk result.0 (ShownSome W.FnOnce with (λ before.
+            EndsWith (change_of key (Some value) before) me.old me.new
+            × (before ≡ pair_in K.eq self.old key) × IfSome before (λ p. F.holds key p.1))) }
+        ensures map { OnOk result.0 (PutsAt K.eq key (Some (key, value)) self.old self.new) }
+        ensures err { OnErr result.0 (SamePairs K.eq self.old self.new) }
     {
         me.learn(start);
         me.learn(&self.front);
         if self.number != number || self.count == u64::MAX {
-            return Err((key, value));
+            return (
+                Err(AllocError),
+                Some(Held {
+                    newer: Some(key),
+                    value,
+                }),
+            );
         }
         if pairs::make_room(&mut self.map).is_err() {
-            return Err((key, value));
+            return (
+                Err(AllocError),
+                Some(Held {
+                    newer: Some(key),
+                    value,
+                }),
+            );
         }
         let asked = Asked {
             key: &key,
             put: Some(&value),
-            before: pairs::find(&self.map, &key),
+            map: &self.map,
         };
         if !me.add(&self.word, number, self.count, &asked) {
-            return Err((key, value));
+            return (
+                Err(AllocError),
+                Some(Held {
+                    newer: Some(key),
+                    value,
+                }),
+            );
         }
         self.count += 1;
         self.front = me.again();
-        let before = pairs::take(&mut self.map, &key);
-        pairs::put(&mut self.map, key, value);
-        Ok(before)
+        let (given, left) = pairs::replace(&mut self.map, key, value, with);
+        (Ok(given), left)
     }
 
-    /// Takes the pair at the key out, where the condition holds of it. It is an error, and the map
+    /// Takes the pair at the key out, where the condition holds of it. The map's own key comes
+    /// beside the answer, where it isn't the pair's. It is an error, and the map
     /// is as before, only where the part isn't the one of this number, or its count isn't the
     /// book's, which no run leads to.
     pub(crate) fn take_out_if<C: FnOnce(&K, &V) -> bool>(
@@ -160,38 +183,34 @@ impl<K: Eq + Hash, V, S: BuildHasher, J: Naming, F: Fact<K, V>> Part<K, V, S, J,
         me: &mut Front<K, V, S, J>,
         key: &K,
         condition: C,
-    ) -> Result<Option<(K, V)>, AllocError>
+    ) -> (Result<Option<(K, V)>, AllocError>, Option<K>)
         requires part { IsIn K.eq (part_in S.BuildHasher S.Hasher.Hasher K.hash_input) F.holds
             number key.now start.now }
         requires callable { (k : Bor K) (v : Bor V) → F.holds key.now v.now
             → C.pre condition k v }
         ensures grows { IsPrefix me.old me.new }
         ensures log { IsLog K.eq me.new }
-        ensures ok { IfOk result (λ taken. TakesOut C.FnOnce condition key.now
+        ensures ok { IfOk result.0 (λ taken. TakesOut C.FnOnce condition key.now
             (map_after K.eq (changes_in me.new) key.now) taken me.old me.new) }
-        ensures err { OnErr result (SamePairs K.eq self.old self.new) }
-        ensures fact { IfOk result (λ taken. IfSome taken (λ p. F.holds key.now p.1)) }
+        ensures err { OnErr result.0 (SamePairs K.eq self.old self.new) }
+        ensures fact { IfOk result.0 (λ taken. IfSome taken (λ p. F.holds key.now p.1)) }
     {
         me.learn(start);
         me.learn(&self.front);
         if self.number != number || me.look(&self.word, number) != self.count {
-            return Err(AllocError);
+            return (Err(AllocError), None);
         }
-        let found = pairs::find(&self.map, key);
-        if !holds_of(condition, found) {
-            return Ok(None);
+        if !holds_of(condition, pairs::find(&self.map, key)) {
+            return (Ok(None), None);
         }
-        let asked = Asked {
-            key,
-            put: None,
-            before: found,
-        };
+        let asked = Asked::out(key, &self.map);
         if self.count == u64::MAX || !me.add(&self.word, number, self.count, &asked) {
-            return Err(AllocError);
+            return (Err(AllocError), None);
         }
         self.count += 1;
         self.front = me.again();
-        Ok(pairs::take(&mut self.map, key))
+        let (taken, left) = pairs::take(&mut self.map, key);
+        (Ok(taken), left)
     }
 
     /// Puts the pair where none stands at the key: answers None, or a copy of the value that stands
@@ -204,7 +223,7 @@ impl<K: Eq + Hash, V, S: BuildHasher, J: Naming, F: Fact<K, V>> Part<K, V, S, J,
         me: &mut Front<K, V, S, J>,
         key: K,
         value: V,
-    ) -> (Result<Option<V>, AllocError>, Option<(K, V)>)
+    ) -> (Result<Option<V>, AllocError>, Option<Held<K, V>>)
     where
         K: Drop,
         V: Exact + Drop,
@@ -220,8 +239,14 @@ impl<K: Eq + Hash, V, S: BuildHasher, J: Naming, F: Fact<K, V>> Part<K, V, S, J,
         ensures fact { IfOk result.0 (λ there. IfSome there (F.holds key)) }
     {
         match self.copy_at(number, start, me, &key) {
-            Ok(None) => answered(self.put(number, start, me, key, value)),
-            found => (found, Some((key, value))),
+            Ok(None) => answered(self.put(number, start, me, key, value, |_| ())),
+            found => (
+                found,
+                Some(Held {
+                    newer: Some(key),
+                    value,
+                }),
+            ),
         }
     }
 
@@ -299,15 +324,15 @@ fn copied_value<K, V: Exact>(found: Option<(&K, &V)>) -> Result<Option<V>, Alloc
 }
 
 // What `put_if_absent` answers where `put` answers this.
-fn answered<K: Drop, V: Drop>(
-    put: Result<Option<(K, V)>, (K, V)>,
-) -> (Result<Option<V>, AllocError>, Option<(K, V)>)
-    ensures ok { OnOk put (result.0 ≡ Ok None) }
-    ensures err { OnErr put (IsErr result.0) }
+fn answered<V, X: Drop>(
+    put: (Result<(), AllocError>, Option<X>),
+) -> (Result<Option<V>, AllocError>, Option<X>)
+    ensures ok { OnOk put.0 (result.0 ≡ Ok None) }
+    ensures err { OnErr put.0 (IsErr result.0) }
 {
-    match put {
-        Ok(_) => (Ok(None), None),
-        Err(pair) => (Err(AllocError), Some(pair)),
+    match put.0 {
+        Ok(()) => (Ok(None), put.1),
+        Err(_) => (Err(AllocError), put.1),
     }
 }
 

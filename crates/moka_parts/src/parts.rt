@@ -7,8 +7,10 @@ ghost use Rattle.moka_parts.specs.Calls.{Judged, ShownSome, Stays};
 ghost use Rattle.moka_parts.specs.Hashing.{part_in};
 
 use crate::bare::Bare;
+use crate::held::Held;
 use crate::open_book::PARTS;
-use crate::{Anything, Fact, SharedTable, pairs};
+use crate::placing::part_of;
+use crate::{Anything, Fact, SharedTable};
 use moka_values::Exact;
 use std::alloc::{AllocError, Global};
 use std::hash::{BuildHasher, Hash};
@@ -56,7 +58,7 @@ impl<K: Eq + Hash, V, S: BuildHasher, F: Fact<K, V>> Parts<K, V, S, F> {
             ≡ part_in S.BuildHasher S.Hasher.Hasher K.hash_input self.now key.now }
         ensures small { result < 64 }
     {
-        (self.hasher.hash_one(key) % PARTS as u64) as usize
+        part_of(&self.hasher, key)
     }
 
     /// Lends the pair at the key to the closure, and answers what it gives. The closure is called
@@ -74,8 +76,8 @@ impl<K: Eq + Hash, V, S: BuildHasher, F: Fact<K, V>> Parts<K, V, S, F> {
     }
 
     /// Puts the pair, whose key takes the place of the stored one. Answers what the closure gives,
-    /// which is lent the pair that stood there, once the lock of the part is free. An error comes
-    /// where memory is wanting, and the table is as before.
+    /// which is lent the pair that stood there under the lock of the part, and may not call the
+    /// table. An error comes where memory is wanting, and the table is as before.
     pub fn put<R: Wait, T, W: FnOnce(Option<(&K, &V)>) -> T>(
         &self,
         rt: &R,
@@ -92,42 +94,33 @@ impl<K: Eq + Hash, V, S: BuildHasher, F: Fact<K, V>> Parts<K, V, S, F> {
         ensures shown { IfOk result (ShownSome W.FnOnce with
             (λ before. IfSome before (λ p. F.holds key p.1))) }
     {
-        let before = self.replace(rt, key, value)?;
-        Ok(with(pairs::lend(&before)))
+        let number = self.part_of(&key);
+        self.replace_in(rt, number, key, value, with).0
     }
 
-    // Puts the pair, and answers the one that stood there.
-    fn replace<R: Wait>(&self, rt: &R, key: K, value: V) -> Result<Option<(K, V)>, AllocError>
-    where
-        K: Drop,
-        V: Drop,
-        requires fact { F.holds key value }
-        ensures fact { IfOk result (λ before. IfSome before (λ p. F.holds key p.1)) }
-    {
-        match self.replace_in(rt, self.part_of(&key), key, value) {
-            Ok(before) => Ok(before),
-            Err(_) => Err(AllocError),
-        }
-    }
-
-    // The same, under the lock of the part. A pair that isn't put comes back.
-    fn replace_in<R: Wait>(
+    // Takes the lock of the part, and puts the pair. What leaves the part comes beside the answer,
+    // so that it is dropped once the lock is free.
+    fn replace_in<R: Wait, T, W: FnOnce(Option<(&K, &V)>) -> T>(
         &self,
         rt: &R,
         number: usize,
         key: K,
         value: V,
-    ) -> Result<Option<(K, V)>, (K, V)>
+        with: W,
+    ) -> (Result<T, AllocError>, Option<Held<K, V>>)
     where
         K: Drop,
         V: Drop,
         requires part { number < 64 }
         requires fact { F.holds key value }
-        ensures fact { IfOk result (λ before. IfSome before (λ p. F.holds key p.1)) }
+        requires callable { (shown : Option (Bor K × Bor V))
+            → IfSome shown (λ p. F.holds key p.1.now) → W.pre with shown }
+        ensures shown { IfOk result.0 (ShownSome W.FnOnce with
+            (λ before. IfSome before (λ p. F.holds key p.1))) }
     {
         let mut guard = self.parts[number].lock(rt);
         let part = &mut *guard;
-        part.put(key, value)
+        part.put(key, value, with)
     }
 
     /// Puts the pair where none stands at the key: answers None, or a copy of the value that stands
@@ -143,14 +136,15 @@ impl<K: Eq + Hash, V, S: BuildHasher, F: Fact<K, V>> Parts<K, V, S, F> {
         self.put_in(rt, number, key, value).0
     }
 
-    // The same, under the lock of the part. A pair that isn't put comes back.
+    // Takes the lock of the part, and puts the pair where none stands at the key. A pair that isn't
+    // put comes beside the answer, so that it is dropped once the lock is free.
     fn put_in<R: Wait>(
         &self,
         rt: &R,
         number: usize,
         key: K,
         value: V,
-    ) -> (Result<Option<V>, AllocError>, Option<(K, V)>)
+    ) -> (Result<Option<V>, AllocError>, Option<Held<K, V>>)
     where
         K: Drop,
         V: Exact + Drop,
@@ -170,12 +164,14 @@ impl<K: Eq + Hash, V, S: BuildHasher, F: Fact<K, V>> Parts<K, V, S, F> {
         K: Exact + Drop,
         requires part { number < 64 }
         ensures distinct { IfOk result (λ keys. IsDistinct K.eq keys.items) }
+        ensures of_part { IfOk result (λ keys. (q : K) → is_member K.eq keys.items q ≡ true
+            → part_in S.BuildHasher S.Hasher.Hasher K.hash_input self.now q ≡ number) }
         ensures fact { IfOk result (λ keys. (q : K) → is_member K.eq keys.items q ≡ true
             → (v : V) × F.holds q v) }
     {
         let guard = self.parts[number].lock(rt);
         let part = &*guard;
-        part.keys(alloc)
+        part.keys(alloc, &self.hasher, number)
     }
 
     /// Takes the pair at the key out, where the condition holds of it, and answers it. The
@@ -186,6 +182,8 @@ impl<K: Eq + Hash, V, S: BuildHasher, F: Fact<K, V>> Parts<K, V, S, F> {
         key: &K,
         condition: C,
     ) -> Option<(K, V)>
+    where
+        K: Drop,
         requires callable { (k : Bor K) (v : Bor V) → F.holds key.now v.now
             → C.pre condition k v }
         ensures none { IfNone result ((found : Option (K × V)) × Stays C.FnOnce condition found) }
@@ -193,6 +191,25 @@ impl<K: Eq + Hash, V, S: BuildHasher, F: Fact<K, V>> Parts<K, V, S, F> {
         ensures fact { IfSome result (λ p. F.holds key.now p.1) }
     {
         let number = self.part_of(key);
+        self.take_in(rt, number, key, condition).0
+    }
+
+    // Takes the lock of the part, and takes the pair out. A key that is left over comes beside the
+    // answer, so that it is dropped once the lock is free.
+    fn take_in<R: Wait, C: FnOnce(&K, &V) -> bool>(
+        &self,
+        rt: &R,
+        number: usize,
+        key: &K,
+        condition: C,
+    ) -> (Option<(K, V)>, Option<K>)
+        requires part { number < 64 }
+        requires callable { (k : Bor K) (v : Bor V) → F.holds key.now v.now
+            → C.pre condition k v }
+        ensures none { IfNone result.0 ((found : Option (K × V)) × Stays C.FnOnce condition found) }
+        ensures out { IfSome result.0 (λ p. Judged C.FnOnce condition p true) }
+        ensures fact { IfSome result.0 (λ p. F.holds key.now p.1) }
+    {
         let mut guard = self.parts[number].lock(rt);
         let part = &mut *guard;
         part.take_out_if(key, condition)
@@ -281,7 +298,10 @@ impl<K: Eq + Hash, V, S: BuildHasher, F: Fact<K, V>> SharedTable<K, V> for Parts
         _seat: &mut NoSeat,
         key: &K,
         condition: C,
-    ) -> Result<Option<(K, V)>, AllocError> {
+    ) -> Result<Option<(K, V)>, AllocError>
+    where
+        K: Drop,
+    {
         Ok(self.take_out_if(rt, key, condition))
     }
 

@@ -1,5 +1,5 @@
 //! What a cache needs of a table that threads share.
-ghost use Rattle.std.specs.Prelude.{◌≡◌, ◌<◌, ℕ, true, Option, Some, None, IfSome, IfOk};
+ghost use Rattle.std.specs.Prelude.{◌≡◌, ◌<◌, ℕ, true, Option, Some, None, IfSome, IfOk, is_some};
 ghost use Rattle.std.specs.Prelude.{MatchOption};
 ghost use denote.Ref.{Bor};
 ghost use Rattle.std.specs.List.{IsDistinct};
@@ -61,8 +61,8 @@ pub trait SharedTable<K: Eq + Hash, V> {
             has seat.new key.now found × IfSome found (λ p. holds key.now p.1))) };
 
     /// Puts the pair, whose key takes the place of the stored one. Answers what the closure gives,
-    /// which is lent the pair that stood there; it may not call the table. An error comes where
-    /// memory is wanting, and the table is as before.
+    /// which is lent the pair that stood there under the lock of the part, and may not call the
+    /// table. An error comes where memory is wanting, and the table is as before.
     fn put<R: Wait, T, W: FnOnce(Option<(&K, &V)>) -> T>(
         &self,
         rt: &R,
@@ -110,6 +110,8 @@ pub trait SharedTable<K: Eq + Hash, V> {
         key: &K,
         condition: C,
     ) -> Result<Option<(K, V)>, AllocError>
+    where
+        K: Drop,
         requires callable { (k : Bor K) (v : Bor V) → holds key.now v.now → C.pre condition k v }
         ensures grows { grows seat.old seat.new }
         ensures out { IfOk result (λ taken. MatchOption taken
@@ -118,8 +120,9 @@ pub trait SharedTable<K: Eq + Hash, V> {
             (λ p. adds seat.old key.now None (Some p) seat.new
             × Judged C.FnOnce condition p true × holds key.now p.1)) };
 
-    /// Copies of the keys of a part, each once, as they stand while its lock is held. It is an
-    /// error only where memory is wanting.
+    /// Copies of the keys of a part, each once, as they stand while its lock is held: those at
+    /// which a pair stands after what the seat has then seen. It is an error only where memory is
+    /// wanting.
     fn keys<R: Wait>(
         &self,
         rt: &R,
@@ -132,7 +135,12 @@ pub trait SharedTable<K: Eq + Hash, V> {
         requires part { number < 64 }
         ensures grows { grows seat.old seat.new }
         ensures distinct { IfOk result (λ keys. IsDistinct K.eq keys.items) }
-        ensures listed { IfOk result (λ keys. (q : K) → is_member K.eq keys.items q ≡ true
+        ensures of_part { IfOk result (λ keys. (q : K) → is_member K.eq keys.items q ≡ true
+            → part self.now q ≡ number) }
+        ensures listed { IfOk result (λ keys. (q : K) → part self.now q ≡ number
+            → (found : Option (K × V)) × has seat.new q found
+            × (is_member K.eq keys.items q ≡ is_some found)) }
+        ensures fact { IfOk result (λ keys. (q : K) → is_member K.eq keys.items q ≡ true
             → (v : V) × holds q v) };
 
     /// Each of the two seats has seen then what either had. It takes no memory, and waits for

@@ -52,5 +52,31 @@ fn two_seats<Q: Drop, T: SharedTable<u64, u64, Seat = Q>, R: Wait + Abort>(
     let keys = table.keys(rt, alloc, &mut other, table.part_of(&1))?;
     assert_eq!(rt; keys.len(), 1);
     assert_eq!(rt; table.len(rt), 1);
+    an_addition_is_lost(rt, table, seat, &mut other)
+}
+
+/// Two callers look at a count, and then each puts one more than it found: one addition is lost,
+/// and the second put is lent the first one's value, by which it could know. So a count is kept by
+/// what a put is lent, and never by what was found before it.
+fn an_addition_is_lost<Q: Drop, T: SharedTable<u64, u64, Seat = Q>, R: Wait + Abort>(
+    rt: &R,
+    table: &T,
+    one: &mut Q,
+    other: &mut Q,
+) -> Result<(), Fail>
+    requires { (k v : ℕ) → T.holds k v }
+{
+    assert_eq!(rt; table.put(rt, one, 2, 0, value_of)?, None);
+    let first = table.look(rt, one, &2, value_of)?.unwrap_or(0);
+    let second = table.look(rt, other, &2, value_of)?.unwrap_or(0);
+    assert_eq!(rt;
+        table.put(rt, one, 2, first.wrapping_add(1), value_of)?,
+        Some(0)
+    );
+    assert_eq!(rt;
+        table.put(rt, other, 2, second.wrapping_add(1), value_of)?,
+        Some(1)
+    );
+    assert_eq!(rt; table.look(rt, one, &2, value_of)?, Some(1));
     Ok(())
 }

@@ -14,7 +14,7 @@ compare_exchange-found-requires g c =
     let eq = g.K.PartialEq.eq in
     let part = part_in g.S.BuildHasher g.S.Hasher.Hasher g.K.Hash.hash_input in
     let alike = part_alike g.S.BuildHasher g.S.Hasher.Hasher g.K.Hash.hash_input eq g.met.K.Hash.respects_eq in
-    let change = asked_change c.args.asked.now in
+    let change = asked_change eq c.args.asked.now in
     let stands : Stands eq part c.requires.stands.0 c.args.number c.args.count change c.self.inside.seen.log = rw c.self.view_is c.requires.stands.1 in (
       ap (λ w. w.tracked) h,
       c.self.invariant.0 ∙ sym (ap (λ w. w.book) h),

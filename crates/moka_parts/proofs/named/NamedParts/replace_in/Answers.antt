@@ -9,4 +9,5 @@ returns-clause-grows g c = rw (← c.seat.view_is) (changes_in-prefix c.seat.ins
 
 pub returns-clause-puts : goal.returns-clause-puts
 returns-clause-puts g c = rw (← c.seat.view_is)
-    (IfOk-weaker c.put.result _ _ (λ before e. adds (change_of c.args.key (Some c.args.value) before) c.seat.inside.front c.put.new.me e) c.put.ensures.ends)
+    (IfOk-weaker c.put.result.0 _ _
+    (λ given s. (s.0, (adds (change_of c.args.key (Some c.args.value) s.0) c.seat.inside.front c.put.new.me s.1.0, s.1.2), s.2)) c.put.ensures.ends)

@@ -1,12 +1,11 @@
-use Rattle.std.proofs.Common.{◌≡◌, ◌+◌, None, Some, cond, Option, sym, subst, ap, ◌∙◌}
+use Rattle.std.proofs.Common.{◌≡◌, ◌+◌, Some, cond, Option, IfSome, sym, subst, ap, ◌∙◌}
 use Rattle.moka_parts.specs.Changes.{change_of}
 use Rattle.moka_parts.specs.Hashing.{part_in}
 use Rattle.moka_parts.specs.Logs.{Grows}
-use Rattle.moka_parts.specs.Pairs.{pair_at, lent}
-use Rattle.moka_parts.specs.Parts.{EndsWith}
+use Rattle.moka_parts.specs.Pairs.{pair_at, pair_in}
 use Rattle.moka_parts.proofs.Alike.{part_alike}
 use Rattle.moka_parts.proofs.Prefixes.{prefix_trans}
-use Rattle.moka_parts.proofs.Parting.{is_here, part_follows, put_after_take}
+use Rattle.moka_parts.proofs.Parting.{is_here, part_follows}
 use Rattle.moka_parts.proofs.part.Part.put.Goals as goal
 
 pub invariant_of-self-2 : goal.invariant_of-self-2
@@ -20,7 +19,7 @@ invariant_of-self-2 g c =
     let key = c.args.key in
     let value = c.args.value in
     let seen = c.learn-2.new.self in
-    let change = change_of key (Some value) (lent c.find.result) in
+    let change = change_of key (Some value) (pair_at eq c.make_room.new.map key) in
     let same = c.if-self-number.false in
     let grows : Grows eq part inside.number (inside.count + 1) change seen c.add.new.self =
     subst (λ (n : _). Grows eq part n (inside.count + 1) change seen c.add.new.self) (sym same) c.if-not-add.ensures.added in
@@ -28,13 +27,11 @@ invariant_of-self-2 g c =
     let here : part kept.hasher key ≡ inside.number =
     is_here eq part holds alike c.args.number key kept.hasher c.args.start.now inside.front seen c.requires.part start c.learn-2.ensures.other
     c.learn-2.ensures.log.hasher c.learn-2.ensures.log.opened kept.counts.opened ∙ sym same in
-    let made : (q : g.row.K.Denot) → pair_at eq c.put.new.map q ≡ cond (eq key q) (Some (key, value)) (pair_at eq inside.map q) =
-    λ q. c.put.ensures.map q
-    ∙ (ap (λ (o : Option (g.row.K.Denot × g.row.V.Denot)). cond (eq key q) (Some (key, value)) o)
-    (c.take-before.ensures.map q ∙ ap (λ (o : Option (g.row.K.Denot × g.row.V.Denot)). cond (eq key q) None o) (c.make_room.ensures.map q))
-    ∙ put_after_take (eq key q) (Some (key, value)) (pair_at eq inside.map q)) in
+    let made : (q : g.row.K.Denot) → pair_at eq c.replace-given.new.map q ≡ cond (eq key q) (Some (key, value)) (pair_at eq inside.map q) =
+    λ q. c.replace-given.ensures.map q
+    ∙ ap (λ (o : Option (g.row.K.Denot × g.row.V.Denot)). cond (eq key q) (Some (key, value)) o) (c.make_room.ensures.map q) in
     let follows = part_follows eq part holds alike g.J.Naming.book inside.number inside.count inside.word inside.front inside.map kept change seen c.add.new.self
-    here c.learn-2.ensures.other grows c.put.new.map made (λ q e. g.met.F.Fact.alike key q value e c.requires.fact) in
+    here c.learn-2.ensures.other grows c.replace-given.new.map made (λ q e. g.met.F.Fact.alike key q value e c.requires.fact) in
     rw c.again.ensures.same follows
 
 pub returns-clause-ends : goal.returns-clause-ends
@@ -42,5 +39,8 @@ returns-clause-ends g c =
     let added = c.if-not-add.ensures.added in
     let seen = c.learn-2.new.self in
     let from = prefix_trans c.args.me.now seen added.log (prefix_trans c.args.me.now c.learn.new.self seen c.learn.ensures.this c.learn-2.ensures.this) added.begins in
-    let same : lent c.find.result ≡ c.take-before.result = c.find.ensures ∙ sym c.take-before.ensures.pair in
-    subst (λ o. EndsWith (change_of c.args.key (Some c.args.value) o) c.args.me.now c.add.new.self) same (added.log, from, added.new_is)
+    let eq = g.K.PartialEq.eq in
+    let same = c.make_room.ensures.map c.args.key in
+    let there : pair_at eq c.make_room.new.map c.args.key ≡ pair_in eq c.args.self.now c.args.key = rw (← c.self.view_is) same in
+    let fact = subst (λ (o : Option (g.row.K.Denot × g.row.V.Denot)). IfSome o (λ p. g.F.Fact.holds c.args.key p.1)) (sym same) (c.self.invariant.meets c.args.key) in
+    (pair_at eq c.make_room.new.map c.args.key, ((added.log, from, added.new_is), there, fact), c.replace-given.ensures.shown)

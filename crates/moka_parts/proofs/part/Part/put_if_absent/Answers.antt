@@ -12,7 +12,6 @@ returns-in-Ok-None-clause-answers g c =
     let seen = c.copy_at.new.me in
     let now = pair_in g.K.PartialEq.eq c.args.self.now c.args.key in
     let ends = λ (before : Option (g.row.K.Denot × g.row.V.Denot)). EndsWith (change_of c.args.key (Some c.args.value) before) c.args.me.now c.put.new.me in
-    absent_put c.put.result c.answered.result.0 ends _ now c.answered.ensures.ok c.answered.ensures.err
-    (IfOk-weaker c.put.result _ _ (λ before e. (e.0, prefix_trans c.args.me.now seen e.0 c.copy_at.ensures.grows e.1, e.2)) c.put.ensures.ends)
-    c.put.ensures.pair
+    absent_put c.put.result.0 c.answered.result.0 ends _ now c.answered.ensures.ok c.answered.ensures.err
+    (IfOk-weaker c.put.result.0 _ _ (λ t s. (s.0, (s.1.0.0, prefix_trans c.args.me.now seen s.1.0.0 c.copy_at.ensures.grows s.1.0.1, s.1.0.2), s.1.1)) c.put.ensures.ends)
     (no_value now (sym c.in-Ok-None.ensures.pair ∙ c.in-Ok-None.field-0-is))

@@ -1,10 +1,11 @@
 use Rattle.std.proofs.Common.{◌≡◌, ◌+◌, true, false, None, sym, subst, ◌∙◌}
 use mathlib.Core.List.{IsPrefix}
+use Rattle.moka_parts.specs.declared.change.Change.{Change}
 use Rattle.moka_parts.specs.Calls.{Judged}
 use Rattle.moka_parts.specs.Changes.{change_of, map_after}
 use Rattle.moka_parts.specs.Hashing.{part_in}
 use Rattle.moka_parts.specs.Logs.{Grows, changes_in}
-use Rattle.moka_parts.specs.Pairs.{lent}
+use Rattle.moka_parts.specs.Pairs.{pair_at, lent}
 use Rattle.moka_parts.specs.Parts.{EndsWith}
 use Rattle.moka_parts.proofs.Alike.{part_alike}
 use Rattle.moka_parts.proofs.Prefixes.{prefix_trans}
@@ -25,7 +26,7 @@ returns-then-not-holds_of-clause-ok g c =
     let begins = prefix_trans inside.front c.learn-2.new.self new c.learn-2.ensures.other grows in
     let says = find_says eq part g.F.Fact.holds alike g.J.Naming.book inside.number inside.count inside.word inside.front inside.map c.self.invariant
     c.args.number c.look.result c.if-self-number.false c.if-look-self.false c.args.key.now c.args.start.now new c.requires.part start begins seen.0 seen.1 in
-    stays (λ p. Judged g.C.FnOnce c.args.condition p false) _ (lent c.find-found.result) (map_after eq (changes_in new) c.args.key.now) (c.find-found.ensures ∙ says) c.if-not-holds_of.ensures
+    stays (λ p. Judged g.C.FnOnce c.args.condition p false) _ (lent c.find.result) (map_after eq (changes_in new) c.args.key.now) (c.find.ensures ∙ says) c.if-not-holds_of.ensures
 
 pub invariant_of-self : goal.invariant_of-self
 invariant_of-self g c =
@@ -37,27 +38,31 @@ invariant_of-self g c =
     let kept = c.self.invariant in
     let key = c.args.key.now in
     let seen = c.look.new.self in
-    let change = change_of key None (lent c.find-found.result) in
+    let change = change_of key None (pair_at eq inside.map key) in
     let same = c.if-self-number.false in
     let grows : Grows eq part inside.number (inside.count + 1) change seen c.add.new.self =
-    subst (λ (n : _). Grows eq part n (inside.count + 1) change seen c.add.new.self) (sym same) c.if-not-add.ensures.added in
+    subst (λ (n : _). Grows eq part n (inside.count + 1) change seen c.add.new.self) (sym same)
+    (subst (λ (d : Change g.row.K.Denot g.row.V.Denot). Grows eq part c.args.number (inside.count + 1) d seen c.add.new.self) c.out-asked.ensures c.if-not-add.ensures.added) in
     let start = prefix_trans c.args.start.now c.learn-2.new.self seen (prefix_trans c.args.start.now c.learn.new.self c.learn-2.new.self c.learn.ensures.other c.learn-2.ensures.this) c.look.ensures.grows in
     let begins = prefix_trans inside.front c.learn-2.new.self seen c.learn-2.ensures.other c.look.ensures.grows in
     let here : part kept.hasher key ≡ inside.number =
     is_here eq part holds alike c.args.number key kept.hasher c.args.start.now inside.front seen c.requires.part start begins
     c.look.ensures.counts.0 c.look.ensures.counts.1.opened kept.counts.opened ∙ sym same in
     let follows = part_follows eq part holds alike g.J.Naming.book inside.number inside.count inside.word inside.front inside.map kept change seen c.add.new.self
-    here begins grows c.take.new.map c.take.ensures.map (λ q e. tt) in
+    here begins grows c.take-taken.new.map c.take-taken.ensures.map (λ q e. tt) in
     rw c.again.ensures.same follows
 
 pub returns-clause-ok : goal.returns-clause-ok
 returns-clause-ok g c =
+    let eq = g.K.PartialEq.eq in
+    let part = part_in g.S.BuildHasher g.S.Hasher.Hasher g.K.Hash.hash_input in
+    let inside = c.self.inside in
     let key = c.args.key.now in
-    let added = c.if-not-add.ensures.added in
+    let added = subst (λ (d : Change g.row.K.Denot g.row.V.Denot). Grows eq part c.args.number (inside.count + 1) d c.look.new.self c.add.new.self) c.out-asked.ensures c.if-not-add.ensures.added in
     let from : IsPrefix c.args.me.now added.log =
     prefix_trans c.args.me.now c.look.new.self added.log
     (prefix_trans c.args.me.now c.learn-2.new.self c.look.new.self (prefix_trans c.args.me.now c.learn.new.self c.learn-2.new.self c.learn.ensures.this c.learn-2.ensures.this) c.look.ensures.grows)
     added.begins in
     takes (λ p. Judged g.C.FnOnce c.args.condition p true) _ _ (λ o. EndsWith (change_of key None o) c.args.me.now c.add.new.self)
-    (lent c.find-found.result) c.take.result (c.take.ensures.pair ∙ sym c.find-found.ensures) c.if-not-holds_of.ensures
-    (added.log, from, added.new_is) (λ p e j. (e, j))
+    (lent c.find.result) c.take-taken.result.0 (c.take-taken.ensures.pair ∙ sym c.find.ensures) c.if-not-holds_of.ensures
+    (subst (λ o. EndsWith (change_of key None o) c.args.me.now c.add.new.self) (sym c.find.ensures) (added.log, from, added.new_is)) (λ p e j. (e, j))

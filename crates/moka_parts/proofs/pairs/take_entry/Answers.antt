@@ -1,8 +1,8 @@
 use Rattle.moka_parts.proofs.Entries.{pair_found, lookup_taken}
-use Rattle.moka_parts.proofs.pairs.take.Goals as goal
+use Rattle.moka_parts.proofs.pairs.take_entry.Goals as goal
 
-pub returns-clause-pair : goal.returns-clause-pair
-returns-clause-pair g c =
+pub returns-clause-entry : goal.returns-clause-entry
+returns-clause-entry g c =
     let taken = c.remove_entry.ensures in
     pair_found (g.K.PartialEq.eq c.args.key.now) c.args.map.now.entries c.remove_entry.result taken.key taken.value
 

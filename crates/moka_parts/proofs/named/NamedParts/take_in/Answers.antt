@@ -1,10 +1,10 @@
 use Rattle.moka_parts.proofs.Histories.{changes_in-prefix}
 use Rattle.moka_parts.proofs.Taking.{taken_seen}
-use Rattle.moka_parts.proofs.named.NamedParts.take_out_if.Goals as goal
+use Rattle.moka_parts.proofs.named.NamedParts.take_in.Goals as goal
 
 pub returns-clause-grows : goal.returns-clause-grows
 returns-clause-grows g c = rw (← c.seat.view_is) (changes_in-prefix c.seat.inside.front c.take_out_if.new.me c.take_out_if.ensures.grows)
 
 pub returns-clause-out : goal.returns-clause-out
 returns-clause-out g c = rw (← c.seat.view_is)
-    (taken_seen g.C.FnOnce c.args.condition c.args.key.now _ c.seat.inside.front c.take_out_if.new.me c.take_out_if.result c.take_out_if.ensures.ok)
+    (taken_seen g.C.FnOnce c.args.condition c.args.key.now _ c.seat.inside.front c.take_out_if.new.me c.take_out_if.result.0 c.take_out_if.ensures.ok)

@@ -1,0 +1,112 @@
+-- The pairs of entries that hold a newer key.
+use Rattle.std.proofs.Common.{◌≡◌, Bool, true, false, cond, List, [], ◌∷◌, refl, sym, ap, subst, ◌∙◌, Option, None, Some, IfSome}
+use Rattle.std.specs.Prelude.{Result, Ok, Err, IfOk, OnOk, OnErr}
+use Rattle.std.specs.Option.{option_map, is_some}
+use Rattle.std.specs.Map.{lookup, lookup_entry, set_value}
+use Rattle.std.specs.Cmp.{IsEquivalence}
+use denote.Ref.{Bor}
+use Rattle.moka_parts.specs.declared.held.Held.{Held}
+use Rattle.moka_parts.specs.Pairs.{pair_of, pair_in, lent}
+use Rattle.moka_parts.proofs.Entries.{entry_there, lookup_set}
+
+-- a choice, seen through a function
+pub mapped : {A B : Type 0} (f : A → B) (b : Bool) (x y : Option A) → option_map f (cond b x y) ≡ cond b (option_map f x) (option_map f y)
+mapped f true x y = refl
+mapped f false x y = refl
+
+pub some_mapped : {A B : Type 0} (f : A → B) (o : Option A) → is_some (option_map f o) ≡ is_some o
+some_mapped f None = refl
+some_mapped f (Some x) = refl
+
+pub none_mapped : {A B : Type 0} (f : A → B) (o : Option A) → option_map f o ≡ None → o ≡ None
+none_mapped f None h = refl
+none_mapped f (Some x) h = absurd (cc)
+
+-- what is put where something was taken out
+over : {A : Type 0} (b : Bool) (x first middle last : Option A) → middle ≡ cond b None first → last ≡ cond b x middle → last ≡ cond b x first
+over true x first middle last m l = l
+over false x first middle last m l = l ∙ m
+
+-- a value is found with its key
+pub value_entry : {K X : Type 0} (test : K → Bool) (es : List (K × X)) (v : X) → lookup test es ≡ Some v → (k : K) × (lookup_entry test es ≡ Some (k, v))
+value_entry test [] v h = absurd (cc)
+value_entry {K} {X} test (e ∷ es) v h =
+    let by : (b : Bool) → cond b (Some e.1) (lookup test es) ≡ Some v → (k : K) × (cond b (Some e) (lookup_entry test es) ≡ Some (k, v)) =
+    elim [ true ↦ (λ f. let s : e.1 ≡ v = cc in (e.0, ap (λ (x : X). Some (e.0, x)) s)) | false ↦ (λ f. value_entry test es v f) ] in
+    by (test e.0) h
+
+module _ {K V : Type 0} {eq : K → K → Bool} (o : IsEquivalence eq) where
+  -- equal keys find one entry
+  pub alike : (k q : K) → eq k q ≡ true → (es : List (K × Held K V)) → lookup_entry (eq q) es ≡ lookup_entry (eq k) es
+  alike k q same [] = refl
+  alike k q same (x ∷ xs) =
+      let t : eq k x.0 ≡ eq q x.0 = o.congr k q x.0 same in
+      ap (λ (b : Bool). cond b (Some x) (lookup_entry (eq q) xs)) (sym t) ∙ ap (λ r. cond (eq k x.0) (Some x) r) (alike k q same xs)
+
+  -- the pair that stood there, which is held whole
+  pub former : {E : Type 0} (key : K) (es : List (K × Held K V)) (h : Held K V) (r : Result (K × V) E) → lookup (eq key) es ≡ Some h
+      → IfOk r (λ p. h ≡ record { newer = Some p.0; value = p.1 }) → IfOk r (λ p. pair_in eq es key ≡ Some p)
+  former key es h (Err e) found was = tt
+  former key es h (Ok p) found was =
+      let there = value_entry (eq key) es h found in
+      ap (option_map pair_of) there.1 ∙ ap (λ (x : Held K V). Some (pair_of (there.0, x))) was
+
+  -- the pairs once one was replaced where it lay
+  pub renewed : {E : Type 0} (key : K) (value : V) (es fs : List (K × Held K V)) (h w : Held K V) (r : Result (K × V) E) → lookup (eq key) es ≡ Some h
+      → fs ≡ set_value (eq key) es w → OnOk r (w ≡ record { newer = Some key; value = value })
+      → OnOk r ((q : K) → pair_in eq fs q ≡ cond (eq key q) (Some (key, value)) (pair_in eq es q))
+  renewed key value es fs h w (Err e) found is now = tt
+  renewed key value es fs h w (Ok p) found is now = λ q.
+      let there = value_entry (eq key) es h found in
+      let set = ap (λ (l : List (K × Held K V)). lookup_entry (eq q) l) is ∙ lookup_set o key q w es (there.0, h) there.1 in
+      ap (option_map pair_of) set ∙ (mapped pair_of (eq key q) (Some (there.0, w)) (lookup_entry (eq q) es)
+      ∙ ap (λ (x : Held K V). cond (eq key q) (Some (pair_of (there.0, x))) (pair_in eq es q)) now)
+
+  -- and where what was held stayed
+  pub left_same : {E : Type 0} (key : K) (es fs : List (K × Held K V)) (h w : Held K V) (r : Result (K × V) E) → lookup (eq key) es ≡ Some h
+      → fs ≡ set_value (eq key) es w → OnErr r (w ≡ h) → OnErr r ((q : K) → pair_in eq fs q ≡ pair_in eq es q)
+  left_same key es fs h w (Ok p) found is now = tt
+  left_same key es fs h w (Err e) found is now = λ q.
+      let there = value_entry (eq key) es h found in
+      let set = ap (λ (l : List (K × Held K V)). lookup_entry (eq q) l) is ∙ lookup_set o key q w es (there.0, h) there.1 in
+      let by : (b : Bool) → eq key q ≡ b → cond b (Some (there.0, w)) (lookup_entry (eq q) es) ≡ lookup_entry (eq q) es =
+      elim [
+        | true ↦ (λ t. ap (λ (x : Held K V). Some (there.0, x)) now ∙ (sym there.1 ∙ sym (alike key q t es)))
+        | false ↦ (λ t. refl)
+      ] in
+      ap (option_map pair_of) (set ∙ by (eq key q) refl)
+
+  -- the pairs once the entry of the key was taken out, and one was put under its own key
+  pub put_over : (key q : K) (es ms fs : List (K × Held K V)) (e : K × Held K V) (w : Held K V) → lookup_entry (eq key) es ≡ Some e
+      → ((q : K) → lookup_entry (eq q) ms ≡ cond (eq key q) None (lookup_entry (eq q) es))
+      → ((q : K) → lookup_entry (eq q) fs ≡ cond (eq e.0 q) (Some (e.0, w)) (lookup_entry (eq q) ms))
+      → pair_in eq fs q ≡ cond (eq key q) (Some (pair_of (e.0, w))) (pair_in eq es q)
+  put_over key q es ms fs e w found out put =
+      let t = (entry_there o key es e found).1 in
+      let put' : lookup_entry (eq q) fs ≡ cond (eq key q) (Some (e.0, w)) (lookup_entry (eq q) ms) = put q ∙ ap (λ (b : Bool). cond b (Some (e.0, w)) (lookup_entry (eq q) ms)) (sym (o.congr key e.0 q t)) in
+      let whole = over (eq key q) (Some (e.0, w)) (lookup_entry (eq q) es) (lookup_entry (eq q) ms) (lookup_entry (eq q) fs) (out q) put' in
+      ap (option_map pair_of) whole ∙ mapped pair_of (eq key q) (Some (e.0, w)) (lookup_entry (eq q) es)
+
+  -- and where none stood at the key
+  pub put_first : (key q : K) (es ms fs : List (K × Held K V)) (w : Held K V)
+      → ((q : K) → lookup_entry (eq q) ms ≡ cond (eq key q) None (lookup_entry (eq q) es))
+      → ((q : K) → lookup_entry (eq q) fs ≡ cond (eq key q) (Some (key, w)) (lookup_entry (eq q) ms))
+      → pair_in eq fs q ≡ cond (eq key q) (Some (pair_of (key, w))) (pair_in eq es q)
+  put_first key q es ms fs w out put =
+      let whole = over (eq key q) (Some (key, w)) (lookup_entry (eq q) es) (lookup_entry (eq q) ms) (lookup_entry (eq q) fs) (out q) (put q) in
+      ap (option_map pair_of) whole ∙ mapped pair_of (eq key q) (Some (key, w)) (lookup_entry (eq q) es)
+
+  -- nothing stands at the key of an entry that was taken out
+  pub taken_key : (key : K) (es ms : List (K × Held K V)) (e : K × Held K V) → lookup_entry (eq key) es ≡ Some e
+      → ((q : K) → lookup_entry (eq q) ms ≡ cond (eq key q) None (lookup_entry (eq q) es)) → lookup_entry (eq e.0) ms ≡ None
+  taken_key key es ms e found out = out e.0 ∙ ap (λ (b : Bool). cond b None (lookup_entry (eq e.0) es)) (entry_there o key es e found).1
+
+-- nothing stands at the key itself
+pub gone : {K X : Type 0} (eq : K → K → Bool) (refls : (k : K) → eq k k ≡ true) (key : K) (ms : List (K × X)) (first : Option (K × X)) → lookup_entry (eq key) ms ≡ cond (eq key key) None first
+    → lookup_entry (eq key) ms ≡ None
+gone eq refls key ms first out = out ∙ ap (λ (b : Bool). cond b None first) (refls key)
+
+-- what a closure may be lent, where it may be lent what meets the fact
+pub may_lend : {K V : Type 0} (so : V → Type 0) (shown : Option (Bor K × Bor V)) (found : Option (K × V)) → lent shown ≡ found → IfSome found (λ p. so p.1) → IfSome shown (λ p. so p.1.now)
+may_lend so None found same h = tt
+may_lend {K} {V} so (Some p) found same h = subst (λ (x : Option (K × V)). IfSome x (λ p. so p.1)) (sym same) h

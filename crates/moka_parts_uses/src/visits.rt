@@ -1,0 +1,48 @@
+//! A count that many threads add to, of which no addition is lost.
+
+use crate::hall::total;
+use moka_parts::Parts;
+use std::alloc::{AllocError, Global};
+use std::hash::{BuildHasherDefault, FoldHasher};
+use std::sync::Wait;
+use std::thread::Threads;
+use std::{io, thread};
+
+const VISITS: u64 = 1000;
+
+const DOORS: usize = 4;
+
+/// The visits at a page that nobody has counted yet.
+type Pages = Parts<u64, u64, BuildHasherDefault<FoldHasher>>;
+
+/// Notes one visit of the page, and answers what was noted before and is counted by nobody else: each
+/// value that is put is lent to just one later put. What was looked up before could have been
+/// replaced meanwhile.
+fn note<R: Wait>(rt: &R, pages: &Pages, page: u64) -> Result<u64, AllocError> {
+    pages.put(rt, page, 1, |before| match before {
+        Some((_, visits)) => *visits,
+        None => 0,
+    })
+}
+
+/// Visitors come by all doors at once, and each door counts what its visits took out. With what is
+/// left at the end these are all visits.
+pub(crate) fn show<R: Threads + Wait + Print + Sync>(rt: &R, alloc: Global) -> io::Result<()> {
+    let pages: Pages = Parts::new(alloc, BuildHasherDefault::new())?;
+    let counted = thread::map_indices(rt, alloc, DOORS, &|_| come(rt, &pages))?;
+    let last = pages.take_out_if(rt, &0, |_, _| true);
+    let left = match last {
+        Some((_, visits)) => visits,
+        None => 0,
+    };
+    println!(rt; "visits {}", total(counted.as_slice()).wrapping_add(left))
+}
+
+/// How many visits one door has counted.
+fn come<R: Wait>(rt: &R, pages: &Pages) -> u64 {
+    let mut count = 0u64;
+    for _ in 0..VISITS {
+        count = count.wrapping_add(note(rt, pages, 0).unwrap_or(0));
+    }
+    count
+}
