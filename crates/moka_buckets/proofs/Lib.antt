@@ -32,3 +32,5 @@ pub mod Once
 pub mod Sought
 pub mod Few
 pub mod KeyLists
+pub mod Tested
+pub mod OwnKeys

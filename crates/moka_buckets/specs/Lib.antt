@@ -13,3 +13,4 @@ pub mod Views
 pub mod Listed
 pub mod Walks
 pub mod Keys
+pub mod Asking

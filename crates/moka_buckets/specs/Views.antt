@@ -82,6 +82,10 @@ module _ {K V S : Type 0} where
   abbrev pub words_in : Buckets K V S → ℕ
   words_in t = sum_by (λ p. length (words_of (memory_at p) (root (memory_at p)))) t.parts
 
+  -- and half of each one's words
+  abbrev pub capacity_in : Buckets K V S → ℕ
+  capacity_in t = sum_by (λ p. length (words_of (memory_at p) (root (memory_at p))) / 2) t.parts
+
   module _ {H : Type 0} (b : builder.Ghosts S H) (h : hasher.Ghosts H) (eq : K → K → Bool)
       (input : K → HashWrites) where
     abbrev pub map_in : Buckets K V S → Pairs K V

@@ -14,6 +14,7 @@ use crate::keys_call::KeysCall;
 use crate::listing::list_parts;
 use crate::looking::find_over;
 use crate::part::{Part, step_parts};
+use crate::part_keys::{copy_keys, list_keys};
 use crate::walking::{listed_keys, walk_parts};
 use moka_calls::TableCall;
 use moka_growth::CallKind;
@@ -62,8 +63,10 @@ impl<K: Eq + Hash + Drop, V: Drop, S: BuildHasher + Drop> BucketTable<K, V, S> {
     ghost use Rattle.std.specs.Int.{IsNextPowerOfTwo};
     ghost use Rattle.moka_table.specs.Empty.{IsEmptyTable};
     ghost use Rattle.moka_buckets.specs.Building.{AreFresh};
-    ghost use Rattle.std.specs.Option.{option_map};
-    ghost use Rattle.moka_buckets.specs.Views.{IsFirst, bucket_table, count_of, first_of, map_in, peak_of, words_in};
+    ghost use Rattle.std.specs.Option.{IfSome, option_map};
+    ghost use Rattle.moka_buckets.specs.Hashing.{hash_in};
+    ghost use Rattle.moka_buckets.specs.Asking.{Asks, ListsCalls, ListsSegment};
+    ghost use Rattle.moka_buckets.specs.Views.{IsFirst, bucket_table, capacity_in, count_of, first_of, map_in, peak_of, segment_for, words_in};
 
     /// A table without keys, of so many segments, rounded up to a power of two. For a capacity each
     /// of them has an array; without one none has. Keys are hashed by this.
@@ -100,16 +103,57 @@ impl<K: Eq + Hash + Drop, V: Drop, S: BuildHasher + Drop> BucketTable<K, V, S> {
         })
     }
 
+    /// The hash of the key.
+    pub fn hash(&self, key: &K) -> u64
+        ensures { result ≡ hash_in S.BuildHasher S.Hasher.Hasher K.hash_input
+            self.now.hasher key.now }
+    {
+        self.hasher.hash_one(key)
+    }
+
     /// The pair under the key, in the middle of growth too. It takes no memory, and makes no step of
     /// an operation.
     pub fn find(&self, key: &K) -> Option<(&K, &Stored<V>)>
         ensures { option_map (λ pair. (pair.0.now, pair.1.now)) result
             ≡ map_in S.BuildHasher S.Hasher.Hasher K.eq K.hash_input self.now key.now }
     {
-        let hash = self.hasher.hash_one(key);
-        match find_over(&self.parts, hash, key) {
+        self.find_by(self.hash(key), |other| *key == *other)
+    }
+
+    /// The pair under the key that the test is true of, whose hash this is. It takes no memory, and
+    /// makes no step of an operation.
+    pub fn find_by<F: FnMut(&K) -> bool>(&self, hash: u64, eq: F) -> Option<(&K, &Stored<V>)>
+        requires callable { F.IsAlwaysCallable eq }
+        requires one { (q : K) × Asks F.FnMut K.eq
+            (hash_in S.BuildHasher S.Hasher.Hasher K.hash_input self.now.hasher) hash eq q }
+        ensures { (q : K) → Asks F.FnMut K.eq
+            (hash_in S.BuildHasher S.Hasher.Hasher K.hash_input self.now.hasher) hash eq q
+            → option_map (λ pair. (pair.0.now, pair.1.now)) result
+            ≡ map_in S.BuildHasher S.Hasher.Hasher K.eq K.hash_input self.now q }
+    {
+        match find_over(&self.parts, hash, eq) {
             None => None,
             Some(node) => Some((&node.key, &node.stored)),
+        }
+    }
+
+    /// What the closure makes of each key of the segment; None where the table hasn't the segment. It
+    /// reads the root, in the middle of growth too, and makes no step of an operation.
+    pub fn list_keys<T: Drop, F: FnMut(&K) -> T>(
+        &self,
+        segment: usize,
+        with_key: F,
+    ) -> Result<Option<Vec<T>>, AllocError>
+        requires { F.IsAlwaysCallable with_key }
+        ensures there { IfOk result (λ made. IsSome made ↔ (segment < length self.now.parts)) }
+        ensures calls { IfOk result (λ made. IfSome made (λ list. (keys : List K)
+            × ListsCalls F.FnMut with_key keys list.items × ListsSegment K.eq
+            (segment_for S.BuildHasher S.Hasher.Hasher K.eq K.hash_input self.now)
+            (map_in S.BuildHasher S.Hasher.Hasher K.eq K.hash_input self.now) segment keys)) }
+    {
+        match self.parts.get(segment) {
+            None => Ok(None),
+            Some(part) => Ok(Some(list_keys(self.alloc, part, with_key)?)),
         }
     }
 
@@ -123,20 +167,67 @@ impl<K: Eq + Hash + Drop, V: Drop, S: BuildHasher + Drop> BucketTable<K, V, S> {
         }
         words
     }
+
+    /// How many keys the roots are meant for: half of each one's words. It stops at the greatest
+    /// number.
+    pub fn capacity(&self) -> usize
+        ensures { result ≡ min (capacity_in self.now) (2 ^ 64 - 1) }
+    {
+        let mut capacity: usize = 0;
+        for part in self.parts.iter() {
+            capacity = capacity.saturating_add(part.arrays.size(part.arrays.root()) / 2);
+        }
+        capacity
+    }
 }
 
 impl<K: Eq + Hash + Exact, V: Exact, S: BuildHasher + Drop> BucketTable<K, V, S> {
     ghost use Rattle.std.specs.List.{slice_get};
+    ghost use Rattle.moka_hist.specs.Tables.{key_of};
     ghost use Rattle.moka_buckets.specs.Compacting.{AllCompact};
-    ghost use Rattle.std.specs.Option.{option_map};
+    ghost use Rattle.std.specs.Option.{IfSome, option_map};
+    ghost use Rattle.moka_buckets.specs.Asking.{ListsSegment};
     ghost use Rattle.moka_calls.specs.Standing.{IsGoing};
     ghost use Rattle.moka_buckets.specs.Keys.{IsListing};
     ghost use Rattle.moka_buckets.specs.Accesses.{MovesOnce};
     ghost use Rattle.moka_buckets.specs.Hashing.{hash_in};
-    ghost use Rattle.moka_buckets.specs.Views.{count_of, covers_in, first_of, fits_in, fits_keys_in, keys_want_of, left_keys_of, left_of, lists_in, map_in, peak_of, segment_for};
+    ghost use Rattle.moka_buckets.specs.Views.{count_of, covers_in, first_of, fits_in, fits_keys_in, keys_want_of, left_keys_of, left_of, lists_in, map_in, operation_of, peak_of, segment_for};
     ghost use Rattle.moka_buckets.specs.Walks.{is_ended};
     ghost use Rattle.moka_buckets.specs.declared.bucket_call.BucketCall.{BucketCall};
     ghost use Rattle.moka_buckets.specs.declared.keys_call.KeysCall.{KeysCall};
+
+    /// Clones of the keys of the segment; None where the table hasn't the segment. It reads the root,
+    /// in the middle of growth too, and makes no step of an operation.
+    pub fn copy_keys(&self, segment: usize) -> Result<Option<Vec<K>>, AllocError>
+        ensures there { IfOk result (λ keys. IsSome keys ↔ (segment < length self.now.parts)) }
+        ensures lists { IfOk result (λ keys. IfSome keys (λ list. ListsSegment K.eq
+            (segment_for S.BuildHasher S.Hasher.Hasher K.eq K.hash_input self.now)
+            (map_in S.BuildHasher S.Hasher.Hasher K.eq K.hash_input self.now)
+            segment list.items)) }
+    {
+        match self.parts.get(segment) {
+            None => Ok(None),
+            Some(part) => Ok(Some(copy_keys(self.alloc, part)?)),
+        }
+    }
+
+    /// Begins an operation, on a key with this hash. It takes no memory.
+    pub fn begin_at(&self, hash: u64, operation: TableOp<K, V>) -> BucketCall<K, V>
+        requires hashed { hash ≡ hash_in S.BuildHasher S.Hasher.Hasher K.hash_input
+            self.now.hasher (key_of operation) }
+        ensures operation { operation_of result ≡ Some operation }
+        ensures fits { fits_in S.BuildHasher S.Hasher.Hasher K.eq K.hash_input
+            self.now result }
+        ensures left { left_of self.now result
+            ≤ most_steps (first_of self.now) (peak_of self.now) }
+    {
+        BucketCall {
+            hash,
+            table: TableCall::new(self.alloc, kind_of(&operation), hash),
+            node: None,
+            operation,
+        }
+    }
 
     /// Puts the keys of each segment, half-grown or not, into one array that is as short as they
     /// allow, and none where there are none; old arrays and nodes go. Operations that were begun
@@ -304,13 +395,7 @@ impl<K: Eq + Hash + Exact, V: Exact, S: BuildHasher + Drop> Table<K, V> for Buck
         ensures left { left_of self.now result
             ≤ most_steps (first_of self.now) (peak_of self.now) }
     {
-        let hash = self.hasher.hash_one(key_of(&operation));
-        BucketCall {
-            hash,
-            table: TableCall::new(self.alloc, kind_of(&operation), hash),
-            node: None,
-            operation,
-        }
+        self.begin_at(self.hash(key_of(&operation)), operation)
     }
 
     fn step(&mut self, call: &mut BucketCall<K, V>) -> Result<TableTurn<K, V>, AllocError>

@@ -23,6 +23,7 @@ mod making;
 mod node;
 mod nodes;
 mod part;
+mod part_keys;
 mod stepping;
 mod walking;
 mod words;

@@ -1,39 +1,18 @@
-use Rattle.std.proofs.Common.{ap, max, subst, sym, ◌∙◌}
-use Rattle.std.specs.List.{fold}
-use Rattle.std.specs.Option.{option_copied, option_map}
-use Rattle.moka_hist.specs.declared.records.Stored.{Stored}
-use Rattle.moka_buckets.specs.Hashing.{hash_in}
-use Rattle.moka_buckets.specs.Looking.{CanLook}
-use Rattle.moka_buckets.specs.Parts.{map_over}
-use Rattle.moka_buckets.specs.Views.{map_in}
+use Rattle.std.proofs.Common.{refl, rules}
+use Rattle.std.proofs.lemmas.Fn.{always_returns_same}
 use Rattle.moka_buckets.proofs.bucket_table.BucketTable.find.Goals as goal
 
-pub returns-in-None : goal.returns-in-None
-returns-in-None g c =
-    let hash = hash_in g.S.BuildHasher g.S.Hasher.Hasher g.K.Hash.hash_input c.self.inside.hasher in
-    let inside = c.self.inside in
-    let can = subst (λ ps. CanLook g.K.PartialEq.eq hash ps (max 128 inside.first) (max inside.peak inside.len) inside.len c.hash_one-hash.result c.args.key.now)
-    (sym c.deref.ensures.value) (record {
-      respects = λ x y e. ap (λ w. g.S.Hasher.Hasher.finish (fold g.S.Hasher.Hasher.write (g.S.BuildHasher.build_hasher inside.hasher) w)) (g.met.K.Hash.respects_eq x y e);
-      well = c.self.invariant;
-      hashed = c.hash_one-hash.ensures;
-    }) in
-    let found = c.find_over.ensures hash (max 128 inside.first) (max inside.peak inside.len) inside.len can in
-    ap (λ o. option_map {U = g.row.K.Denot × Stored g.row.V.Denot} (λ node. (node.key, node.stored)) (option_copied o)) (sym c.in-None.is) ∙
-    (found ∙ (ap (λ ps. map_over g.K.PartialEq.eq hash ps c.args.key.now) c.deref.ensures.value ∙
-    ap (λ o. map_in g.S.BuildHasher g.S.Hasher.Hasher g.K.PartialEq.eq g.K.Hash.hash_input o c.args.key.now) c.self.view_is))
+pub find_by-requires-clause-one : goal.find_by-requires-clause-one
+find_by-requires-clause-one g c = (
+  c.args.key.now,
+  record {
+    computes = always_returns_same _ _ _ (λ a r f k. search rules);
+    hashed = c.hash.ensures;
+  },
+)
 
-pub returns-in-Some : goal.returns-in-Some
-returns-in-Some g c =
-    let hash = hash_in g.S.BuildHasher g.S.Hasher.Hasher g.K.Hash.hash_input c.self.inside.hasher in
-    let inside = c.self.inside in
-    let can = subst (λ ps. CanLook g.K.PartialEq.eq hash ps (max 128 inside.first) (max inside.peak inside.len) inside.len c.hash_one-hash.result c.args.key.now)
-    (sym c.deref.ensures.value) (record {
-      respects = λ x y e. ap (λ w. g.S.Hasher.Hasher.finish (fold g.S.Hasher.Hasher.write (g.S.BuildHasher.build_hasher inside.hasher) w)) (g.met.K.Hash.respects_eq x y e);
-      well = c.self.invariant;
-      hashed = c.hash_one-hash.ensures;
-    }) in
-    let found = c.find_over.ensures hash (max 128 inside.first) (max inside.peak inside.len) inside.len can in
-    ap (λ o. option_map {U = g.row.K.Denot × Stored g.row.V.Denot} (λ node. (node.key, node.stored)) (option_copied o)) (sym c.in-Some.is) ∙
-    (found ∙ (ap (λ ps. map_over g.K.PartialEq.eq hash ps c.args.key.now) c.deref.ensures.value ∙
-    ap (λ o. map_in g.S.BuildHasher g.S.Hasher.Hasher g.K.PartialEq.eq g.K.Hash.hash_input o c.args.key.now) c.self.view_is))
+pub returns : goal.returns
+returns g c = c.find_by.ensures c.args.key.now (record {
+  computes = always_returns_same _ _ _ (λ a r f k. search rules);
+  hashed = c.hash.ensures;
+})

@@ -1,0 +1,44 @@
+//! The pairs of the table's answers, and what closures give of them.
+
+ghost use Rattle.std.specs.Prelude.{◌≡◌, Option};
+ghost use Rattle.std.specs.Option.{option_map};
+ghost use Rattle.moka_hist.specs.Tables.{answer_of};
+ghost use Rattle.moka_hist.specs.declared.records.Stored.{Stored};
+ghost use Rattle.moka_map.specs.Maps.{entry_of};
+ghost use Rattle.moka_map.specs.Calls.{GivesOf};
+
+use moka_hist::TableAnswer;
+
+/// The pair of the answer.
+pub fn pair_in<K: Drop, V: Drop>(answer: TableAnswer<K, V>) -> Option<(K, V)>
+    ensures { (o : Option (K × Stored V)) → answer ≡ answer_of o → result ≡ entry_of o }
+{
+    match answer {
+        TableAnswer::None => None,
+        TableAnswer::Some { key, stored } => Some((key, stored.value)),
+    }
+}
+
+/// What the closure gives of the pair, if there is one.
+pub fn given_of<K: Drop, V: Drop, T, F: FnOnce(&K, &V) -> T>(
+    pair: Option<(K, V)>,
+    with_entry: F,
+) -> Option<T>
+    requires { F.IsAlwaysCallable with_entry }
+    ensures { GivesOf F.FnOnce with_entry pair result }
+{
+    match pair {
+        None => None,
+        Some((key, value)) => Some(with_entry(&key, &value)),
+    }
+}
+
+/// The value of the pair, if there is one.
+pub fn value_in<K: Drop, V: Drop>(pair: Option<(K, V)>) -> Option<V>
+    ensures { result ≡ option_map (λ p. p.1) pair }
+{
+    match pair {
+        None => None,
+        Some((_, value)) => Some(value),
+    }
+}
