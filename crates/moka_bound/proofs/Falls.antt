@@ -587,6 +587,8 @@ module _ {K V E : Type 0} where
         (passes old new c young rest (leaves _ (ap (λ v. v.desk) g.1) (unlocked_lists w.desk n b) h.within h.raises))
     on_item plan.Idle rest (got.Desk f) e m g h = rw g.0
         (passes old new c young rest (leaves _ (ap (λ v. v.desk) g.1) (record { owed = refl; log = refl; size = refl }) h.within h.raises))
+    on_item plan.Invalidate_all rest (got.Desk f) e m g h = rw g.0
+        (passes old new c young rest (leaves _ (ap (λ v. v.desk) g.1) (record { owed = refl; log = refl; size = refl }) h.within h.raises))
     on_item (plan.Holds key stamp cause there stored) rest (got.Desk f) e m g h = rw g.0
         (holds_falls old new c young key stamp cause _ (leaves w.desk (ap (λ v. v.desk) g.1) (same_lists w.desk) h.within h.raises))
     on_item (plan.Notice key stored cause upsert) rest (got.Desk f) e m g h = rw g.0

@@ -130,6 +130,8 @@ module _ {K V E : Type 0} where
   steps_of owed most aborts room left ended (plan.Out removal key ∷ rest) = out_steps left
   steps_of owed most aborts room left ended (plan.Idle ∷ rest) =
       1 + steps_of owed most aborts false most true rest
+  steps_of owed most aborts room left ended (plan.Invalidate_all ∷ rest) =
+      1 + steps_of owed most aborts false most true rest
   steps_of owed most aborts room left ended (plan.Reply answer ∷ rest) = 1
 
   -- at most so many steps the call makes by itself

@@ -24,7 +24,7 @@ use Rattle.moka_hist.specs.declared.visits.Visit.TheVariants as visit
 use Rattle.moka_shapes.specs.Computes.{ComputesTell, Follows, other_goes, taken}
 use Rattle.moka_laws.specs.Starts.{computed_key, is_alone}
 use Rattle.moka_kept.specs.Paths.{EndedWith, LeadsWith}
-use Rattle.moka_kept.specs.Taking.{Answered, Taken, taken_in, taken_made}
+use Rattle.moka_kept.specs.Taking.{Answered, Taken, TookBy, TookSuch}
 use Rattle.moka_cache.specs.Asked.{TellsDone, TellsPut, ToldSuch}
 use Rattle.moka_cache.specs.Computes.{MayGive}
 use Rattle.moka_cache.specs.Entries.{computed_in, stored_in, try_computed_in}
@@ -57,14 +57,14 @@ is_told _ = false
 
 module _ {K V E : Type 0} (such : Taken V E → Type 0) where
   -- only the visit that takes it finds it
-  such_found : (w : DeskPart K V E) (made : Visit K V E) (t : Told V E) → finds w made ≡ found.TakeTold (Some t) → IfSome (taken_made made (found.TakeTold (Some t))) such → such (Answered t)
+  such_found : (w : DeskPart K V E) (made : Visit K V E) (t : Told V E) → finds w made ≡ found.TakeTold (Some t) → TookSuch made (found.TakeTold (Some t)) such → such (Answered t)
   such_found w (visit.TakeTold n) t is took = took
   such_found w _ t is took = absurd (false≢true (ap is_told is))
 
   module _ (eq : K → K → Bool) (n : ℕ) where
-    is_such : (a : Access K V E) (w after : World K V E) (given : Got K V E) (t : Told V E) → Gets eq n w a given after → IfSome (taken_in a given) such → given ≡ taken t → such (Answered t)
-    is_such a w after given t gets took is = now a (subst (λ (g : Got K V E). Gets eq n w a g after) is gets) (subst (λ (g : Got K V E). IfSome (taken_in a g) such) is took) where
-      now : (a : Access K V E) → Gets eq n w a (taken t) after → IfSome (taken_in a (taken t)) such → such (Answered t)
+    is_such : (a : Access K V E) (w after : World K V E) (given : Got K V E) (t : Told V E) → Gets eq n w a given after → TookBy a given such → given ≡ taken t → such (Answered t)
+    is_such a w after given t gets took is = now a (subst (λ (g : Got K V E). Gets eq n w a g after) is gets) (subst (λ (g : Got K V E). TookBy a g such) is took) where
+      now : (a : Access K V E) → Gets eq n w a (taken t) after → TookBy a (taken t) such → such (Answered t)
       now (On_table operation) gets took = absurd gets
       now (On_desk made) gets took = such_found w.desk made t (sym gets.0) took
 

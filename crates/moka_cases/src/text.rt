@@ -1,7 +1,7 @@
 //! What no clause says: tables of texts and what they are read as.
 
 use crate::rows::{Wrong, all_right};
-use moka_hist::Rules;
+use moka_hist::Settings;
 use moka_text::{Schedule, ScheduleError, read_schedule};
 use std::alloc::{AllocError, Global};
 use std::test::Fail;
@@ -53,21 +53,18 @@ fn events_of(alloc: Global, text: &str) -> Result<String, AllocError> {
     format!(in alloc; "{:?}", schedule.events.as_slice())
 }
 
-/// The options of a text, as they are told: its log, its capacity, how long a record is kept after
-/// a write and after an access, and whether it has a listener and tests.
+/// The options of a text, as they are told: its log, its capacity, how many nanoseconds a record
+/// lives after a write and after an access, and whether it has a listener.
 fn options_of(alloc: Global, text: &str) -> Result<String, AllocError> {
     let schedule = schedule_of(alloc, text)?;
     let log = schedule.log;
-    let Rules {
+    let Settings {
         max_capacity,
         time_to_live,
         time_to_idle,
         listener,
-        closures,
-    } = schedule.rules;
-    format!(in alloc;
-        "{log} {max_capacity:?} {time_to_live:?} {time_to_idle:?} {listener} {closures}"
-    )
+    } = schedule.settings;
+    format!(in alloc; "{log} {max_capacity:?} {time_to_live:?} {time_to_idle:?} {listener}")
 }
 
 /// Whether the row is a line, and the event that it is read as.
@@ -104,7 +101,14 @@ const BAD: [(u64, &str); 3] = [
         cache log=8 listener x\n|cache log= listener\n|cache log=8listener\n|\
         cache closures\n|cache listener closures\n|cache log=8 cap=1\n|\
         cache listener cap=1\n|cache cap=\n|cache cap=01\n|\
-        cache cap=18446744073709551616\n|cache cap=1 cap=1\n",
+        cache cap=18446744073709551616\n|cache cap=1 cap=1\n|\
+        cache tti=5 ttl=5\n|cache listener ttl=5\n|cache listener tti=5\n|\
+        cache ttl=01\n|cache tti=01\n|cache ttl=\n|cache tti=\n|cache ttl\n|\
+        cache ttl=18446744073709551616\n|cache tti=18446744073709551616\n|\
+        cache ttl=5 log=8\n|cache tti=5 log=8\n|cache ttl=5 cap=1\n|\
+        cache ttl=5 ttl=5\n|cache tti=5 tti=5\n|cache ttl=5 tti=5 ttl=5\n|\
+        cache ttl=5  tti=5\n|cache ttl=5tti=5\n|cache ttl=5 \n|cache tti=5 \n|\
+        cache ttl=-1\n|cache ttl=1s\n|cache TTL=5\n|cache seed=1\n",
     ),
     (
         2,
@@ -115,7 +119,9 @@ const BAD: [(u64, &str); 3] = [
         cache\nstart insert 1\n|cache\nstart get_with\n|\
         cache\ntell 1\n|cache\ntell 1 done \n|cache\ntell 1 value\n|cache\ntell 1 Off\n|\
         cache\ntell 1 off \n|cache\ntell 1 off 2\n|cache listener\ntell 1 offer\n|\
-        cache\nstart invalidate_all\n|cache\nstart invalidate\n|\
+        cache\nstart invalidate_all 1\n|cache\nstart invalidate_all \n|\
+        cache\nstart  invalidate_all\n|cache\nstart invalidate_al\n|\
+        cache\nstart invalidate_alls\n|cache\nstart invalidate\n|\
         cache\nstart remove 4294967296\n|cache\nstart evict 1\n|cache\nstart evict 1 1\n|\
         cache\nstart evict 1 1 size\n|cache\nstart evict 1 1 Size \n|\
         cache\nstart evict 1 18446744073709551616 Size\n",
@@ -170,22 +176,30 @@ fn has(alloc: Global, text: &str, events: &str, options: &str) -> Result<bool, A
 
 #[test]
 fn the_last_line_may_lack_its_end(rt: HostRuntime) -> Result<(), Fail> {
-    let (events, options) = ("[Step { call: 1 }]", "1 None None None false false");
+    let (events, options) = ("[Step { call: 1 }]", "1 None None None false");
     assert!(rt; has(rt.alloc(), "cache log=1\nstep 1\n", events, options)?);
     assert!(rt; has(rt.alloc(), "cache log=1\nstep 1", events, options)?);
     Ok(())
 }
 
 /// First lines, each with the options that it is read as.
-const OPTIONS: &str = "cache => 384 None None None false false\n\
-    cache log=65536 => 65536 None None None false false\n\
-    cache listener => 384 None None None true false\n\
-    cache log=1 listener => 1 None None None true false\n\
-    cache cap=0 => 384 Some(0) None None false false\n\
-    cache cap=18446744073709551615 log=8 => \
-    8 Some(18446744073709551615) None None false false\n\
-    cache cap=1 listener => 384 Some(1) None None true false\n\
-    cache cap=1 log=8 listener => 8 Some(1) None None true false\n";
+const OPTIONS: &str = "cache => 384 None None None false\n\
+    cache log=65536 => 65536 None None None false\n\
+    cache listener => 384 None None None true\n\
+    cache log=1 listener => 1 None None None true\n\
+    cache cap=0 => 384 Some(0) None None false\n\
+    cache cap=18446744073709551615 log=8 => 8 Some(18446744073709551615) None None false\n\
+    cache cap=1 listener => 384 Some(1) None None true\n\
+    cache cap=1 log=8 listener => 8 Some(1) None None true\n\
+    cache ttl=0 => 384 None Some(0) None false\n\
+    cache tti=0 => 384 None None Some(0) false\n\
+    cache ttl=18446744073709551615 => 384 None Some(18446744073709551615) None false\n\
+    cache tti=18446744073709551615 => 384 None None Some(18446744073709551615) false\n\
+    cache ttl=10 tti=7 => 384 None Some(10) Some(7) false\n\
+    cache log=8 ttl=10 => 8 None Some(10) None false\n\
+    cache cap=3 tti=7 listener => 384 Some(3) None Some(7) true\n\
+    cache ttl=10 listener => 384 None Some(10) None true\n\
+    cache cap=3 log=8 ttl=10 tti=7 listener => 8 Some(3) Some(10) Some(7) true\n";
 
 /// The first of these lines that has others.
 fn unlike_options(alloc: Global) -> Wrong {
@@ -218,7 +232,7 @@ fn a_whole_text_is_read(rt: HostRuntime) -> Result<(), Fail> {
         Step { call: 1 }, Poll { call: 2 }, Tell { call: 3, answer: Value(9) }, \
         Tell { call: 3, answer: Done }, Tell { call: 4, answer: Off }, \
         Drop { call: 18446744073709551615 }]";
-    assert!(rt; has(rt.alloc(), text, want, "384 None None None false false")?);
+    assert!(rt; has(rt.alloc(), text, want, "384 None None None false")?);
     Ok(())
 }
 
@@ -233,7 +247,8 @@ const FORMS: [&str; 4] = [
         Start { start: Evict { key: 3, stamp: 0, cause: Explicit } }\n\
         start evict 3 1 Replaced => \
         Start { start: Evict { key: 3, stamp: 1, cause: Replaced } }\n\
-        start evict 3 2 Size => Start { start: Evict { key: 3, stamp: 2, cause: Size } }\n",
+        start evict 3 2 Size => Start { start: Evict { key: 3, stamp: 2, cause: Size } }\n\
+        start invalidate_all => Start { start: InvalidateAll }\n",
     // Loads.
     "start get_with 0 => Start { start: GetWith { key: 0, replace: None } }\n\
         start get_with 4294967295 if 0 => \

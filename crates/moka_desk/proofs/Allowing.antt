@@ -28,6 +28,7 @@ module _ {K V E : Type 0} {same : PartialEq.Ghosts K} {hash : Hash.Ghosts K} (eq
     stands = record {
       rules = h.rules;
       clock = h.clock;
+      valid_after = h.valid_after;
       accessed = h.accessed;
       turn = h.turn;
       published = h.published;
@@ -61,6 +62,7 @@ module _ {K V E : Type 0} {same : PartialEq.Ghosts K} {hash : Hash.Ghosts K} (eq
     stands = record {
       rules = h.rules;
       clock = h.clock;
+      valid_after = h.valid_after;
       accessed = h.accessed;
       turn = h.turn;
       published = h.published;

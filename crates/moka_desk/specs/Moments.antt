@@ -1,5 +1,8 @@
--- Which rules read when a record was last seen.
-use Rattle.std.specs.Prelude.{◌≡◌, Bool, true, None, is_some}
+-- Which rules read when a record was last accessed, and by which times they judge it.
+use Rattle.std.specs.Prelude.{◌≡◌, ◌≤◌, ℕ, Bool, true, false, is_some}
+use Rattle.moka_hist.specs.State.{DeskPart}
+use Rattle.moka_hist.specs.Visible.{is_visible}
+use Rattle.moka_hist.specs.Visits.{times_at}
 use Rattle.moka_hist.specs.declared.rules.Rules.{Rules}
 use Rattle.moka_hist.specs.declared.rules.Times.{Times}
 
@@ -7,10 +10,15 @@ use Rattle.moka_hist.specs.declared.rules.Times.{Times}
 abbrev pub reads_moments : Rules → Bool
 reads_moments rules = is_some rules.time_to_idle
 
--- the times are the same to the rules: nothing was invalidated, and they differ at most in when the
--- record was last seen, where no rule reads that
+-- the times are the same to the rules: they differ at most in when the record was last accessed,
+-- where no rule reads that; and by neither was that before its write
 pub record AreAlike (rules : Rules) (t u : Times) : Type 0 where
   pub clock : t.clock ≡ u.clock
-  pub valid : (t.valid_after ≡ None) × (u.valid_after ≡ None)
+  pub valid : t.valid_after ≡ u.valid_after
   pub modified : t.modified ≡ u.modified
   pub accessed : reads_moments rules ≡ true → t.accessed ≡ u.accessed
+  pub since : (t.modified ≤ t.accessed) × (u.modified ≤ u.accessed)
+
+-- the record of this stamp, last written at the moment, is visible by the clock
+abbrev pub is_shown : {K V E : Type 0} → DeskPart K V E → ℕ → ℕ → Bool
+is_shown w stamp modified = is_visible w.rules (times_at w stamp modified) false

@@ -23,6 +23,7 @@ pub record StandsFor {K V E : Type 0} {same : PartialEq.Ghosts K} {hash : Hash.G
     (eq : K → K → Bool) (desk : Desk K V E same hash) (w : DeskPart K V E) : Type 0 where
   pub rules : desk.rules ≡ w.rules
   pub clock : desk.clock ≡ w.clock
+  pub valid_after : desk.valid_after ≡ w.valid_after
   pub accessed : keeps_moments desk ≡ true → (n : ℕ) → get nat_eq desk.accessed n ≡ w.accessed n
   pub turn : desk.turn ≡ w.turn
   pub published : desk.published ≡ w.published

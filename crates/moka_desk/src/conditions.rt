@@ -63,6 +63,7 @@ impl<K: Eq + Hash + Exact, V: Drop, E: Drop> Desk<K, V, E> {
             Need::TakeTurn => !self.has_turn(call),
             Need::ApplyOne => self.has_turn(call),
             Need::EndTurn => self.has_turn(call),
+            Need::InvalidateAll => true,
         }
     }
 

@@ -6,6 +6,7 @@ mod asks;
 mod conditions;
 mod held;
 mod holdings;
+mod judging;
 mod lines;
 mod listening;
 mod loading;

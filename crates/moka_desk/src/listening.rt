@@ -1,13 +1,12 @@
 //! The visits that see to keys' locks and to the listener.
 
-ghost use Rattle.std.specs.Prelude.{◌≡◌, true, false, Some, IfOk, OnOk, OnErr};
+ghost use Rattle.std.specs.Prelude.{◌≡◌, true, Some, IfOk, OnOk, OnErr};
 ghost use Rattle.std.specs.Bool.{OnTrue, OnFalse};
 ghost use Rattle.std.specs.HashMap.{get};
 
 use crate::Desk;
 use crate::notices::Heard;
-use moka_engine::{chosen_holds, remove_cause, upsert_cause};
-use moka_hist::{Cause, Times};
+use moka_hist::Cause;
 use moka_sync::CallList;
 use moka_values::Exact;
 use std::alloc::AllocError;
@@ -16,15 +15,13 @@ use std::hash::Hash;
 impl<K: Eq + Hash + Exact, V: Drop, E: Drop> Desk<K, V, E> {
     ghost use Rattle.moka_hist.specs.State.{DeskPart};
     ghost use Rattle.moka_hist.specs.Telling.{heard, MayEnd};
-    ghost use Rattle.moka_hist.specs.Causes.{chosen_holds};
-    ghost use Rattle.moka_hist.specs.Visits.{cause_of, is_running, times_at};
+    ghost use Rattle.moka_hist.specs.Visits.{is_running};
     ghost use Rattle.moka_hist.specs.declared.visits.Visit.TheVariants as visit;
     ghost use Rattle.moka_hist.specs.declared.visits.Found.TheVariants as found;
     ghost use Rattle.moka_desk.specs.Waits.{comes, leaves, lock_line, notice_line, stays, waits_at, LocksMove, NoticesMove, NobodyMoves};
     ghost use Rattle.moka_desk.specs.WakeList.{LocksWake, NobodyWakes, NoticesWake};
     ghost use Rattle.moka_desk.specs.Woken.{all_but, and_calls};
     ghost use Rattle.moka_desk.specs.History.{KeepsAsBefore};
-    ghost use Rattle.moka_desk.specs.Moments.{AreAlike};
     ghost use Rattle.moka_desk.specs.StandsFor.{StandsFor, Can, Finds, Makes, Stays};
     ghost use Rattle.moka_desk.specs.ListedMiss.{MissAfter, MissWith};
 
@@ -156,44 +153,5 @@ impl<K: Eq + Hash + Exact, V: Drop, E: Drop> Desk<K, V, E> {
     {
         self.notices.end(notice, off);
         self.waits.notices.hand_out(notice)
-    }
-
-    /// Why the record of this stamp, last written at the moment `modified`, leaves now: for the
-    /// cause handed in, or else as `upsert` says whether a write takes its place.
-    pub fn cause_of(&self, stamp: u64, modified: u64, cause: Option<Cause>, upsert: bool) -> Cause
-        ensures { (w : DeskPart K V E) → StandsFor K.eq self.now w
-            → result ≡ cause_of w stamp modified cause upsert }
-    {
-        match cause {
-            Some(cause) => cause,
-            None if upsert => upsert_cause(&self.rules, &self.times(stamp, modified)),
-            None => remove_cause(&self.rules, &self.times(stamp, modified)),
-        }
-    }
-
-    /// Judges by the clock whether the record that was chosen to leave for `cause` still has to.
-    /// The record has this stamp, and was last written at the moment `modified`, in nanoseconds.
-    /// `Size` holds where a capacity is set, `Expired` past its time to live or to idle, and
-    /// `Replaced` never. `Explicit` does not hold yet, since no invalidation hides or hits a
-    /// record.
-    pub fn holds(&self, stamp: u64, modified: u64, cause: Cause) -> bool
-        ensures { (w : DeskPart K V E) → StandsFor K.eq self.now w
-            → result ≡ chosen_holds w.rules (times_at w stamp modified) false cause }
-    {
-        chosen_holds(&self.rules, &self.times(stamp, modified), false, cause)
-    }
-
-    // The times of the record of this stamp, last written at the moment; when it was last seen
-    // where a rule reads that.
-    fn times(&self, stamp: u64, modified: u64) -> Times
-        ensures { (w : DeskPart K V E) → StandsFor K.eq self.now w
-            → AreAlike w.rules result (times_at w stamp modified) }
-    {
-        Times {
-            clock: self.clock,
-            valid_after: None,
-            modified,
-            accessed: self.accessed.get(&stamp).copied().unwrap_or(modified),
-        }
     }
 }

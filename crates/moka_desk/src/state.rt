@@ -23,6 +23,7 @@ use std::hash::Hash;
 pub struct Desk<K: Eq + Hash, V, E> {
     pub(crate) rules: Rules,
     pub(crate) clock: u64,
+    pub(crate) valid_after: Option<u64>,
     pub(crate) moments: bool,
     pub(crate) accessed: HashMap<u64, u64>,
     pub(crate) turn: Option<u64>,
@@ -111,6 +112,7 @@ impl<K: Eq + Hash + Exact, V: Drop, E: Drop> Desk<K, V, E> {
         Ok(Desk {
             rules,
             clock: 0,
+            valid_after: None,
             moments: history,
             accessed: HashMap::new(alloc),
             turn: None,

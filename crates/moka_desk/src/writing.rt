@@ -1,6 +1,6 @@
 //! The visits that see to writes: owed, logged and applied.
 
-ghost use Rattle.std.specs.Prelude.{◌≡◌, true, false, not, None, cond, IsFalse, IfOk, OnOk, OnErr};
+ghost use Rattle.std.specs.Prelude.{◌≡◌, false, None, cond, IfOk, OnOk, OnErr};
 ghost use Rattle.std.specs.Bool.{OnTrue, OnFalse};
 ghost use Rattle.moka_sync.specs.Holders.{is_others};
 
@@ -13,11 +13,11 @@ use std::hash::Hash;
 
 impl<K: Eq + Hash + Exact, V: Drop, E: Drop> Desk<K, V, E> {
     ghost use Rattle.moka_hist.specs.State.{DeskPart};
-    ghost use Rattle.moka_hist.specs.Visits.{is_free_for, judged, decided as with_decided};
+    ghost use Rattle.moka_hist.specs.Visits.{is_free_for, decided as with_decided};
     ghost use Rattle.moka_hist.specs.declared.visits.Visit.TheVariants as visit;
     ghost use Rattle.moka_hist.specs.declared.visits.Found.TheVariants as found;
     ghost use Rattle.moka_desk.specs.StandsFor.{StandsFor, Can, Finds, Becomes, Makes, Stays};
-    ghost use Rattle.moka_desk.specs.History.{KeepsAsBefore, keeps_moments};
+    ghost use Rattle.moka_desk.specs.History.{KeepsAsBefore};
     ghost use Rattle.moka_desk.specs.ListedMiss.{MissAfter, MissWith};
     ghost use Rattle.moka_desk.specs.Waits.{comes, leaves, stays, turn_line, waits_at, NobodyMoves, TurnsMove};
     ghost use Rattle.moka_desk.specs.WakeList.{NobodyWakes, TurnsWake};
@@ -79,54 +79,6 @@ impl<K: Eq + Hash + Exact, V: Drop, E: Drop> Desk<K, V, E> {
         ensures kept { KeepsAsBefore self.old self.new }
     {
         self.writes.decide(call);
-    }
-
-    /// Judges whether a call sees the record of this stamp, written at the moment `modified`: it
-    /// does, unless its replace test holds on the record (`replaced`). The access moment of a
-    /// record that is seen is raised to the clock, where moments are kept; only that may want
-    /// memory.
-    pub fn judge(&mut self, replaced: bool, stamp: u64, modified: u64) -> Result<bool, AllocError>
-        ensures finds { IfOk result (λ seen. seen ≡ not replaced) }
-        ensures makes { OnOk result (Becomes K.eq self.old
-            (λ w. judged w stamp modified (not replaced)) self.new) }
-        ensures err { OnErr result (Stays K.eq self.old self.new) }
-        ensures needs { OnErr result (IsFalse replaced) }
-        ensures needs_moments { OnErr result (keeps_moments self.old ≡ true) }
-        ensures unkept { keeps_moments self.old ≡ false → self.new ≡ self.old }
-        ensures quiet { NobodyMoves self.old self.new }
-        ensures wakes { NobodyWakes self.old self.new }
-        ensures misses { OnOk result
-            (MissWith K.eq self.old (λ w. judged w stamp modified (not replaced)) self.new) }
-        ensures misses_still { OnErr result (MissWith K.eq self.old (λ w. w) self.new) }
-        ensures kept { KeepsAsBefore self.old self.new }
-    {
-        if replaced {
-            return Ok(false);
-        }
-        self.see(stamp, modified)?;
-        Ok(true)
-    }
-
-    // Raises the access moment of the record of this stamp, written at the moment `modified`, to
-    // the clock, where moments are kept.
-    fn see(&mut self, stamp: u64, modified: u64) -> Result<(), AllocError>
-        ensures makes { OnOk result (Becomes K.eq self.old
-            (λ w. judged w stamp modified true) self.new) }
-        ensures err { OnErr result (Stays K.eq self.old self.new) }
-        ensures needs { OnErr result (keeps_moments self.old ≡ true) }
-        ensures unkept { keeps_moments self.old ≡ false → self.new ≡ self.old }
-        ensures quiet { NobodyMoves self.old self.new }
-        ensures wakes { NobodyWakes self.old self.new }
-        ensures kept { KeepsAsBefore self.old self.new }
-        ensures misses { OnOk result
-            (MissWith K.eq self.old (λ w. judged w stamp modified true) self.new) }
-        ensures misses_still { OnErr result (MissWith K.eq self.old (λ w. w) self.new) }
-    {
-        if self.keeps_moments() {
-            let accessed = self.accessed.get(&stamp).copied().unwrap_or(modified);
-            self.accessed.insert(stamp, accessed.max(self.clock))?;
-        }
-        Ok(())
     }
 
     /// Appends the write that the call holds to the log. Answers false where the log is full; the

@@ -100,6 +100,7 @@ module _ {K V E : Type 0} where
   MayVisit w (visit.TakeTurn call) = w.turn ≢ Some call
   MayVisit w (visit.ApplyOne call) = w.turn ≡ Some call
   MayVisit w (visit.EndTurn call) = w.turn ≡ Some call
+  MayVisit w visit.InvalidateAll = Unit {0}
 
   -- the desk allows the call to leave this write to others, if any: it holds it
   abbrev pub MayLeave : DeskPart K V E → ℕ → Option Write → Type 0

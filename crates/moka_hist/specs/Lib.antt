@@ -14,6 +14,7 @@ pub mod Entries
 pub mod Computing
 pub mod Writing
 pub mod Listening
+pub mod Invalidating
 pub mod Step
 pub mod Dropping
 pub mod Telling
@@ -23,3 +24,4 @@ pub mod Notices
 pub mod Places
 pub mod Visible
 pub mod Causes
+pub mod Settings

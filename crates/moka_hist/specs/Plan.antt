@@ -93,6 +93,8 @@ pub data Item (K V E : Type 0) : Type 0 where
   Out : (removal : Removal K) → (key : K) → Item K V E
   -- read the clock, where a removal found nothing
   Idle : Item K V E
+  -- hide all records that were written before now
+  Invalidate_all : Item K V E
   -- answer, together with the step before
   Reply : (answer : reply.Answer K V E) → Item K V E
 
@@ -173,6 +175,7 @@ plan_of rules (start.Invalidate key) = take_out rules To_invalidate key
 plan_of rules (start.Remove key) = take_out rules To_remove key
 plan_of rules (start.Evict key stamp cause) =
     under_lock rules.listener key (look (To_evict key stamp cause) key)
+plan_of rules start.InvalidateAll = Invalidate_all ∷ Reply answer.Done ∷ []
 
 -- the write that a call holds
 abbrev pub held_by : {K V E : Type 0} → List (Item K V E) → Option write.Write
@@ -204,6 +207,7 @@ held_by (Moment change ∷ rest) = held_by rest
 held_by (Write key value moment ∷ rest) = held_by rest
 held_by (Out removal key ∷ rest) = held_by rest
 held_by (Idle ∷ rest) = held_by rest
+held_by (Invalidate_all ∷ rest) = held_by rest
 held_by (Reply answer ∷ rest) = held_by rest
 
 -- the notice that the call of this number is hearing: its own, or that of an owed write
@@ -236,4 +240,5 @@ hearing n (Moment change ∷ rest) = None
 hearing n (Write key value moment ∷ rest) = None
 hearing n (Out removal key ∷ rest) = None
 hearing n (Idle ∷ rest) = None
+hearing n (Invalidate_all ∷ rest) = None
 hearing n (Reply answer ∷ rest) = None

@@ -30,7 +30,9 @@ pub record DeskPart (K V E : Type 0) : Type 0 where
   pub rules : Rules
   pub tests : ℕ → K → V → Bool
   pub clock : ℕ
-  -- the moment at which a stamp's record was last seen; where there is none, that of its write
+  -- the moment of the latest invalidation of all, if there was one: what was written before is hidden
+  pub valid_after : Option ℕ
+  -- the moment at which a stamp's record was last seen, where it was since its write
   pub accessed : ℕ → Option ℕ
   -- what a call holds: the place of a write of its own, or an owed write that it took up
   pub holding : ℕ → Option Holding
@@ -101,6 +103,7 @@ fresh_desk K V E rules size tests =
       rules = rules;
       tests = tests;
       clock = 0;
+      valid_after = None;
       accessed = λ _. None;
       holding = λ _. None;
       owed = [];

@@ -14,6 +14,7 @@ use Rattle.moka_hist.specs.Looking.{after_get, after_judge, after_holds}
 use Rattle.moka_hist.specs.Loading.{after_own, after_read, after_ask, after_told, after_settle}
 use Rattle.moka_hist.specs.Computing.{after_own_key, after_own_alone, after_read_key, after_ask_op, after_told_op}
 use Rattle.moka_hist.specs.Listening.{after_lock, after_unlock, after_notice, after_hearing}
+use Rattle.moka_hist.specs.Invalidating.{after_invalidate_all}
 use Rattle.moka_hist.specs.Writing.{after_moment, after_write, after_out, after_idle, stamp_asked}
 use Rattle.moka_hist.specs.declared.loads.Kind.{Kind}
 use Rattle.moka_hist.specs.declared.loads.Kind.TheVariants as kind
@@ -87,6 +88,7 @@ module _ {K V E : Type 0} where
       On_table (op.InsertOrModify key (record { value = value; stamp = n; modified = moment }))
   access_for n (plan.Out removal key) = On_table (op.RemoveIf key (stamp_asked removal))
   access_for n plan.Idle = On_desk (visit.Clock n)
+  access_for n plan.Invalidate_all = On_desk visit.InvalidateAll
   access_for n (plan.Reply answer) = On_desk (visit.Clock n)
 
   -- the access of a call's next step: that of its first item. Where nothing is left but an answer,
@@ -140,6 +142,7 @@ module _ {K V E : Type 0} where
   after_visit c (plan.Moment change) rest f = after_moment c change rest f
   after_visit c (plan.Out removal key) rest f = waits c
   after_visit c plan.Idle rest f = after_idle c rest f
+  after_visit c plan.Invalidate_all rest f = after_invalidate_all c rest f
   after_visit c (plan.Reply answer) rest f = goes c (plan.Reply answer ∷ [])
   after_visit c (plan.Get aim key) rest f = waits c
   after_visit c (plan.Write key value moment) rest f = waits c

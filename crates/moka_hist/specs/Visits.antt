@@ -5,6 +5,7 @@ use Rattle.std.specs.List.{list_any, count_by}
 use Rattle.moka_hist.specs.Finite.{put_at, put_key, load_eq}
 use Rattle.moka_hist.specs.State.{DeskPart}
 use Rattle.moka_hist.specs.Causes.{upsert_cause, remove_cause, chosen_holds}
+use Rattle.moka_hist.specs.Visible.{is_visible}
 use Rattle.moka_hist.specs.declared.loads.Load.{Load}
 use Rattle.moka_hist.specs.declared.loads.Kind.TheVariants as kind
 use Rattle.moka_hist.specs.declared.notices.Notice.{Notice}
@@ -90,9 +91,10 @@ claim_of None = claim.Owner
 claim_of (Some owner) = claim.Waits owner
 
 module _ {K V E : Type 0} where
-  -- when the record of this stamp, written at the moment, was last seen
+  -- when the record of this stamp, written at the moment, was last accessed: the later of that
+  -- moment and the one that is kept
   abbrev pub accessed_at : DeskPart K V E → ℕ → ℕ → ℕ
-  accessed_at w stamp modified = unwrap_or (w.accessed stamp) modified
+  accessed_at w stamp modified = max modified (unwrap_or (w.accessed stamp) modified)
 
   -- nobody has the turn, or this call has it
   abbrev pub is_free_for : DeskPart K V E → ℕ → Bool
@@ -119,19 +121,22 @@ module _ {K V E : Type 0} where
   abbrev pub is_replaced_by : DeskPart K V E → Option ℕ → K → V → Bool
   is_replaced_by w replace key value = option_map_or (λ test. w.tests test key value) replace false
 
-  -- a call with this replace test, if any, sees the record
-  abbrev pub is_seen : DeskPart K V E → Option ℕ → K → Stored V → Bool
-  is_seen w replace key stored = not (is_replaced_by w replace key stored.value)
-
   -- the times of a record of this stamp, last written at the moment
   abbrev pub times_at : DeskPart K V E → ℕ → ℕ → Times
   times_at w stamp modified =
       record {
         clock = w.clock;
-        valid_after = None;
+        valid_after = w.valid_after;
         modified = modified;
         accessed = accessed_at w stamp modified;
       }
+
+  -- a call with this replace test, if any, sees the record: the test doesn't hold, and the record is
+  -- visible by the clock
+  abbrev pub is_seen : DeskPart K V E → Option ℕ → K → Stored V → Bool
+  is_seen w replace key stored =
+      not (is_replaced_by w replace key stored.value)
+      && is_visible w.rules (times_at w stored.stamp stored.modified) false
 
   -- why a record leaves: for the cause handed in, or else since a write took its place or a call
   -- removed it
@@ -258,6 +263,10 @@ module _ {K V E : Type 0} where
   abbrev pub ended_turn : DeskPart K V E → DeskPart K V E
   ended_turn w = record w { turn = None; published = standing w.applied }
 
+  -- what was written before the clock is hidden
+  abbrev pub invalidated_all : DeskPart K V E → DeskPart K V E
+  invalidated_all w = record w { valid_after = Some w.clock }
+
   -- the call owns the load where nobody does, and else waits for its owner
   abbrev pub claimed : (K → K → Bool) → DeskPart K V E → ℕ → Load K → Option ℕ → DeskPart K V E
   claimed eq w call load None = record w {
@@ -327,6 +336,7 @@ module _ {K V E : Type 0} where
   finds w (visit.TakeTurn call) = found.TakeTurn (is_free_for w call)
   finds w (visit.ApplyOne call) = found.ApplyOne (nat_lt 0 (length w.log))
   finds w (visit.EndTurn call) = found.EndTurn
+  finds w visit.InvalidateAll = found.InvalidateAll
 
   -- what it changes
   abbrev pub makes : (K → K → Bool) → DeskPart K V E → Visit K V E → DeskPart K V E
@@ -355,3 +365,4 @@ module _ {K V E : Type 0} where
   makes eq w (visit.TakeTurn call) = took_turn w call
   makes eq w (visit.ApplyOne call) = applied_one w
   makes eq w (visit.EndTurn call) = ended_turn w
+  makes eq w visit.InvalidateAll = invalidated_all w

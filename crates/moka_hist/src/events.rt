@@ -25,6 +25,8 @@ pub enum Start<K, V> {
     /// The record of this stamp is taken out, where it still stands under the key and the cause
     /// holds.
     Evict { key: K, stamp: u64, cause: Cause },
+    /// No look shows a record any more that was written before the clock. Nothing is taken out.
+    InvalidateAll,
 }
 
 /// What a compute is told to do: nothing, to store a value, or to take the record out.

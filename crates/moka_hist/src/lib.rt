@@ -7,6 +7,7 @@
 #![tactic(auto)]
 
 mod accesses;
+mod build_error;
 mod entries;
 mod events;
 mod key_list;
@@ -17,11 +18,13 @@ mod record_tests;
 mod records;
 mod replies;
 mod rules;
+mod settings;
 mod tables;
 mod visits;
 mod writes;
 
 pub use accesses::{Got, Turn, Want};
+pub use build_error::BuildError;
 pub use entries::{CompResult, Entry};
 pub use events::{Event, Op, Start, Told};
 pub use key_list::KeyList;
@@ -32,6 +35,7 @@ pub use record_tests::Tests;
 pub use records::{Mode, Stored};
 pub use replies::{Answer, Ask, Refusal, Reply};
 pub use rules::{Cause, Rules, Times, later};
+pub use settings::Settings;
 pub use tables::{TableAnswer, TableOp, TableTurn};
 pub use visits::{Claim, Found, Settled, Takes, Visit};
 pub use writes::{Holding, Owed, Place, Write};

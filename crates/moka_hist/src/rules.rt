@@ -24,10 +24,11 @@ pub struct Rules {
     /// The capacity. It bounds nothing by itself: it says that a record which was chosen for its
     /// size may leave, and 0 that the cache is disabled.
     pub max_capacity: Option<u64>,
-    /// How long after its last write a record has expired. The rule is kept, and the cause for
-    /// which a record leaves is judged by it; no look is yet.
+    /// How long after its last write a record has expired: from its last nanosecond on no look shows
+    /// the record. Until a call takes it out the record stays stored.
     pub time_to_live: Option<Duration>,
-    /// How long after its last access a record has expired; judged by as the time to live is.
+    /// How long after its last access a record has expired. A look that shows the record accesses it;
+    /// one that misses doesn't.
     pub time_to_idle: Option<Duration>,
     /// Whether a listener hears of records that leave.
     pub listener: bool,

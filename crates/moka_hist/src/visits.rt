@@ -137,6 +137,8 @@ pub enum Visit<K, V, E> {
     EndTurn {
         call: u64,
     },
+    /// Hides all records that were written before the clock.
+    InvalidateAll,
 }
 
 /// What the visit of the same name finds.
@@ -162,4 +164,5 @@ pub enum Found<V, E> {
     TakeTurn(bool),
     ApplyOne(bool),
     EndTurn,
+    InvalidateAll,
 }

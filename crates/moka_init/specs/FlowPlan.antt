@@ -133,6 +133,7 @@ module _ {K V E : Type 0} where
   IsCopied (point.Writing p) = Unit {0}
   IsCopied (point.Removing p) = Unit {0}
   IsCopied (point.Listening p) = is_copied_in p ≡ true
+  IsCopied point.InvalidatingAll = Unit {0}
   IsCopied (point.Answering answer) = Unit {0}
   IsCopied point.Spent = Unit {0}
 

@@ -37,6 +37,7 @@ module _ {K V E : Type 0} where
   IsFoundBy (visit.TakeTurn n) f = (taken : Bool) × (f ≡ found.TakeTurn taken)
   IsFoundBy (visit.ApplyOne n) f = (applied : Bool) × (f ≡ found.ApplyOne applied)
   IsFoundBy (visit.EndTurn n) f = f ≡ found.EndTurn
+  IsFoundBy visit.InvalidateAll f = f ≡ found.InvalidateAll
 
   -- a table operation gives a turn of the table, a visit what such a visit finds
   abbrev pub HasForm : Access K V E → Got K V E → Type 0

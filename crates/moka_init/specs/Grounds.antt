@@ -89,6 +89,7 @@ module _ {K V E : Type 0} where
   VisitTakesCopies (visit.TakeTurn n) = ⊥
   VisitTakesCopies (visit.ApplyOne n) = ⊥
   VisitTakesCopies (visit.EndTurn n) = ⊥
+  VisitTakesCopies visit.InvalidateAll = ⊥
 
   -- for such an access a key or a value is copied; one of the table may take them along
   abbrev pub TakesCopies : Access K V E → Type 0
@@ -97,7 +98,8 @@ module _ {K V E : Type 0} where
 
   -- Memory may be wanting for such a visit of the desk: it copies a key or a value, or writes down
   -- what is new; where the turn is another's, or the notice runs, it lists the call. Taking up what
-  -- is owed or told, freeing a lock, posting a write and applying the log need none.
+  -- is owed or told, freeing a lock, posting a write, applying the log and invalidating all need
+  -- none.
   abbrev pub VisitNeedsMemory : DeskPart K V E → Visit K V E → Type 0
   VisitNeedsMemory w (visit.Clock n) = ⊥
   VisitNeedsMemory w (visit.TakeOwed n) = ⊥
@@ -118,6 +120,7 @@ module _ {K V E : Type 0} where
   VisitNeedsMemory w (visit.TakeTurn n) = is_free_for w n ≡ false
   VisitNeedsMemory w (visit.ApplyOne n) = ⊥
   VisitNeedsMemory w (visit.EndTurn n) = ⊥
+  VisitNeedsMemory w visit.InvalidateAll = ⊥
 
   -- memory may be wanting for such an access in this world: it goes to the table, or is such a
   -- visit

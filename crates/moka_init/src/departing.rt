@@ -3,10 +3,11 @@
 ghost use Rattle.std.specs.Prelude.{◌≡◌, [], ◌∷◌};
 ghost use Rattle.moka_hist.specs.Step.{next_of};
 ghost use Rattle.moka_hist.specs.Plan as plan;
+ghost use Rattle.moka_hist.specs.Invalidating.{after_invalidate_all};
 ghost use Rattle.moka_hist.specs.Next.{goes};
 ghost use Rattle.moka_init.specs.FlowPlan.{call_of, standing, GoesOn, IsReady};
 ghost use Rattle.moka_init.specs.PointPlan.{plan_at};
-ghost use Rattle.moka_init.specs.Forms.{HasForm};
+ghost use Rattle.moka_init.specs.Forms.{HasForm, IsFoundBy};
 ghost use Rattle.moka_init.specs.Grounds.{access_at};
 
 use crate::flow::Flow;
@@ -16,6 +17,8 @@ use std::mem;
 
 impl<K: Drop, V: Drop, E: Drop> Flow<K, V, E> {
     ghost use Rattle.moka_hist.specs.declared.replies.Answer.{Answer};
+    ghost use Rattle.moka_hist.specs.declared.replies.Answer.TheVariants as answer;
+    ghost use Rattle.moka_hist.specs.declared.visits.Visit.TheVariants as visit;
     ghost use Rattle.moka_init.specs.declared.points.Computing.{Computing};
     ghost use Rattle.moka_init.specs.declared.points.Listening.{Listening};
     ghost use Rattle.moka_init.specs.declared.points.Loading.{Loading};
@@ -114,6 +117,32 @@ impl<K: Drop, V: Drop, E: Drop> Flow<K, V, E> {
     {
         match self.point_out() {
             Point::Listening(listening) => self.after_listening(listening, found),
+            _ => unreachable!(),
+        }
+    }
+
+    // After its one visit, where the call invalidates all.
+    pub(crate) fn invalidating_visited(&mut self, found: Found<V, E>) -> Turn<K, V, E>
+        requires there { self.old.point ≡ Point.InvalidatingAll }
+        requires form { HasForm (access_at self.old) (Got.Desk found) }
+        ensures { GoesOn self.old (next_of self.old.call (call_of self.old) (Got.Desk found))
+            result self.new }
+    {
+        match self.point_out() {
+            Point::InvalidatingAll => self.after_invalidate_all(found),
+            _ => unreachable!(),
+        }
+    }
+
+    // All is invalidated, which is answered.
+    fn after_invalidate_all(&mut self, found: Found<V, E>) -> Turn<K, V, E>
+        requires form { IsFoundBy {K = K} visit.InvalidateAll found }
+        ensures { GoesOn self.old
+            (after_invalidate_all (standing self.old (plan_at Point.InvalidatingAll))
+            (plan.Reply answer.Done ∷ []) found) result self.new }
+    {
+        match found {
+            Found::InvalidateAll => self.answers(Answer::Done),
             _ => unreachable!(),
         }
     }

@@ -33,6 +33,7 @@ impl<K: Exact, V, E> Flow<K, V, E> {
             Point::Writing(writing) => Ok(self.writing_need(writing)),
             Point::Removing(removing) => Ok(self.removing_need(removing)),
             Point::Listening(listening) => Ok(Some(self.listening_need(listening))),
+            Point::InvalidatingAll => Ok(Some(Need::InvalidateAll)),
             Point::Answering(_) => Ok(Some(Need::Clock)),
             Point::Spent => Ok(Some(Need::Clock)),
         }

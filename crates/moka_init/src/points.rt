@@ -299,6 +299,8 @@ pub enum Point<K, V, E> {
     Writing(Writing<K, V>),
     Removing(Removing<K, V>),
     Listening(Listening<K, V>),
+    /// All records are invalidated, which is answered with that step.
+    InvalidatingAll,
     /// Nothing is left but this answer: the cache is disabled.
     Answering(Answer<K, V, E>),
     /// The call has answered.

@@ -43,6 +43,7 @@ impl<K: Drop, V: Drop, E: Drop> Point<K, V, E> {
             Start::Evict { key, stamp, cause } => {
                 Point::evict(rules.listener, Chosen { key, stamp, cause })
             }
+            Start::InvalidateAll => Point::InvalidatingAll,
         }
     }
 

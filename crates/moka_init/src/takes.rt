@@ -113,6 +113,7 @@ impl<K: Drop, V: Drop, E: Drop> Flow<K, V, E> {
             Point::Writing(_) => self.writing_visited(found),
             Point::Removing(_) => self.removing_visited(found),
             Point::Listening(_) => self.listening_visited(found),
+            Point::InvalidatingAll => self.invalidating_visited(found),
             Point::Answering(_) => self.answering_visited(found),
             Point::Spent => unreachable!(),
         }

@@ -259,6 +259,7 @@ impl<K: Exact, V: Exact, E: Exact> Flow<K, V, E> {
             Point::Writing(writing) => self.want_writing(writing),
             Point::Removing(removing) => self.want_removing(removing),
             Point::Listening(listening) => self.want_listening(listening),
+            Point::InvalidatingAll => Ok(Want::Desk(Visit::InvalidateAll)),
             Point::Answering(_) => Ok(Want::Desk(Visit::Clock { call: self.call })),
             Point::Spent => unreachable!(),
         }

@@ -1,7 +1,7 @@
 -- What a look finds in the table, and in the world that is kept; and that it changes nothing.
-use Rattle.std.proofs.Common.{◌≡◌, ◌≢◌, ℕ, Bool, false, Option, Some, None, is_some, refl, ap, ◌∙◌, arith}
+use Rattle.std.proofs.Common.{◌≡◌, ◌≢◌, ℕ, Bool, false, Option, Some, None, refl, sym, ap, ◌∙◌, arith}
 use Rattle.std.specs.HashMap.{hash_map_len}
-use Rattle.std.specs.Option.{option_map_or}
+use Rattle.std.specs.Option.{option_map, option_map_or}
 use Rattle.std.specs.declared.cmp.PartialEq as PartialEq
 use Rattle.std.specs.declared.hash.Hash as Hash
 use Rattle.moka_hist.specs.State.{World}
@@ -16,7 +16,7 @@ use Rattle.moka_layers.specs.Layers.{WorldIs}
 use Rattle.moka_table.specs.Map.{Moves, Pairs, SameMap}
 use Rattle.moka_table.specs.Plain.{map_of, peak_of, plain_table}
 use Rattle.moka_table.specs.declared.plain.PlainTable.{PlainTable}
-use Rattle.moka_kept.specs.Counts.{is_found, sees}
+use Rattle.moka_kept.specs.Counts.{mark_found, mark_of, sees, shows}
 use Rattle.moka_kept.specs.Kept.{CacheLayers, IsKept, in_hand}
 
 module _ {K V : Type 0} (eq : K → K → Bool) where
@@ -29,17 +29,17 @@ module _ {K V : Type 0} (eq : K → K → Bool) where
   looked_count key old new keys count turn.Going moves = moves.1
   looked_count key old new keys count (turn.Decided a) moves = moves.2
 
-  answered : (o : Option (K × Stored V)) (a : TableAnswer K V) → a ≡ answer_of o → is_found (turn.Decided a) ≡ is_some o
-  answered None a e = ap (λ (x : TableAnswer K V). is_found (turn.Decided x)) e
-  answered (Some pair) a e = ap (λ (x : TableAnswer K V). is_found (turn.Decided x)) e
+  answered : (o : Option (K × Stored V)) (a : TableAnswer K V) → a ≡ answer_of o → mark_found (turn.Decided a) ≡ option_map (λ pair. mark_of pair.1) o
+  answered None a e = ap (λ (x : TableAnswer K V). mark_found (turn.Decided x)) e
+  answered (Some pair) a e = ap (λ (x : TableAnswer K V). mark_found (turn.Decided x)) e
 
   -- it found what the map has there
-  pub looked_found : (key : K) (old new : Pairs K V) (keys count : ℕ) (t : TableTurn K V) → t ≢ turn.Going → Moves eq (op.Get key) old keys t new count → is_found t ≡ is_some (old key)
+  pub looked_found : (key : K) (old new : Pairs K V) (keys count : ℕ) (t : TableTurn K V) → t ≢ turn.Going → Moves eq (op.Get key) old keys t new count → mark_found t ≡ option_map (λ pair. mark_of pair.1) (old key)
   looked_found key old new keys count turn.Going apart moves = absurd (apart refl)
   looked_found key old new keys count (turn.Decided a) apart moves = answered (old key) a moves.0
 
--- a call without a replace test sees each record that is there
-seen : {K V E : Type 0} (w : World K V E) (o : Option (K × Stored V)) → is_some o ≡ option_map_or (λ pair. is_seen w.desk None pair.0 pair.1) o false
+-- a call without a replace test sees the record that is there where it is visible
+seen : {K V E : Type 0} (w : World K V E) (o : Option (K × Stored V)) → option_map_or (λ pair. is_seen w.desk None pair.0 pair.1) o false ≡ shows w.desk (option_map (λ pair. mark_of pair.1) o)
 seen w None = refl
 seen w (Some pair) = refl
 
@@ -64,6 +64,9 @@ module _ {K V E : Type 0} {same : PartialEq.Ghosts K} {hash : Hash.Ghosts K} (eq
         none_begun = kept.none_begun;
       }
 
-  -- where the layers stand for a world, their table has a key where the world's has
-  pub sees_there : (layers : CacheLayers K V E same hash) (w : World K V E) (key : K) → WorldIs eq (plain_table eq) in_hand layers w → is_some (map_of eq layers.table key) ≡ sees w key
-  sees_there layers w key stands = ap is_some (stands.table.map key) ∙ seen w (w.table.stored key)
+  -- where the layers stand for a world, a get sees what their table has of the key where it is visible
+  pub sees_there : (layers : CacheLayers K V E same hash) (w : World K V E) (key : K) → WorldIs eq (plain_table eq) in_hand layers w
+      → sees w key ≡ shows w.desk (option_map (λ pair. mark_of pair.1) (map_of eq layers.table key))
+  sees_there layers w key stands =
+      seen w (w.table.stored key)
+      ∙ ap (λ o. shows w.desk (option_map (λ pair. mark_of pair.1) o)) (sym (stands.table.map key))

@@ -1,5 +1,5 @@
 -- What lies under the lock, as a call reaches it.
-use Rattle.std.proofs.Common.{◌≡◌, ◌≢◌, ◌≤◌, ◌<◌, ◌+◌, ◌==◌, ℕ, Bool, true, false, cond, [], Option, Some, None, IfSome, Result, Ok, Err, IfOk, OnOk, OnErr, MatchOption, refl, sym, ap, ◌∙◌, subst, arith}
+use Rattle.std.proofs.Common.{◌≡◌, ◌≢◌, ◌≤◌, ◌<◌, ◌+◌, ◌==◌, ℕ, Bool, true, false, cond, [], Option, Some, None, Result, Ok, Err, IfOk, OnOk, OnErr, MatchOption, refl, sym, ap, ◌∙◌, subst, arith}
 use Rattle.std.specs.declared.cmp.PartialEq as PartialEq
 use Rattle.std.specs.declared.hash.Hash as Hash
 use Rattle.moka_hist.specs.Bound.{most_undecided, times_of}
@@ -24,7 +24,7 @@ use Rattle.moka_table.specs.Plain.{plain_left, plain_table}
 use Rattle.moka_table.specs.declared.plain.PlainCall.{PlainCall}
 use Rattle.moka_needs.specs.Reads.{ReadsItsKind}
 use Rattle.moka_kept.specs.Kept.{CacheLayers, IsKept, MayMake, MayReach, ReachIs, in_hand}
-use Rattle.moka_kept.specs.Taking.{Taken, taken_in}
+use Rattle.moka_kept.specs.Taking.{Taken, TookBy}
 use Rattle.moka_kept.specs.Paths.{EndedWith}
 
 none_so_often : (stay : Stay) (call : ℕ) → stay.times ≡ 0 → times_of stay call ≡ 0
@@ -164,7 +164,7 @@ module _ {K V E : Type 0} {same : PartialEq.Ghosts K} {hash : Hash.Ghosts K} (eq
 
   -- the step of a flow, in a world that the ground stands for
   pub step_ends : (such : Taken V E → Type 0) (old new : CacheLayers K V E same hash) (flow : Flow K V E) (next : Next K V E) (w : World K V E) → ReachIs eq old w → ReadsItsKind w.desk flow.call (call_of flow) → May w (access_at flow)
-      → ((given : Got K V E) (after : World K V E) → Gets eq flow.call w (access_at flow) given after → IfSome (taken_in (access_at flow) given) such)
+      → ((given : Got K V E) (after : World K V E) → Gets eq flow.call w (access_at flow) given after → TookBy (access_at flow) given such)
       → MovesThere eq (ReachIs eq old) flow next (ReachIs eq new) → EndedWith eq such flow.call (call_of flow) next
   step_ends such old new flow next w reach ends may took moves =
       let m = moves w reach may in record {

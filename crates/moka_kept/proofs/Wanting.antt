@@ -1,9 +1,8 @@
 -- What a flow wants next, by the call that it is of.
-use Rattle.std.proofs.Common.{◌≡◌, ℕ, Bool, true, false, not, List, [], ◌∷◌, Option, Some, None, IfSome, is_some, refl, sym, ap, ◌∙◌, subst}
+use Rattle.std.proofs.Common.{◌≡◌, ◌&&◌, ℕ, Bool, true, false, not, List, [], ◌∷◌, Option, Some, None, IfSome, is_some, refl, sym, ap, ◌∙◌, subst}
 use Rattle.std.proofs.lemmas.Bool.{false≢true}
 use Rattle.std.proofs.lemmas.Option.{none-some, same_Some}
 use Rattle.std.specs.Bool.{OnTrue}
-use Rattle.std.specs.Option.{option_map}
 use Rattle.std.specs.declared.cmp.PartialEq as PartialEq
 use Rattle.std.specs.declared.hash.Hash as Hash
 use Rattle.moka_hist.specs.Conditions.{MayVisit}
@@ -12,13 +11,14 @@ use Rattle.moka_hist.specs.Plan.{Item}
 use Rattle.moka_hist.specs.Plan as plan
 use Rattle.moka_hist.specs.State.{Call, DeskPart, World}
 use Rattle.moka_hist.specs.Step.{Access, Gets, On_table, On_desk, access_for, access_of}
-use Rattle.moka_hist.specs.Visits.{finds}
+use Rattle.moka_hist.specs.Visible.{is_visible}
+use Rattle.moka_hist.specs.Visits.{finds, times_at}
 use Rattle.moka_hist.specs.declared.accesses.Got.{Got}
 use Rattle.moka_hist.specs.declared.accesses.Got.TheVariants as got
 use Rattle.moka_hist.specs.declared.events.Told.{Told}
 use Rattle.moka_hist.specs.declared.visits.Found.{Found}
 use Rattle.moka_hist.specs.declared.visits.Visit.TheVariants as visit
-use Rattle.moka_kept.specs.Taking.{Answered, NoAnswer, Taken, Tested, is_passed, is_taking, needs_answer, taken_in, taken_made, takes_answer, tested_by, tested_made}
+use Rattle.moka_kept.specs.Taking.{Answered, NoAnswer, Taken, Tested, TestedSuch, TookBy, TookSuch, is_taking, needs_answer, takes_answer, tested_by, tested_made}
 use Rattle.moka_needs.specs.declared.needs.Need.{Need}
 use Rattle.moka_hist.specs.declared.visits.Visit.{Visit}
 use Rattle.moka_init.specs.FlowPlan.{takes_told, tested_in}
@@ -63,6 +63,7 @@ module _ {K V E : Type 0} where
   of_item n (plan.Write key value moment) = tt
   of_item n (plan.Out removal key) = tt
   of_item n plan.Idle = refl
+  of_item n plan.Invalidate_all = tt
   of_item n (plan.Reply answer) = refl
 
   -- a call's next access is one of it
@@ -96,10 +97,14 @@ pub on_true : (b : Bool) (P : Type 0) → (b ≡ true → P) → OnTrue b P
 on_true true P h = h refl
 on_true false P h = tt
 
--- of no value nothing is taken
-none_taken : (V E : Type 0) (o : Option V) (replaced : Bool) → o ≡ None → IfSome (option_map (λ value. Tested value replaced) o) (NoAnswer {A = Taken V E})
-none_taken V E None replaced e = tt
-none_taken V E (Some value) replaced e = absurd (none-some value (sym e))
+if_none : {A : Type 0} (P : A → Type 0) (o : Option A) → o ≡ None → IfSome o P
+if_none P None e = tt
+if_none P (Some a) e = absurd (none-some a (sym e))
+
+-- a call passes over a record on which its test holds, visible or not
+passed : (holds visible : Bool) → holds ≡ true → not (not holds && visible) ≡ true
+passed true visible e = refl
+passed false visible e = absurd (false≢true e)
 
 module _ {K V E : Type 0} where
   -- a visit takes the answer to the own ask exactly where it needs that
@@ -139,50 +144,48 @@ module _ {K V E : Type 0} where
     by (item ∷ rest) = tested_item n item rest
 
   -- an access that takes no answer to the own ask, and asks no test, takes none
-  found_none : (made : Visit K V E) (f : Found V E) → takes_answer made ≡ false → tested_made made ≡ None → IfSome (taken_made made f) NoAnswer
+  found_none : (made : Visit K V E) (f : Found V E) → takes_answer made ≡ false → tested_made made ≡ None → TookSuch made f NoAnswer
   found_none (visit.TakeTold n) f untaken untested = absurd (false≢true (sym untaken))
-  found_none (visit.Judge replace key stored) f untaken untested = none_taken V E (tested_made {E = E} (visit.Judge replace key stored)) (is_passed f) untested
+  found_none (visit.Judge replace key stored) f untaken untested = if_none (TestedSuch f NoAnswer) (tested_made {E = E} (visit.Judge replace key stored)) untested
   found_none _ f untaken untested = tt
 
-  pub took_none : (a : Access K V E) (given : Got K V E) → is_taking a ≡ false → tested_by a ≡ None → IfSome (taken_in a given) NoAnswer
+  pub took_none : (a : Access K V E) (given : Got K V E) → is_taking a ≡ false → tested_by a ≡ None → TookBy a given NoAnswer
   took_none (On_table operation) given untaken untested = tt
   took_none (On_desk made) (got.Table turn) untaken untested = tt
   took_none (On_desk made) (got.Desk f) untaken untested = found_none made f untaken untested
 
   -- one of a call takes the answer that is there
   found_told : (w : DeskPart K V E) (n : ℕ) (told : Told V E) (made : Visit K V E) → IsOfCall n made → takes_answer made ≡ true → w.told n ≡ Some told
-      → IfSome (taken_made made (finds w made)) (λ t. t ≡ Answered told)
-  found_told w n told (visit.TakeTold m) own taking there = subst (λ (o : Option (Told V E)). IfSome (option_map Answered o) (λ t. t ≡ Answered told)) (sym (ap w.told own ∙ there)) refl
+      → TookSuch made (finds w made) (λ t. t ≡ Answered told)
+  found_told w n told (visit.TakeTold m) own taking there = subst (λ (o : Option (Told V E)). IfSome o (λ t. Answered t ≡ Answered told)) (sym (ap w.told own ∙ there)) refl
   found_told w n told _ own taking there = absurd (false≢true taking)
 
   pub took_told : (eq : K → K → Bool) (n : ℕ) (w : World K V E) (told : Told V E) (a : Access K V E) (given : Got K V E) (after : World K V E) → OfCall n a → is_taking a ≡ true → w.desk.told n ≡ Some told
-      → Gets eq n w a given after → IfSome (taken_in a given) (λ t. t ≡ Answered told)
+      → Gets eq n w a given after → TookBy a given (λ t. t ≡ Answered told)
   took_told eq n w told (On_table operation) given after own taking there gets = absurd (false≢true taking)
   took_told eq n w told (On_desk made) (got.Table turn) after own taking there gets = absurd gets
   took_told eq n w told (On_desk made) (got.Desk found) after own taking there gets =
-      subst (λ (f : Found V E). IfSome (taken_made made f) (λ t. t ≡ Answered told)) (sym gets.0) (found_told w.desk n told made own taking there)
+      subst (λ (f : Found V E). TookSuch made f (λ t. t ≡ Answered told)) (sym gets.0) (found_told w.desk n told made own taking there)
 
   -- one that asks the test takes what the desk's tests answer
   found_tested : (w : DeskPart K V E) (replaced : Bool) (value : V) (made : Visit K V E) → ((test : ℕ) (key : K) (v : V) → w.tests test key v ≡ replaced) → tested_made made ≡ Some value
-      → IfSome (taken_made made (finds w made)) (λ t. t ≡ Tested value replaced)
+      → TookSuch made (finds w made) (λ t. t ≡ Tested value replaced)
   found_tested w replaced value (visit.Judge (Some test) key stored) answers is =
-      let made : V → Bool → Taken V E = λ v b. Tested v b in
-      ap (λ v. made v (not (not (w.tests test key stored.value)))) (same_Some stored.value value is)
-      ∙ ap (λ b. made value b) (twice (w.tests test key stored.value) ∙ answers test key stored.value)
-    where
-      twice : (b : Bool) → not (not b) ≡ b
-      twice true = refl
-      twice false = refl
+      let made : V → Taken V E = λ v. Tested v replaced in (
+        replaced,
+        ap made (same_Some stored.value value is),
+        λ holds. passed (w.tests test key stored.value) (is_visible w.rules (times_at w stored.stamp stored.modified) false) (answers test key stored.value ∙ holds),
+      )
   found_tested w replaced value (visit.Judge None key stored) answers is = absurd (none-some value is)
   found_tested w replaced value (visit.TakeTold n) answers is = absurd (none-some value is)
   found_tested w replaced value _ answers is = absurd (none-some value is)
 
   pub took_tested : (eq : K → K → Bool) (n : ℕ) (w : World K V E) (replaced : Bool) (value : V) (a : Access K V E) (given : Got K V E) (after : World K V E)
-      → ((test : ℕ) (key : K) (v : V) → w.desk.tests test key v ≡ replaced) → tested_by a ≡ Some value → Gets eq n w a given after → IfSome (taken_in a given) (λ t. t ≡ Tested value replaced)
+      → ((test : ℕ) (key : K) (v : V) → w.desk.tests test key v ≡ replaced) → tested_by a ≡ Some value → Gets eq n w a given after → TookBy a given (λ t. t ≡ Tested value replaced)
   took_tested eq n w replaced value (On_table operation) given after answers is gets = absurd (none-some value is)
   took_tested eq n w replaced value (On_desk made) (got.Table turn) after answers is gets = absurd gets
   took_tested eq n w replaced value (On_desk made) (got.Desk found) after answers is gets =
-      subst (λ (f : Found V E). IfSome (taken_made made f) (λ t. t ≡ Tested value replaced)) (sym gets.0) (found_tested w.desk replaced value made answers is)
+      subst (λ (f : Found V E). TookSuch made f (λ t. t ≡ Tested value replaced)) (sym gets.0) (found_tested w.desk replaced value made answers is)
 
 pub on_true_so : (b : Bool) (P Q : Type 0) → (P → Q) → OnTrue b P → OnTrue b Q
 on_true_so true P Q h p = h p

@@ -2,9 +2,13 @@
 use Rattle.std.proofs.Common.{◌≡◌, ℕ, Bool, List, [], ◌∷◌, ◌++◌, Option, Some, None, IfSome, refl, sym, ap, ◌∙◌, subst}
 use Rattle.moka_hist.specs.Next.{Next}
 use Rattle.moka_hist.specs.State.{Call}
-use Rattle.moka_hist.specs.Step.{Access, access_of, next_of}
+use Rattle.moka_hist.specs.Step.{Access, On_desk, On_table, access_of, next_of}
 use Rattle.moka_hist.specs.declared.accesses.Got.{Got}
-use Rattle.moka_kept.specs.Taking.{Taken, taken_in}
+use Rattle.moka_hist.specs.declared.accesses.Got.TheVariants as got
+use Rattle.moka_hist.specs.declared.visits.Found.{Found}
+use Rattle.moka_hist.specs.declared.visits.Visit.{Visit}
+use Rattle.moka_hist.specs.declared.visits.Visit.TheVariants as visit
+use Rattle.moka_kept.specs.Taking.{Answered, Taken, Tested, TestedSuch, TookBy, TookSuch, tested_made, told_found}
 use Rattle.moka_kept.specs.Paths.{CameWith, EndedWith, LeadsWith}
 
 module _ {K V E : Type 0} (eq : K → K → Bool) (such : Taken V E → Type 0) (n : ℕ) where
@@ -44,10 +48,19 @@ some_weaker (Some a) h p = h a p
 some_weaker None h p = tt
 
 module _ {K V E : Type 0} (eq : K → K → Bool) (such other : Taken V E → Type 0) (weaker : (taken : Taken V E) → such taken → other taken) (n : ℕ) where
+  took_weaker : (made : Visit K V E) (f : Found V E) → TookSuch made f such → TookSuch made f other
+  took_weaker (visit.TakeTold m) f took = some_weaker (told_found f) (λ told. weaker (Answered told)) took
+  took_weaker made f took = some_weaker {P = TestedSuch f such} {Q = TestedSuch f other} (tested_made made) (λ value p. (p.0, weaker (Tested value p.0) p.1, p.2)) took
+
+  by_weaker : (a : Access K V E) (given : Got K V E) → TookBy a given such → TookBy a given other
+  by_weaker (On_desk made) (got.Desk f) took = took_weaker made f took
+  by_weaker (On_desk made) (got.Table turn) took = tt
+  by_weaker (On_table operation) given took = tt
+
   leads_weaker : (c : Call K V E) (path : List (Access K V E × Got K V E)) (d : Call K V E) → LeadsWith eq such n c path d → LeadsWith eq other n c path d
   leads_weaker c [] d leads = leads
   leads_weaker c (made ∷ path) d leads =
-      (leads.0, leads.1, leads.2, leads.3, some_weaker (taken_in made.0 made.1) weaker leads.4, leads_weaker leads.0 path d leads.5)
+      (leads.0, leads.1, leads.2, leads.3, by_weaker made.0 made.1 leads.4, leads_weaker leads.0 path d leads.5)
 
   -- a way on which less is known of the answers that are taken
   pub came_weaker : (c d : Call K V E) → CameWith eq such n c d → CameWith eq other n c d
@@ -59,6 +72,6 @@ module _ {K V E : Type 0} (eq : K → K → Bool) (such other : Taken V E → Ty
     came = came_weaker c end.call end.came;
     given = end.given;
     last = end.last;
-    took = some_weaker (taken_in (access_of n end.call) end.given) weaker end.took;
+    took = by_weaker (access_of n end.call) end.given end.took;
     follows = end.follows;
   }

@@ -1,5 +1,5 @@
 -- The accesses that a poll makes.
-use Rattle.std.specs.Prelude.{◌≡◌, ℕ, Bool, List, [], ◌∷◌, Some, IfSome}
+use Rattle.std.specs.Prelude.{◌≡◌, ℕ, Bool, List, [], ◌∷◌, Some}
 use Rattle.moka_hist.specs.Next.{Next}
 use Rattle.moka_hist.specs.SoundDesk.{SoundDesk}
 use Rattle.moka_hist.specs.State.{Call, World}
@@ -7,7 +7,7 @@ use Rattle.moka_hist.specs.Step.{Access, Gets, May, access_of, next_of}
 use Rattle.moka_hist.specs.declared.accesses.Got.{Got}
 use Rattle.moka_hist.specs.declared.accesses.Turn.{Turn}
 use Rattle.moka_needs.specs.Reads.{ReadsItsKind}
-use Rattle.moka_kept.specs.Taking.{Taken, taken_in}
+use Rattle.moka_kept.specs.Taking.{Taken, TookBy}
 
 module _ {K V E : Type 0} where
   -- Some sound world gave the call of this number this for its next access, and allowed it. An
@@ -30,7 +30,7 @@ module _ {K V E : Type 0} where
   LeadsWith eq such n c [] d = d ≡ c
   LeadsWith eq such n c (made ∷ more) d =
       (mid : Call K V E) × (made.0 ≡ access_of n c) × IsGiven eq n c made.1
-      × ((next_of n c made.1).left ≡ Some mid) × IfSome (taken_in made.0 made.1) such
+      × ((next_of n c made.1).left ≡ Some mid) × TookBy made.0 made.1 such
       × LeadsWith eq such n mid more d
 
   -- a poll that answers nothing yet led the call so, by some accesses or none
@@ -45,7 +45,7 @@ module _ {K V E : Type 0} where
     pub came : CameWith eq such n c call
     pub given : Got K V E
     pub last : IsGiven eq n call given
-    pub took : IfSome (taken_in (access_of n call) given) such
+    pub took : TookBy (access_of n call) given such
     pub follows : next ≡ next_of n call given
 
   -- The call's last access left it so, with this turn: waiting, where something was missing in the

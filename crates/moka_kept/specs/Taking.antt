@@ -1,5 +1,5 @@
 -- What a call takes of who is asked, and by which accesses.
-use Rattle.std.specs.Prelude.{◌≡◌, Bool, true, false, not, Option, Some, None}
+use Rattle.std.specs.Prelude.{◌≡◌, Bool, true, false, not, Option, Some, None, IfSome}
 use Rattle.std.specs.Option.{option_map}
 use Rattle.moka_hist.specs.Step.{Access, On_table, On_desk}
 use Rattle.moka_hist.specs.declared.accesses.Got.{Got}
@@ -54,6 +54,12 @@ module _ {V E : Type 0} where
   is_passed (found.Judge seen) = not seen
   is_passed _ = false
 
+  -- The replace test has such an answer on the value, by which the visit passes over the record where
+  -- the test holds. It passes over one that isn't visible, too.
+  abbrev pub TestedSuch : Found V E → (Taken V E → Type 0) → V → Type 0
+  TestedSuch f such value =
+      (replaced : Bool) × such (Tested value replaced) × (replaced ≡ true → is_passed f ≡ true)
+
 module _ {K V E : Type 0} where
   -- the value on which the visit asks the call's replace test, if it does
   abbrev pub tested_made : Visit K V E → Option V
@@ -64,15 +70,16 @@ module _ {K V E : Type 0} where
   tested_by (On_desk made) = tested_made made
   tested_by (On_table operation) = None
 
-  -- what the call took of who is asked by the visit, which found this
-  abbrev pub taken_made : Visit K V E → Found V E → Option (Taken V E)
-  taken_made (visit.TakeTold n) f = option_map Answered (told_found f)
-  taken_made made f = option_map (λ value. Tested value (is_passed f)) (tested_made made)
+  -- What the call took of who is asked by the visit, which found this, is such: an answer to its own
+  -- ask, or one of its replace test.
+  abbrev pub TookSuch : Visit K V E → Found V E → (Taken V E → Type 0) → Type 0
+  TookSuch (visit.TakeTold n) f such = IfSome (told_found f) (λ told. such (Answered told))
+  TookSuch made f such = IfSome (tested_made made) (TestedSuch f such)
 
-  -- the same by the access, which gave this
-  abbrev pub taken_in : Access K V E → Got K V E → Option (Taken V E)
-  taken_in (On_desk made) (got.Desk f) = taken_made made f
-  taken_in _ _ = None
+  -- the same of the access, which gave this
+  abbrev pub TookBy : Access K V E → Got K V E → (Taken V E → Type 0) → Type 0
+  TookBy (On_desk made) (got.Desk f) such = TookSuch made f such
+  TookBy _ _ such = Unit {0}
 
   -- the visit takes the answer to the call's own ask
   abbrev pub takes_answer : Visit K V E → Bool

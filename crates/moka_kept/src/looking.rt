@@ -1,13 +1,16 @@
 //! What a look under the lock tells, by no call.
-ghost use Rattle.std.specs.Prelude.{◌≡◌, ◌≤◌, IfOk, is_some};
+ghost use Rattle.std.specs.Prelude.{◌≡◌, ◌≤◌, IfOk};
+ghost use Rattle.std.specs.Option.{option_map};
 ghost use Rattle.std.specs.HashMap.{hash_map_len};
-ghost use Rattle.moka_hist.specs.State.{World};
+ghost use Rattle.moka_desk.specs.StandsFor.{StandsFor};
+ghost use Rattle.moka_hist.specs.State.{DeskPart, World};
 ghost use Rattle.moka_table.specs.Map.{SameMap};
 ghost use Rattle.moka_table.specs.Plain.{map_of, peak_of};
-ghost use Rattle.moka_kept.specs.Counts.{Behind, is_found, sees};
+ghost use Rattle.moka_kept.specs.Counts.{Behind, mark_found, mark_of, sees, shows};
 
 use crate::ground::Reach;
 use crate::kept::Kept;
+use moka_desk::Desk;
 use moka_hist::{TableAnswer, TableOp, TableTurn};
 use moka_table::{PlainTable, Table};
 use moka_values::Exact;
@@ -15,9 +18,9 @@ use std::alloc::AllocError;
 use std::hash::Hash;
 
 impl<K: Eq + Hash + Exact, V: Exact, E: Exact> Kept<K, V, E> {
-    /// Whether the table has the key, once the clock has moved on to the moment. An error comes
-    /// where memory is wanting for a copy of the key or of its record, and nothing but the clock
-    /// has changed then.
+    /// Whether the key has a record that is visible, once the clock has moved on to the moment. An
+    /// error comes where memory is wanting for a copy of the key or of its record. Nothing but the
+    /// clock changes.
     pub(crate) fn contains_key(&mut self, key: &K, moment: u64) -> Result<bool, AllocError>
         ensures { IfOk result (λ there.
             Behind K.eq (λ (w : World K V E). (moment ≤ w.desk.clock)
@@ -40,23 +43,40 @@ impl<K: Eq + Hash + Exact, V: Exact, E: Exact> Reach<K, V, E> {
     ghost use Rattle.moka_table.specs.Plain.{plain_table};
     ghost use Rattle.moka_kept.specs.Kept.{IsKept, in_hand};
 
-    // Whether the table has the key, by one look.
+    // Whether the key has a record that is visible, by one look. No access moment is raised.
     fn contains_key(&mut self, key: &K) -> Result<bool, AllocError>
         requires kept { IsKept K.eq self.old.layers }
         ensures kept { IsKept K.eq self.new.layers }
+        ensures desk { self.new.layers.desk ≡ self.old.layers.desk }
         ensures sees { IfOk result (λ there. (w : World K V E)
             → WorldIs K.eq (plain_table K.eq) in_hand self.old.layers w → there ≡ sees w key.now) }
     {
-        has_key(&mut self.layers.table, key)
+        let mark = find_mark(&mut self.layers.table, key)?;
+        Ok(is_shown(&self.layers.desk, mark))
     }
 }
 
-// Whether the table has the key, by one look, which changes nothing.
-fn has_key<K: Eq + Hash + Exact, V: Exact>(
+// Whether a record of this stamp and moment, if there is one, is visible by the clock.
+fn is_shown<K: Eq + Hash + Exact, V: Exact, E: Exact>(
+    desk: &Desk<K, V, E>,
+    mark: Option<(u64, u64)>,
+) -> bool
+    ensures { (w : DeskPart K V E) → StandsFor K.eq desk.now w → result ≡ shows w mark }
+{
+    match mark {
+        Some((stamp, modified)) => desk.scan(stamp, modified),
+        None => false,
+    }
+}
+
+// Gives the stamp of the key's record and the moment of its write, by one look, which changes
+// nothing.
+fn find_mark<K: Eq + Hash + Exact, V: Exact>(
     table: &mut PlainTable<K, V>,
     key: &K,
-) -> Result<bool, AllocError>
-    ensures there { IfOk result (λ there. there ≡ is_some (map_of K.eq table.old key.now)) }
+) -> Result<Option<(u64, u64)>, AllocError>
+    ensures there { IfOk result (λ mark.
+        mark ≡ option_map (λ pair. mark_of pair.1) (map_of K.eq table.old key.now)) }
     ensures map { SameMap (map_of K.eq table.old) (map_of K.eq table.new) }
     ensures count { hash_map_len table.new.pairs ≡ hash_map_len table.old.pairs }
     ensures peak { peak_of table.new ≡ peak_of table.old }
@@ -64,16 +84,18 @@ fn has_key<K: Eq + Hash + Exact, V: Exact>(
     let key = key.clone()?;
     let mut look = table.begin(TableOp::Get { key });
     let turn = table.step(&mut look)?;
-    Ok(is_found(turn))
+    Ok(mark_found(turn))
 }
 
-// Whether a look that has decided found a record.
-fn is_found<K: Drop, V: Drop>(turn: TableTurn<K, V>) -> bool
-    ensures { result ≡ is_found turn }
+// Gives the stamp and the moment of the record that a look found, if it decided and found one.
+fn mark_found<K: Drop, V: Drop>(turn: TableTurn<K, V>) -> Option<(u64, u64)>
+    ensures { result ≡ mark_found turn }
 {
     match turn {
-        TableTurn::Decided(TableAnswer::Some { key: _, stored: _ }) => true,
-        TableTurn::Decided(TableAnswer::None) => false,
-        TableTurn::Going => false,
+        TableTurn::Decided(TableAnswer::Some { key: _, stored }) => {
+            Some((stored.stamp, stored.modified))
+        }
+        TableTurn::Decided(TableAnswer::None) => None,
+        TableTurn::Going => None,
     }
 }

@@ -1,6 +1,6 @@
 -- A call answers as what it was started for may.
-use Rattle.std.proofs.Common.{◌≡◌, ℕ, ◌+◌, ◌≤◌, ◌==◌, Bool, true, false, List, [], ◌∷◌, Option, Some, None, refl, sym, ap, ◌∙◌, subst, arith}
-use Rattle.std.proofs.lemmas.Bool.{eqb-true, false≢true}
+use Rattle.std.proofs.Common.{◌≡◌, ℕ, ◌+◌, ◌==◌, Bool, true, false, List, [], ◌∷◌, Option, Some, None, refl, sym, ◌∙◌, subst}
+use Rattle.std.proofs.lemmas.Bool.{false≢true}
 use Rattle.moka_hist.specs.Conditions.{may_end}
 use Rattle.moka_hist.specs.State.{State, World, Call}
 use Rattle.moka_hist.specs.Plan.{Item, Aim, Change, Removal, end_load, is_disabled, get_plan, insert_plan, load_plan, or_insert_plan, seek, take_out, under_lock, plan_of}
@@ -8,15 +8,13 @@ use Rattle.moka_hist.specs.Plan as plan
 use Rattle.moka_hist.specs.Next.{Next, goes, waits}
 use Rattle.moka_hist.specs.Looking.{shown, hits, misses, keeps, finds_pair}
 use Rattle.moka_hist.specs.Loading.{after_read, after_abort, after_told, retries}
-use Rattle.moka_hist.specs.Step.{Step, takes_of}
+use Rattle.moka_hist.specs.Step.{Step, state_after, takes_of}
 use Rattle.moka_hist.specs.Telling.{takes_error, does_take}
 use Rattle.moka_hist.specs.Visits.{settlement_for}
 use Rattle.moka_hist.specs.Writing.{said, nothing_answer, removed_answer}
-use Rattle.moka_hist.specs.Run.{IsReached, fresh_call, started}
+use Rattle.moka_hist.specs.Run.{IsReached}
 use Rattle.moka_hist.specs.declared.accesses.Turn.{Turn}
 use Rattle.moka_hist.specs.declared.accesses.Turn.TheVariants as turn
-use Rattle.moka_hist.specs.declared.events.Event.TheVariants as event
-use Rattle.moka_hist.specs.declared.replies.Reply.TheVariants as reply
 use Rattle.moka_hist.specs.declared.events.Start.{Start}
 use Rattle.moka_hist.specs.declared.events.Start.TheVariants as start
 use Rattle.moka_hist.specs.declared.events.Told.{Told}
@@ -34,17 +32,13 @@ use Rattle.moka_hist.specs.declared.visits.Settled.TheVariants as settled
 use Rattle.moka_hist.specs.declared.visits.Found.TheVariants as found
 use Rattle.moka_laws.specs.Loads.{AnswersFit}
 use Rattle.moka_laws.specs.Starts.{may_answer}
-use Rattle.moka_laws.specs.Starting.{Leads}
-use Rattle.moka_laws.proofs.Counting.{none_some, some_same, put_here, put_there, put_cases, differ}
+use Rattle.moka_laws.proofs.Alongside.{HoldsIf, holds_since}
+use Rattle.moka_laws.proofs.Counting.{none_some, some_same, put_here}
 use Rattle.moka_laws.proofs.TakesFit.{AllTake, ToldFits, load_takes_no_op, compute_loses_none}
-use Rattle.moka_laws.proofs.Following.{IsFollowed}
 use Rattle.moka_laws.proofs.KindsOfEnds.{settlements_fit}
 use Rattle.moka_laws.proofs.Owning.{plan_left}
-use Rattle.moka_laws.proofs.Reached.{event_reached, run_reached}
 use Rattle.moka_laws.proofs.Rules.{put_plans, loaded_plans, kept_next, chosen_next, read_key_next, told_op_next_by, IsLoad, IsComputes}
 use Rattle.moka_laws.proofs.Safe.{in_well}
-use Rattle.moka_laws.proofs.Starting.{begins_so, follow_start}
-use Rattle.moka_laws.proofs.Steady.{step_calls, step_last}
 use Rattle.moka_laws.proofs.StepCases.{OnStep, step_cases}
 use Rattle.moka_laws.proofs.Outcomes.{Outcomes, outcomes, passes_on}
 use Rattle.moka_hist.specs.declared.entries.CompResult.{CompResult}
@@ -456,6 +450,7 @@ module _ {K V : Type 0} (E : Type 0) where
       out_suits (start.Invalidate key) rules plan.To_invalidate key (λ value. refl, refl)
   fresh_suits rules (start.Remove key) =
       out_suits (start.Remove key) rules plan.To_remove key (λ value. refl, refl)
+  fresh_suits rules start.InvalidateAll = (tt, (refl, tt))
   fresh_suits rules (start.Evict key stamp cause) = by rules.listener
     where
       by : (b : Bool) → AllSuit {V = V} {E = E} (start.Evict key stamp cause)
@@ -468,11 +463,9 @@ module _ {K V : Type 0} (E : Type 0) where
 -- ---- of a state
 
 module _ {K V E : Type 0} (eq : K → K → Bool) (begin : Start K V) (n : ℕ) where
-  -- the call of this number goes on as what it was started for may
-  record IsSuiting (s : State K V E) : Type 0 where
-    reached : IsReached eq s
-    born : n ≤ s.world.desk.last
-    suits : (c : Call K V E) → s.calls n ≡ Some c → AllSuit begin c.plan
+  -- the call goes on as what it was started for may
+  abbrev SuitsCall : State K V E → Call K V E → Type 0
+  SuitsCall s c = AllSuit begin c.plan
 
   -- what it reads, and is told, fits its plan
   reads_fit : (s : State K V E) → IsReached eq s → (c : Call K V E) → s.calls n ≡ Some c →
@@ -491,87 +484,31 @@ module _ {K V E : Type 0} (eq : K → K → Bool) (begin : Start K V) (n : ℕ) 
       taking : AllTake (s.world.desk.asks n) (s.world.desk.told n) c.plan
       taking = (in_well eq s reached).fitting.taking.take n c live
 
+  suits_if : (v : State K V E) (o : Option (Call K V E)) → AllSuit begin (plan_left o) →
+      HoldsIf SuitsCall v o
+  suits_if v None h = tt
+  suits_if v (Some c) h = h
+
   -- what its own step leaves, and answers
-  own_step : (s t : State K V E) (reply : Turn K V E) → IsSuiting s → Step eq s n reply t →
-      ((c : Call K V E) → t.calls n ≡ Some c → AllSuit begin c.plan) ×
+  own_step : (s t : State K V E) (reply : Turn K V E) → IsReached eq s →
+      HoldsIf SuitsCall s (s.calls n) → Step eq s n reply t → HoldsIf SuitsCall t (t.calls n) ×
       ((a : Answer K V E) → reply ≡ turn.Answer a → May {E = E} begin a)
-  own_step s t reply i step =
+  own_step s t reply h i step =
       let c : Call K V E = step.call in
-      step_cases eq (λ new next. Leaves begin next)
-      (λ v r. ((c : Call K V E) → v.calls n ≡ Some c → AllSuit begin c.plan) ×
+      let suits : AllSuit begin c.plan = subst (HoldsIf SuitsCall s) step.live i in
+      step_cases eq (λ new next. Leaves begin next) (λ v r. HoldsIf SuitsCall v (v.calls n) ×
       ((a : Answer K V E) → r ≡ turn.Answer a → May {E = E} begin a)) s t n reply step
-      (on_plan begin eq s.world n c (i.suits c step.live) (reads_fit s i.reached c step.live)
-      c.plan refl (i.suits c step.live))
+      (on_plan begin eq s.world n c suits (reads_fit s h c step.live) c.plan refl suits)
       (λ w next l. (
-        λ d live. subst (λ v. AllSuit begin (plan_left v))
-            (sym (put_here s.calls n next.left) ∙ live) l.suits,
+        suits_if (state_after s n w next) _ (subst (λ v. AllSuit begin (plan_left v))
+            (sym (put_here s.calls n next.left)) l.suits),
         l.now,
       ))
-
-  suiting_step : (s t : State K V E) (m : ℕ) (reply : Turn K V E) → Leads eq s t → IsSuiting s →
-      Step eq s m reply t → IsSuiting t
-  suiting_step s t m reply led i step = record {
-    reached = run_reached eq s t led.events led.replies i.reached led.run;
-    born = omega (arith, i.born, step_last eq s t m reply step);
-    suits = by (m == n) refl;
-  }
-    where
-      by : (b : Bool) → (m == n) ≡ b → (c : Call K V E) → t.calls n ≡ Some c → AllSuit begin c.plan
-      by true e = (own_step s t reply i (subst (λ v. Step eq s v reply t) (eqb-true m n e) step)).0
-      by false e = λ c live. i.suits c (sym (step_calls eq s t m n reply e step) ∙ live)
-
-  suiting_followed : IsFollowed eq IsSuiting
-  suiting_followed = record {
-    at = λ s moment led i. record {
-      reached = run_reached eq s _ led.events led.replies i.reached led.run;
-      born = i.born;
-      suits = i.suits;
-    };
-    start = λ s other fits led i. record {
-      reached = run_reached eq s _ led.events led.replies i.reached led.run;
-      born = omega (arith, i.born);
-      suits = λ c live. i.suits c
-          (sym (put_there s.calls (s.world.desk.last + 1) _ n
-          (differ (s.world.desk.last + 1) n (λ e. omega (arith, i.born, e)))) ∙ live);
-    };
-    step = suiting_step;
-    tell = λ s m given asked led i. record {
-      reached = run_reached eq s _ led.events led.replies i.reached led.run;
-      born = i.born;
-      suits = i.suits;
-    };
-    hear = λ s m off running led i. record {
-      reached = run_reached eq s _ led.events led.replies i.reached led.run;
-      born = i.born;
-      suits = i.suits;
-    };
-    drop = λ s m c live between led i. record {
-      reached = run_reached eq s _ led.events led.replies i.reached led.run;
-      born = i.born;
-      suits = λ d lives. put_cases s.calls m None n (Some d) (AllSuit begin d.plan) lives
-          (λ here is. absurd (none_some is)) (λ there is. i.suits d is);
-    };
-  }
 
 module _ {K V E : Type 0} (eq : K → K → Bool) where
   pub answers_fit : AnswersFit K V E eq
   answers_fit s t begin n a w step =
-      let so = begins_so eq begin n s w in
-      let i : IsSuiting eq begin n s = follow_start eq begin n s w (IsSuiting eq begin n)
-      (suiting_followed eq begin n) (first so.0) in
-      (own_step eq begin n s t (turn.Answer a) i step).1 a refl
-    where
-      rules : Rules
-      rules = w.before.world.desk.rules
-
-      first : n ≡ w.before.world.desk.last + 1 → IsSuiting eq begin n (started w.before begin)
-      first is = record {
-        reached = subst (IsReached eq) (begins_so eq begin n s w).1
-            (event_reached eq w.before w.begun (event.Start begin) (reply.Call n) w.reached w.begins);
-        born = omega (arith, is);
-        suits = λ c live.
-            let same : fresh_call rules begin ≡ c = some_same
-            (sym (put_here w.before.calls (w.before.world.desk.last + 1) _) ∙
-            ap (λ m. (started w.before begin).calls m) (sym is) ∙ live) in
-            subst (λ (d : Call K V E). AllSuit begin d.plan) same (fresh_suits E rules begin);
-      }
+      let i = holds_since eq begin n (SuitsCall eq begin n) (λ s v c led rules h. h)
+      (λ s t r h i step. (own_step eq begin n s t r h i step).0) s w
+      (λ v. fresh_suits E v.world.desk.rules begin) in
+      (own_step eq begin n s t (turn.Answer a) i.0 i.1 step).1 a refl

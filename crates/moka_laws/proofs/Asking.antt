@@ -13,6 +13,7 @@ use Rattle.moka_hist.specs.Dropping.{dropped}
 use Rattle.std.specs.Option.{option_map_or}
 use Rattle.moka_hist.specs.Step.{Step, takes_of}
 use Rattle.moka_hist.specs.Run.{IsReached, started, fresh_call}
+use Rattle.moka_hist.specs.declared.replies.Answer.TheVariants as said_as
 use Rattle.moka_hist.specs.declared.loads.Load.{Load}
 use Rattle.moka_hist.specs.declared.loads.Sought.{Sought}
 use Rattle.moka_hist.specs.declared.records.Stored.{Stored}
@@ -31,7 +32,7 @@ use Rattle.moka_hist.specs.Writing.{nothing_answer, removed_answer, said}
 use Rattle.moka_laws.proofs.Rules.{abort_next, put_plans, loaded_plans, kept_next, chosen_next, IsFresh, Disabled, fresh_plan, read_key_next, told_op_next_by, IsLoad, IsComputes}
 use Rattle.moka_laws.proofs.Counting.{put_here, put_there}
 use Rattle.moka_laws.proofs.Weights.{weigh, weigh_call, weigh_goes}
-use Rattle.moka_laws.proofs.Plans.{IsLook, IsTail, Answering, Settling, IsDrained, Looking, Owning, Giving, Putting, Removing, Locking_out, IsPosted, Draining, Ended, Locking, IsPlan, Posted, Drained, Posting, Hearing, Noticing, Listening, Unlocking, Turning, Applying, Ending, Judging, Reading, Asking, Telling, Writing, Choosing, Finding, Chosen, Taking, Freeing, Idling, IsKnown, known_kept, Asking_op, Owning_key, Owning_alone, Reading_key, Telling_op}
+use Rattle.moka_laws.proofs.Plans.{IsLook, IsTail, Answering, Settling, IsDrained, Looking, Owning, Giving, Putting, Removing, Locking_out, IsPosted, Draining, Ended, Locking, IsPlan, Posted, Drained, Posting, Hearing, Noticing, Listening, Unlocking, Turning, Applying, Ending, Judging, Reading, Asking, Telling, Writing, Choosing, Finding, Chosen, Taking, Freeing, Hiding, Idling, IsKnown, known_kept, Asking_op, Owning_key, Owning_alone, Reading_key, Telling_op}
 use Rattle.moka_laws.proofs.Balance.{IsBalanced}
 use Rattle.moka_laws.proofs.Balanced.{balanced_kept, next_free}
 use Rattle.moka_laws.proofs.Kept.{IsInvariant, in_reached}
@@ -334,6 +335,8 @@ module _ {K V E : Type 0} where
     )
     on_plan p e (Freeing rest t) = outcomes eq Leaves w n c (plan.Unlock false) rest
         (goes_on rest (omega (arith, ap (weigh takes_told) e)))
+    on_plan p e Hiding = outcomes eq Leaves w n c plan.Invalidate_all (plan.Reply said_as.Done ∷ [])
+        (still (omega (arith, ap (weigh takes_told) e)))
     on_plan p e (Idling rest t) = outcomes eq Leaves w n c plan.Idle rest
         (goes_on rest (omega (arith, ap (weigh takes_told) e)))
 

@@ -387,6 +387,8 @@ module _ {K V E : Type 0} where
     )
     on_item plan.Idle rest e t sp = goes_on w n c plan.Idle rest refl refl (λ x. refl)
         (late_none rest t) (λ x. refl) (omega arith)
+    on_item plan.Invalidate_all rest e t sp = goes_on w n c plan.Invalidate_all rest refl refl
+        (λ x. refl) (late_none rest t) (λ x. refl) (omega arith)
     on_item item rest e t sp = passes_by eq (Balances w n (item ∷ rest)) w n c item rest tt
         (λ d a. goes_on w n c item rest a.last refl (λ x. rw (a.owed, a.log, a.applied) refl) t
         (λ x. refl) (omega arith))

@@ -60,7 +60,7 @@ module _ {K V E : Type 0} (eq : K → K → Bool) where
 
   begun_followed : IsFollowed eq AreBegun
   begun_followed = record {
-    at = λ s moment led i. record {
+    at = λ s moment on led i. record {
       reached = on_reached s _ i.reached led;
       begun = λ n c live. begun_on s _ n led (i.begun n c live);
     };

@@ -98,7 +98,7 @@ module _ {K V E : Type 0} (eq : K → K → Bool) (begin : Start K V) (key : K) 
 
   computing_followed : IsFollowed eq IsComputing
   computing_followed = record {
-    at = λ s moment led i. record {
+    at = λ s moment on led i. record {
       reached = on_reached s _ led i.reached;
       born = i.born;
       stage = still s _ led refl refl i;

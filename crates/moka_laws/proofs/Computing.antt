@@ -8,8 +8,9 @@ use Rattle.moka_hist.specs.Plan as plan
 use Rattle.moka_hist.specs.Entries.{put_answer, removed_value, unchanged}
 use Rattle.moka_hist.specs.Computing.{after_told_op, end_compute, put_told}
 use Rattle.moka_hist.specs.Next.{Next, asks, goes, stays, waits}
-use Rattle.moka_hist.specs.Step.{Step, state_after}
+use Rattle.moka_hist.specs.Step.{Step, replace_of, state_after}
 use Rattle.moka_hist.specs.Tables.{by_pair, removed, taken_by}
+use Rattle.moka_hist.specs.Visits.{is_seen}
 use Rattle.moka_hist.specs.Run.{IsReached}
 use Rattle.moka_hist.specs.declared.accesses.Turn.{Turn}
 use Rattle.moka_hist.specs.declared.accesses.Turn.TheVariants as turn
@@ -28,8 +29,9 @@ use Rattle.moka_hist.specs.declared.replies.Ask as reply
 use Rattle.moka_hist.specs.declared.replies.Ask.TheVariants as ask
 use Rattle.moka_hist.specs.declared.visits.Found.TheVariants as found
 use Rattle.moka_hist.specs.declared.writes.Write.TheVariants.{Remove}
-use Rattle.moka_laws.specs.Computes.{AskedWith, AsksWith, ComputeSays, Disabled, HasDecided, HasMade, Looked, LooksAsOwner, LooksUp, OwnsComputes, Reports, SaysTold, StandsAside, TakesOp, TakesOut, Was_disabled, Was_told, out_answer}
-use Rattle.moka_laws.specs.Starting.{Leads}
+use Rattle.moka_laws.specs.Computes.{AskedWith, AsksWith, ComputeSays, Disabled, Looked, LooksAsOwner, OwnsComputes, Reports, SaysTold, StandsAside, TakesOp, TakesOut, Was_disabled, Was_told, out_answer}
+use Rattle.moka_laws.specs.Looks.{HasDecided, HasShown, Judged, Judges, LooksUp, Missed}
+use Rattle.moka_laws.specs.Starting.{HasMade, Leads}
 use Rattle.moka_laws.proofs.Counting.{put_here}
 use Rattle.moka_laws.proofs.Following.{leads_more, no_leads, step_leads}
 use Rattle.moka_laws.proofs.Outcomes.{OwnsKey, alone_of, computes_of, outcomes, was_read}
@@ -76,6 +78,17 @@ module _ {K V E : Type 0} where
     led = leads_more eq m.after s v m.led led;
   }
 
+  -- what a look has shown it has
+  pub shown_on : (eq : K → K → Bool) (s v : State K V E) (n : ℕ) (aim : Aim K V)
+      (Looks : Option (K × Stored V) → State K V E → Call K V E → Turn K V E → State K V E →
+      Type 0) (pair : Option (K × V)) → Leads eq s v → HasShown eq s n aim Looks pair →
+      HasShown eq v n aim Looks pair
+  shown_on eq s v n aim Looks pair led (Missed looked) =
+      Missed (made_on eq s v n (Looks None) led looked)
+  shown_on eq s v n aim Looks pair led (Judged there stored sees looked judged) =
+      Judged there stored sees (made_on eq s v n (Looks (Some (there, stored))) led looked)
+      (made_on eq s v n (Judges aim there stored sees) led judged)
+
   told_on : (eq : K → K → Bool) (s v : State K V E) (n : ℕ) (key : K) (pair : Option (K × V))
       (given : Told V E) (a : Answer K V E) → Leads eq s v → SaysTold eq s n key pair given a →
       SaysTold eq v n key pair given a
@@ -101,14 +114,15 @@ module _ {K V E : Type 0} (eq : K → K → Bool) (begin : Start K V) (key : K) 
       (told_on eq s v n key pair given a led says)
   says_on s v a led same (Was_disabled alone aside off is) =
       Was_disabled alone (made_on eq s v n _ led aside) (ap is_disabled same ∙ off) is
-  says_on s v a led same (Reports seen alone aside looked is) =
-      Reports seen alone (made_on eq s v n _ led aside) (made_on eq s v n _ led looked) is
+  says_on s v a led same (Reports pair alone aside shown is) =
+      Reports pair alone (made_on eq s v n _ led aside) (shown_on eq s v n _ _ pair led shown) is
 
   asked_on : (s v : State K V E) (pair : Option (K × V)) → Leads eq s v →
       v.world.desk.rules ≡ s.world.desk.rules → AskedWith eq s n key pair →
       AskedWith eq v n key pair
   asked_on s v pair led same (Disabled off) = Disabled (ap is_disabled same ∙ off)
-  asked_on s v pair led same (Looked seen looked) = Looked seen (made_on eq s v n _ led looked)
+  asked_on s v pair led same (Looked compute other shown) =
+      Looked compute other (shown_on eq s v n _ _ other led shown)
 
   -- it was told to take out what the key has
   pub record WasToldRemove (s : State K V E) : Type 0 where
@@ -137,7 +151,7 @@ module _ {K V E : Type 0} (eq : K → K → Bool) (begin : Start K V) (key : K) 
       (compute.key ≡ key) × (at ≡ key) × OwnsComputes s n key
   Stage s (plan.Judge (plan.To_compute compute) there stored ∷ []) =
       (compute.key ≡ key) × OwnsComputes s n key ×
-      HasMade eq s n (LooksAsOwner n key (Some (there, stored)))
+      HasMade eq s n (LooksAsOwner n compute key (Some (there, stored)))
   Stage s (plan.Ask_op compute pair ∷ []) =
       (compute.key ≡ key) × OwnsComputes s n key × AskedWith eq s n key pair
   Stage s (plan.Told_op compute pair ∷ []) =
@@ -272,6 +286,16 @@ module _ {K V E : Type 0} (eq : K → K → Bool) (begin : Start K V) (key : K) 
       stood = subst (λ k. s.world.table.stored k ≡ seen) same stood;
       decided = decided new next (λ f. not (f ∙ e));
     }
+
+    -- it judges what its look has found
+    judges : {aim : Aim K V} {there : K} {stored : Stored V} {sees : Bool} →
+        c.plan ≡ plan.Judge aim there stored ∷ [] →
+        is_seen s.world.desk (replace_of aim) there stored ≡ sees →
+        (new : World K V E) (next : Next K V E) → Made new next →
+        HasMade eq (after new next) n (Judges aim there stored sees)
+    judges {aim} {there} {stored} {sees} judging seen new next step =
+        now new next (Judges aim there stored sees) step
+        (record { judging = judging; seen = seen })
 
     follows : (new : World K V E) (next : Next K V E) → Made new next →
         new.desk.rules ≡ s.world.desk.rules →
@@ -607,8 +631,8 @@ module _ {K V E : Type 0} (eq : K → K → Bool) (begin : Start K V) (key : K) 
               (λ step. (
                 st.0,
                 st.2,
-                Looked None (looks _ _ None step none
-                    (λ f. false≢true (ap at_table f))),
+                Looked compute None (Missed (looks _ _ None step none
+                    (λ f. false≢true (ap at_table f)))),
               )),
           λ there stored some. go _ (plan.Judge (plan.To_compute compute) there stored ∷ []) refl
               (inl refl) (λ step. (
@@ -622,9 +646,8 @@ module _ {K V E : Type 0} (eq : K → K → Bool) (begin : Start K V) (key : K) 
         looks : (new : World K V E) (next : Next K V E) (seen : Option (K × Stored V)) →
             Made new next → s.world.table.stored at ≡ seen →
             (plan_left next.left ≡ plan.Get (plan.To_compute compute) at ∷ [] → ⊥) →
-            HasMade eq (after new next) n (LooksAsOwner n key seen)
-        looks new next seen step stood not = now new next (LooksAsOwner n key seen) step (record {
-          compute = compute;
+            HasMade eq (after new next) n (LooksAsOwner n compute key seen)
+        looks new next seen step stood not = now new next (LooksAsOwner n compute key seen) step (record {
           look = looks_up new next (plan.To_compute compute) at seen e st.1 stood not;
           owns = st.2;
         })
@@ -634,10 +657,18 @@ module _ {K V E : Type 0} (eq : K → K → Bool) (begin : Start K V) (key : K) 
               (λ step. (
                 st.0,
                 st.1,
-                Looked (Some (there, stored)) (made_on eq s _ n _
-                    (step_leads eq s _ n _ step) st.2),
+                Looked compute (Some (there, stored.value)) (Judged there stored true
+                    (made_on eq s _ n _ (step_leads eq s _ n _ step) st.2)
+                    (judges e seen _ _ step)),
               )),
-          λ unseen. absurd (false≢true (sym unseen)),
+          λ unseen. go _ (plan.Ask_op compute None ∷ []) refl (inl refl)
+              (λ step. (
+                st.0,
+                st.1,
+                Looked compute None (Judged there stored false
+                    (made_on eq s _ n _ (step_leads eq s _ n _ step) st.2)
+                    (judges e unseen _ _ step)),
+              )),
         )
     on_stage (plan.Ask_op compute pair ∷ []) e st =
         outcomes eq Shows s.world n c (plan.Ask_op compute pair) [] (asks_now _ compute pair e st
@@ -701,7 +732,7 @@ module _ {K V E : Type 0} (eq : K → K → Bool) (begin : Start K V) (key : K) 
           λ more. stay _ e st _ refl refl refl,
           λ none. go _ (plan.Reply (unchanged own None) ∷ []) refl (inl refl)
               (λ step. Reports None st.2 (made_on eq s _ n _ (step_leads eq s _ n _ step) st.3)
-              (looks _ _ None step none (λ f. false≢true (ap at_table f)))
+              (Missed (looks _ _ None step none (λ f. false≢true (ap at_table f))))
               (ap (λ k. unchanged k None) st.0)),
           λ there stored some. go _ (plan.Judge (plan.To_show (plan.As_report own)) there stored ∷ []) refl
               (inl refl) (λ step. (
@@ -723,12 +754,24 @@ module _ {K V E : Type 0} (eq : K → K → Bool) (begin : Start K V) (key : K) 
     on_stage (plan.Judge (plan.To_show (plan.As_report own)) there stored ∷ []) e st =
         outcomes eq Shows s.world n c (plan.Judge (plan.To_show (plan.As_report own)) there stored) [] (
           λ seen. go _ (plan.Reply (unchanged own (Some (there, stored.value))) ∷ []) refl
-              (inl refl) (λ step. Reports (Some (there, stored)) st.1
+              (inl refl) (λ step. Reports (Some (there, stored.value)) st.1
               (made_on eq s _ n _ (step_leads eq s _ n _ step) st.2)
-              (made_on eq s _ n _ (step_leads eq s _ n _ step) st.3)
+              (Judged there stored true (made_on eq s _ n _ (step_leads eq s _ n _ step) st.3)
+              (judges (e ∙ as_report own there stored st.0) seen _ _ step))
               (ap (λ k. unchanged k (Some (there, stored.value))) st.0)),
-          λ unseen. absurd (false≢true (sym unseen)),
+          λ unseen. go _ (plan.Reply (unchanged own None) ∷ []) refl (inl refl)
+              (λ step. Reports None st.1 (made_on eq s _ n _ (step_leads eq s _ n _ step) st.2)
+              (Judged there stored false (made_on eq s _ n _ (step_leads eq s _ n _ step) st.3)
+              (judges (e ∙ as_report own there stored st.0) unseen _ _ step))
+              (ap (λ k. unchanged k None) st.0)),
         )
+      where
+        as_report : (own there : K) (stored : Stored V) → own ≡ key →
+            ◌≡◌ {A = List (Item K V E)}
+            (plan.Judge (plan.To_show (plan.As_report own)) there stored ∷ [])
+            (plan.Judge (plan.To_show (plan.As_report key)) there stored ∷ [])
+        as_report own there stored is =
+            ap (λ k. plan.Judge (plan.To_show (plan.As_report k)) there stored ∷ []) is
     on_stage (plan.Reply a ∷ []) e st = outcomes eq Shows s.world n c (plan.Reply a) []
         (go_on _ (plan.Reply a ∷ []) refl refl (inl refl) st)
     on_stage _ e st = absurd st

@@ -54,8 +54,8 @@ module _ {K V E : Type 0} (eq : K → K → Bool) where
 
   -- each event keeps it, as it leads on
   pub record IsFollowed (I : State K V E → Type 0) : Type 0 where
-    pub at : (s : State K V E) (moment : ℕ) → Leads eq s (at_moment s moment) → I s → I
-        (at_moment s moment)
+    pub at : (s : State K V E) (moment : ℕ) → nat_lt moment s.world.desk.clock ≡ false →
+        Leads eq s (at_moment s moment) → I s → I (at_moment s moment)
     pub start : (s : State K V E) (start : Start K V) → (s.world.desk.last == last_call) ≡ false →
         Leads eq s (started s start) → I s →
         I (started s start)
@@ -116,7 +116,7 @@ module _ {K V E : Type 0} (eq : K → K → Bool) where
         Happens eq Any s e r t → I t
     happens s t (event.At moment) r i l h =
         either t (nat_lt moment s.world.desk.clock) _ _ (λ _ b. refused s t _ r i b)
-        (λ _ b. becomes s (at_moment s moment) t _ r l (λ k. kept.at s moment k i) b) h
+        (λ e b. becomes s (at_moment s moment) t _ r l (λ k. kept.at s moment e k i) b) h
     happens s t (event.Start start) r i l h =
         either t (s.world.desk.last == last_call) _ _ (λ _ b. refused s t _ r i b)
         (λ e b. becomes s (started s start) t _ r l (λ k. kept.start s start e k i) b) h

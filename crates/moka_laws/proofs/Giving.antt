@@ -29,7 +29,8 @@ module _ {K V E : Type 0} (P : K → V → Type 0) (Q : ℕ → K → Type 0) wh
   -- the event, if it starts a call, starts it for a key that is Q of its number
   abbrev BeginsOnly : Event K V E → Reply K V E → Type 0
   BeginsOnly e r =
-      (n : ℕ) (start : Start K V) → e ≡ event.Start start → r ≡ reply.Call n → Q n (key_started start)
+      (n : ℕ) (start : Start K V) (key : K) → e ≡ event.Start start → r ≡ reply.Call n →
+      key_started start ≡ Some key → Q n key
 
   module _ (eq : K → K → Bool) where
     -- each event that gives only what is P, and starts only calls of Q, keeps it
@@ -37,7 +38,8 @@ module _ {K V E : Type 0} (P : K → V → Type 0) (Q : ℕ → K → Type 0) wh
       pub at : (s : State K V E) (moment : ℕ) → I s → I (at_moment s moment)
       pub start : (s : State K V E) (start : Start K V) → I s →
           ((key : K) (value : V) → brought start ≡ Some (key, value) → P key value) →
-          Q (s.world.desk.last + 1) (key_started start) → I (started s start)
+          ((key : K) → key_started start ≡ Some key → Q (s.world.desk.last + 1) key) →
+          I (started s start)
       pub step : (s t : State K V E) (n : ℕ) (turn : Turn K V E) → I s → Step eq s n turn t → I t
       pub tell : (s : State K V E) (n : ℕ) (given : Told V E) → I s →
           GivesOnly s (event.Tell n given) reply.Told → I (with_desk s (told_call s.world.desk n given))
@@ -88,7 +90,7 @@ module _ {K V E : Type 0} (P : K → V → Type 0) (Q : ℕ → K → Type 0) wh
           either t (s.world.desk.last == last_call) _ _ (refused s t _ r i)
           (λ b. becomes (started s start) t _ r
           (kept.start s start i (subst (GivesOnly s (event.Start start)) b.reply gave)
-          (begun (s.world.desk.last + 1) start refl b.reply)) b) h
+          (λ key is. begun (s.world.desk.last + 1) start key refl b.reply is)) b) h
       happens s t (event.Step n) r i gave begun h =
           looked t (s.calls n) _ (λ _. Steps eq s n r t) (refused s t _ r i)
           (λ c e steps. kept.step s t n steps.turn i steps.step) h
@@ -109,12 +111,13 @@ module _ {K V E : Type 0} (P : K → V → Type 0) (Q : ℕ → K → Type 0) wh
       pub along : (s t : State K V E) (es : List (Event K V E)) (rs : List (Reply K V E))
           (run : Run eq Any s es rs t) →
           ((key : K) (value : V) → WasGiven eq s es rs t run key value → P key value) →
-          ((n : ℕ) (start : Start K V) → HasStarted n es rs start → Q n (key_started start)) → I s → I t
+          ((n : ℕ) (start : Start K V) (key : K) → HasStarted n es rs start →
+          key_started start ≡ Some key → Q n key) → I s → I t
       along s t [] [] run gave begun i = subst I (sym run) i
       along s t (e ∷ es) (r ∷ rs) run gave begun i =
           along run.0 t es rs run.3 (λ key value g. gave key value (inr g))
-          (λ n start b. begun n start (inr b))
+          (λ n start key b. begun n start key (inr b))
           (happens s run.0 e r i (λ key value g. gave key value (inl g))
-          (λ n start is says. begun n start (inl (is, says))) run.1)
+          (λ n start key is says. begun n start key (inl (is, says))) run.1)
       along s t [] (r ∷ rs) run gave begun i = absurd run
       along s t (e ∷ es) [] run gave begun i = absurd run

@@ -341,6 +341,8 @@ module _ {K V E : Type 0} where
           (λ k old off some. keeps w.desk n (place old.stamp, said_free removal (removed_answer removal old.value))),
           λ k old on some. keeps w.desk n (place old.stamp, said_free removal (removed_answer removal old.value)),
         )
+    on_item plan.Invalidate_all rest p q =
+        keeps w.desk n (goes_holds n _ c rest (free_holds n _ rest q.1 q.0))
     on_item plan.Idle rest p q =
         holds_now w.desk n None (goes_holds n None c rest (free_holds n None rest q.1 refl))
     on_item (plan.Reply answer) rest p q = holds_now w.desk n None refl

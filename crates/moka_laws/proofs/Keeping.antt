@@ -3,10 +3,8 @@ use Rattle.std.proofs.Common.{◌≡◌, ◌⊎◌, inl, inr, ℕ, ◌+◌, ◌<
 use Rattle.std.proofs.lemmas.Bool.{eqb-true, false≢true}
 use Rattle.std.specs.Prelude.{IsSomeAnd}
 use Rattle.moka_hist.specs.Plan.{or_insert_plan, seek}
-use Rattle.moka_hist.specs.Step.{replace_of}
-use Rattle.moka_hist.specs.Visits.{is_seen}
 use Rattle.moka_hist.specs.Finite.{put_at}
-use Rattle.moka_hist.specs.State.{DeskPart, State, World, Call}
+use Rattle.moka_hist.specs.State.{State, World, Call}
 use Rattle.moka_hist.specs.Plan.{Item, Aim, Removal, get_plan, insert_plan, is_disabled, load_plan, plan_of, under_lock}
 use Rattle.moka_hist.specs.Plan as plan
 use Rattle.moka_hist.specs.Next.{Next, goes, waits}
@@ -113,12 +111,18 @@ module _ {K V E : Type 0} where
   hits_quiet c _ key seen h = record
       { left = refl; turn = answers_quiet (answer.Loaded seen.value false) refl }
 
-  -- a record that is not seen by its replace test is loaded
-  unseen_quiet : (c : Call K V E) (d : DeskPart K V E) (aim : Aim K V) (key : K) (found : Stored V) →
-      is_seen d (replace_of aim) key found ≡ false → Quiet (misses c aim)
-  unseen_quiet c d (plan.To_load sought) key found e = record { left = refl; turn = λ f. cc }
-  unseen_quiet c d (plan.To_own sought) key found e = record { left = refl; turn = λ f. cc }
-  unseen_quiet c d _ key found e = absurd (false≢true (sym e))
+  unseen_quiet : (c : Call K V E) (aim : Aim K V) (key : K) (found : Stored V) →
+      keeping (plan.Judge aim key found) ≡ 0 → Quiet (misses c aim)
+  unseen_quiet c (plan.To_show form) key found h = record {
+    left = refl;
+    turn = answers_quiet (shown form None)
+        (shown_next (λ a. kept a ≡ 0) form None refl (λ under. refl));
+  }
+  unseen_quiet c (plan.To_insert under value) key found h =
+      put_plans (λ p. Quiet (goes c p)) c.rules under value _
+      (record { left = refl; turn = λ f. cc }) (record { left = refl; turn = λ f. cc })
+  unseen_quiet c (plan.To_evict own stamp cause) key found h = absurd (omega (arith, h))
+  unseen_quiet c _ key found h = record { left = refl; turn = λ f. cc }
 
   read_quiet : (c : Call K V E) (sought : Sought K) (with : Settled V E) → weigh keeping c.plan ≡ 0 → Quiet
       (after_read c sought (found.ReadSettled with))
@@ -371,7 +375,7 @@ module _ {K V E : Type 0} (s : State K V E) where
         λ seen. quiet (plan.Judge aim key found) _ (λ h. h)
             (hits_quiet c aim key found (omega (arith, q))),
         λ unseen. quiet (plan.Judge aim key found) _ (λ h. h)
-            (unseen_quiet c s.world.desk aim key found unseen),
+            (unseen_quiet c aim key found (omega (arith, q))),
       )
       on_item (plan.Own sought) rest q = (
         λ able e. quiet (plan.Own sought) _ (λ h. h) (record { left = refl; turn = λ f. cc }),

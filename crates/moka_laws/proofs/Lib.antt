@@ -77,3 +77,7 @@ pub mod Missed
 pub mod Leaving
 pub mod Asked
 pub mod Off
+pub mod Alongside
+pub mod Looking
+pub mod Accessed
+pub mod Hiding

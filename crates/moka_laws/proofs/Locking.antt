@@ -2,8 +2,6 @@
 use Rattle.std.proofs.Common.{◌≡◌, ℕ, ◌+◌, ◌==◌, Bool, true, false, cond, List, [], ◌∷◌, Option, Some, None, is_some, IsSome, IsNone, refl, sym, ap, ◌∙◌, subst, arith}
 use Rattle.std.proofs.lemmas.Bool.{eqb-true, false≢true}
 use Rattle.moka_hist.specs.declared.replies.Answer.TheVariants as reply
-use Rattle.moka_hist.specs.Step.{replace_of}
-use Rattle.moka_hist.specs.Visits.{is_seen}
 use Rattle.moka_hist.specs.Finite.{put_at}
 use Rattle.moka_hist.specs.State.{State, World, Call, DeskPart}
 use Rattle.moka_hist.specs.Plan.{end_load, Item, Aim, Removal, plan_of, told_on}
@@ -55,6 +53,7 @@ module _ {K V E : Type 0} where
   of_lock (plan.Notice key old cause upsert) = 1
   of_lock plan.Heard = 1
   of_lock (plan.Get (plan.To_evict key stamp cause) at) = 1
+  of_lock (plan.Judge (plan.To_evict key stamp cause) at found) = 1
   of_lock (plan.Holds key stamp cause there stored) = 1
   of_lock (plan.Moment change) = 1
   of_lock (plan.Write key value moment) = 1
@@ -98,6 +97,7 @@ module _ {K V E : Type 0} where
   Outside (plan.Apply ∷ rest) = Outside rest
   Outside (plan.End ∷ rest) = Outside rest
   Outside (plan.Get (plan.To_evict key stamp cause) at ∷ rest) = ⊥
+  Outside (plan.Judge (plan.To_evict key stamp cause) at found ∷ rest) = ⊥
   Outside (plan.Holds key stamp cause there stored ∷ rest) = ⊥
   Outside (plan.Moment change ∷ rest) = ⊥
   Outside (plan.Write key value moment ∷ rest) = ⊥
@@ -119,6 +119,7 @@ module _ {K V E : Type 0} where
   calm_outside [] h = tt
   calm_outside (plan.Lock key ∷ rest) h = absurd (omega arith)
   calm_outside (plan.Get (plan.To_evict key stamp cause) at ∷ rest) h = absurd (omega arith)
+  calm_outside (plan.Judge (plan.To_evict key stamp cause) at found ∷ rest) h = absurd (omega arith)
   calm_outside (plan.Holds key stamp cause there stored ∷ rest) h = absurd (omega arith)
   calm_outside (plan.Moment change ∷ rest) h = absurd (omega arith)
   calm_outside (plan.Write key value moment ∷ rest) h = absurd (omega arith)
@@ -334,15 +335,27 @@ module _ {K V E : Type 0} where
     missed (plan.To_evict there stamp cause) key rest q = kept _ (λ o. o) q
     missed _ key rest q = keeps w.desk n c refl (free _ refl q (λ k i. i))
 
-    -- a record that is not seen by its replace test is loaded
+    -- the record that was judged is not seen
     unseen : (aim : Aim K V) (key : K) (stored : Stored V) (rest : List (Item K V E)) →
-        is_seen w.desk (replace_of aim) key stored ≡ false → Now (plan.Judge aim key stored ∷ rest) →
+        Now (plan.Judge aim key stored ∷ rest) →
         Leaves w.desk n c w.desk.rules w.desk.locked (misses c aim).left
-    unseen (plan.To_load sought) key stored rest e q =
-        keeps w.desk n c refl (free _ refl q (λ k i. i))
-    unseen (plan.To_own sought) key stored rest e q =
-        keeps w.desk n c refl (free _ refl q (λ k i. i))
-    unseen _ key stored rest e q = absurd (true_false e)
+    unseen (plan.To_show form) key stored rest q = keeps w.desk n c tt (free _ refl q (λ k i. i))
+    unseen (plan.To_insert there value) key stored rest q =
+        put_plans_by (λ v. Leaves w.desk n c w.desk.rules w.desk.locked (goes c v).left)
+        c.rules there value _
+        (λ off. goes_on w.desk n c (plan.Drain ∷ plan.Moment (plan.To_store there value) ∷ _) (record {
+          none = λ e. ((q.none e).0, refl);
+          outside = λ e f. absurd (true_false (sym e ∙ is_off off));
+          inside = λ e k f. absurd (q.inside e k f);
+        }))
+        (λ on. goes_on w.desk n c
+        (plan.Drain ∷ plan.Lock there ∷ plan.Moment (plan.To_store there value) ∷ _) (record {
+          none = λ e. absurd (true_false (sym (is_on on) ∙ e));
+          outside = λ e f. (refl, refl);
+          inside = λ e k f. absurd (q.inside e k f);
+        }))
+    unseen (plan.To_evict there stamp cause) key stored rest q = kept _ (λ o. o) q
+    unseen _ key stored rest q = keeps w.desk n c refl (free _ refl q (λ k i. i))
 
     has_found : (aim : Aim K V) (key k : K) (stored : Stored V) (rest : List (Item K V E)) →
         Now (plan.Get aim key ∷ rest) →
@@ -406,7 +419,7 @@ module _ {K V E : Type 0} where
       λ k stored some. has_found aim key k stored rest q,
     )
     on_item (plan.Judge aim key stored) rest p q =
-        ((λ seen. hit aim key stored rest p q), λ e. unseen aim key stored rest e q)
+        ((λ seen. hit aim key stored rest p q), λ e. unseen aim key stored rest q)
     on_item (plan.Own sought) rest p q = (
       (λ able e. keeps w.desk n c refl (free _ refl q (λ k i. i))),
       (λ not e. keeps w.desk n c refl (free _ refl q (λ k i. i))),

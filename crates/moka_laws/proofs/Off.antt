@@ -73,7 +73,7 @@ module _ {K V E : Type 0} (eq : K → K → Bool) where
 
   told_followed : IsFollowed eq IsTold
   told_followed = record {
-    at = λ s moment l i. same s _ refl l i;
+    at = λ s moment on l i. same s _ refl l i;
     start = λ s start more l i. same s _ refl l i;
     step = λ s t n turn l i step. same s t (step_off eq s t n turn step) l i;
     tell = λ s n given asked l i. same s _ refl l i;

@@ -2,6 +2,7 @@
 -- to store only what was given, and to hand out only what was given for an equal key.
 use Rattle.std.proofs.Common.{◌≡◌, ℕ, ◌+◌, ◌==◌, Bool, true, false, cond, ◌&&◌, nat_lt, is_some, List, [], ◌∷◌, Option, Some, None, MatchOption, ◌⊎◌, inl, inr, refl, sym, ap, ◌∙◌, subst}
 use Rattle.std.specs.Cmp.{IsEquivalence}
+use Rattle.std.specs.Prelude.{IsSomeAnd, unwrap_or}
 use Rattle.std.proofs.lemmas.Bool.{eqb-true}
 use Rattle.std.specs.Option.{option_and_then, option_map}
 use Rattle.moka_hist.specs.Dropping.{dropped}
@@ -46,7 +47,7 @@ use Rattle.moka_hist.specs.declared.writes.Write.TheVariants.{Remove, Upsert}
 use Rattle.moka_laws.specs.Given.{HandedIsGiven, SteppedIsGiven, StoredIsGiven, HasStarted, WasGiven, handed, value_of, asked_key, value_in}
 use Rattle.moka_laws.specs.Starts.{brought, key_started}
 use Rattle.moka_laws.proofs.Counting.{none_some, some_same, put_cases, put_here, put_there}
-use Rattle.moka_laws.proofs.Owning.{and_left}
+use Rattle.moka_laws.proofs.Owning.{and_left, plan_left}
 use Rattle.moka_laws.proofs.Rules.{abort_next, shown_next, chosen_next, kept_next, loaded_plans, put_plans, read_key_next}
 use Rattle.moka_laws.proofs.StepCases.{OnStep, step_cases}
 use Rattle.moka_laws.proofs.Outcomes.{Outcomes, computes_of, outcomes, passes_by}
@@ -645,24 +646,32 @@ module _ {K V : Type 0} (E : Type 0) (P R : K → V → Type 0) where
 
   fresh_fair : ((q : K) (value : V) → P q value → R q value) → (rules : Rules)
       (start : Start K V) →
-      ((key : K) (value : V) → brought start ≡ Some (key, value) → P key value) →
-      RestFair P R (key_started start) (plan_of {E = E} rules start)
-  fresh_fair own rules (start.Get key) h = get_fair key (is_disabled rules)
-  fresh_fair own rules (start.Insert key value) h =
+      ((key : K) (value : V) → brought start ≡ Some (key, value) → P key value) → (none : K) →
+      RestFair P R (unwrap_or (key_started start) none) (plan_of {E = E} rules start)
+  fresh_fair own rules (start.Get key) h none = get_fair key (is_disabled rules)
+  fresh_fair own rules (start.Insert key value) h none =
       insert_fair key (is_disabled rules) rules value (h key value refl)
-  fresh_fair own rules (start.GetWith key replace) h =
+  fresh_fair own rules (start.GetWith key replace) h none =
       load_fair (is_disabled rules) (seek kind.GetWith key replace)
-  fresh_fair own rules (start.Optional key) h =
+  fresh_fair own rules (start.Optional key) h none =
       load_fair (is_disabled rules) (seek kind.Optional key None)
-  fresh_fair own rules (start.Try key) h = load_fair (is_disabled rules) (seek kind.Try key None)
-  fresh_fair own rules (start.OrInsert key value) h =
+  fresh_fair own rules (start.Try key) h none = load_fair (is_disabled rules) (seek kind.Try key None)
+  fresh_fair own rules (start.OrInsert key value) h none =
       or_insert_fair key (is_disabled rules) value (h key value refl)
       (own key value (h key value refl))
-  fresh_fair own rules (start.Invalidate key) h = (tt, lock_fair key rules.listener _ (refl, tt))
-  fresh_fair own rules (start.Remove key) h = (tt, lock_fair key rules.listener _ (refl, tt))
-  fresh_fair own rules (start.Evict key stamp cause) h =
+  fresh_fair own rules (start.Invalidate key) h none = (tt, lock_fair key rules.listener _ (refl, tt))
+  fresh_fair own rules (start.Remove key) h none = (tt, lock_fair key rules.listener _ (refl, tt))
+  fresh_fair own rules (start.Evict key stamp cause) h none =
       lock_fair key rules.listener _ ((refl, refl), tt)
-  fresh_fair own rules _ h = (refl, tt)
+  fresh_fair own rules start.InvalidateAll h none = (tt, (none_fair R none, tt))
+  fresh_fair own rules _ h none = (refl, tt)
+
+-- a call that is started for no key hides all
+keyless_plan : {K V : Type 0} (E : Type 0) (rules : Rules) (begin : Start K V) →
+    key_started begin ≡ None →
+    plan_of {E = E} rules begin ≡ plan.Invalidate_all ∷ plan.Reply answer.Done ∷ []
+keyless_plan E rules start.InvalidateAll e = refl
+keyless_plan E rules _ e = absurd (none_some (sym e))
 
 module _ {K V E : Type 0} (P R : K → V → Type 0) where
   -- a call that is told a value for its key
@@ -679,9 +688,13 @@ module _ {K V E : Type 0} (P R : K → V → Type 0) where
   -- ---- of a state
 
   module _ (Q : ℕ → K → Type 0) (eq : K → K → Bool) where
-    -- the call of this number is fair for its key
+    -- the plan is that of a call without a key
+    abbrev IsKeyless : List (Item K V E) → Type 0
+    IsKeyless rest = rest ≡ plan.Invalidate_all ∷ plan.Reply answer.Done ∷ []
+
+    -- the call of this number is fair for its key, if it has one
     abbrev CallIsFair : Option (Told V E) → ℕ → List (Item K V E) → Type 0
-    CallIsFair told n rest = (q : K) × Q n q × PlanFair P R q told rest
+    CallIsFair told n rest = ((q : K) × Q n q × PlanFair P R q told rest) ⊎ IsKeyless rest
 
     record IsFair (s : State K V E) : Type 0 where
       table : TableFair P eq s.world.table.stored
@@ -691,13 +704,26 @@ module _ {K V E : Type 0} (P R : K → V → Type 0) where
 
     -- what the step hands out is fair for the call's key
     abbrev pub TurnIsFair : ℕ → Turn K V E → Type 0
-    TurnIsFair n turn = (q : K) × Q n q × ValueFair R q (handed (reply_of turn))
+    TurnIsFair n turn =
+        ((q : K) × Q n q × ValueFair R q (handed (reply_of turn))) ⊎
+        (handed (reply_of turn) ≡ None)
+
+    -- the call is gone, has handed nothing out, and nothing has changed that is fair
+    record Gone (s : State K V E) (w : World K V E) (next : Next K V E) : Type 0 where
+      table : w.table ≡ s.world.table
+      owners : w.desk.owners ≡ s.world.desk.owners
+      joined : w.desk.joined ≡ s.world.desk.joined
+      settled : w.desk.settled ≡ s.world.desk.settled
+      told : w.desk.told ≡ s.world.desk.told
+      left : next.left ≡ None
+      says : handed (reply_of next.turn) ≡ None
 
     module _ (ties : Ties P R Q eq) where
-      step_fair : (s t : State K V E) (n : ℕ) (turn : Turn K V E) → IsFair s →
-          Step eq s n turn t → IsFair t × TurnIsFair n turn
-      step_fair s t n turn i step =
-          let own = i.plans n step.call step.live in
+      keyed_fair : (s t : State K V E) (n : ℕ) (turn : Turn K V E) → IsFair s →
+          (step : Step eq s n turn t) →
+          (q : K) × Q n q × PlanFair P R q (s.world.desk.told n) step.call.plan →
+          IsFair t × TurnIsFair n turn
+      keyed_fair s t n turn i step own =
           step_cases eq (Leaves P R own.0 Q eq ties s.world.desk n)
           (λ v turn. IsFair v × TurnIsFair n turn) s t n turn step
           (on_plan P R own.0 Q eq ties s.world n own.1 step.call i.table i.desk own.2
@@ -710,31 +736,77 @@ module _ {K V E : Type 0} (P R : K → V → Type 0) where
                   put_cases s.calls n next.left m (Some c) (CallIsFair (w.desk.told m) m c.plan)
                   live
                   (λ here is. subst (λ v. CallIsFair (w.desk.told v) v c.plan) here
-                  (own.0, own.1, subst (CallFair P R own.0 (w.desk.told n)) is l.fair.0))
+                  (inl (own.0, own.1, subst (CallFair P R own.0 (w.desk.told n)) is l.fair.0)))
                   (λ there is. subst (λ v. CallIsFair v m c.plan) (sym (l.told m there))
                   (i.plans m c is));
             },
-            (own.0, own.1, l.fair.1),
+            inl (own.0, own.1, l.fair.1),
           ))
+
+      -- a call without a key hands nothing out, and is gone
+      keyless_fair : (s t : State K V E) (n : ℕ) (turn : Turn K V E) → IsFair s →
+          (step : Step eq s n turn t) → IsKeyless step.call.plan → IsFair t × TurnIsFair n turn
+      keyless_fair s t n turn i step keyless =
+          step_cases eq (Gone s) (λ v r. IsFair v × TurnIsFair n r) s t n turn step
+          (subst (λ p. OnStep eq (Gone s) s.world n step.call p) (sym keyless)
+          (outcomes eq (Gone s) s.world n step.call plan.Invalidate_all
+          (plan.Reply answer.Done ∷ []) (record {
+            table = refl;
+            owners = refl;
+            joined = refl;
+            settled = refl;
+            told = refl;
+            left = refl;
+            says = refl;
+          })))
+          (λ w next g. (
+            record {
+              table = subst (λ f. TableFair P eq f) (sym (ap (λ v. v.stored) g.table)) i.table;
+              desk = rw (g.owners, g.joined, g.settled) i.desk;
+              plans = λ m c live.
+                  put_cases s.calls n next.left m (Some c) (CallIsFair (w.desk.told m) m c.plan)
+                  live
+                  (λ here is. absurd (none_some (sym g.left ∙ is)))
+                  (λ there is. subst (λ f. CallIsFair (f m) m c.plan) (sym g.told)
+                  (i.plans m c is));
+            },
+            inr g.says,
+          ))
+
+      step_fair : (s t : State K V E) (n : ℕ) (turn : Turn K V E) → IsFair s →
+          Step eq s n turn t → IsFair t × TurnIsFair n turn
+      step_fair s t n turn i step = by (i.plans n step.call step.live)
+        where
+          by : CallIsFair (s.world.desk.told n) n step.call.plan → IsFair t × TurnIsFair n turn
+          by (inl own) = keyed_fair s t n turn i step own
+          by (inr keyless) = keyless_fair s t n turn i step keyless
 
       start_fair : (s : State K V E) (start : Start K V) → IsFair s →
           ((key : K) (value : V) → brought start ≡ Some (key, value) → P key value) →
-          Q (s.world.desk.last + 1) (key_started start) → IsFair (started s start)
+          ((key : K) → key_started start ≡ Some key → Q (s.world.desk.last + 1) key) →
+          IsFair (started s start)
       start_fair s start i gave has = record {
         table = i.table;
         desk = i.desk;
         plans = λ m c live.
             put_cases s.calls (s.world.desk.last + 1) (Some (fresh_call s.world.desk.rules start)) m
             (Some c) (CallIsFair (s.world.desk.told m) m c.plan) live
-            (λ here is. (
-              key_started start,
-              subst (λ v. Q v (key_started start)) here has,
-              subst (CallFair P R (key_started start) (s.world.desk.told m)) is
-                  (rest_fair P R (key_started start) (s.world.desk.told m) _
-                  (fresh_fair E P R ties.own s.world.desk.rules start gave)),
-            ))
+            (λ here is. subst (CallIsFair (s.world.desk.told m) m) (ap plan_left is)
+            (subst (λ v. CallIsFair (s.world.desk.told m) v (plan_of s.world.desk.rules start)) here
+            (by (s.world.desk.told m) (key_started start) refl)))
             (λ there is. i.plans m c is);
       }
+        where
+          by : (told : Option (Told V E)) (o : Option K) → key_started start ≡ o →
+              CallIsFair told (s.world.desk.last + 1) (plan_of s.world.desk.rules start)
+          by told None e = inr (keyless_plan E s.world.desk.rules start e)
+          by told (Some key) e = inl (
+            key,
+            has key e,
+            rest_fair P R key told _
+                (subst (λ o. RestFair P R (unwrap_or o key) (plan_of {E = E} s.world.desk.rules start)) e
+                (fresh_fair E P R ties.own s.world.desk.rules start gave key)),
+          )
 
       drop_fair : (s : State K V E) (n : ℕ) (c : Call K V E) → IsFair s → IsFair (dropped s n c)
       drop_fair s n c i = record {
@@ -767,6 +839,17 @@ module _ {K V E : Type 0} (P R : K → V → Type 0) where
         plans = λ m c live. by m c live (n == m) refl;
       }
         where
+          answered : (c : Call K V E) → s.calls n ≡ Some c →
+              CallIsFair (s.world.desk.told n) n c.plan → CallIsFair (Some given) n c.plan
+          answered c live (inr keyless) = inr keyless
+          answered c live (inl own) = inl (
+            own.0,
+            own.1,
+            answered_fair own.0 (s.world.desk.told n) given c.plan
+                (λ key value f g. gave key value
+                (ap (λ o. option_and_then (λ d. asked_key d.plan) o) live ∙ f, g)) own.2,
+          )
+
           by : (m : ℕ) (c : Call K V E) → s.calls m ≡ Some c → (b : Bool) → (n == m) ≡ b →
               CallIsFair (put_at s.world.desk.told n (Some given) m) m c.plan
           by m c live false e =
@@ -774,16 +857,10 @@ module _ {K V E : Type 0} (P R : K → V → Type 0) where
               (sym (put_there s.world.desk.told n (Some given) m e)) (i.plans m c live)
           by m c live true e =
               let live_ : s.calls n ≡ Some c = ap s.calls (eqb-true n m e) ∙ live in
-              let own = i.plans n c live_ in
               subst (λ v. CallIsFair (put_at s.world.desk.told n (Some given) v) v c.plan)
               (eqb-true n m e)
-              (subst (λ v. CallIsFair v n c.plan) (sym (put_here s.world.desk.told n (Some given))) (
-                own.0,
-                own.1,
-                answered_fair own.0 (s.world.desk.told n) given c.plan
-                    (λ key value f g. gave key value
-                    (ap (λ o. option_and_then (λ d. asked_key d.plan) o) live_ ∙ f, g)) own.2,
-              ))
+              (subst (λ v. CallIsFair v n c.plan) (sym (put_here s.world.desk.told n (Some given)))
+              (answered c live_ (i.plans n c live_)))
 
       fair_kept : IsKeptGiving P Q eq IsFair
       fair_kept = record {
@@ -801,7 +878,8 @@ module _ {K V E : Type 0} (P R : K → V → Type 0) where
           (run : Run eq Any (fresh K V E rules size tests) es rs s) →
           ((key : K) (value : V) →
           WasGiven eq (fresh K V E rules size tests) es rs s run key value → P key value) →
-          ((n : ℕ) (start : Start K V) → HasStarted n es rs start → Q n (key_started start)) → IsFair s
+          ((n : ℕ) (start : Start K V) (key : K) → HasStarted n es rs start →
+          key_started start ≡ Some key → Q n key) → IsFair s
       run_fair rules size tests s es rs run gave begun =
           along P Q eq IsFair fair_kept (fresh K V E rules size tests) s es rs run gave begun
           (record {
@@ -825,7 +903,7 @@ stored_given {K} {V} {E} eq rules size tests s es rs run q p is =
     } in
     let fair : IsFair given (λ _ _. Unit {0}) (λ _ _. Unit {0}) eq s =
     run_fair given (λ _ _. Unit {0}) (λ _ _. Unit {0}) eq ties rules size tests s es rs run
-    (λ key value h. h) (λ n start h. tt) in
+    (λ key value h. h) (λ n start key h is. tt) in
     (fair.table q p is).0
 
 module _ {K V E : Type 0} (eq : K → K → Bool) (laws : IsEquivalence eq) (rules : Rules) (size : ℕ)
@@ -840,11 +918,16 @@ module _ {K V E : Type 0} (eq : K → K → Bool) (laws : IsEquivalence eq) (rul
 
   -- the run has started the call for this key
   abbrev StartedFor : ℕ → K → Type 0
-  StartedFor n k = (start : Start K V) × HasStarted n es rs start × (key_started start ≡ k)
+  StartedFor n k = (start : Start K V) × HasStarted n es rs start × (key_started start ≡ Some k)
+
+  -- it was given for a key equal to that of the start
+  abbrev NearStart : Start K V → V → Type 0
+  NearStart start v =
+      (key : K) × Given key v × IsSomeAnd (key_started start) (λ own. eq key own ≡ true)
 
   one_key : (n : ℕ) (a b : K) → StartedFor n a → StartedFor n b → a ≡ b
-  one_key n a b x y = sym x.2 ∙
-      ap key_started (started_once eq (fresh K V E rules size tests) s es rs n x.0 y.0 run x.1 y.1) ∙ y.2
+  one_key n a b x y = some_same (sym x.2 ∙
+      ap key_started (started_once eq (fresh K V E rules size tests) s es rs n x.0 y.0 run x.1 y.1) ∙ y.2)
 
   given_ties : Ties Given Near StartedFor eq
   given_ties = record {
@@ -860,26 +943,32 @@ module _ {K V E : Type 0} (eq : K → K → Bool) (laws : IsEquivalence eq) (rul
 
   given_fair : IsFair Given Near StartedFor eq s
   given_fair = run_fair Given Near StartedFor eq given_ties rules size tests s es rs run
-      (λ key v h. h) (λ n start b. (start, b, refl))
+      (λ key v h. h) (λ n start key b is. (start, b, is))
 
   -- what a call may hand out was given for a key equal to its own
   given_near : (n : ℕ) (turn : Turn K V E) (start : Start K V) (value : V) →
       HasStarted n es rs start → TurnIsFair Given Near StartedFor eq n turn →
-      handed (reply_of turn) ≡ Some value → Near (key_started start) value
-  given_near n turn start value began fair is =
-      subst (λ k. Near k value) (one_key n fair.0 (key_started start) fair.1 (start, began, refl))
-      (fair.2 value is)
+      handed (reply_of turn) ≡ Some value → NearStart start value
+  given_near n turn start value began (inl fair) is =
+      let near : Near fair.0 value = fair.2 value is in
+      (near.0, near.1, subst (λ o. IsSomeAnd o (λ own. eq near.0 own ≡ true)) (key start began fair.0 fair.1) near.2)
+    where
+      key : (start : Start K V) → HasStarted n es rs start → (q : K) → StartedFor n q →
+          Some q ≡ key_started start
+      key start began q for = sym for.2 ∙ ap key_started
+          (started_once eq (fresh K V E rules size tests) s es rs n for.0 start run for.1 began)
+  given_near n turn start value began (inr none) is = absurd (none_some (sym none ∙ is))
 
   -- as it is stepped or polled
   on_event : (t : State K V E) (n : ℕ) (e : Event K V E) (r : Reply K V E) (start : Start K V)
       (value : V) → HasStarted n es rs start → (e ≡ event.Step n) ⊎ (e ≡ event.Poll n) →
-      Happens eq Any s e r t → handed r ≡ Some value → Near (key_started start) value
+      Happens eq Any s e r t → handed r ≡ Some value → NearStart start value
   on_event t n e r start value began (inl is) h v =
       stepped (s.calls n) (subst (λ x. Happens eq Any s x r t) is h)
     where
       stepped : (o : Option (Call K V E)) →
           MatchOption o (Refuses s refusal.UnknownCall r t) (λ _. Steps eq s n r t) →
-          Near (key_started start) value
+          NearStart start value
       stepped None h = absurd (none_some (sym (ap handed h.reply) ∙ v))
       stepped (Some c) h = given_near n h.turn start value began
           (step_fair Given Near StartedFor eq given_ties s t n h.turn given_fair h.step).1
@@ -889,7 +978,7 @@ module _ {K V E : Type 0} (eq : K → K → Bool) (laws : IsEquivalence eq) (rul
     where
       polled : (o : Option (Call K V E)) →
           MatchOption o (Refuses s refusal.UnknownCall r t) (λ _. Polls eq Any s n r t) →
-          Near (key_started start) value
+          NearStart start value
       polled None h = absurd (none_some (sym (ap handed h.reply) ∙ v))
       polled (Some c) h =
           let fair : IsFair Given Near StartedFor eq h.mid =

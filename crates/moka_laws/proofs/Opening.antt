@@ -1,6 +1,6 @@
 -- By which step a call comes to ask, and to end its own load without a value.
 use Rattle.std.proofs.Common.{◌≡◌, ℕ, ◌+◌, ◌==◌, Bool, true, false, List, [], ◌∷◌, Option, Some, None, inl, inr, refl, sym, ap, ◌∙◌, subst, arith}
-use Rattle.std.proofs.lemmas.Bool.{eqb-true, false≢true}
+use Rattle.std.proofs.lemmas.Bool.{eqb-true}
 use Rattle.std.specs.Cmp.{IsEquivalence}
 use Rattle.moka_hist.specs.State.{State, World, Call, fresh}
 use Rattle.moka_hist.specs.Plan.{Item, Aim, Removal, end_load, is_disabled, look}
@@ -188,10 +188,14 @@ module _ {K V E : Type 0} where
 
     unseen_leave : (aim : Aim K V) (key : K) (stored : Stored V) → c.plan ≡ plan.Judge aim key stored ∷ [] →
         is_seen s.world.desk (replace_of aim) key stored ≡ false → Leaves s n c (misses c aim)
-    unseen_leave (plan.To_load sought) key stored e unseen = quiet _ refl (λ f. cc)
     unseen_leave (plan.To_own sought) key stored e unseen =
         asks_now sought (inr (key, stored, e, unseen))
-    unseen_leave _ key stored e unseen = absurd (false≢true (sym unseen))
+    unseen_leave (plan.To_insert there value) key stored e unseen =
+        put_plans (λ p. Leaves s n c (goes c p)) c.rules there value _
+        (goes_on (plan.Drain ∷ plan.Moment (plan.To_store there value) ∷ _) refl)
+        (goes_on (plan.Drain ∷ plan.Lock there ∷ plan.Moment (plan.To_store there value) ∷ _) refl)
+    unseen_leave (plan.To_evict there stamp cause) key stored e unseen = keeps_quiet
+    unseen_leave _ key stored e unseen = quiet _ refl (λ f. cc)
 
     finds_leave : (aim : Aim K V) (k : K) (stored : Stored V) → Leaves s n c (finds_pair c aim k stored)
     finds_leave (plan.To_evict there stamp cause) k stored =
@@ -522,7 +526,7 @@ module _ {K V E : Type 0} (eq : K → K → Bool) where
 
   led_followed : IsFollowed eq AreLed
   led_followed = record {
-    at = λ s moment led i. more s _ led (λ n c live. live) i;
+    at = λ s moment on led i. more s _ led (λ n c live. live) i;
     start = λ s start fits led i. record {
       reached = run_reached eq s _ led.events led.replies i.reached led.run;
       led = λ n c live.

@@ -15,6 +15,7 @@ use Rattle.moka_hist.specs.Telling.{ended, with_end}
 use Rattle.moka_hist.specs.Step.{Step, state_after}
 use Rattle.moka_hist.specs.Run.{started, fresh_call}
 use Rattle.moka_hist.specs.Visits.{cause_of, runs}
+use Rattle.moka_hist.specs.declared.replies.Answer.TheVariants as said_as
 use Rattle.moka_hist.specs.declared.rules.Cause.{Cause}
 use Rattle.moka_hist.specs.declared.events.Start.{Start}
 use Rattle.moka_hist.specs.declared.notices.Notice.{Notice}
@@ -27,7 +28,7 @@ use Rattle.moka_laws.proofs.Before.{Before, before_is, is_before, before_more, b
 use Rattle.moka_laws.proofs.Counting.{none_some, some_same, put_cases, put_here, put_there, differ, differ_not}
 use Rattle.moka_laws.proofs.Owning.{plan_left}
 use Rattle.moka_laws.proofs.Locking.{Locks}
-use Rattle.moka_laws.proofs.Plans.{IsTail, Answering, Settling, IsDrained, Looking, Putting, IsPosted, Draining, Ended, Locking, IsPlan, Posted, Drained, Posting, Hearing, Noticing, Listening, Unlocking, Turning, Applying, Ending, Judging, Owning, Giving, Reading, Asking, Telling, Writing, Removing, Locking_out, Choosing, Finding, Chosen, Taking, Freeing, Idling, Asking_op, Owning_key, Owning_alone, Reading_key, Telling_op}
+use Rattle.moka_laws.proofs.Plans.{IsTail, Answering, Settling, IsDrained, Looking, Putting, IsPosted, Draining, Ended, Locking, IsPlan, Posted, Drained, Posting, Hearing, Noticing, Listening, Unlocking, Turning, Applying, Ending, Judging, Owning, Giving, Reading, Asking, Telling, Writing, Removing, Locking_out, Choosing, Finding, Chosen, Taking, Freeing, Hiding, Idling, Asking_op, Owning_key, Owning_alone, Reading_key, Telling_op}
 use Rattle.moka_laws.proofs.Replacing.{opens_notice, listening, not_opened, opened_committed, told_once}
 use Rattle.moka_laws.proofs.Rules.{fresh_plan}
 use Rattle.moka_laws.proofs.Noticing.{IsNoticing, noticing_kept, naming, running, drained_none, posted_none, misses_none, finds_none, keeps_none, hits_none, read_none, told_none, form_none, read_key_none, told_op_none, tail_none}
@@ -319,6 +320,8 @@ module _ {K V E : Type 0} where
     )
     on_plan p e (Freeing rest t) = outcomes eq (Made p) w n c (plan.Unlock false) rest
         (locks p _ None e (λ h. h) (tail_none n c rest t))
+    on_plan p e Hiding = outcomes eq (Made p) w n c plan.Invalidate_all (plan.Reply said_as.Done ∷ [])
+        (quiet p _ e (λ h. h) refl)
     on_plan p e (Idling rest t) = outcomes eq (Made p) w n c plan.Idle rest
         (quiet p _ e (λ h. h) (tail_none n c rest t))
 

@@ -8,7 +8,7 @@ use Rattle.moka_hist.specs.State.{Call, World, DeskPart}
 use Rattle.moka_hist.specs.Plan.{Item, Aim, Change, Removal, look, is_disabled}
 use Rattle.moka_hist.specs.Plan as plan
 use Rattle.moka_hist.specs.Causes.{chosen_holds}
-use Rattle.moka_hist.specs.Visits.{is_seen, cause_of, gave_back, decided, is_running, is_unlocked_for, locked_by, times_at, unlocked, with_notice, without_moment, first_of, holding_with, claimed, claimed_alone, claim_of, finds, has_room, is_free_for, settlement_for, readers_without, settled_without, stamped, judged, settled_as, opened, took_told, ended_turn}
+use Rattle.moka_hist.specs.Visits.{is_seen, cause_of, gave_back, decided, is_running, is_unlocked_for, locked_by, times_at, unlocked, with_notice, without_moment, first_of, holding_with, claimed, claimed_alone, claim_of, finds, has_room, is_free_for, settlement_for, readers_without, settled_without, stamped, judged, settled_as, opened, took_told, ended_turn, invalidated_all}
 use Rattle.moka_hist.specs.Tables.{answer_of, by_pair, removed, taken_by, written}
 use Rattle.moka_hist.specs.Bound.{times_of, stayed, decided_by, most_undecided}
 use Rattle.moka_hist.specs.Next.{Next, goes, stays, waits, asks, answers}
@@ -74,6 +74,7 @@ module _ {K V E : Type 0} where
   IsPassing (plan.Unlock wrote) = Unit {0}
   IsPassing plan.Heard = Unit {0}
   IsPassing plan.Idle = Unit {0}
+  IsPassing plan.Invalidate_all = Unit {0}
   IsPassing _ = ⊥
 
   -- such an item by which no call ends what it owns
@@ -273,6 +274,7 @@ module _ {K V E : Type 0} (eq : K → K → Bool) where
       (goes c (plan.Notice key old (cause_handed removal) false ∷ plan.Unlock true ∷
       plan.Post (Remove n old.stamp) ∷ said removal (removed_answer removal old.value))))
   Outcomes M w n c plan.Idle rest = M (on_desk w (gave_back w.desk n)) (goes c rest)
+  Outcomes M w n c plan.Invalidate_all rest = M (on_desk w (invalidated_all w.desk)) (goes c rest)
   Outcomes M w n c (plan.Reply answer) rest = M (on_desk w (gave_back w.desk n)) (answers answer)
 
   -- the desk once the call has tried to post its write
@@ -505,6 +507,7 @@ module _ {K V E : Type 0} (eq : K → K → Bool) where
         refl o),
   )
   outcomes M w n c plan.Idle rest o = o
+  outcomes M w n c plan.Invalidate_all rest o = o
   outcomes M w n c (plan.Reply answer) rest o = o
 
   module _ (M : World K V E → Next K V E → Type 0) (w : World K V E) (n : ℕ) (c : Call K V E) where
@@ -520,6 +523,7 @@ module _ {K V E : Type 0} (eq : K → K → Bool) where
     passes_on (plan.Settle with) rest one on waits = on _
     passes_on (plan.Unlock wrote) rest one on waits = on _
     passes_on plan.Idle rest one on waits = on _
+    passes_on plan.Invalidate_all rest one on waits = on _
     passes_on _ rest one on waits = absurd one
 
     -- so where it is known what the item leaves alone
@@ -533,4 +537,5 @@ module _ {K V E : Type 0} (eq : K → K → Bool) where
     passes_by plan.End rest one on waits = on _ search
     passes_by (plan.Unlock wrote) rest one on waits = on _ search
     passes_by plan.Idle rest one on waits = on _ search
+    passes_by plan.Invalidate_all rest one on waits = on _ search
     passes_by _ rest one on waits = absurd one

@@ -117,7 +117,7 @@ module _ {K V E : Type 0} (eq : K → K → Bool) (laws : IsEquivalence eq) wher
 
   owners_followed : IsFollowed eq AreOwners
   owners_followed = record {
-    at = λ s moment led i. record { reached = on_reached s _ led i.reached; own = i.own };
+    at = λ s moment on led i. record { reached = on_reached s _ led i.reached; own = i.own };
     start = λ s start fits led i. record { reached = on_reached s _ led i.reached; own = i.own };
     step = owners_step;
     tell = λ s n given asked led i. record { reached = on_reached s _ led i.reached; own = i.own };

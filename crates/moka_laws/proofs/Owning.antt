@@ -3,8 +3,6 @@ use Rattle.std.proofs.Common.{◌≡◌, ℕ, ◌+◌, ◌==◌, Bool, true, fal
 use Rattle.std.proofs.lemmas.Bool.{false≢true}
 use Rattle.std.specs.Option.{option_map_or}
 use Rattle.std.specs.Cmp.{IsEquivalence}
-use Rattle.moka_hist.specs.Step.{replace_of}
-use Rattle.moka_hist.specs.Visits.{is_seen}
 use Rattle.moka_hist.specs.Finite.{put_key, load_eq, kind_eq}
 use Rattle.moka_hist.specs.State.{State, World, Call, DeskPart}
 use Rattle.moka_hist.specs.Plan.{Item, Aim, Removal, plan_of}
@@ -201,15 +199,18 @@ module _ {K V E : Type 0} where
     misses_owns c (plan.To_evict there stamp cause) key rest o = keeps_owns c
     misses_owns c _ key rest o = record { first = o.first; later = refl }
 
-    -- the record that was judged is not seen by its replace test: so the call is to load
-    unseen_owns : (c : Call K V E) (d : DeskPart K V E) (aim : Aim K V) (key : K) (stored : Stored V)
-        (rest : List (Item K V E)) → is_seen d (replace_of aim) key stored ≡ false →
-        Owns owners n (plan.Judge aim key stored ∷ rest) → Owns owners n (plan_left (misses c aim).left)
-    unseen_owns c d (plan.To_load sought) key stored rest e o =
+    -- the record that was judged is not seen
+    unseen_owns : (c : Call K V E) (aim : Aim K V) (key : K) (stored : Stored V)
+        (rest : List (Item K V E)) → Owns owners n (plan.Judge aim key stored ∷ rest) →
+        Owns owners n (plan_left (misses c aim).left)
+    unseen_owns c (plan.To_show form) key stored rest o = owns_none [] refl
+    unseen_owns c (plan.To_load sought) key stored rest o =
         owns_none (plan.Own sought ∷ []) refl
-    unseen_owns c d (plan.To_own sought) key stored rest e o =
-        record { first = o.first; later = refl }
-    unseen_owns c d _ key stored rest e o = absurd (false≢true (sym e))
+    unseen_owns c (plan.To_insert there value) key stored rest o =
+        put_plans (λ p. Owns owners n (plan_left (goes c p).left)) c.rules there value _
+        (owns_none _ refl) (owns_none _ refl)
+    unseen_owns c (plan.To_evict there stamp cause) key stored rest o = keeps_owns c
+    unseen_owns c _ key stored rest o = record { first = o.first; later = refl }
 
     finds_owns : (c : Call K V E) (aim : Aim K V) (key k : K) (stored : Stored V) (rest : List (Item K V E)) →
         Owns owners n (plan.Get aim key ∷ rest) →
@@ -373,7 +374,7 @@ module _ {K V E : Type 0} (eq : K → K → Bool) where
     )
     on_item (plan.Judge aim key stored) rest p o = (
       (λ seen. keeps refl (hits_owns _ n c aim key stored.value stored rest p o)),
-      λ unseen. keeps refl (unseen_owns _ n c w.desk aim key stored rest unseen o),
+      λ unseen. keeps refl (unseen_owns _ n c aim key stored rest o),
     )
     on_item (plan.Own sought) rest p o = (
       (λ able none. record {

@@ -27,7 +27,7 @@ use Rattle.moka_hist.specs.declared.visits.Settled.{Settled}
 use Rattle.moka_hist.specs.declared.visits.Settled.TheVariants as settled
 use Rattle.moka_hist.specs.declared.visits.Found.TheVariants as found
 use Rattle.moka_hist.specs.declared.writes.Write as write
-use Rattle.moka_laws.proofs.Rules.{put_plans, loaded_plans, kept_next, chosen_next, read_key_next, told_op_next, IsFresh, Disabled, Gets, Loads, Owns, Computes, Computes_alone, Finds_or_puts, Gives_back, Puts, Locks_and_puts, Takes_out, Locks_and_takes_out, Evicts, Locks_and_evicts, fresh_plan}
+use Rattle.moka_laws.proofs.Rules.{put_plans, loaded_plans, kept_next, chosen_next, read_key_next, told_op_next, IsFresh, Disabled, Gets, Loads, Owns, Computes, Computes_alone, Finds_or_puts, Gives_back, Puts, Locks_and_puts, Takes_out, Locks_and_takes_out, Evicts, Invalidates_all, Locks_and_evicts, fresh_plan}
 use Rattle.moka_laws.proofs.StepCases.{OnStep, step_cases}
 use Rattle.moka_laws.proofs.Outcomes.{alone_of, outcomes, OwnsKey}
 use Rattle.moka_laws.proofs.Kept.{IsInvariant, in_reached}
@@ -108,6 +108,7 @@ module _ {K V E : Type 0} where
     Taking : (removal : Removal K) (key : K) → IsPlan (plan.Out removal key ∷ [])
     Freeing : (rest : List (Item K V E)) → IsTail rest → IsPlan (plan.Unlock false ∷ rest)
     Idling : (rest : List (Item K V E)) → IsTail rest → IsPlan (plan.Idle ∷ rest)
+    Hiding : IsPlan (plan.Invalidate_all ∷ plan.Reply answer.Done ∷ [])
 
   -- the call's plan has one of these forms, and it has not given up yet
   pub record IsKnown (c : Call K V E) : Type 0 where
@@ -218,6 +219,7 @@ module _ {K V E : Type 0} where
       Posted _ (Draining _ (Removing removal key))
   fresh_form rules p (Locks_and_takes_out removal key on named) =
       Posted _ (Draining _ (Locking_out removal key))
+  fresh_form rules p Invalidates_all = Hiding
   fresh_form rules p (Evicts key stamp cause off) = Finding key stamp cause
   fresh_form rules p (Locks_and_evicts key stamp cause on) = Choosing key stamp cause
 
@@ -359,6 +361,7 @@ module _ {K V E : Type 0} where
     )
     on_plan p (Freeing rest t) = outcomes eq Leaves w n c (plan.Unlock false) rest
         (goes_known c rest h.young (Posted _ (Ended _ t)))
+    on_plan p Hiding = outcomes eq Leaves w n c plan.Invalidate_all (plan.Reply answer.Done ∷ []) tt
     on_plan p (Idling rest t) = outcomes eq Leaves w n c plan.Idle rest
         (goes_known c rest h.young (Posted _ (Ended _ t)))
 

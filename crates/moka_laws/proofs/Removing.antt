@@ -511,7 +511,7 @@ module _ {K V E : Type 0} (eq : K → K → Bool) (laws : IsEquivalence eq) (beg
 
     removing_followed : IsFollowed eq (IsRemoving was)
     removing_followed = record {
-      at = λ s moment led i. record {
+      at = λ s moment on led i. record {
         led = more s _ led i.led;
         stamped = (stamped_kept eq laws).at s moment i.stamped;
         born = i.born;

@@ -1,9 +1,6 @@
 -- What a plan says of its call: whether it owns a load, and which load it waits for.
 use Rattle.std.proofs.Common.{◌≡◌, ◌≢◌, ℕ, false, cond, List, [], ◌∷◌, Option, Some, None, is_some, refl, sym, arith}
-use Rattle.std.proofs.lemmas.Bool.{false≢true}
-use Rattle.moka_hist.specs.Step.{replace_of}
-use Rattle.moka_hist.specs.Visits.{is_seen}
-use Rattle.moka_hist.specs.State.{DeskPart, Call}
+use Rattle.moka_hist.specs.State.{Call}
 use Rattle.moka_hist.specs.Plan.{Item, Aim, plan_of}
 use Rattle.moka_hist.specs.Plan as plan
 use Rattle.moka_hist.specs.Next.{goes}
@@ -98,15 +95,18 @@ module _ {K V E : Type 0} where
     misses_fits c (plan.To_evict there stamp cause) key f = keeps_fits c (sym f.owning) f.waiting
     misses_fits c _ key f = record { last = refl; owning = f.owning; waiting = f.waiting }
 
-    -- a record that is not seen by its replace test is loaded
-    pub unseen_fits : (c : Call K V E) (d : DeskPart K V E) (aim : Aim K V) (key : K) (found : Stored V) →
-        is_seen d (replace_of aim) key found ≡ false → Fits o j (plan.Judge aim key found ∷ []) →
-        Fits o j (plan_left (misses c aim).left)
-    unseen_fits c d (plan.To_load sought) key found e f =
-        record { last = refl; owning = f.owning; waiting = f.waiting }
-    unseen_fits c d (plan.To_own sought) key found e f =
-        record { last = refl; owning = f.owning; waiting = f.waiting }
-    unseen_fits c d _ key found e f = absurd (false≢true (sym e))
+    -- the record that was judged is not seen
+    pub unseen_fits : (c : Call K V E) (aim : Aim K V) (key : K) (found : Stored V) →
+        Fits o j (plan.Judge aim key found ∷ []) → Fits o j (plan_left (misses c aim).left)
+    unseen_fits c (plan.To_show form) key found f =
+        record { last = tt; owning = omega (arith, f.owning); waiting = f.waiting }
+    unseen_fits c (plan.To_insert there value) key found f =
+        put_plans (λ p. Fits o j (plan_left (goes c p).left)) c.rules there value _
+        (record { last = refl; owning = f.owning; waiting = f.waiting })
+        (record { last = refl; owning = f.owning; waiting = f.waiting })
+    unseen_fits c (plan.To_evict there stamp cause) key found f =
+        keeps_fits c (sym f.owning) f.waiting
+    unseen_fits c _ key found f = record { last = refl; owning = f.owning; waiting = f.waiting }
 
     pub finds_fits : (c : Call K V E) (aim : Aim K V) (key k : K) (stored : Stored V) →
         Fits o j (plan.Get aim key ∷ []) → Fits o j (plan_left (finds_pair c aim k stored).left)

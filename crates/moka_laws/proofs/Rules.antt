@@ -327,6 +327,7 @@ module _ {K V E : Type 0} where
     Locks_and_takes_out : (removal : Removal K) (key : K) → rules.listener ≡ true →
         IsStarted removal →
         IsFresh rules (plan.Drain ∷ plan.Lock key ∷ plan.Moment (plan.To_take_out removal key) ∷ [])
+    Invalidates_all : IsFresh rules (plan.Invalidate_all ∷ plan.Reply answer.Done ∷ [])
     Evicts : (key : K) (stamp : _) (cause : Cause) → rules.listener ≡ false →
         IsFresh rules (plan.Get (plan.To_evict key stamp cause) key ∷ [])
     Locks_and_evicts : (key : K) (stamp : _) (cause : Cause) → rules.listener ≡ true →
@@ -369,6 +370,7 @@ module _ {K V E : Type 0} where
   fresh_plan rules (start.ComputeAlone key) = Computes_alone key
   fresh_plan rules (start.Invalidate key) = takes_out rules plan.To_invalidate key tt
   fresh_plan rules (start.Remove key) = takes_out rules plan.To_remove key tt
+  fresh_plan rules start.InvalidateAll = Invalidates_all
   fresh_plan rules (start.Evict key stamp cause) = by rules.listener refl
     where
       by : (listener : Bool) → rules.listener ≡ listener →

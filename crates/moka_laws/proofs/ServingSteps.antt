@@ -121,7 +121,7 @@ module _ {K V E : Type 0} (eq : K → K → Bool) (w : World K V E) (n : ℕ) (c
   on_item (plan.Judge aim key stored) rest p q =
       let f = alone (plan.Judge aim key stored) rest q.fits.last q in (
         λ seen. judges aim key stored p f,
-        λ unseen. goes_free (unseen_fits _ _ c w.desk aim key stored unseen f)
+        λ unseen. goes_free (unseen_fits _ _ c aim key stored f)
             (misses_awaits c aim),
       )
   on_item (plan.Own sought) rest p q =

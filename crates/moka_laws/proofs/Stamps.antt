@@ -71,7 +71,7 @@ module _ {K V : Type 0} (eq : K → K → Bool) where
         o.1.stamp → eq q r ≡ true
 
   -- what a key has once something was put at one
-  key_cases : (f : K → Option (K × Stored V)) (k : K) (v : Option (K × Stored V)) (q : K)
+  pub key_cases : (f : K → Option (K × Stored V)) (k : K) (v : Option (K × Stored V)) (q : K)
       (p : K × Stored V) (P : Type 0) →
       put_key eq f k v q ≡ Some p → (eq k q ≡ true → v ≡ Some p → P) →
       (eq k q ≡ false → f q ≡ Some p → P) → P

@@ -4,7 +4,7 @@ use Rattle.std.proofs.Common.{◌≡◌, ℕ, zero, suc, ◌==◌, Bool, true, f
 use Rattle.moka_hist.specs.Finite.{times}
 use Rattle.moka_hist.specs.State.{State, World, DeskPart, TablePart}
 use Rattle.moka_hist.specs.Tables.{Operates, by_pair, removed, taken_by, written}
-use Rattle.moka_hist.specs.Visits.{claimed, claimed_alone, is_unlocked_for, locked_by, makes, read, settlement_for}
+use Rattle.moka_hist.specs.Visits.{claimed, claimed_alone, is_seen, is_unlocked_for, judged, locked_by, makes, read, settlement_for}
 use Rattle.moka_hist.specs.Step.{Access, On_table, On_desk, access_of, Gets, Step}
 use Rattle.moka_hist.specs.Run.{Goings}
 use Rattle.moka_hist.specs.declared.accesses.Got.{Got}
@@ -62,42 +62,67 @@ module _ {K V : Type 0} (eq : K → K → Bool) where
           ap (λ (v : TablePart K V). times x v.committed) h.1 ∙
           by_commits (taken_by stamp (t.stored key)) x t (removed eq n t key) more
 
-module _ {K V E : Type 0} (eq : K → K → Bool) where
-  -- no visit changes the rules, gives a number out, or turns the listener off
-  record SameBase (d new : DeskPart K V E) : Type 0 where
-    rules : new.rules ≡ d.rules
-    last : new.last ≡ d.last
-    off : new.off ≡ d.off
+module _ {K V E : Type 0} where
+  -- what is kept of accesses after a visit and an access: only one that judges changes that
+  abbrev pub accessed_by : DeskPart K V E → Visit K V E → ℕ → Option ℕ
+  accessed_by d (visit.Judge replace key stored) =
+      (judged d stored.stamp stored.modified (is_seen d replace key stored)).accessed
+  accessed_by d _ = d.accessed
 
-  visit_base : (d : DeskPart K V E) (made : Visit K V E) → SameBase d (makes eq d made)
+  abbrev pub accessed_after : World K V E → Access K V E → ℕ → Option ℕ
+  accessed_after w (On_table operation) = w.desk.accessed
+  accessed_after w (On_desk made) = accessed_by w.desk made
+
+  -- from when on records are valid after one: only one that invalidates all changes that
+  abbrev pub valid_by : DeskPart K V E → Visit K V E → Option ℕ
+  valid_by d visit.InvalidateAll = Some d.clock
+  valid_by d _ = d.valid_after
+
+  abbrev pub valid_from : World K V E → Access K V E → Option ℕ
+  valid_from w (On_table operation) = w.desk.valid_after
+  valid_from w (On_desk made) = valid_by w.desk made
+
+  -- no visit changes the rules, gives a number out, turns the listener off, or moves the clock
+  pub record SameBase (kept : ℕ → Option ℕ) (from : Option ℕ) (d new : DeskPart K V E)
+      : Type 0 where
+    pub rules : new.rules ≡ d.rules
+    pub last : new.last ≡ d.last
+    pub off : new.off ≡ d.off
+    pub clock : new.clock ≡ d.clock
+    pub accessed : new.accessed ≡ kept
+    pub valid : new.valid_after ≡ from
+
+module _ {K V E : Type 0} (eq : K → K → Bool) where
+  visit_base : (d : DeskPart K V E) (made : Visit K V E) →
+      SameBase (accessed_by d made) (valid_by d made) d (makes eq d made)
   visit_base d (visit.LockKey call key) = by (is_unlocked_for d call key)
     where
-      by : (b : Bool) → SameBase d (locked_by eq d call key b)
-      by true = record { rules = refl; last = refl; off = refl }
-      by false = record { rules = refl; last = refl; off = refl }
+      by : (b : Bool) → SameBase d.accessed d.valid_after d (locked_by eq d call key b)
+      by true = record { rules = refl; last = refl; off = refl; clock = refl; accessed = refl; valid = refl }
+      by false = record { rules = refl; last = refl; off = refl; clock = refl; accessed = refl; valid = refl }
   visit_base d (visit.WaitOrOwn call key kind) = by (d.owners (record { key = key; kind = kind }))
     where
-      by : (o : Option ℕ) → SameBase d (claimed eq d call (record { key = key; kind = kind }) o)
-      by None = record { rules = refl; last = refl; off = refl }
-      by (Some owner) = record { rules = refl; last = refl; off = refl }
+      by : (o : Option ℕ) → SameBase d.accessed d.valid_after d (claimed eq d call (record { key = key; kind = kind }) o)
+      by None = record { rules = refl; last = refl; off = refl; clock = refl; accessed = refl; valid = refl }
+      by (Some owner) = record { rules = refl; last = refl; off = refl; clock = refl; accessed = refl; valid = refl }
   visit_base d (visit.OwnAlone call key) = by (d.owners (computes_of key))
     where
-      by : (o : Option ℕ) → SameBase d (claimed_alone eq d call (computes_of key) o)
-      by None = record { rules = refl; last = refl; off = refl }
-      by (Some owner) = record { rules = refl; last = refl; off = refl }
+      by : (o : Option ℕ) → SameBase d.accessed d.valid_after d (claimed_alone eq d call (computes_of key) o)
+      by None = record { rules = refl; last = refl; off = refl; clock = refl; accessed = refl; valid = refl }
+      by (Some owner) = record { rules = refl; last = refl; off = refl; clock = refl; accessed = refl; valid = refl }
   visit_base d (visit.ReadSettled call) = by (is_some (settlement_for d call)) refl
     where
-      by : (b : Bool) → is_some (settlement_for d call) ≡ b → SameBase d (read d call)
-      by true e = rw e (record { rules = refl; last = refl; off = refl })
-      by false e = rw e (record { rules = refl; last = refl; off = refl })
-  visit_base d _ = record { rules = refl; last = refl; off = refl }
+      by : (b : Bool) → is_some (settlement_for d call) ≡ b → SameBase d.accessed d.valid_after d (read d call)
+      by true e = rw e (record { rules = refl; last = refl; off = refl; clock = refl; accessed = refl; valid = refl })
+      by false e = rw e (record { rules = refl; last = refl; off = refl; clock = refl; accessed = refl; valid = refl })
+  visit_base d _ = record { rules = refl; last = refl; off = refl; clock = refl; accessed = refl; valid = refl }
 
   access_base : (n : ℕ) (w new : World K V E) (a : Access K V E) (g : Got K V E) → Gets eq n w a g new →
-      SameBase w.desk new.desk
+      SameBase (accessed_after w a) (valid_from w a) w.desk new.desk
   access_base n w new (On_table o) (got.Table table.Going) gets = rw gets.1
-      (record { rules = refl; last = refl; off = refl })
+      (record { rules = refl; last = refl; off = refl; clock = refl; accessed = refl; valid = refl })
   access_base n w new (On_table o) (got.Table (table.Decided answer)) gets = rw gets.2
-      (record { rules = refl; last = refl; off = refl })
+      (record { rules = refl; last = refl; off = refl; clock = refl; accessed = refl; valid = refl })
   access_base n w new (On_desk made) (got.Desk f) gets = rw gets.1 (visit_base w.desk made)
   access_base n w new (On_table o) (got.Desk f) gets = absurd gets
   access_base n w new (On_desk made) (got.Table turn) gets = absurd gets
@@ -130,10 +155,13 @@ module _ {K V E : Type 0} (eq : K → K → Bool) where
   step_calls s t n x turn other step =
       ap (λ (v : State K V E). v.calls x) step.after ∙ put_there s.calls n _ x other
 
-  step_base : (s t : State K V E) (n : ℕ) (turn : Turn K V E) → Step eq s n turn t →
-      SameBase s.world.desk t.world.desk
+  pub step_base : (s t : State K V E) (n : ℕ) (turn : Turn K V E) →
+      (step : Step eq s n turn t) →
+      SameBase (accessed_after s.world (access_of n step.call))
+      (valid_from s.world (access_of n step.call)) s.world.desk t.world.desk
   step_base s t n turn step =
-      subst (λ (v : State K V E). SameBase s.world.desk v.world.desk) (sym step.after)
+      subst (λ (v : State K V E). SameBase (accessed_after s.world (access_of n step.call))
+      (valid_from s.world (access_of n step.call)) s.world.desk v.world.desk) (sym step.after)
       (access_base n s.world step.world (access_of n step.call) step.given step.gets)
 
   pub step_rules : (s t : State K V E) (n : ℕ) (turn : Turn K V E) → Step eq s n turn t →

@@ -2,10 +2,8 @@
 use Rattle.std.proofs.Common.{◌≡◌, ℕ, ◌+◌, ◌≤◌, ◌==◌, Bool, true, false, cond, List, [], ◌∷◌, ◌++◌, Some, None, refl, sym, ap, ◌∙◌, subst, arith, Option}
 use Rattle.std.proofs.lemmas.Bool.{eqb-true, false≢true}
 use Rattle.moka_hist.specs.Plan.{or_insert_plan, seek}
-use Rattle.moka_hist.specs.Step.{replace_of}
-use Rattle.moka_hist.specs.Visits.{is_seen}
 use Rattle.moka_hist.specs.Finite.{times}
-use Rattle.moka_hist.specs.State.{DeskPart, State, World, Call}
+use Rattle.moka_hist.specs.State.{State, World, Call}
 use Rattle.moka_hist.specs.Plan.{Item, Aim, Removal, insert_plan, is_disabled, load_plan, plan_of}
 use Rattle.moka_hist.specs.Plan as plan
 use Rattle.moka_hist.specs.Next.{Next, goes}
@@ -204,14 +202,17 @@ module _ {K V E : Type 0} (begun : Start K V) where
               (arith, ap (stored begun) (same_answer (reply.Loaded found.value false) b e), stores_none {E = E} begun (reply.Loaded found.value false) refl refl refl);
         }
 
-    -- a record that is not seen by its replace test is loaded
-    unseen_says : (c : Call K V E) (d : DeskPart K V E) (aim : Aim K V) (key : K) (found : Stored V) →
-        is_seen d (replace_of aim) key found ≡ false → Says k (misses c aim)
-    unseen_says c d (plan.To_load sought) key found e = record
-        { left = omega arith; plain = refl; now = λ b f. cc }
-    unseen_says c d (plan.To_own sought) key found e = record
-        { left = omega arith; plain = refl; now = λ b f. cc }
-    unseen_says c d _ key found e = absurd (false≢true (sym e))
+    -- the record that was judged is not seen
+    unseen_says : (c : Call K V E) (aim : Aim K V) (key : K) (found : Stored V) →
+        takes {E = E} (plan.Judge aim key found) ≡ 0 → Says k (misses c aim)
+    unseen_says c (plan.To_evict own stamp cause) key found t = absurd (omega (arith, t))
+    unseen_says c (plan.To_show form) key found t = misses_says c (plan.To_show form) key t
+    unseen_says c (plan.To_insert under new) key found t =
+        misses_says c (plan.To_insert under new) key t
+    unseen_says c (plan.To_load sought) key found t = misses_says c (plan.To_load sought) key t
+    unseen_says c (plan.To_own sought) key found t = misses_says c (plan.To_own sought) key t
+    unseen_says c (plan.To_compute compute) key found t =
+        misses_says c (plan.To_compute compute) key t
 
     read_says : (c : Call K V E) (sought : Sought K) (with : Settled V E) → Stores k c.plan → Says k
         (after_read c sought (found.ReadSettled with))
@@ -349,7 +350,7 @@ module _ {K V E : Type 0} (begun : Start K V) where
     )
     on_item (plan.Judge aim key found) rest l p q = (
       λ seen. hits_says _ c aim key found (omega (arith, q.plain)),
-      λ unseen. unseen_says _ c w.desk aim key found unseen,
+      λ unseen. unseen_says _ c aim key found (omega (arith, q.plain)),
     )
     on_item (plan.Own sought) rest l p q = (
       λ yes e. record { left = omega arith; plain = refl; now = λ b e. cc },

@@ -1,6 +1,5 @@
 -- Computes: one at a time on a key, asked with what its own look found, and answering what it did.
 use Rattle.std.specs.Prelude.{◌≡◌, ◌≢◌, ◌⊎◌, ℕ, Bool, true, false, List, [], ◌∷◌, Option, Some, None, IsSome}
-use Rattle.std.specs.Option.{option_map}
 use Rattle.moka_hist.specs.State.{Call, State}
 use Rattle.moka_hist.specs.Plan.{Aim, Item, look, is_disabled}
 use Rattle.moka_hist.specs.Plan as plan
@@ -24,7 +23,8 @@ use Rattle.moka_hist.specs.declared.records.Stored.{Stored}
 use Rattle.moka_hist.specs.declared.replies.Answer.{Answer}
 use Rattle.moka_hist.specs.declared.replies.Answer.TheVariants as answer
 use Rattle.moka_hist.specs.declared.replies.Ask.TheVariants as ask
-use Rattle.moka_laws.specs.Starting.{Leads, WasStarted}
+use Rattle.moka_laws.specs.Looks.{HasDecided, HasShown, LooksUp}
+use Rattle.moka_laws.specs.Starting.{HasMade, Leads, WasStarted}
 
 -- ---- one at a time
 
@@ -100,51 +100,23 @@ AloneWaitsForNobody K V E eq =
 
 -- ---- what it is asked with
 
--- A step that the live call made on the way to this state, and what it was.
-pub record HasMade {K V E : Type 0} (eq : K → K → Bool) (s : State K V E) (n : ℕ)
-    (What : State K V E → Call K V E → Turn K V E → State K V E → Type 0) : Type 0 where
-  pub before : State K V E
-  pub reached : IsReached eq before
-  pub call : Call K V E
-  pub live : before.calls n ≡ Some call
-  pub turn : Turn K V E
-  pub after : State K V E
-  pub step : Step eq before n turn after
-  pub what : What before call turn after
-  pub led : Leads eq after s
+-- The step looks up what the compute's key has, as the owner of its computes.
+pub record LooksAsOwner {K V E : Type 0} (n : ℕ) (compute : Compute K) (key : K)
+    (found : Option (K × Stored V)) (s : State K V E) (c : Call K V E) (reply : Turn K V E)
+    (t : State K V E) : Type 0 where
+  pub look : LooksUp n (plan.To_compute compute) key found s c reply t
+  pub owns : OwnsComputes s n key
 
--- the pair as an ask and an answer speak of it: without stamp and moment
-abbrev pub seen_as : {K V : Type 0} → Option (K × Stored V) → Option (K × V)
-seen_as found = option_map (λ pair. (pair.0, pair.1.value)) found
-
-module _ {K V E : Type 0} (n : ℕ) where
-  -- the call is no longer where it was before the step: its table operation has decided
-  abbrev pub HasDecided : Call K V E → State K V E → Type 0
-  HasDecided c t = (d : Call K V E) → t.calls n ≡ Some d → d.plan ≢ c.plan
-
-  -- the step looks the key up for this aim, and this stood there
-  pub record LooksUp (aim : Aim K V) (key : K) (found : Option (K × Stored V)) (s : State K V E)
-      (c : Call K V E) (reply : Turn K V E) (t : State K V E) : Type 0 where
-    pub looks : c.plan ≡ look aim key
-    pub stood : s.world.table.stored key ≡ found
-    pub decided : HasDecided c t
-
-  -- the step looks up what the compute's key has, as the owner of its computes
-  pub record LooksAsOwner (key : K) (found : Option (K × Stored V)) (s : State K V E)
-      (c : Call K V E) (reply : Turn K V E) (t : State K V E) : Type 0 where
-    pub compute : Compute K
-    pub look : LooksUp (plan.To_compute compute) key found s c reply t
-    pub owns : OwnsComputes s n key
-
--- What a compute is asked with: the pair that its own look found as the owner, or none where that
--- look missed or the cache is disabled.
+-- What a compute is asked with: what its own look as the owner has shown, or none where the cache is
+-- disabled.
 pub data AskedWith {K V E : Type 0} (eq : K → K → Bool) (s : State K V E) (n : ℕ) (key : K) :
     Option (K × V) → Type 0 where
   Disabled : is_disabled s.world.desk.rules ≡ true → AskedWith eq s n key None
-  Looked : (found : Option (K × Stored V)) → HasMade eq s n (LooksAsOwner n key found) →
-      AskedWith eq s n key (seen_as found)
+  Looked : (compute : Compute K) (pair : Option (K × V)) →
+      HasShown eq s n (plan.To_compute compute) (LooksAsOwner n compute key) pair →
+      AskedWith eq s n key pair
 
--- a compute asks with what its own look found
+-- a compute asks with what its own look has shown
 abbrev pub AsksCarryFound : (K V E : Type 0) → (K → K → Bool) → Type 0
 AsksCarryFound K V E eq =
     (s t : State K V E) (begin : Start K V) (key : K) (n : ℕ) (pair : Option (K × V)) →
@@ -231,8 +203,15 @@ pub record StandsAside {K V E : Type 0} (key : K) (s : State K V E) (c : Call K 
   pub alone : c.plan ≡ plan.Own_alone key ∷ []
   pub owned : IsSome (s.world.desk.owners (record { key = key; kind = kind.Compute }))
 
+-- what the look of a compute that leaves the key as it is has shown
+abbrev pub HasShownAlone : {K V E : Type 0} → (K → K → Bool) → State K V E → ℕ → K →
+    Option (K × V) → Type 0
+HasShownAlone eq s n key pair =
+    HasShown eq s n (plan.To_show (plan.As_report key))
+    (LooksUp n (plan.To_show (plan.As_report key)) key) pair
+
 -- Where the answer of a compute of the key comes from: from what it was told when it had asked; or,
--- where it computes alone beside an owner, from what its look found.
+-- where it computes alone beside an owner, from what its look has shown.
 pub data ComputeSays {K V E : Type 0} (eq : K → K → Bool) (begin : Start K V) (s : State K V E)
     (n : ℕ) (key : K) (a : Answer K V E) : Type 0 where
   Was_told : (compute : Compute K) (pair : Option (K × V)) (given : Told V E) → compute.key ≡ key →
@@ -241,10 +220,9 @@ pub data ComputeSays {K V E : Type 0} (eq : K → K → Bool) (begin : Start K V
   Was_disabled : begin ≡ start.ComputeAlone key → HasMade eq s n (StandsAside key) →
       is_disabled s.world.desk.rules ≡ true → a ≡ unchanged key None →
       ComputeSays eq begin s n key a
-  Reports : (found : Option (K × Stored V)) → begin ≡ start.ComputeAlone key →
-      HasMade eq s n (StandsAside key) →
-      HasMade eq s n (LooksUp n (plan.To_show (plan.As_report key)) key found) →
-      a ≡ unchanged key (seen_as found) → ComputeSays eq begin s n key a
+  Reports : (pair : Option (K × V)) → begin ≡ start.ComputeAlone key →
+      HasMade eq s n (StandsAside key) → HasShownAlone eq s n key pair →
+      a ≡ unchanged key pair → ComputeSays eq begin s n key a
 
 -- a compute answers by what it was told, never what another compute settled
 abbrev pub ComputesAnswerTold : (K V E : Type 0) → (K → K → Bool) → Type 0

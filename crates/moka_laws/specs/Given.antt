@@ -1,5 +1,5 @@
 -- What is given to the cache, and that it stores and hands out nothing else.
-use Rattle.std.specs.Prelude.{◌≡◌, ℕ, Bool, true, List, [], ◌∷◌, Option, Some, None, ◌⊎◌}
+use Rattle.std.specs.Prelude.{◌≡◌, ℕ, Bool, true, List, [], ◌∷◌, Option, Some, None, ◌⊎◌, IsSomeAnd}
 use Rattle.std.specs.Option.{option_and_then, option_map}
 use Rattle.moka_hist.specs.State.{State, fresh}
 use Rattle.moka_hist.specs.Plan.{Item}
@@ -14,7 +14,6 @@ use Rattle.moka_hist.specs.declared.events.Event.{Event}
 use Rattle.moka_hist.specs.declared.events.Event.TheVariants as event
 use Rattle.moka_hist.specs.declared.events.Op.TheVariants as op
 use Rattle.moka_hist.specs.declared.events.Start.{Start}
-use Rattle.moka_hist.specs.declared.events.Start.TheVariants as start
 use Rattle.moka_hist.specs.declared.events.Told.{Told}
 use Rattle.moka_hist.specs.declared.events.Told.TheVariants as told
 use Rattle.moka_hist.specs.declared.records.Stored.{Stored}
@@ -66,6 +65,7 @@ asked_key (plan.Moment change ∷ rest) = None
 asked_key (plan.Write key value moment ∷ rest) = None
 asked_key (plan.Out removal key ∷ rest) = None
 asked_key (plan.Idle ∷ rest) = None
+asked_key (plan.Invalidate_all ∷ rest) = None
 asked_key (plan.Reply answer ∷ rest) = None
 
 module _ {K V E : Type 0} where
@@ -150,7 +150,7 @@ HandedIsGiven K V E eq =
     HasStarted n es rs start → (e ≡ event.Step n) ⊎ (e ≡ event.Poll n) → Happens eq Any s e r t →
     handed r ≡ Some value →
     (key : K) × WasGiven eq (fresh K V E rules size tests) es rs s run key value ×
-    (eq key (key_started start) ≡ true)
+    IsSomeAnd (key_started start) (λ own. eq key own ≡ true)
 
 -- so by a step of its own
 abbrev pub SteppedIsGiven : (K V E : Type 0) → (K → K → Bool) → Type 0
@@ -161,4 +161,4 @@ SteppedIsGiven K V E eq =
     (start : Start K V) (value : V) →
     HasStarted n es rs start → Step eq s n turn t → handed (reply_of turn) ≡ Some value →
     (key : K) × WasGiven eq (fresh K V E rules size tests) es rs s run key value ×
-    (eq key (key_started start) ≡ true)
+    IsSomeAnd (key_started start) (λ own. eq key own ≡ true)

@@ -19,7 +19,10 @@ use Rattle.moka_laws.specs.Listening.{ReachedNoticesAreSettled, RunningAreHeard}
 use Rattle.moka_laws.specs.Loads.{AbortsAreCounted, AnswersFit, ErrorByCause, ExhaustedAtLast}
 use Rattle.moka_laws.specs.Loads.{NothingByCause, OpenedByOwners, OwnEndsAreTold}
 use Rattle.moka_laws.specs.Loads.{OwnersAnswerSettled, SettlementsFit, TestsAreTwo}
+use Rattle.moka_laws.specs.Looks.{GetsMiss, GetsShow, InsertsShow, LoadsShow, OwnersShow}
 use Rattle.moka_laws.specs.Missing.{MissingCanCome, TurnIsHeld, WaitersHaveOwners}
+use Rattle.moka_laws.specs.Moments.{AccessesAreInTime, AccessesAreSeen, InvalidatedStayUnseen}
+use Rattle.moka_laws.specs.Moments.{InvalidationHides}
 use Rattle.moka_laws.specs.Moving.{CallsAreSafe, MoveIsStep, MovesAreSteps, PolledIsPoll}
 use Rattle.moka_laws.specs.OwnKeys.{ReachedByLawfulRun, ReachedIsUnderOwnKeys}
 use Rattle.moka_laws.specs.Reaching.{FreshIsReached, LiveWasStarted, ReachedByEvent, ReachedByRun}
@@ -111,6 +114,16 @@ pub record LawsOfReached (K V E : Type 0) (eq : K → K → Bool) : Type 0 where
   pub settlements_fit : SettlementsFit K V E eq
   pub answers_fit : AnswersFit K V E eq
   pub shapes_fit : ShapesFit K V E eq
+  -- what looks show by time, when records are accessed, and what is hidden
+  pub gets_by_time-shows : GetsShow K V E eq
+  pub gets_by_time-misses : GetsMiss K V E eq
+  pub loads_by_time-shows : LoadsShow K V E eq
+  pub loads_by_time-inserts : InsertsShow K V E eq
+  pub loads_by_time-owners : OwnersShow K V E eq
+  pub accesses_are_seen-between : AccessesAreInTime K V E eq
+  pub accesses_are_seen-seen : AccessesAreSeen K V E eq
+  pub invalidated_are_unseen-hides : InvalidationHides K V E eq
+  pub invalidated_are_unseen-unseen : InvalidatedStayUnseen K V E eq
   -- computes
   pub computes_are_one : ComputesAreOne K V E eq
   pub acting_computes_own : ActingComputesOwn K V E eq

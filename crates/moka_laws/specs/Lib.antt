@@ -1,4 +1,6 @@
 pub mod Starting
+pub mod Looks
+pub mod Moments
 pub mod Starts
 pub mod Reaching
 pub mod Held

@@ -14,7 +14,6 @@ use Rattle.moka_hist.specs.declared.accesses.Turn.{Turn}
 use Rattle.moka_hist.specs.declared.accesses.Turn.TheVariants as turn
 use Rattle.moka_hist.specs.declared.events.Event.TheVariants as event
 use Rattle.moka_hist.specs.declared.events.Start.{Start}
-use Rattle.moka_hist.specs.declared.events.Start.TheVariants as start
 use Rattle.moka_hist.specs.declared.events.Told.{Told}
 use Rattle.moka_hist.specs.declared.events.Told.TheVariants as told
 use Rattle.moka_hist.specs.declared.loads.Kind.{Kind}
@@ -164,7 +163,7 @@ OwnEndsAreTold K V E eq =
 
 module _ {K V E : Type 0} where
   -- the call looks up, as the owner of its load, and sees nothing: nothing is there, or its replace
-  -- test holds on what is
+  -- test holds on what is, or that isn't visible
   abbrev pub LooksInVain : State K V E → Call K V E → Sought K → Type 0
   LooksInVain s c sought =
       ((c.plan ≡ look (plan.To_own sought) sought.load.key) ×
@@ -238,6 +237,7 @@ module _ {K V E : Type 0} where
   is_reading (plan.Write key value moment ∷ rest) = false
   is_reading (plan.Out removal key ∷ rest) = false
   is_reading (plan.Idle ∷ rest) = false
+  is_reading (plan.Invalidate_all ∷ rest) = false
   is_reading (plan.Reply answer ∷ rest) = false
 
   -- 1 where the call of this number reads with its next step that its owner was dropped
@@ -275,6 +275,7 @@ module _ {K V E : Type 0} where
   test_asked (plan.Write key value moment ∷ rest) = 0
   test_asked (plan.Out removal key ∷ rest) = 0
   test_asked (plan.Idle ∷ rest) = 0
+  test_asked (plan.Invalidate_all ∷ rest) = 0
   test_asked (plan.Reply answer ∷ rest) = 0
 
   -- 1 where the call asks its replace test with its next step

@@ -45,3 +45,16 @@ pub record WasStarted {K V E : Type 0} (eq : K → K → Bool) (start : Start K 
   pub begun : State K V E
   pub begins : Happens eq Any before (event.Start start) (reply.Call n) begun
   pub led : Leads eq begun s
+
+-- A step that the live call made on the way to this state, and what it was.
+pub record HasMade {K V E : Type 0} (eq : K → K → Bool) (s : State K V E) (n : ℕ)
+    (What : State K V E → Call K V E → Turn K V E → State K V E → Type 0) : Type 0 where
+  pub before : State K V E
+  pub reached : IsReached eq before
+  pub call : Call K V E
+  pub live : before.calls n ≡ Some call
+  pub turn : Turn K V E
+  pub after : State K V E
+  pub step : Step eq before n turn after
+  pub what : What before call turn after
+  pub led : Leads eq after s

@@ -1,5 +1,5 @@
 -- What is said of a call by what it was started for: a row for each start.
-use Rattle.std.specs.Prelude.{ℕ, Bool, true, false, Option, Some, None}
+use Rattle.std.specs.Prelude.{Bool, true, false, Option, Some, None}
 use Rattle.moka_hist.specs.Plan.{Removal}
 use Rattle.moka_hist.specs.Plan as plan
 use Rattle.moka_hist.specs.declared.entries.CompResult.{CompResult}
@@ -11,21 +11,22 @@ use Rattle.moka_hist.specs.declared.loads.Kind.TheVariants as kind
 use Rattle.moka_hist.specs.declared.replies.Answer.{Answer}
 use Rattle.moka_hist.specs.declared.replies.Answer.TheVariants as answer
 
--- the key that a call is started for
-abbrev pub key_started : {K V : Type 0} → Start K V → K
-key_started (start.Get key) = key
-key_started (start.Insert key value) = key
-key_started (start.GetWith key replace) = key
-key_started (start.Optional key) = key
-key_started (start.Try key) = key
-key_started (start.OrInsert key value) = key
-key_started (start.Compute key) = key
-key_started (start.TryCompute key) = key
-key_started (start.Upsert key) = key
-key_started (start.ComputeAlone key) = key
-key_started (start.Invalidate key) = key
-key_started (start.Remove key) = key
-key_started (start.Evict key stamp cause) = key
+-- the key that a call is started for, if it is for one
+abbrev pub key_started : {K V : Type 0} → Start K V → Option K
+key_started (start.Get key) = Some key
+key_started (start.Insert key value) = Some key
+key_started (start.GetWith key replace) = Some key
+key_started (start.Optional key) = Some key
+key_started (start.Try key) = Some key
+key_started (start.OrInsert key value) = Some key
+key_started (start.Compute key) = Some key
+key_started (start.TryCompute key) = Some key
+key_started (start.Upsert key) = Some key
+key_started (start.ComputeAlone key) = Some key
+key_started (start.Invalidate key) = Some key
+key_started (start.Remove key) = Some key
+key_started (start.Evict key stamp cause) = Some key
+key_started start.InvalidateAll = None
 
 -- the pair that a call is started with, to store it
 abbrev pub brought : {K V : Type 0} → Start K V → Option (K × V)
@@ -42,6 +43,7 @@ brought (start.ComputeAlone key) = None
 brought (start.Invalidate key) = None
 brought (start.Remove key) = None
 brought (start.Evict key stamp cause) = None
+brought start.InvalidateAll = None
 
 -- the kind of load that a call is started for, if it is one
 abbrev pub kind_loaded : {K V : Type 0} → Start K V → Option Kind
@@ -58,6 +60,7 @@ kind_loaded (start.ComputeAlone key) = None
 kind_loaded (start.Invalidate key) = None
 kind_loaded (start.Remove key) = None
 kind_loaded (start.Evict key stamp cause) = None
+kind_loaded start.InvalidateAll = None
 
 -- the key that a call is started to compute
 abbrev pub computed_key : {K V : Type 0} → Start K V → Option K
@@ -74,6 +77,7 @@ computed_key (start.OrInsert key value) = None
 computed_key (start.Invalidate key) = None
 computed_key (start.Remove key) = None
 computed_key (start.Evict key stamp cause) = None
+computed_key start.InvalidateAll = None
 
 -- a call that is started for this asks nothing where another compute of the key goes: that is of one
 -- start alone
@@ -96,6 +100,7 @@ removal_started (start.Upsert key) = None
 removal_started (start.Invalidate key) = Some (plan.To_invalidate, key)
 removal_started (start.Remove key) = Some (plan.To_remove, key)
 removal_started (start.Evict key stamp cause) = Some (plan.To_evict_chosen stamp cause, key)
+removal_started start.InvalidateAll = None
 
 -- a call that is started for this asks its caller for nothing, and waits for no load and no compute
 abbrev pub asks_nobody : {K V : Type 0} → Start K V → Bool
@@ -105,6 +110,7 @@ asks_nobody (start.OrInsert key value) = true
 asks_nobody (start.Invalidate key) = true
 asks_nobody (start.Remove key) = true
 asks_nobody (start.Evict key stamp cause) = true
+asks_nobody start.InvalidateAll = true
 asks_nobody (start.GetWith key replace) = false
 asks_nobody (start.Optional key) = false
 asks_nobody (start.Try key) = false
@@ -136,6 +142,7 @@ may_answer (start.Invalidate key) answer.Done = true
 may_answer (start.Remove key) (answer.Found value) = true
 may_answer (start.Evict key stamp cause) answer.Evicted = true
 may_answer (start.Evict key stamp cause) answer.Kept = true
+may_answer start.InvalidateAll answer.Done = true
 may_answer _ _ = false
 
 -- the compute has stored a value
@@ -202,3 +209,4 @@ module _ {K V E : Type 0} where
   says_stored (start.Invalidate key) a = false
   says_stored (start.Remove key) a = false
   says_stored (start.Evict key stamp cause) a = false
+  says_stored start.InvalidateAll a = false

@@ -33,8 +33,9 @@ pub fn alone_waits_for_nobody<K: Eq, V, E>()
     ensures waits { AloneWaitsForNobody K V E K.eq }
 {}
 
-/// A compute asks with the pair that its own look found as the owner, or with none where that look
-/// missed or the cache is disabled.
+/// A compute asks with the pair that its own look found as the owner, if that was visible as the
+/// compute's own visit judged it. It asks with none where that look missed, where the pair wasn't
+/// visible then, or where the cache is disabled.
 pub fn asks_carry_found<K: Eq, V, E>()
     ensures found { AsksCarryFound K V E K.eq }
 {}
@@ -50,7 +51,7 @@ pub fn nops_answer_asked<K: Eq, V, E>()
 {}
 
 /// A compute answers by what it was told, and never what another compute settled. One that computes
-/// alone beside an owner answers what its look found.
+/// alone beside an owner answers what its look found and its visit saw.
 pub fn computes_answer_told<K: Eq, V, E>()
     ensures answers { ComputesAnswerTold K V E K.eq }
 {}

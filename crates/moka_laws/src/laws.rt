@@ -64,6 +64,10 @@ pub fn laws_of_reached<K: Eq, V, E>()
     crate::settlements_fit::<K, V, E>();
     crate::answers_fit::<K, V, E>();
     crate::shapes_fit::<K, V, E>();
+    crate::gets_by_time::<K, V, E>();
+    crate::loads_by_time::<K, V, E>();
+    crate::accesses_are_seen::<K, V, E>();
+    crate::invalidated_are_unseen::<K, V, E>();
     crate::computes_are_one::<K, V, E>();
     crate::acting_computes_own::<K, V, E>();
     crate::one_compute_acts::<K, V, E>();

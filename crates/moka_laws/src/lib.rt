@@ -14,7 +14,9 @@ mod lawful;
 mod laws;
 mod listening;
 mod loads;
+mod looks;
 mod missing;
+mod moments;
 mod moving;
 mod reaching;
 mod readers;
@@ -46,7 +48,9 @@ pub use loads::{
     opened_by_owners, own_ends_are_told, owners_answer_settled, settlements_fit, shapes_fit,
     tests_are_two,
 };
+pub use looks::{gets_by_time, loads_by_time};
 pub use missing::{missing_can_come, turn_is_held, waiters_have_owners};
+pub use moments::{accesses_are_seen, invalidated_are_unseen};
 pub use moving::{calls_are_safe, move_is_step, moves_are_steps, polled_is_poll};
 pub use reaching::{
     fresh_is_reached, live_was_started, reached_by_event, reached_by_run, reached_by_step,

@@ -34,7 +34,8 @@ pub fn own_ends_are_told<K: Eq, V, E>()
 {}
 
 /// On a reached state only the owner of a load opens an initializer. Unless the cache is disabled
-/// it does so right after it has looked again in vain.
+/// it does so right after it has looked again in vain: nothing stood there, or its replace test held,
+/// or the record wasn't visible.
 pub fn opened_by_owners<K: Eq, V, E>()
     ensures opened { OpenedByOwners K V E K.eq }
 {}

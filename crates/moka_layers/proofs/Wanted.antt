@@ -1,5 +1,5 @@
 -- Which access is wanted, and what it finds begun.
-use Rattle.std.proofs.Common.{◌≡◌, ◌≤◌, ℕ, ◌+◌, Bool, true, false, cond, Option, Some, None, IfSome, IsSome, is_some, not, refl, sym, ap, subst, ◌∙◌, arith}
+use Rattle.std.proofs.Common.{◌≡◌, ◌≤◌, ℕ, ◌+◌, Bool, true, false, cond, Option, Some, None, IfSome, IsSome, is_some, not, ◌&&◌, refl, sym, ap, subst, ◌∙◌, arith}
 use Rattle.std.specs.declared.cmp.PartialEq as PartialEq
 use Rattle.std.specs.declared.hash.Hash as Hash
 use Rattle.moka_hist.specs.Bound.{times_of, most_undecided}
@@ -22,6 +22,7 @@ use Rattle.moka_hist.specs.declared.accesses.Got.TheVariants as got
 use Rattle.moka_init.specs.Grounds.{Accesses, MayWant, wanted}
 use Rattle.moka_hist.specs.declared.record_tests.Tests as Tests
 use Rattle.moka_table.specs.declared.table.Table as Table
+use Rattle.moka_desk.specs.Moments.{is_shown}
 use Rattle.moka_desk.specs.StandsFor.{StandsFor}
 use Rattle.moka_desk.specs.declared.state.Desk.{Desk}
 use Rattle.moka_layers.specs.Layers.{GroundIs, Serves, account_of, left_in, most_on, operation_in}
@@ -194,8 +195,8 @@ module _ {K V E T C Q : Type 0} {same : PartialEq.Ghosts K} {hash : Hash.Ghosts 
   made_by : (answers : ℕ → K → V → Bool) (old new : Desk K V E same hash) (v : Visit K V E) (f : Found V E) → VisitBy eq answers old v f new
       → (w : DeskPart K V E) → StandsFor eq old w → answers ≡ w.tests → MayVisit w v → (f ≡ finds w v) × StandsFor eq new (makes eq w v)
   made_by answers old new (visit.Judge replace key stored) f is w stands tests may =
-      subst (λ (a : ℕ → K → V → Bool). (f ≡ found.Judge (not (test_holds a replace key stored.value)))
-      × StandsFor eq new (judged w stored.stamp stored.modified (not (test_holds a replace key stored.value)))) tests (is.made w stands)
+      subst (λ (a : ℕ → K → V → Bool). (f ≡ found.Judge (not (test_holds a replace key stored.value) && is_shown w stored.stamp stored.modified))
+      × StandsFor eq new (judged w stored.stamp stored.modified (not (test_holds a replace key stored.value) && is_shown w stored.stamp stored.modified))) tests (is.made w stands)
   made_by answers old new _ f is w stands tests may = is.made w stands may
 
   -- a visit, where nothing is begun

@@ -1,5 +1,5 @@
 -- What a visit does to the desk.
-use Rattle.std.specs.Prelude.{◌≡◌, ℕ, Bool, false, not, List, Option, Some}
+use Rattle.std.specs.Prelude.{◌≡◌, ℕ, Bool, false, not, ◌&&◌, List, Option, Some}
 use Rattle.std.specs.Option.{option_map_or}
 use Rattle.std.specs.declared.cmp.PartialEq as PartialEq
 use Rattle.std.specs.declared.hash.Hash as Hash
@@ -12,6 +12,7 @@ use Rattle.moka_hist.specs.declared.visits.Visit.{Visit}
 use Rattle.moka_hist.specs.declared.visits.Visit.TheVariants as visit
 use Rattle.moka_hist.specs.declared.visits.Found.{Found}
 use Rattle.moka_hist.specs.declared.visits.Found.TheVariants as found
+use Rattle.moka_desk.specs.Moments.{is_shown}
 use Rattle.moka_desk.specs.StandsFor.{StandsFor}
 use Rattle.moka_desk.specs.Waits.{lock_line, settlement_line, turn_line}
 use Rattle.moka_desk.specs.declared.state.Desk.{Desk}
@@ -32,14 +33,14 @@ module _ {K V E : Type 0} {same : PartialEq.Ghosts K} {hash : Hash.Ghosts K} whe
     pub made : (w : DeskPart K V E) → StandsFor eq old w → MayVisit w visit
         → (found ≡ finds w visit) × StandsFor eq new (makes eq w visit)
 
-  -- the same of the visit that judges a record of this stamp and moment, which is seen unless it
-  -- is replaced
+  -- the same of the visit that judges a record of this stamp and moment, which is seen where it is
+  -- visible and not replaced
   pub record JudgeIs (eq : K → K → Bool) (old : Desk K V E same hash) (replaced : Bool)
       (stamp modified : ℕ) (f : Found V E) (new : Desk K V E same hash) : Type 0 where
     pub form : (seen : Bool) × (f ≡ found.Judge seen)
     pub made : (w : DeskPart K V E) → StandsFor eq old w
-        → (f ≡ found.Judge (not replaced))
-        × StandsFor eq new (judged w stamp modified (not replaced))
+        → (f ≡ found.Judge (not replaced && is_shown w stamp modified))
+        × StandsFor eq new (judged w stamp modified (not replaced && is_shown w stamp modified))
 
   -- the same of the visit that judges whether such a record has still to leave for the cause
   pub record HoldsIs (eq : K → K → Bool) (old : Desk K V E same hash) (stamp modified : ℕ)

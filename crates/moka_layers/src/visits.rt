@@ -64,6 +64,7 @@ pub(crate) fn make_visit<K: Eq + Hash + Exact, V: Exact, E: Exact, Q: Tests<K, V
         Visit::PostWrite { call, write } => Ok(Found::PostWrite(desk.post_write(call, write))),
         Visit::TakeTurn { call } => take_turn(desk, call),
         Visit::ApplyOne { call } => Ok(Found::ApplyOne(desk.apply_one(call))),
+        Visit::InvalidateAll => Ok(invalidate_all(desk)),
         Visit::EndTurn { call } => Ok(end_turn(desk, call, woken)),
     }
 }
@@ -212,6 +213,16 @@ fn settle<K: Eq + Hash + Exact, V: Exact, E: Exact>(
 {
     *woken = Some(desk.settle(call, with));
     Found::Settle
+}
+
+#[cold]
+#[inline(never)]
+fn invalidate_all<K: Eq + Hash + Exact, V: Exact, E: Exact>(desk: &mut Desk<K, V, E>) -> Found<V, E>
+    ensures visit { VisitIs K.eq desk.old Visit.InvalidateAll result desk.new }
+    ensures kept { KeepsAsBefore desk.old desk.new }
+{
+    desk.invalidate_all();
+    Found::InvalidateAll
 }
 
 #[cold]

@@ -39,8 +39,9 @@ module _ {K V E : Type 0} where
   need_of (visit.TakeTurn n) = need.TakeTurn
   need_of (visit.ApplyOne n) = need.ApplyOne
   need_of (visit.EndTurn n) = need.EndTurn
+  need_of visit.InvalidateAll = need.InvalidateAll
 
-  -- the visit is one of this call; two kinds of visits don't name theirs
+  -- the visit is one of this call; three kinds of visits don't name theirs
   abbrev pub IsOfCall : ℕ → Visit K V E → Type 0
   IsOfCall call (visit.Clock n) = n ≡ call
   IsOfCall call (visit.TakeOwed n) = n ≡ call
@@ -61,3 +62,4 @@ module _ {K V E : Type 0} where
   IsOfCall call (visit.TakeTurn n) = n ≡ call
   IsOfCall call (visit.ApplyOne n) = n ≡ call
   IsOfCall call (visit.EndTurn n) = n ≡ call
+  IsOfCall call visit.InvalidateAll = Unit {0}

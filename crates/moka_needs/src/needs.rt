@@ -35,4 +35,5 @@ pub enum Need<K> {
     TakeTurn,
     ApplyOne,
     EndTurn,
+    InvalidateAll,
 }

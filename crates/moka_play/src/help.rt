@@ -13,6 +13,8 @@ A schedule is lines of text. The first line is cache, and then these options, ea
 order:
   cap=N                      the capacity is N; a cache of capacity 0 stores nothing
   log=N                      the write log has room for N writes, 1 to 65536; without it for 384
+  ttl=N                      a record has expired N nanoseconds after its last write
+  tti=N                      a record has expired N nanoseconds after it was last seen or written
   listener                   a listener hears of each record that is replaced or taken out
 and each other line is an event:
   at MOMENT                  the clock moves on to the moment, in nanoseconds
@@ -31,6 +33,7 @@ and each other line is an event:
   start upsert KEY           a call asks for the key's next value, and stores it
   start invalidate KEY       a call takes the key's record out
   start remove KEY           a call takes the key's record out, and answers its value
+  start invalidate_all       a call hides all records that were written before the clock
   start evict KEY STAMP CAUSE
                              a call takes the key's record out, where it is the one of this stamp
                              and has to leave for this cause: Expired, Explicit, Replaced or Size
@@ -49,6 +52,7 @@ and each other line is an event:
 Keys, values and errors are below 2^32, moments, tests, stamps and calls below 2^64, all in
 decimal.
 Calls are numbered from 1, as they are started. A record's stamp is the call that wrote it.
+No look shows a record that has expired or is hidden; it stays stored until a call takes it out.
 A call that waits is not woken: it is polled again.
 
 A report is a line for each event, then for each stored record, ascending by key,

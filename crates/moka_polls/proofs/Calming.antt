@@ -398,6 +398,8 @@ module _ {K V E : Type 0} (eq : K → K → Bool) (n : ℕ) (rules : Rules)
   )
   item_steps w b plan.Idle rest these p i h still =
       go _ b rest these h (same w _ refl refl refl still)
+  item_steps w b plan.Invalidate_all rest these p i h still =
+      go _ b rest these h (same w _ refl refl refl still)
   item_steps w b (plan.Reply a) rest these p i h still =
       replies _ b a these (same w _ refl refl refl still)
   item_steps w b _ rest these p i h still = absurd i

@@ -21,14 +21,8 @@ use Rattle.moka_hist.specs.declared.rules.Cause.{Cause}
 use Rattle.moka_laws.proofs.Outcomes.{outcomes, done}
 use Rattle.moka_polls.specs.Polls.{IsQuiet, without_writes}
 use Rattle.moka_polls.specs.Removals.{EvictPoll, has_to_leave}
-use Rattle.moka_polls.proofs.Phases.{IsAt, End, Ends, Goes, Steps, along, on, stops, poll_gives}
+use Rattle.moka_polls.proofs.Phases.{IsAsIt, IsAt, End, Ends, Goes, Steps, along, on, stops, poll_gives}
 use Rattle.moka_polls.proofs.Taking.{Takes, Stamps, out_of, takes_steps}
-
--- the world has just this table and this desk
-record IsAsIt {K V E : Type 0} (t : TablePart K V) (d : DeskPart K V E) (w : World K V E)
-    : Type 0 where
-  table : w.table ≡ t
-  desk : w.desk ≡ d
 
 module _ {K V E : Type 0} (eq : K → K → Bool) (s : State K V E) (n : ℕ) (key : K) (stamp : ℕ)
     (cause : Cause) (quiet : IsQuiet s.world.desk) where

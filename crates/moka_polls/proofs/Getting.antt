@@ -1,5 +1,5 @@
 -- The poll of a get.
-use Rattle.std.proofs.Common.{ℕ, Bool, List, Option, None, refl, sym, ap, ◌∙◌, subst}
+use Rattle.std.proofs.Common.{ℕ, Bool, List, Option, None, refl, sym, ap, subst}
 use Rattle.moka_hist.specs.State.{State, World, Call}
 use Rattle.moka_hist.specs.Plan.{Item, Aim, get_plan, plan_of}
 use Rattle.moka_hist.specs.Plan as plan
@@ -10,10 +10,10 @@ use Rattle.moka_hist.specs.declared.records.Mode.TheVariants as mode
 use Rattle.moka_hist.specs.declared.replies.Answer.TheVariants as answer
 use Rattle.moka_hist.specs.declared.replies.Reply.{Reply}
 use Rattle.moka_hist.specs.declared.replies.Reply.TheVariants as reply
-use Rattle.moka_polls.specs.Polls.{IsQuiet, IsBegun, PollGives, value_at}
+use Rattle.moka_polls.specs.Polls.{IsQuiet, IsBegun, PollGives, seen_in}
 use Rattle.moka_polls.specs.Gets.{GetPoll}
-use Rattle.moka_polls.proofs.Phases.{End, Ends, Steps, stops, poll_gives}
-use Rattle.moka_polls.proofs.Looking.{Looks, Drains, looks_steps, sees_stored}
+use Rattle.moka_polls.proofs.Phases.{End, Ends, Steps, at_as_it, stops, poll_gives}
+use Rattle.moka_polls.proofs.Looking.{Looks, Drains, looks_steps}
 
 module _ {K V E : Type 0} (eq : K → K → Bool) (s : State K V E) (n : ℕ) (key : K)
     (quiet : IsQuiet s.world.desk) where
@@ -22,7 +22,7 @@ module _ {K V E : Type 0} (eq : K → K → Bool) (s : State K V E) (n : ℕ) (k
 
   abbrev end : End K V E
   end = record {
-    reply = reply.Answer (answer.Found (value_at s key));
+    reply = reply.Answer (answer.Found (seen_in s.world.table s.world.desk None key));
     left = None;
     table = s.world.table;
     desk = s.world.desk;
@@ -42,12 +42,12 @@ module _ {K V E : Type 0} (eq : K → K → Bool) (s : State K V E) (n : ℕ) (k
   steps = looks_steps eq n Begun Phase (Ends end) s.world.table s.world.desk quiet.owes aim key
       (λ b there found. refl) (λ w p i. i)
       (λ w m p none at. stops Begun Phase (Ends end) _ _ (λ f. cc) (record {
-        replies = ap answers (sym none ∙ sees_stored (s.world.table.stored key));
+        replies = ap answers (sym none);
         leaves = refl;
-        found = at;
+        found = at_as_it _ _ w at;
       }))
       (λ w m p there value some at. stops Begun Phase (Ends end) _ _ (λ f. cc) (record {
-        replies = ap answers (sym some ∙ sees_stored (s.world.table.stored key));
+        replies = ap answers (sym some);
         leaves = refl;
         found = at;
       }))

@@ -13,3 +13,5 @@ pub mod Removing
 pub mod Evicting
 pub mod Calming
 pub mod Resting
+pub mod Lasting
+pub mod Hiding

@@ -20,7 +20,7 @@ use Rattle.moka_laws.proofs.Counting.{some_same, put_here}
 use Rattle.moka_laws.proofs.Outcomes.{outcomes}
 use Rattle.moka_polls.specs.Polls.{IsQuiet, parked, seen_in, without_writes}
 use Rattle.moka_polls.specs.Loads.{LoadHits, LoadAsks, LoadWaits, asking, sought_by, waiting}
-use Rattle.moka_polls.proofs.Phases.{IsAt, End, Ends, Goes, Steps, along, on, stops, poll_gives}
+use Rattle.moka_polls.proofs.Phases.{IsAsIt, End, Ends, Goes, Steps, along, at_as_it, on, stops, poll_gives}
 use Rattle.moka_polls.proofs.Looking.{Looks, Drains, Seeks, looks_steps}
 
 -- the plan of a call that loads
@@ -80,11 +80,11 @@ module _ {K V E : Type 0} (eq : K → K → Bool) (s : State K V E) (n : ℕ) (s
   data Asks (w : World K V E) : List (Item K V E) → Type 0 where
     Looks_first : (p : List (Item K V E)) →
         Looks s.world.table s.world.desk (plan.To_load sought) sought.load.key w p → Asks w p
-    Owns : IsAt s.world.table s.world.desk w → Asks w (plan.Own sought ∷ [])
+    Owns : IsAsIt s.world.table s.world.desk w → Asks w (plan.Own sought ∷ [])
     Looks_again : (p : List (Item K V E)) →
         Looks s.world.table (claimed eq s.world.desk n sought.load None) (plan.To_own sought)
         sought.load.key w p → Asks w p
-    Asks_now : IsAt s.world.table (claimed eq s.world.desk n sought.load None) w →
+    Asks_now : IsAsIt s.world.table (claimed eq s.world.desk n sought.load None) w →
         Asks w (plan.Ask sought.load ∷ [])
 
   abbrev asked : End K V E
@@ -125,7 +125,7 @@ module _ {K V E : Type 0} (eq : K → K → Bool) (s : State K V E) (n : ℕ) (s
         leaves = refl;
         found = record {
           table = at.table;
-          desk = ap (λ v. opened v n (takes_of sought.load.kind)) at.desk;
+          desk = ap (λ v. without_writes (opened v n (takes_of sought.load.kind))) at.desk;
         };
       }))
 
@@ -134,8 +134,8 @@ module _ {K V E : Type 0} (eq : K → K → Bool) (s : State K V E) (n : ℕ) (s
   data Waits (owner : ℕ) (w : World K V E) : List (Item K V E) → Type 0 where
     Looks_up : (p : List (Item K V E)) →
         Looks s.world.table s.world.desk (plan.To_load sought) sought.load.key w p → Waits owner w p
-    Joins : IsAt s.world.table s.world.desk w → Waits owner w (plan.Own sought ∷ [])
-    Reads : IsAt s.world.table (claimed eq s.world.desk n sought.load (Some owner)) w →
+    Joins : IsAsIt s.world.table s.world.desk w → Waits owner w (plan.Own sought ∷ [])
+    Reads : IsAsIt s.world.table (claimed eq s.world.desk n sought.load (Some owner)) w →
         Waits owner w (plan.Read sought ∷ [])
 
   abbrev waits_for : ℕ → End K V E
@@ -161,7 +161,7 @@ module _ {K V E : Type 0} (eq : K → K → Bool) (s : State K V E) (n : ℕ) (s
         λ other some. on Begun (Waits owner) (Ends (waits_for owner)) _ mode.Mid _ (Reads (record {
           table = at.table;
           desk = ap (λ v. claimed eq v n sought.load (Some other)) at.desk ∙
-              ap (λ o. claimed eq (without_writes s.world.desk) n sought.load (Some o))
+              ap (λ o. claimed eq s.world.desk n sought.load (Some o))
               (some_same (sym some ∙ here));
         })),
       )
@@ -172,7 +172,7 @@ module _ {K V E : Type 0} (eq : K → K → Bool) (s : State K V E) (n : ℕ) (s
       outcomes eq (Goes Begun (Waits owner) (Ends (waits_for owner))) w n (along Begun m p)
       (plan.Read sought) [] (
         λ none. stops Begun (Waits owner) (Ends (waits_for owner)) _ _ (λ f. cc)
-            (record { replies = refl; leaves = refl; found = at }),
+            (record { replies = refl; leaves = refl; found = at_as_it _ _ w at }),
         λ with some. absurd (cc here),
       )
     where

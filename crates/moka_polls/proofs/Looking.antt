@@ -1,6 +1,6 @@
 -- A call looks a key up, once no write is owed.
-use Rattle.std.specs.Option.{option_and_then, option_map}
-use Rattle.std.proofs.Common.{◌≡◌, ℕ, Bool, true, false, cond, List, [], ◌∷◌, Option, Some, None, refl, sym, ap, ◌∙◌, subst}
+use Rattle.std.specs.Option.{option_and_then}
+use Rattle.std.proofs.Common.{◌≡◌, ℕ, Bool, true, false, cond, List, [], ◌∷◌, Option, Some, None, sym, ap, ◌∙◌, subst}
 use Rattle.moka_hist.specs.State.{World, Call, DeskPart, TablePart}
 use Rattle.moka_hist.specs.Plan.{Item, Aim}
 use Rattle.moka_hist.specs.Plan as plan
@@ -13,27 +13,21 @@ use Rattle.moka_hist.specs.declared.records.Mode.TheVariants as mode
 use Rattle.moka_hist.specs.declared.records.Stored.{Stored}
 use Rattle.moka_laws.proofs.StepCases.{OnStep}
 use Rattle.moka_laws.proofs.Outcomes.{outcomes}
-use Rattle.moka_polls.specs.Polls.{seen_in}
-use Rattle.moka_polls.proofs.Phases.{IsAt, stay_at, Goes, along, drains, on}
+use Rattle.moka_polls.specs.Polls.{seen_in, without_writes}
+use Rattle.moka_polls.proofs.Phases.{IsAsIt, IsAt, Goes, along, drains, on}
 
 module _ {K V E : Type 0} (t : TablePart K V) (d : DeskPart K V E) (aim : Aim K V) (key : K) where
   -- where a call stands that looks a key up, at this table and this desk
   pub data Looks (w : World K V E) : List (Item K V E) → Type 0 where
-    Drains : IsAt t d w → Looks w (plan.Drain ∷ plan.Get aim key ∷ [])
-    Seeks : IsAt t d w → Looks w (plan.Get aim key ∷ [])
-    Judges : (there : K) (found : Stored V) → t.stored key ≡ Some (there, found) → IsAt t d w →
+    Drains : IsAsIt t d w → Looks w (plan.Drain ∷ plan.Get aim key ∷ [])
+    Seeks : IsAsIt t d w → Looks w (plan.Get aim key ∷ [])
+    Judges : (there : K) (found : Stored V) → t.stored key ≡ Some (there, found) → IsAsIt t d w →
         Looks w (plan.Judge aim there found ∷ [])
 
 -- what the call sees of a pair
 abbrev seen_of : {K V E : Type 0} → DeskPart K V E → Option ℕ → Option (K × Stored V) → Option V
 seen_of d replace pair =
     option_and_then (λ p. cond (is_seen d replace p.0 p.1) (Some p.1.value) None) pair
-
--- a call without a replace test sees what is stored
-pub sees_stored : {K V : Type 0} (pair : Option (K × Stored V)) →
-    option_and_then (λ p. Some p.1.value) pair ≡ option_map (λ p. p.1.value) pair
-sees_stored None = refl
-sees_stored (Some pair) = refl
 
 module _ {K V E : Type 0} (eq : K → K → Bool) (n : ℕ) (c : Call K V E)
     (Phase : World K V E → List (Item K V E) → Type 0) (Fin : World K V E → Next K V E → Type 0)
@@ -42,7 +36,7 @@ module _ {K V E : Type 0} (eq : K → K → Bool) (n : ℕ) (c : Call K V E)
     goes b (plan.Judge aim there found ∷ []))
     (into : (w : World K V E) (p : List (Item K V E)) → Looks t d aim key w p → Phase w p)
     (missed : (w : World K V E) (m : Mode) (p : List (Item K V E)) →
-    seen_in t d (replace_of aim) key ≡ None → IsAt t d w →
+    seen_in t d (replace_of aim) key ≡ None → IsAsIt t d w →
     Goes c Phase Fin w (misses (along c m p) aim))
     (hit : (w : World K V E) (m : Mode) (p : List (Item K V E)) (there : K) (value : V) →
     seen_in t d (replace_of aim) key ≡ Some value → IsAt t d w →
@@ -54,11 +48,14 @@ module _ {K V E : Type 0} (eq : K → K → Bool) (n : ℕ) (c : Call K V E)
       (on c Phase Fin w mode.Mid _ (into _ _ (Seeks at)))
   looks_steps w m p (Seeks at) =
       outcomes eq (Goes c Phase Fin) w n (along c m p) (plan.Get aim key) [] (
-        λ more. on c Phase Fin _ mode.Mid _ (into _ _ (Seeks (stay_at _ _ w _ at))),
-        λ none. missed _ m p (ap (seen_of d (replace_of aim)) (here ∙ none)) (stay_at _ _ w _ at),
+        λ more. on c Phase Fin _ mode.Mid _
+            (into _ _ (Seeks (record { table = at.table; desk = at.desk }))),
+        λ none. missed _ m p (ap (seen_of d (replace_of aim)) (here ∙ none))
+            (record { table = at.table; desk = at.desk }),
         λ there found some. subst (Goes c Phase Fin _) (sym (judged (along c m p) there found))
             (on c Phase Fin _ mode.Mid _
-            (into _ _ (Judges there found (here ∙ some) (stay_at _ _ w _ at)))),
+            (into _ _ (Judges there found (here ∙ some)
+            (record { table = at.table; desk = at.desk })))),
       )
     where
       here : t.stored key ≡ w.table.stored key
@@ -66,7 +63,7 @@ module _ {K V E : Type 0} (eq : K → K → Bool) (n : ℕ) (c : Call K V E)
   looks_steps w m p (Judges there found e at) =
       outcomes eq (Goes c Phase Fin) w n (along c m p) (plan.Judge aim there found) [] (
         λ sees. hit _ m p there found.value (seen true sees)
-            (record { table = at.table; desk = at.desk }),
+            (record { table = at.table; desk = ap without_writes at.desk }),
         λ unseen. missed _ m p (seen false unseen)
             (record { table = at.table; desk = at.desk }),
       )

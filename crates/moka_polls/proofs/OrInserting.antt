@@ -12,8 +12,8 @@ use Rattle.moka_hist.specs.declared.replies.Reply.TheVariants as reply
 use Rattle.moka_laws.proofs.Counting.{some_same}
 use Rattle.moka_polls.specs.Polls.{IsQuiet, seen_in, stored_now}
 use Rattle.moka_polls.specs.Writes.{OrInsertHits, OrInsertStores}
-use Rattle.moka_polls.proofs.Phases.{End, Ends, Goes, Steps, along, on, stops, poll_gives}
-use Rattle.moka_polls.proofs.Looking.{Looks, Drains, looks_steps, sees_stored}
+use Rattle.moka_polls.proofs.Phases.{End, Ends, Goes, Steps, along, at_as_it, on, stops, poll_gives}
+use Rattle.moka_polls.proofs.Looking.{Looks, Drains, looks_steps}
 use Rattle.moka_polls.proofs.Putting.{Puts, Drains as Puts_drains, plain_put, puts_steps}
 
 module _ {K V E : Type 0} (eq : K → K → Bool) (s : State K V E) (n : ℕ) (key : K) (value : V)
@@ -74,7 +74,7 @@ module _ {K V E : Type 0} (eq : K → K → Bool) (s : State K V E) (n : ℕ) (k
       (λ b k found. refl) (λ v r i. Looks_up r i)
       (λ v l r none at. plain_put (λ x. Goes Begun Phase (Ends stored) v (goes (along Begun l r) x))
       s.world.desk.rules key value said quiet.plain.unheard
-      (on Begun Phase (Ends stored) v mode.Mid _ (Stores _ (Puts_drains at))))
+      (on Begun Phase (Ends stored) v mode.Mid _ (Stores _ (Puts_drains (at_as_it _ _ v at)))))
       (λ v l r k found some at. absurd (cc)) w m p looks
   stored_steps unseen w m p (Stores q puts) =
       puts_steps eq n Begun Phase (Ends stored) s.world.table s.world.desk quiet.free quiet.owes
@@ -94,7 +94,7 @@ module _ {K V E : Type 0} (eq : K → K → Bool) where
       poll_gives (Begun eq s n key value quiet)
       (Looks s.world.table s.world.desk (aim eq s n key value quiet) key)
       (hit eq s n key value quiet there) eq n
-      (hit_steps eq s n key value quiet there (sees_stored (s.world.table.stored key) ∙ is)) s new
+      (hit_steps eq s n key value quiet there is) s new
       mode.Fresh (plan_of s.world.desk.rules (start.OrInsert key value)) r begun
       (begins eq s n key value quiet) happens
 
@@ -102,6 +102,6 @@ module _ {K V E : Type 0} (eq : K → K → Bool) where
   or_insert_stores s new n key value r quiet begun is happens =
       poll_gives (Begun eq s n key value quiet) (Phase eq s n key value quiet)
       (stored eq s n key value quiet) eq n
-      (stored_steps eq s n key value quiet (sees_stored (s.world.table.stored key) ∙ is)) s new
+      (stored_steps eq s n key value quiet is) s new
       mode.Fresh (plan_of s.world.desk.rules (start.OrInsert key value)) r begun
       (Looks_up _ (begins eq s n key value quiet)) happens

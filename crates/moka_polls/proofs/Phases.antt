@@ -41,6 +41,16 @@ pub stay_at : {K V E : Type 0} (t : TablePart K V) (d : DeskPart K V E) (w : Wor
     IsAt t d w → IsAt t d (record w { stay = stay })
 stay_at t d w stay at = record { table = at.table; desk = at.desk }
 
+-- the world has this table and this desk, accesses and writes on their way too
+pub record IsAsIt {K V E : Type 0} (t : TablePart K V) (d : DeskPart K V E) (w : World K V E)
+    : Type 0 where
+  pub table : w.table ≡ t
+  pub desk : w.desk ≡ d
+
+pub at_as_it : {K V E : Type 0} (t : TablePart K V) (d : DeskPart K V E) (w : World K V E) →
+    IsAsIt t d w → IsAt t d w
+at_as_it t d w at = record { table = at.table; desk = ap without_writes at.desk }
+
 -- how a poll is to end: with this reply, with this left of the call, at this table and this desk
 pub record End (K V E : Type 0) : Type 0 where
   pub reply : Reply K V E

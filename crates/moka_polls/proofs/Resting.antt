@@ -93,6 +93,7 @@ begun_holds {K = K} {V = V} E rules (start.Remove key) unheard =
 begun_holds {K = K} {V = V} E rules (start.Evict key stamp cause) unheard =
     subst (λ b. HoldsNothing (under_lock {V = V} {E = E} b key
     (look (plan.To_evict key stamp cause) key))) (sym unheard) (tt, tt)
+begun_holds {K = K} {V = V} E rules start.InvalidateAll unheard = (tt, (tt, tt))
 begun_holds {K = K} {V = V} E rules _ unheard = (tt, tt)
 
 module _ {K V E : Type 0} (s : State K V E) (calm : IsCalm s) where

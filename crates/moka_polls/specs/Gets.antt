@@ -7,12 +7,12 @@ use Rattle.moka_hist.specs.declared.events.Start.TheVariants as start
 use Rattle.moka_hist.specs.declared.replies.Answer.TheVariants as answer
 use Rattle.moka_hist.specs.declared.replies.Reply.{Reply}
 use Rattle.moka_hist.specs.declared.replies.Reply.TheVariants as reply
-use Rattle.moka_polls.specs.Polls.{IsQuiet, IsBegun, value_at, PollGives}
+use Rattle.moka_polls.specs.Polls.{IsQuiet, IsBegun, seen_in, PollGives}
 
--- a get answers what is stored under its key, and is gone; table and desk stay
+-- a get answers the value that it sees under its key, and is gone; table and desk stay
 abbrev pub GetPoll : (K V E : Type 0) → (K → K → Bool) → Type 0
 GetPoll K V E eq =
     (s new : State K V E) (n : ℕ) (key : K) (r : Reply K V E) →
     IsQuiet s.world.desk → IsBegun s n (start.Get key) → Happens eq Any s (event.Poll n) r new →
-    PollGives s n (reply.Answer (answer.Found (value_at s key))) None s.world.table s.world.desk r
-    new
+    PollGives s n (reply.Answer (answer.Found (seen_in s.world.table s.world.desk None key))) None
+    s.world.table s.world.desk r new

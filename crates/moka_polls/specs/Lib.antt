@@ -4,3 +4,4 @@ pub mod Writes
 pub mod Loads
 pub mod Removals
 pub mod Calm
+pub mod Times

@@ -43,7 +43,8 @@ module _ {K V E : Type 0} where
   abbrev pub value_at : State K V E → K → Option V
   value_at s key = option_map (λ p. p.1.value) (s.world.table.stored key)
 
-  -- the value that is stored under a key, where a call with this replace test, if any, sees it
+  -- the value that is stored under a key, where a call with this replace test, if any, sees it: where
+  -- that doesn't hold on it and the record is visible by the clock
   abbrev pub seen_in : TablePart K V → DeskPart K V E → Option ℕ → K → Option V
   seen_in t w replace key =
       option_and_then (λ p. cond (is_seen w replace p.0 p.1) (Some p.1.value) None) (t.stored key)

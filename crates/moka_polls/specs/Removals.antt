@@ -3,7 +3,7 @@ use Rattle.std.specs.Prelude.{ℕ, ◌==◌, Bool, false, cond, ◌&&◌, None}
 use Rattle.std.specs.Option.{option_map_or}
 use Rattle.moka_hist.specs.State.{State, TablePart}
 use Rattle.moka_hist.specs.Causes.{chosen_holds}
-use Rattle.moka_hist.specs.Visits.{times_at}
+use Rattle.moka_hist.specs.Visits.{invalidated_all, times_at}
 use Rattle.moka_hist.specs.Tables.{by_pair, removed}
 use Rattle.moka_hist.specs.Run.{Any, Happens}
 use Rattle.moka_hist.specs.declared.rules.Cause.{Cause}
@@ -44,6 +44,14 @@ RemovePoll K V E eq =
     Happens eq Any s (event.Poll n) r new →
     PollGives s n (reply.Answer (answer.Found (value_at s key))) None (taken_out eq s n key)
     s.world.desk r new
+
+-- an invalidation of all is done, and is gone; what was written before the clock is hidden, and the
+-- table stays
+abbrev pub InvalidateAllPoll : (K V E : Type 0) → (K → K → Bool) → Type 0
+InvalidateAllPoll K V E eq =
+    (s new : State K V E) (n : ℕ) (r : Reply K V E) → IsBegun s n start.InvalidateAll →
+    Happens eq Any s (event.Poll n) r new →
+    PollGives s n (reply.Answer answer.Done) None s.world.table (invalidated_all s.world.desk) r new
 
 -- an eviction takes the record out that it was started for, where that has still to leave, and is
 -- gone; else table and desk stay

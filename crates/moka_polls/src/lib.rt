@@ -8,10 +8,12 @@ mod calm;
 mod gets;
 mod loads;
 mod removals;
+mod times;
 mod writes;
 
 pub use calm::polls_leave_calm;
 pub use gets::get_poll;
 pub use loads::{loads_poll, told_poll, waits_poll};
-pub use removals::{evict_poll, invalidate_poll, remove_poll};
+pub use removals::{evict_poll, invalidate_all_poll, invalidate_poll, remove_poll};
+pub use times::seen_without_times;
 pub use writes::{insert_poll, or_insert_poll};

@@ -9,9 +9,9 @@ pub fn insert_poll<K: Eq, V, E>()
     ensures done { InsertPoll K V E K.eq }
 {}
 
-/// The first poll of an `or_insert`. Where a value is stored under its key it answers that value,
-/// not fresh, and changes nothing. Else it stores its own value and answers it, fresh. The call is
-/// gone.
+/// The first poll of an `or_insert`. Where a visible record is stored under its key it answers its
+/// value, not fresh, and changes nothing. Else it stores its own value and answers it, fresh. The
+/// call is gone.
 pub fn or_insert_poll<K: Eq, V, E>()
     ensures hits { OrInsertHits K V E K.eq }
     ensures stores { OrInsertStores K V E K.eq }

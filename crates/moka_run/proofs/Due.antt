@@ -3,7 +3,7 @@ use Rattle.std.proofs.Common.{◌≡◌, ℕ, ◌<◌, ◌≤◌, List, [], ◌�
 use Rattle.moka_ends.specs.Bytes.{GivesAll, HasMoreThan}
 use Rattle.moka_ends.specs.declared.reads.ReadError.{ReadError}
 use Rattle.moka_ends.specs.declared.reads.ReadError.TheVariants as read
-use Rattle.moka_hist.specs.declared.rules.Rules.{Rules}
+use Rattle.moka_hist.specs.declared.settings.Settings.{Settings}
 use Rattle.moka_text.specs.ScheduleText.{Says, IsFirstBad}
 use Rattle.moka_text.specs.ScheduleReading.{schedule, MayWantMemory, TextsAreRead, BadLinesAreRead}
 use Rattle.moka_run.specs.Playing.{IsAfterReading, IsDue, WritesReport, most_bytes, status_of_read}
@@ -11,9 +11,9 @@ use Rattle.moka_run.specs.declared.status.Status.{Status}
 use Rattle.moka_run.specs.declared.status.Status.TheVariants as status
 
 -- a text that both says a schedule and has a bad line is read as both
-both_ways : TextsAreRead → BadLinesAreRead → {P : Type 0} (text : List ℕ) (log : ℕ) (rules : Rules) (events : List _) (line : ℕ) → Says text log rules events → IsFirstBad text line → P
-both_ways texts bad text log rules events line s b =
-    let ok = texts text log rules events s in
+both_ways : TextsAreRead → BadLinesAreRead → {P : Type 0} (text : List ℕ) (log : ℕ) (settings : Settings) (events : List _) (line : ℕ) → Says text log settings events → IsFirstBad text line → P
+both_ways texts bad text log settings events line s b =
+    let ok = texts text log settings events s in
     let err = bad text line b in
     absurd cc
 
@@ -31,22 +31,22 @@ due_of texts bad bytes status.Done old new fits done line after =
     record {
       too_long = λ more. absurd (omega arith);
       bad_line = λ n _ is. both_ways texts bad bytes _ _ _ n says is;
-      done = λ log rules events _ _. inl refl;
+      done = λ log settings events _ _. inl refl;
     }
 due_of texts bad bytes (status.BadLine n) old new fits done line after = record {
   too_long = λ more. absurd (omega arith);
   bad_line = λ m _ is. inl (ap status.BadLine (one_line bad bytes n m (line n refl) is));
-  done = λ log rules events _ says. both_ways texts bad bytes log rules events n says (line n refl);
+  done = λ log settings events _ says. both_ways texts bad bytes log settings events n says (line n refl);
 }
 due_of texts bad bytes status.WriteFault old new fits done line after = record {
   too_long = λ more. inr tt;
   bad_line = λ n _ is. inr tt;
-  done = λ log rules events _ says. inr tt;
+  done = λ log settings events _ says. inr tt;
 }
 due_of texts bad bytes status.Memory old new fits done line after = record {
   too_long = λ more. inr tt;
   bad_line = λ n _ is. inr tt;
-  done = λ log rules events _ says. inr tt;
+  done = λ log settings events _ says. inr tt;
 }
 due_of texts bad bytes status.BadWords old new fits done line after = absurd after
 due_of texts bad bytes status.TooLong old new fits done line after = absurd after
@@ -66,17 +66,17 @@ due_at_read_error (Some told) read.TooLong more =
     record {
       too_long = λ _. inl refl;
       bad_line = λ n fits _. absurd (omega arith);
-      done = λ log rules events fits _. absurd (omega arith);
+      done = λ log settings events fits _. absurd (omega arith);
     }
 due_at_read_error (Some told) read.Fault more = record {
   too_long = λ _. inr tt;
   bad_line = λ n _ _. inr tt;
-  done = λ log rules events _ _. inr tt;
+  done = λ log settings events _ _. inr tt;
 }
 due_at_read_error (Some told) read.Memory more = record {
   too_long = λ _. inr tt;
   bad_line = λ n _ _. inr tt;
-  done = λ log rules events _ _. inr tt;
+  done = λ log settings events _ _. inr tt;
 }
 
 -- no memory is taken to read a text of no bytes
@@ -86,8 +86,8 @@ some_taken [] takes = absurd (omega arith)
 some_taken (b ∷ bytes) takes = omega arith
 
 -- a text of no bytes says nothing
-pub some_said : (text : List ℕ) (log : ℕ) (rules : Rules) (events : List _) → Says text log rules events → 0 < length text
-some_said [] log rules events says =
+pub some_said : (text : List ℕ) (log : ℕ) (settings : Settings) (events : List _) → Says text log settings events → 0 < length text
+some_said [] log settings events says =
     let none = says.split in
     absurd cc
-some_said (b ∷ bytes) log rules events says = omega arith
+some_said (b ∷ bytes) log settings events says = omega arith

@@ -3,7 +3,7 @@ use Rattle.std.proofs.Common.{◌≡◌, ℕ, List, IsPermutation, nat_eq, refl}
 use Rattle.std.specs.List.Sorted.{IsSortedByKey}
 use Rattle.std.specs.Ordering.{nat_cmp}
 use Rattle.moka_hist.specs.declared.notices.Notice.{Notice}
-use Rattle.moka_hist.specs.declared.rules.Rules.{Rules}
+use Rattle.moka_hist.specs.declared.settings.Settings.{Settings}
 use Rattle.moka_hist.specs.declared.events.Event.{Event}
 use Rattle.moka_hist.specs.declared.records.Stored.{Stored}
 use Rattle.moka_hist.specs.declared.replies.Reply.{Reply}
@@ -15,13 +15,15 @@ use Rattle.moka_run.specs.declared.report.Report.{Report}
 use Rattle.moka_run.proofs.ByKey.{sorted_list}
 
 -- a text of the replies, of the stored pairs sorted by key, and of the places reports the run
-pub reported : (rules : Rules) (log : ℕ) (events : List (Event ℕ ℕ ℕ)) (report : Report ℕ ℕ ℕ) (sorted entries : List (ℕ × Stored ℕ)) (replies : List (Reply ℕ ℕ ℕ)) (places : List (ℕ × Place)) (notices : List (Notice ℕ ℕ)) (text : List ℕ)
-    → RunsFresh rules log events report → ReachedIsUnderOwnKeys ℕ ℕ ℕ nat_eq
+pub reported : (settings : Settings) (log : ℕ) (events : List (Event ℕ ℕ ℕ)) (report : Report ℕ ℕ ℕ) (sorted entries : List (ℕ × Stored ℕ)) (replies : List (Reply ℕ ℕ ℕ)) (places : List (ℕ × Place)) (notices : List (Notice ℕ ℕ)) (text : List ℕ)
+    → RunsFresh settings log events report → ReachedIsUnderOwnKeys ℕ ℕ ℕ nat_eq
     → IsPermutation report.entries sorted → IsSortedByKey (λ e. e.0) nat_cmp sorted
     → replies ≡ report.replies → entries ≡ sorted → places ≡ report.places → notices ≡ report.notices
-    → text ≡ report_text replies entries places notices → ReportsRun rules log events text
-reported rules log events report sorted entries replies places notices text ran own all ascending same_replies same_entries same_places same_notices is =
+    → text ≡ report_text replies entries places notices → ReportsRun settings log events text
+reported settings log events report sorted entries replies places notices text ran own all ascending same_replies same_entries same_places same_notices is =
     record {
+      rules = ran.rules;
+      ruled = ran.ruled;
       replies = report.replies;
       final = ran.final;
       run = ran.run;

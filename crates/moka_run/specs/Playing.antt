@@ -10,7 +10,9 @@ use Rattle.moka_ends.specs.Bytes.{GivesAll, Extends}
 use Rattle.moka_hist.specs.State.{State, fresh}
 use Rattle.moka_hist.specs.Places.{IsLawful}
 use Rattle.moka_hist.specs.Run.{Run, IsReached}
+use Rattle.moka_hist.specs.Settings.{AreRulesOf}
 use Rattle.moka_hist.specs.declared.rules.Rules.{Rules}
+use Rattle.moka_hist.specs.declared.settings.Settings.{Settings}
 use Rattle.moka_hist.specs.declared.notices.Notice.{Notice}
 use Rattle.moka_hist.specs.declared.events.Event.{Event}
 use Rattle.moka_hist.specs.declared.records.Stored.{Stored}
@@ -39,19 +41,25 @@ pub record ListsByKey (entries : List (ℕ × Stored ℕ)) (stored : Pairs ℕ �
   pub each : (key : ℕ) → lookup (nat_eq key) entries ≡ option_map (λ p. p.1) (stored key)
   pub ascending : IsStrictlyIncreasing (keys_of entries)
 
--- What was run on a fresh cache with a log of this size is to be reported so.
-pub record RunsFresh (rules : Rules) (log : ℕ) (events : List (Event ℕ ℕ ℕ))
+-- What was run on a fresh cache of rules that are of these settings, with a log of this size, is to
+-- be reported so.
+pub record RunsFresh (settings : Settings) (log : ℕ) (events : List (Event ℕ ℕ ℕ))
     (report : Report ℕ ℕ ℕ) : Type 0 where
+  pub rules : Rules
+  pub ruled : AreRulesOf settings rules
   pub final : State ℕ ℕ ℕ
   pub run : Run nat_eq (IsLawful nat_eq) (fresh ℕ ℕ ℕ rules log number_test) events
       report.replies final
   pub reports : Reports nat_eq report.entries report.places report.notices final
   pub reached : IsReached nat_eq final
 
--- The text reports a run of the reference cache on the events, from a fresh cache with a log of
--- this size, in which each state is lawful: its replies, and what stands after it.
-pub record ReportsRun (rules : Rules) (log : ℕ) (events : List (Event ℕ ℕ ℕ))
+-- The text reports a run of the reference cache on the events, from a fresh cache of rules that are
+-- of these settings, with a log of this size, in which each state is lawful: its replies, and what
+-- stands after it.
+pub record ReportsRun (settings : Settings) (log : ℕ) (events : List (Event ℕ ℕ ℕ))
     (text : List ℕ) : Type 0 where
+  pub rules : Rules
+  pub ruled : AreRulesOf settings rules
   pub replies : List (Reply ℕ ℕ ℕ)
   pub final : State ℕ ℕ ℕ
   pub run : Run nat_eq (IsLawful nat_eq) (fresh ℕ ℕ ℕ rules log number_test) events replies final
@@ -66,10 +74,10 @@ pub record ReportsRun (rules : Rules) (log : ℕ) (events : List (Event ℕ ℕ 
 -- the text is the report of the schedule that the bytes say
 pub record IsReport (bytes text : List ℕ) : Type 0 where
   pub log : ℕ
-  pub rules : Rules
+  pub settings : Settings
   pub events : List (Event ℕ ℕ ℕ)
-  pub says : Says bytes log rules events
-  pub report : ReportsRun rules log events text
+  pub says : Says bytes log settings events
+  pub report : ReportsRun settings log events text
 
 -- the most bytes that a schedule may have
 abbrev pub most_bytes : ℕ
@@ -115,8 +123,8 @@ pub record FindsBadLine (left left' : Option (List ℕ)) (line : ℕ) : Type 0 w
 -- no text both says a schedule and has a bad line
 abbrev pub SaysOrIsBad : Type 0
 SaysOrIsBad =
-    (text : List ℕ) (log : ℕ) (rules : Rules) (events : List (Event ℕ ℕ ℕ)) (line : ℕ)
-    → Says text log rules events → IsFirstBad text line → ⊥
+    (text : List ℕ) (log : ℕ) (settings : Settings) (events : List (Event ℕ ℕ ℕ)) (line : ℕ)
+    → Says text log settings events → IsFirstBad text line → ⊥
 
 -- how a play may end once the source was read to its end
 abbrev pub IsAfterReading : Status → Type 0
@@ -148,8 +156,8 @@ pub record IsDue (bytes : List ℕ) (ended : Status) : Type 0 where
   pub too_long : most_bytes < length bytes → EndsAs status.TooLong ended
   pub bad_line : (line : ℕ) → length bytes ≤ most_bytes → IsFirstBad bytes line
       → EndsAs (status.BadLine line) ended
-  pub done : (log : ℕ) (rules : Rules) (events : List (Event ℕ ℕ ℕ)) → length bytes ≤ most_bytes
-      → Says bytes log rules events → EndsAs status.Done ended
+  pub done : (log : ℕ) (settings : Settings) (events : List (Event ℕ ℕ ℕ))
+      → length bytes ≤ most_bytes → Says bytes log settings events → EndsAs status.Done ended
 
 -- the status after the source failed so
 abbrev pub status_of_read : ReadError → Status

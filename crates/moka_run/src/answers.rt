@@ -1,21 +1,24 @@
 //! The report of a schedule, from its text to its text.
-ghost use Rattle.std.specs.Prelude.{◌≡◌, ◌<◌, ◌≤◌, ℕ, length, nat_eq, IfOk, IsErrOf, IsPermutation, IsSortedByKey};
+ghost use Rattle.std.specs.Prelude.{◌≡◌, ◌<◌, ◌≤◌, ℕ, false, length, nat_eq, IfOk, IsErrOf, None, IsPermutation, IsSortedByKey};
 ghost use Rattle.std.specs.Ordering.{nat_cmp};
 ghost use Rattle.std.specs.String.{string_bytes};
-ghost use Rattle.moka_text.specs.ScheduleText.{IsFirstBad, Says, rules_from};
-ghost use Rattle.moka_hist.specs.State.{State};
+ghost use Rattle.moka_text.specs.ScheduleText.{IsFirstBad, Says, SettingsFit};
+ghost use Rattle.moka_hist.specs.State.{State, fresh};
+ghost use Rattle.moka_hist.specs.Settings.{refusal_of};
 ghost use Rattle.moka_hist.specs.Run.{IsReached};
 ghost use Rattle.moka_machine.specs.Machine.{IsValid, MachineIs};
-ghost use Rattle.moka_machine.specs.NumberTest.{number_tests};
+ghost use Rattle.moka_machine.specs.NumberTest.{number_test, number_tests};
 ghost use Rattle.moka_run.specs.Playing.{IsReport, ReportsRun, RunsFresh};
 ghost use Rattle.moka_run.specs.Running.{Answers};
 
 use crate::report::{ReplyList, Report, list_all, report_of};
 use crate::runs::run_events;
-use moka_hist::{Event, Rules, Stored};
+use moka_hist::{BuildError, Event, Rules, Settings, Stored};
 use moka_machine::{Machine, NumberTests};
 use moka_table::EntryList;
-use moka_text::{Schedule, ScheduleError, read_schedule, write_report};
+use moka_text::{
+    Schedule, ScheduleError, read_schedule, schedules_are_never_refused, write_report,
+};
 use std::alloc::{AllocError, Global};
 
 /// The entries, ascending by key.
@@ -45,42 +48,64 @@ fn replies_to(
     }
 }
 
-/// Runs the events on a fresh cache, and answers what is to be reported. The events are given up
-/// before the lists of the report are made.
-fn run_fresh(
+/// Builds the cache of rules that aren't refused.
+fn build(
     alloc: Global,
     rules: Rules,
     log: usize,
-    events: Vec<Event<u32, u32, u32>>,
-) -> Result<Report<u32, u32, u32>, AllocError>
-    requires rules { rules ≡ rules_from rules.max_capacity rules.listener }
+) -> Result<Machine<u32, u32, u32, NumberTests>, AllocError>
+    requires closures { rules.closures ≡ false }
+    requires accepted { refusal_of rules ≡ None }
     requires least { 1 ≤ log }
     requires most { log ≤ 65536 }
-    ensures { IfOk result (λ report. RunsFresh rules log events.items report) }
+    ensures fresh { IfOk result (λ machine. MachineIs nat_eq number_tests machine
+        (fresh ℕ ℕ ℕ rules log number_test)) }
+    ensures valid { IfOk result (λ machine. IsValid nat_eq number_tests machine) }
+{
+    match Machine::build(alloc, rules, log, NumberTests) {
+        Ok(machine) => Ok(machine),
+        Err(BuildError::Memory) => Err(AllocError),
+        Err(BuildError::TimeToLiveTooLong | BuildError::TimeToIdleTooLong) => unreachable!(),
+    }
+}
+
+/// Runs the events on a fresh cache of these settings, and answers what is to be reported. The
+/// events are given up before the lists of the report are made.
+fn run_fresh(
+    alloc: Global,
+    settings: Settings,
+    log: usize,
+    events: Vec<Event<u32, u32, u32>>,
+) -> Result<Report<u32, u32, u32>, AllocError>
+    requires fit { SettingsFit settings }
+    requires least { 1 ≤ log }
+    requires most { log ≤ 65536 }
+    ensures { IfOk result (λ report. RunsFresh settings log events.items report) }
 {
     moka_laws::reached_by_lawful_run::<u32, u32, u32>();
-    let mut machine = Machine::build(alloc, rules, log, NumberTests)?;
+    schedules_are_never_refused();
+    let mut machine = build(alloc, settings.rules(), log)?;
     let replies = replies_to(alloc, &mut machine, events)?;
     let lists = list_all(alloc, &machine)?;
     Ok(report_of(replies, lists))
 }
 
-/// Runs the events on a fresh cache of these rules with a log of this many writes, and answers the
+/// Runs the events on a fresh cache of these settings with a log of this many writes, and answers the
 /// report's text. The events are given up before the report's lists are made, and the cache before
 /// its text.
 fn report_on(
     alloc: Global,
-    rules: Rules,
+    settings: Settings,
     log: usize,
     events: Vec<Event<u32, u32, u32>>,
 ) -> Result<String, AllocError>
-    requires rules { rules ≡ rules_from rules.max_capacity rules.listener }
+    requires fit { SettingsFit settings }
     requires least { 1 ≤ log }
     requires most { log ≤ 65536 }
-    ensures { IfOk result (λ text. ReportsRun rules log events.items (string_bytes text)) }
+    ensures { IfOk result (λ text. ReportsRun settings log events.items (string_bytes text)) }
 {
     moka_laws::stored_under_own_keys::<u32, u32, u32>();
-    let report = run_fresh(alloc, rules, log, events)?;
+    let report = run_fresh(alloc, settings, log, events)?;
     let Report {
         replies,
         entries,
@@ -99,7 +124,7 @@ fn report_on(
 
 /// Reads the schedule that the bytes say, which are given up then.
 fn read_given(alloc: Global, bytes: Vec<u8>) -> Result<Schedule, ScheduleError>
-    ensures found { IfOk result (λ s. Says bytes.items s.log s.rules s.events.items) }
+    ensures found { IfOk result (λ s. Says bytes.items s.log s.settings s.events.items) }
     ensures bad_line { (line : ℕ) → IsErrOf result (ScheduleError.BadLine line)
         → IsFirstBad bytes.items line }
     ensures memory { IsErrOf result ScheduleError.Memory → 0 < length bytes.items }
@@ -119,7 +144,7 @@ pub(crate) fn answer(alloc: Global, bytes: Vec<u8>) -> Result<String, ScheduleEr
     ensures memory { IsErrOf result ScheduleError.Memory → 0 < length bytes.items }
 {
     let schedule = read_given(alloc, bytes)?;
-    match report_on(alloc, schedule.rules, schedule.log, schedule.events) {
+    match report_on(alloc, schedule.settings, schedule.log, schedule.events) {
         Ok(text) => Ok(text),
         Err(_) => Err(ScheduleError::Memory),
     }

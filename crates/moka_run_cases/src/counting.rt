@@ -269,7 +269,7 @@ fn are_counted(rt: &(impl AllocGlobal + Abort), rows: &[(&str, u64)]) -> Result<
 }
 
 /// Schedules, with how many accesses the steps of each make, call by call.
-const SCHEDULES: [(&str, u64); 19] = [
+const SCHEDULES: [(&str, u64); 22] = [
     ("cache / start get 1 / poll 1", 2),
     (
         "cache log=8 / start insert 1 5 / poll 1 / start get 1 / poll 2",
@@ -350,6 +350,18 @@ const SCHEDULES: [(&str, u64); 19] = [
          tell 2 put 6 / poll 2 / tell 2 done / poll 2",
         6 + 5 + 6 + 4,
     ),
+    // Records that expire or are hidden, and an invalidation of all, which is one visit.
+    (
+        "cache log=8 ttl=10 / start insert 1 5 / poll 1 / at 10 / start get 1 / poll 2 / \
+         start compute 1 / poll 3 / tell 3 remove / poll 3",
+        4 + 3 + 5 + 6,
+    ),
+    (
+        "cache log=8 tti=10 listener / start insert 1 5 / poll 1 / at 20 / \
+         start invalidate_all / poll 2 / start remove 1 / poll 3 / tell 3 done / poll 3",
+        6 + 1 + 5 + 3,
+    ),
+    ("cache cap=0 / start invalidate_all / poll 1", 1),
     // A disabled cache.
     (
         "cache cap=0 / start insert 1 5 / poll 1 / start get_with 1 / poll 2 / \

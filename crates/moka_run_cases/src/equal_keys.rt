@@ -114,7 +114,9 @@ fn spellings_on(
 
 /// The spellings in the replies to the events, on a fresh cache.
 fn spellings(alloc: Global, events: &[Event<Name, u32, u16>]) -> Result<String, AllocError> {
-    let mut cache = Machine::build(alloc, RULES, LOG, NoTests)?;
+    let Ok(mut cache) = Machine::build(alloc, RULES, LOG, NoTests) else {
+        return Err(AllocError);
+    };
     let spelled = spellings_on(alloc, &mut cache, events);
     drop(cache);
     spelled

@@ -46,6 +46,15 @@ fn the_first_bad_line_is_told(rt: HostRuntime) -> Result<(), Fail> {
         ("cache log=8\nstart get 1\nstart ge", 3),
         ("cache log=8\nstart get 1\n\nstart ge\n", 3),
         ("cache\npoll 01\n", 2),
+        ("cache tti=5 ttl=5\n", 1),
+        ("cache listener ttl=5\n", 1),
+        ("cache ttl=01\n", 1),
+        ("cache ttl=\n", 1),
+        ("cache ttl=18446744073709551616\n", 1),
+        ("cache ttl=5 log=8\n", 1),
+        ("cache seed=1\n", 1),
+        ("cache\nstart invalidate_all 1\n", 2),
+        ("cache\nstart invalidate_all \n", 2),
     ];
     for (text, line) in rows {
         // Nothing is written, so the write that fails does no harm.

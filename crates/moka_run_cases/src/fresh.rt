@@ -4,7 +4,6 @@ ghost use Rattle.moka_machine.specs.Machine.{IsValid};
 ghost use Rattle.moka_machine.specs.NumberTest.{number_tests};
 
 use crate::in_memory::text_of;
-use moka_hist::Rules;
 use moka_run::{Machine, NumberTests};
 use moka_text::{Schedule, read_schedule};
 use std::alloc::{AllocError, Global};
@@ -25,12 +24,6 @@ pub fn machine_for(
     if schedule.log < 1 || schedule.log > 65536 {
         return Err(AllocError);
     }
-    let rules = Rules {
-        max_capacity: schedule.rules.max_capacity,
-        time_to_live: None,
-        time_to_idle: None,
-        listener: schedule.rules.listener,
-        closures: false,
-    };
-    Machine::build(alloc, rules, schedule.log, NumberTests)
+    let rules = schedule.settings.rules();
+    Machine::build(alloc, rules, schedule.log, NumberTests).map_err(|_| AllocError)
 }

@@ -2,11 +2,15 @@
 #![tactic(auto)]
 
 #[cfg(test)]
+mod building;
+#[cfg(test)]
 mod computes;
 #[cfg(test)]
 mod counting;
 #[cfg(test)]
 mod drops;
+#[cfg(test)]
+mod durations;
 #[cfg(test)]
 mod equal_keys;
 #[cfg(test)]

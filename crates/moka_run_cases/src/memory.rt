@@ -155,7 +155,7 @@ fn text_of_report(
 }
 
 /// Schedules with their reports, and a name for each.
-const ROWS: [(&str, &str, &str); 24] = [
+const ROWS: [(&str, &str, &str); 28] = [
     (
         "a_get",
         "cache log=8 / start get 1 / poll 1",
@@ -275,6 +275,26 @@ const ROWS: [(&str, &str, &str); 24] = [
         "a_disabled_compute",
         "cache cap=0 log=8 / start compute 1 / poll 1 / start compute_alone 1 / poll 2 / tell 1 put 5 / poll 1 / start compute 1 / poll 3 / tell 3 remove / poll 3",
         "call 1 / ask compute none / call 2 / answer stillnone / told / answer inserted 5 / call 3 / ask compute none / told / answer stillnone",
+    ),
+    (
+        "a_record_that_expires",
+        "cache log=8 ttl=10 / start insert 1 5 / poll 1 / at 9 / start get 1 / poll 2 / at 10 / start get 1 / poll 3 / start compute 1 / poll 4 / tell 4 remove / poll 4",
+        "call 1 / answer done / at / call 2 / answer some 5 / at / call 3 / answer none / call 4 / ask compute none / told / answer removed 5 / write 1 logged / write 4 logged",
+    ),
+    (
+        "a_record_that_is_seen",
+        "cache log=8 tti=10 / start insert 1 5 / poll 1 / at 9 / start get 1 / poll 2 / at 18 / start get_with 1 / poll 3 / start get_with 1 if 5 / poll 4 / at 28 / start get 1 / poll 5",
+        "call 1 / answer done / at / call 2 / answer some 5 / at / call 3 / answer value 5 / call 4 / ask init / at / call 5 / answer none / entry 1 5 stamp 1 at 0 / write 1 logged",
+    ),
+    (
+        "a_look_at_what_leaves",
+        "cache log=1 tti=10 / start insert 1 5 / poll 1 / at 8 / start get 1 / poll 2 / start get 1 / step 3 / step 3 / at 9 / start remove 1 / poll 4 / start insert 2 6 / poll 5 / start insert 3 7 / poll 6 / at 17 / step 3",
+        "call 1 / answer done / at / call 2 / answer some 5 / call 3 / going / going / at / call 4 / answer some 5 / call 5 / answer done / call 6 / answer done / at / answer some 5 / entry 2 6 stamp 5 at 9 / entry 3 7 stamp 6 at 9 / write 1 applied / write 4 applied / write 5 applied / write 6 logged",
+    ),
+    (
+        "an_invalidation_of_all",
+        "cache log=8 tti=10 listener / start insert 1 5 / poll 1 / at 20 / start invalidate_all / poll 2 / start insert 1 6 / poll 3 / tell 3 done / poll 3 / start get 1 / poll 4",
+        "call 1 / answer done / at / call 2 / answer done / call 3 / ask listener 1 5 Explicit / told / answer done / call 4 / answer some 6 / entry 1 6 stamp 3 at 20 / write 1 logged / write 3 logged / notice 3 1 5 Explicit ended",
     ),
 ];
 

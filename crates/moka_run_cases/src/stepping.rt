@@ -21,7 +21,7 @@ struct Outcome {
 }
 
 /// Schedules, ten of each kind. ` / ` parts lines.
-const SCHEDULES: [&str; 50] = [
+const SCHEDULES: [&str; 60] = [
     // Of gets, inserts and loads.
     "cache / start get 1 / poll 1",
     "cache log=8 / start insert 1 5 / poll 1 / start get 1 / poll 2",
@@ -77,6 +77,17 @@ const SCHEDULES: [&str; 50] = [
     "cache log=8 listener / start insert 1 5 / poll 1 / start compute 1 / poll 2 / tell 2 remove / poll 2 / start upsert 1 / poll 3 / tell 2 done / poll 2 / poll 3 / tell 3 value 6 / poll 3",
     "cache log=8 listener / start compute 1 / poll 1 / tell 1 remove / poll 1 / start compute_alone 1 / poll 2 / tell 2 error 3 / poll 2",
     "cache cap=0 log=8 / start compute 1 / start compute 1 / poll 1 / poll 2 / start compute_alone 1 / poll 3 / tell 1 put 5 / poll 1 / poll 2 / tell 2 remove / poll 2",
+    // Of records that expire or are invalidated.
+    "cache log=8 ttl=10 / start insert 1 5 / poll 1 / at 9 / start get 1 / poll 2 / at 10 / start get 1 / poll 3 / start compute 1 / poll 4 / tell 4 remove / poll 4",
+    "cache log=8 tti=10 / start insert 1 5 / poll 1 / at 9 / start get 1 / poll 2 / at 18 / start get_with 1 / poll 3 / at 27 / start or_insert 1 6 / poll 4 / at 37 / start get 1 / poll 5",
+    "cache log=8 tti=10 listener / start insert 1 5 / poll 1 / at 20 / start invalidate_all / poll 2 / start insert 1 6 / poll 3 / tell 3 done / poll 3",
+    "cache log=8 ttl=10 listener / start insert 1 5 / poll 1 / at 9 / start insert 1 6 / step 2 / step 2 / step 2 / step 2 / at 10 / poll 2 / tell 2 done / poll 2",
+    "cache log=8 ttl=0 / start get_with 1 / start get_with 1 / poll 1 / poll 2 / tell 1 value 7 / poll 1 / poll 2 / start get_with 1 / poll 3 / tell 3 value 8 / poll 3",
+    "cache log=1 tti=10 / start insert 1 5 / poll 1 / at 8 / start get 1 / poll 2 / start get 1 / step 3 / step 3 / at 9 / start remove 1 / poll 4 / start insert 2 6 / poll 5 / start insert 3 7 / poll 6 / at 17 / poll 3",
+    "cache log=8 / at 7 / start insert 1 5 / poll 1 / start invalidate_all / poll 2 / start get 1 / poll 3 / at 8 / start invalidate_all / poll 4 / start get_with 1 if 5 / poll 5 / tell 5 value 6 / poll 5",
+    "cache log=8 ttl=10 tti=5 listener / start insert 1 5 / poll 1 / at 5 / start compute 1 / poll 2 / tell 2 put 6 / poll 2 / at 9 / tell 2 done / poll 2 / start evict 1 2 Expired / poll 3 / at 10 / start evict 1 2 Expired / poll 4",
+    "cache log=8 listener / start insert 1 5 / poll 1 / start insert 1 6 / poll 2 / at 1 / start invalidate_all / start get 1 / poll 4 / poll 3 / tell 2 done / poll 4 / start remove 1 / poll 5 / poll 2",
+    "cache cap=0 ttl=10 / start invalidate_all / poll 1 / start get_with 1 / poll 2 / at 10 / tell 2 value 7 / poll 2",
 ];
 
 /// The reply to one event. None where memory is wanting.
@@ -181,7 +192,7 @@ fn first_other(
 }
 
 #[test]
-fn single_steps_come_to_what_polls_do_in_50_schedules(rt: HostRuntime) -> Result<(), Fail> {
+fn single_steps_come_to_what_polls_do_in_60_schedules(rt: HostRuntime) -> Result<(), Fail> {
     assert_eq!(rt; first_other(rt.alloc(), &SCHEDULES)?, None);
     Ok(())
 }

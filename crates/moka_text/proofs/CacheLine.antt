@@ -9,10 +9,10 @@ use Rattle.std.proofs.lemmas.Bool.{leb-true, le-leb}
 use Rattle.std.proofs.lemmas.Bool.Decides.{Decides-and}
 use Rattle.std.proofs.lemmas.Fmt.{digits_decimal}
 use Rattle.std.proofs.lemmas.List.{take-append-drop}
-use Rattle.moka_hist.specs.declared.rules.Rules.{Rules}
+use Rattle.moka_hist.specs.declared.settings.Settings.{Settings}
 use Rattle.moka_text.specs.Words.{call_in, after, before_byte, from_byte}
-use Rattle.moka_text.specs.ScheduleText.{option_words, switch, rules_from, IsCacheLine}
-use Rattle.moka_text.specs.ScheduleReading.{said_in, cut_option, unless_left, within, cap_of, log_of, switch_of, made_of, options_of, cache_of}
+use Rattle.moka_text.specs.ScheduleText.{option_words, switch, SettingsFit, IsCacheLine}
+use Rattle.moka_text.specs.ScheduleReading.{said_in, cut_option, unless_left, within, number_of, log_of, switch_of, settings_from, made_of, options_of, cache_of}
 use Rattle.moka_text.proofs.Numbers.{own}
 use Rattle.moka_text.proofs.Spelled.{Ends, HasNoSpace, mapped, bound, weaker, after_is, number_is, chosen, no_space, call_some, said_before, rest_from}
 
@@ -42,20 +42,25 @@ cut_is name bytes = by (after (32 ∷ name) bytes) (after_is (32 ∷ name) bytes
   by None h = refl
   by (Some rest) h = h ∙ ap (λ r. 32 ∷ name ++ r) (sym (take-append-drop (position_or_len (λ b. eqb b 32) rest) rest)) ∙ sym (append_assoc (32 ∷ name) (before_byte 32 rest) (from_byte 32 rest))
 
--- what may be said of the capacity
-abbrev SaysCap : Option (List ℕ) → Option ℕ → Type 0
-SaysCap said capacity = (said ≡ option_map decimal capacity) × IfSome capacity (λ n. n < 2 ^ 64)
+-- bytes are an option of which this is said, where they were cut, and then what follows
+spelled : (name bytes : List ℕ) {rest : List ℕ} (said : Option (List ℕ)) → (cut_option (32 ∷ name) bytes).0 ≡ said → (cut_option (32 ∷ name) bytes).1 ≡ rest → bytes ≡ option_words name said ++ rest
+spelled name bytes {rest} said is follows =
+    cut_is name bytes ∙ ap (λ o. option_words name o ++ (cut_option (32 ∷ name) bytes).1) is ∙ ap (λ t. option_words name said ++ t) follows
 
-cap_is : (said : Option (List ℕ)) → IfSome (cap_of said) (SaysCap said)
-unfolding cap_of
-cap_is None = (refl, tt)
-cap_is (Some said) =
-    mapped (SaysCap (Some said)) Some (call_in said) (weaker _ _ (call_in said) (number_is (2 ^ 64) said) (λ n h. (ap Some h.0, h.1)))
+-- what may be said of an option that is a number
+abbrev SaysNumber : Option (List ℕ) → Option ℕ → Type 0
+SaysNumber said number = (said ≡ option_map decimal number) × IfSome number (λ n. n < 2 ^ 64)
 
-cap_read : (capacity : Option ℕ) → IfSome capacity (λ n. n < 2 ^ 64) → cap_of (option_map decimal capacity) ≡ Some capacity
-unfolding cap_of
-cap_read None h = refl
-cap_read (Some n) h = ap (option_map Some) (call_some n h)
+number_of_is : (said : Option (List ℕ)) → IfSome (number_of said) (SaysNumber said)
+unfolding number_of
+number_of_is None = (refl, tt)
+number_of_is (Some said) =
+    mapped (SaysNumber (Some said)) Some (call_in said) (weaker _ _ (call_in said) (number_is (2 ^ 64) said) (λ n h. (ap Some h.0, h.1)))
+
+number_read : (number : Option ℕ) → IfSome number (λ n. n < 2 ^ 64) → number_of (option_map decimal number) ≡ Some number
+unfolding number_of
+number_read None h = refl
+number_read (Some n) h = ap (option_map Some) (call_some n h)
 
 log_Decides : (log : ℕ) → Decides (nat_le 1 log && nat_le log 65536) ((1 ≤ log) × (log ≤ 65536))
 log_Decides log = Decides-and _ _ (leb-true 1 log, le-leb 1 log) (leb-true log 65536, le-leb log 65536)
@@ -104,26 +109,55 @@ switch_close true = tt
 switch_close false = tt
 
 -- what the options of a first line make
-record Makes (cap log listener : Option (List ℕ)) (made : ℕ × Rules) : Type 0 where
-  capacity : SaysCap cap made.1.max_capacity
+record Makes (cap log ttl tti listener : Option (List ℕ)) (made : ℕ × Settings) : Type 0 where
+  capacity : SaysNumber cap made.1.max_capacity
   size : SaysLog log made.0
+  live : SaysNumber ttl made.1.time_to_live
+  idle : SaysNumber tti made.1.time_to_idle
   set : listener ≡ switch made.1.listener
-  others : made.1 ≡ rules_from made.1.max_capacity made.1.listener
 
-made_is : (cap log listener : Option (List ℕ)) → IfSome (made_of cap log listener) (Makes cap log listener)
-unfolding made_of
-made_is cap log listener =
-    bound (SaysCap cap) _ (λ capacity. option_and_then (λ size. option_and_then (λ set. Some (size, rules_from capacity set)) (switch_of listener)) (log_of log)) (cap_of cap) (cap_is cap) (λ capacity g.
-    bound (SaysLog log) _ (λ size. option_and_then (λ set. Some (size, rules_from capacity set)) (switch_of listener)) (log_of log) (log_is log) (λ size h.
-    bound (λ set. listener ≡ switch set) (Makes cap log listener) (λ set. Some (size, rules_from capacity set)) (switch_of listener) (switch_is listener) (λ set j.
-    record { capacity = g; size = h; set = j; others = refl })))
+-- what is left to read after each option
+abbrev with_switch : Option (List ℕ) → Option ℕ → ℕ → Option ℕ → Option ℕ → Option (ℕ × Settings)
+with_switch listener capacity size live idle =
+    option_and_then (λ set. Some (size, settings_from capacity live idle set)) (switch_of listener)
 
-made_read : (capacity number : Option ℕ) (set : Bool) → IfSome capacity (λ n. n < 2 ^ 64) → (1 ≤ unwrap_or number 384) × (unwrap_or number 384 ≤ 65536) → made_of (option_map decimal capacity) (option_map decimal number) (switch set) ≡ Some (unwrap_or number 384, rules_from capacity set)
+abbrev with_idle : Option (List ℕ) → Option (List ℕ) → Option ℕ → ℕ → Option ℕ → Option (ℕ × Settings)
+with_idle tti listener capacity size live =
+    option_and_then (with_switch listener capacity size live) (number_of tti)
+
+abbrev with_live : Option (List ℕ) → Option (List ℕ) → Option (List ℕ) → Option ℕ → ℕ → Option (ℕ × Settings)
+with_live ttl tti listener capacity size =
+    option_and_then (with_idle tti listener capacity size) (number_of ttl)
+
+abbrev with_log : Option (List ℕ) → Option (List ℕ) → Option (List ℕ) → Option (List ℕ) → Option ℕ → Option (ℕ × Settings)
+with_log log ttl tti listener capacity =
+    option_and_then (with_live ttl tti listener capacity) (log_of log)
+
+made_is : (cap log ttl tti listener : Option (List ℕ)) → IfSome (made_of cap log ttl tti listener) (Makes cap log ttl tti listener)
 unfolding made_of
-made_read capacity number set below range =
-    ap (λ o. option_and_then (λ c. option_and_then (λ size. option_and_then (λ s. Some (size, rules_from c s)) (switch_of (switch set))) (log_of (option_map decimal number))) o) (cap_read capacity below)
-    ∙ ap (λ o. option_and_then (λ size. option_and_then (λ s. Some (size, rules_from capacity s)) (switch_of (switch set))) o) (log_read number range)
-    ∙ ap (λ o. option_and_then (λ s. Some (unwrap_or number 384, rules_from capacity s)) o) (switch_read set)
+made_is cap log ttl tti listener =
+    bound (SaysNumber cap) _ (with_log log ttl tti listener) (number_of cap) (number_of_is cap) (λ capacity g.
+    bound (SaysLog log) _ (with_live ttl tti listener capacity) (log_of log) (log_is log) (λ size h.
+    bound (SaysNumber ttl) _ (with_idle tti listener capacity size) (number_of ttl) (number_of_is ttl) (λ live i.
+    bound (SaysNumber tti) _ (with_switch listener capacity size live) (number_of tti) (number_of_is tti) (λ idle j.
+    bound (λ set. listener ≡ switch set) (Makes cap log ttl tti listener) (λ set. Some (size, settings_from capacity live idle set)) (switch_of listener) (switch_is listener) (λ set k.
+    record { capacity = g; size = h; live = i; idle = j; set = k })))))
+
+made_read : (number : Option ℕ) (settings : Settings) → SettingsFit settings → (1 ≤ unwrap_or number 384) × (unwrap_or number 384 ≤ 65536) → made_of (option_map decimal settings.max_capacity) (option_map decimal number) (option_map decimal settings.time_to_live) (option_map decimal settings.time_to_idle) (switch settings.listener) ≡ Some (unwrap_or number 384, settings)
+unfolding made_of
+made_read number settings fit range =
+    let capacity : Option ℕ = settings.max_capacity in
+    let live : Option ℕ = settings.time_to_live in
+    let idle : Option ℕ = settings.time_to_idle in
+    let ttl : Option (List ℕ) = option_map decimal live in
+    let tti : Option (List ℕ) = option_map decimal idle in
+    let listener : Option (List ℕ) = switch settings.listener in
+    let size : ℕ = unwrap_or number 384 in
+    ap (option_and_then (with_log (option_map decimal number) ttl tti listener)) (number_read capacity fit.capacity)
+    ∙ ap (option_and_then (with_live ttl tti listener capacity)) (log_read number range)
+    ∙ ap (option_and_then (with_idle tti listener capacity size)) (number_read live fit.live)
+    ∙ ap (option_and_then (with_switch listener capacity size live)) (number_read idle fit.idle)
+    ∙ ap (option_and_then (λ set. Some (size, settings_from capacity live idle set))) (switch_read settings.listener)
 
 -- no bytes are left where there is a value
 none_left : {A : Type 0} (P : A → Type 0) (left : List ℕ) (o : Option A) → IfSome o P → IfSome (unless_left left o) (λ x. P x × (left ≡ []))
@@ -137,66 +171,92 @@ cache_is line =
     bound _ (λ c. IsCacheLine line c.0 c.1) options_of (after (codes "cache") line) (after_is (codes "cache") line) (λ bytes e.
     let cap : Option (List ℕ) × List ℕ = cut_option (codes " cap=") bytes in
     let log : Option (List ℕ) × List ℕ = cut_option (codes " log=") cap.1 in
-    let listener : Option (List ℕ) × List ℕ = cut_option (codes " listener") log.1 in
-    weaker _ (λ c. IsCacheLine line c.0 c.1) (options_of bytes) (none_left _ listener.1 (made_of cap.0 log.0 listener.0) (made_is cap.0 log.0 listener.0)) (λ c h.
+    let ttl : Option (List ℕ) × List ℕ = cut_option (codes " ttl=") log.1 in
+    let tti : Option (List ℕ) × List ℕ = cut_option (codes " tti=") ttl.1 in
+    let listener : Option (List ℕ) × List ℕ = cut_option (codes " listener") tti.1 in
+    weaker _ (λ c. IsCacheLine line c.0 c.1) (options_of bytes) (none_left _ listener.1 (made_of cap.0 log.0 ttl.0 tti.0 listener.0) (made_is cap.0 log.0 ttl.0 tti.0 listener.0)) (λ c h.
     let made = h.0 in
     let said = made.size in
-    let at_cap : bytes ≡ option_words (codes "cap=") cap.0 ++ cap.1 = cut_is (codes "cap=") bytes in
-    let at_log : cap.1 ≡ option_words (codes "log=") log.0 ++ log.1 = cut_is (codes "log=") cap.1 in
-    let at_listener : log.1 ≡ option_words (codes "listener") listener.0 ++ listener.1 = cut_is (codes "listener") log.1 in
     record {
       said = said.number;
       spelled =
           e
-          ∙ ap (λ t. codes "cache" ++ t) (at_cap
-          ∙ ap (λ o. option_words (codes "cap=") o ++ cap.1) made.capacity.0
-          ∙ ap (λ t. option_words (codes "cap=") (option_map decimal c.1.max_capacity) ++ t) (at_log
-          ∙ ap (λ o. option_words (codes "log=") o ++ log.1) said.spelled
-          ∙ ap (λ t. option_words (codes "log=") (option_map decimal said.number) ++ t) (at_listener
-          ∙ ap (λ t. option_words (codes "listener") listener.0 ++ t) h.1
-          ∙ append-nil (option_words (codes "listener") listener.0)
-          ∙ ap (λ o. option_words (codes "listener") o) made.set)));
+          ∙ ap (λ t. codes "cache" ++ t) (spelled (codes "cap=") bytes _ made.capacity.0
+          (spelled (codes "log=") cap.1 _ said.spelled
+          (spelled (codes "ttl=") log.1 _ made.live.0
+          (spelled (codes "tti=") ttl.1 _ made.idle.0
+          (spelled (codes "listener") tti.1 _ made.set h.1
+          ∙ append-nil (option_words (codes "listener") (switch c.1.listener)))))));
       size = said.size;
       range = said.range;
-      capacity = made.capacity.1;
-      others = made.others;
+      fit = record { capacity = made.capacity.1; live = made.live.1; idle = made.idle.1 };
     }))
 
--- the options of a first line are read
-options_read : (capacity number : Option ℕ) (set : Bool) → IfSome capacity (λ n. n < 2 ^ 64) → (1 ≤ unwrap_or number 384) × (unwrap_or number 384 ≤ 65536) → options_of (option_words (codes "cap=") (option_map decimal capacity) ++ (option_words (codes "log=") (option_map decimal number) ++ option_words (codes "listener") (switch set))) ≡ Some (unwrap_or number 384, rules_from capacity set)
-options_read capacity number set below range =
-    let cap : Option (List ℕ) = option_map decimal capacity in
-    let log : Option (List ℕ) = option_map decimal number in
-    let listener : List ℕ = option_words (codes "listener") (switch set) in
-    let later : List ℕ = option_words (codes "log=") log ++ listener in
-    let whole : listener ++ [] ≡ listener = append-nil listener in
-    let no_cap : after (codes " cap=") listener ≡ None = subst (λ t. after (codes " cap=") t ≡ None) whole (misses (codes " cap=") (codes "listener") (switch set) [] (λ s. refl) refl) in
-    let no_log : after (codes " log=") listener ≡ None = subst (λ t. after (codes " log=") t ≡ None) whole (misses (codes " log=") (codes "listener") (switch set) [] (λ s. refl) refl) in
-    let none_later : after (codes " cap=") later ≡ None = misses (codes " cap=") (codes "log=") log listener (λ s. refl) no_cap in
-    let ends : Ends listener = subst Ends whole (ends_words (codes "listener") (switch set) [] tt) in
-    let ends_later : Ends later = ends_words (codes "log=") log listener ends in
-    let cut_cap : cut_option (codes " cap=") (option_words (codes "cap=") cap ++ later) ≡ (cap, later) = cut_read (codes "cap=") cap later (number_close capacity below) ends_later (λ s. refl) none_later in
-    let cut_log : cut_option (codes " log=") later ≡ (log, listener) = cut_read (codes "log=") log listener (number_close number (small number range.1)) ends (λ s. refl) no_log in
-    let cut_listener : cut_option (codes " listener") listener ≡ (switch set, []) = ap (cut_option (codes " listener")) (sym whole) ∙ cut_read (codes "listener") (switch set) [] (switch_close set) tt (λ s. refl) refl in
-    ap (λ a. let b = cut_option (codes " log=") a.1 in unless_left (cut_option (codes " listener") b.1).1 (made_of a.0 b.0 (cut_option (codes " listener") b.1).0)) cut_cap
-    ∙ ap (λ b. unless_left (cut_option (codes " listener") b.1).1 (made_of cap b.0 (cut_option (codes " listener") b.1).0)) cut_log
-    ∙ ap (λ c. unless_left c.1 (made_of cap log c.0)) cut_listener ∙ made_read capacity number set below range
+-- what is read, once the options before are known
+abbrev after_set : Option (List ℕ) → Option (List ℕ) → Option (List ℕ) → Option (List ℕ) → Option (List ℕ) × List ℕ → Option (ℕ × Settings)
+after_set cap log ttl tti cut = unless_left cut.1 (made_of cap log ttl tti cut.0)
 
--- the line of a cache is read as its log's size and its rules
-pub cache_read : (line : List ℕ) (log : ℕ) (rules : Rules) → IsCacheLine line log rules → cache_of line ≡ Some (log, rules)
-cache_read line log rules h =
+abbrev after_tti : Option (List ℕ) → Option (List ℕ) → Option (List ℕ) → Option (List ℕ) × List ℕ → Option (ℕ × Settings)
+after_tti cap log ttl cut = after_set cap log ttl cut.0 (cut_option (codes " listener") cut.1)
+
+abbrev after_ttl : Option (List ℕ) → Option (List ℕ) → Option (List ℕ) × List ℕ → Option (ℕ × Settings)
+after_ttl cap log cut = after_tti cap log cut.0 (cut_option (codes " tti=") cut.1)
+
+abbrev after_log : Option (List ℕ) → Option (List ℕ) × List ℕ → Option (ℕ × Settings)
+after_log cap cut = after_ttl cap cut.0 (cut_option (codes " ttl=") cut.1)
+
+abbrev after_cap : Option (List ℕ) × List ℕ → Option (ℕ × Settings)
+after_cap cut = after_log cut.0 (cut_option (codes " log=") cut.1)
+
+-- the options of a first line are read
+options_read : (number : Option ℕ) (settings : Settings) → SettingsFit settings → (1 ≤ unwrap_or number 384) × (unwrap_or number 384 ≤ 65536) → options_of (option_words (codes "cap=") (option_map decimal settings.max_capacity) ++ (option_words (codes "log=") (option_map decimal number) ++ (option_words (codes "ttl=") (option_map decimal settings.time_to_live) ++ (option_words (codes "tti=") (option_map decimal settings.time_to_idle) ++ option_words (codes "listener") (switch settings.listener))))) ≡ Some (unwrap_or number 384, settings)
+options_read number settings fit range =
+    let cap : Option (List ℕ) = option_map decimal settings.max_capacity in
+    let log : Option (List ℕ) = option_map decimal number in
+    let ttl : Option (List ℕ) = option_map decimal settings.time_to_live in
+    let tti : Option (List ℕ) = option_map decimal settings.time_to_idle in
+    let set : Option (List ℕ) = switch settings.listener in
+    let at_set : List ℕ = option_words (codes "listener") set in
+    let at_tti : List ℕ = option_words (codes "tti=") tti ++ at_set in
+    let at_ttl : List ℕ = option_words (codes "ttl=") ttl ++ at_tti in
+    let at_log : List ℕ = option_words (codes "log=") log ++ at_ttl in
+    let whole : at_set ++ [] ≡ at_set = append-nil at_set in
+    let none_in_switch : (name : List ℕ) → after name [] ≡ None → ((s : List ℕ) → after name ((32 ∷ codes "listener" ++ s) ++ []) ≡ None) → after name at_set ≡ None = λ name none other. subst (λ t. after name t ≡ None) whole (misses name (codes "listener") set [] other none) in
+    let no_tti : after (codes " tti=") at_set ≡ None = none_in_switch (codes " tti=") refl (λ s. refl) in
+    let no_ttl : after (codes " ttl=") at_tti ≡ None = misses (codes " ttl=") (codes "tti=") tti at_set (λ s. refl) (none_in_switch (codes " ttl=") refl (λ s. refl)) in
+    let no_log : after (codes " log=") at_ttl ≡ None = misses (codes " log=") (codes "ttl=") ttl at_tti (λ s. refl) (misses (codes " log=") (codes "tti=") tti at_set (λ s. refl) (none_in_switch (codes " log=") refl (λ s. refl))) in
+    let no_cap : after (codes " cap=") at_log ≡ None = misses (codes " cap=") (codes "log=") log at_ttl (λ s. refl) (misses (codes " cap=") (codes "ttl=") ttl at_tti (λ s. refl) (misses (codes " cap=") (codes "tti=") tti at_set (λ s. refl) (none_in_switch (codes " cap=") refl (λ s. refl)))) in
+    let ends_set : Ends at_set = subst Ends whole (ends_words (codes "listener") set [] tt) in
+    let ends_tti : Ends at_tti = ends_words (codes "tti=") tti at_set ends_set in
+    let ends_ttl : Ends at_ttl = ends_words (codes "ttl=") ttl at_tti ends_tti in
+    let ends_log : Ends at_log = ends_words (codes "log=") log at_ttl ends_ttl in
+    let cut_cap : cut_option (codes " cap=") (option_words (codes "cap=") cap ++ at_log) ≡ (cap, at_log) = cut_read (codes "cap=") cap at_log (number_close settings.max_capacity fit.capacity) ends_log (λ s. refl) no_cap in
+    let cut_log : cut_option (codes " log=") at_log ≡ (log, at_ttl) = cut_read (codes "log=") log at_ttl (number_close number (small number range.1)) ends_ttl (λ s. refl) no_log in
+    let cut_ttl : cut_option (codes " ttl=") at_ttl ≡ (ttl, at_tti) = cut_read (codes "ttl=") ttl at_tti (number_close settings.time_to_live fit.live) ends_tti (λ s. refl) no_ttl in
+    let cut_tti : cut_option (codes " tti=") at_tti ≡ (tti, at_set) = cut_read (codes "tti=") tti at_set (number_close settings.time_to_idle fit.idle) ends_set (λ s. refl) no_tti in
+    let cut_set : cut_option (codes " listener") at_set ≡ (set, []) = ap (cut_option (codes " listener")) (sym whole) ∙ cut_read (codes "listener") set [] (switch_close settings.listener) tt (λ s. refl) refl in
+    ap after_cap cut_cap
+    ∙ ap (after_log cap) cut_log ∙ ap (after_ttl cap log) cut_ttl ∙ ap (after_tti cap log ttl) cut_tti ∙ ap (after_set cap log ttl tti) cut_set
+    ∙ made_read number settings fit range
+
+-- the line of a cache is read as its log's size and its settings
+pub cache_read : (line : List ℕ) (log : ℕ) (settings : Settings) → IsCacheLine line log settings → cache_of line ≡ Some (log, settings)
+cache_read line log settings h =
     let range : (1 ≤ unwrap_or h.said 384) × (unwrap_or h.said 384 ≤ 65536) = subst (λ n. (1 ≤ n) × (n ≤ 65536)) h.size h.range in
-    ap cache_of h.spelled
-    ∙ options_read rules.max_capacity h.said rules.listener h.capacity range
-    ∙ ap (λ n. Some (n, rules_from rules.max_capacity rules.listener)) (sym h.size) ∙ ap (λ r. Some (log, r)) (sym h.others)
+    ap cache_of h.spelled ∙ options_read h.said settings h.fit range ∙ ap (λ n. Some (n, settings)) (sym h.size)
 
 none_over : {A : Type 0} (left : List ℕ) (o : Option A) → 0 < length left → unless_left left o ≡ None
 none_over [] o h = absurd (omega arith)
 none_over (b ∷ left) o h = refl
 
+-- what follows an option
+abbrev rest_of : List ℕ → List ℕ → List ℕ
+rest_of name bytes = (cut_option name bytes).1
+
 -- where bytes are left over no cache is read
-pub too_long : (line bytes some more left : List ℕ) → after (codes "cache") line ≡ Some bytes → some ≡ (cut_option (codes " cap=") bytes).1 → more ≡ (cut_option (codes " log=") some).1 → left ≡ (cut_option (codes " listener") more).1 → 0 < length left → None ≡ cache_of line
-too_long line bytes some more left here cap log listener over =
-    let rest : List ℕ → List ℕ = λ b. (cut_option (codes " listener") (cut_option (codes " log=") (cut_option (codes " cap=") b).1).1).1 in
-    let is : left ≡ rest bytes = listener ∙ ap (λ m. (cut_option (codes " listener") m).1) (log ∙ ap (λ m. (cut_option (codes " log=") m).1) cap) in
+pub too_long : (line bytes some more fewer least left : List ℕ) → after (codes "cache") line ≡ Some bytes → some ≡ rest_of (codes " cap=") bytes → more ≡ rest_of (codes " log=") some → fewer ≡ rest_of (codes " ttl=") more → least ≡ rest_of (codes " tti=") fewer → left ≡ rest_of (codes " listener") least → 0 < length left → None ≡ cache_of line
+too_long line bytes some more fewer least left here cap log ttl tti listener over =
+    let rest : List ℕ → List ℕ = λ b. rest_of (codes " listener") (rest_of (codes " tti=") (rest_of (codes " ttl=") (rest_of (codes " log=") (rest_of (codes " cap=") b)))) in
+    let is : left ≡ rest bytes =
+    listener ∙ ap (rest_of (codes " listener")) (tti ∙ ap (rest_of (codes " tti=")) (ttl ∙ ap (rest_of (codes " ttl=")) (log ∙ ap (rest_of (codes " log=")) cap))) in
     sym (ap (option_and_then options_of) here ∙ none_over (rest bytes) _ (subst (λ t. 0 < length t) is over))

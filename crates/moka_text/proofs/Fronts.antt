@@ -1,8 +1,9 @@
 -- Lines and parts of lines by their fronts, each a word and its space.
-use Rattle.std.proofs.Common.{◌≡◌, ℕ, ◌<◌, ◌^◌, append-nil, List, ◌∷◌, ◌++◌, Option, Some, None, IfSome, refl, sym, ap, ◌∙◌, subst}
+use Rattle.std.proofs.Common.{◌≡◌, ℕ, ◌<◌, ◌^◌, false, append-nil, List, ◌∷◌, ◌++◌, Option, Some, None, IfSome, refl, sym, ap, ◌∙◌, subst}
 use Rattle.std.specs.Prelude.{codes}
 use Rattle.std.specs.Fmt.{decimal}
 use Rattle.std.specs.Option.{option_map}
+use Rattle.std.specs.Str.{bytes_eq}
 use Rattle.std.proofs.lemmas.Option.{none-some}
 use Rattle.moka_hist.specs.declared.events.Start.TheVariants as start
 use Rattle.moka_hist.specs.declared.events.Op.TheVariants as op
@@ -15,10 +16,14 @@ use Rattle.moka_text.specs.ScheduleText.{start_words, told_words, event_line, To
 use Rattle.moka_text.specs.ScheduleReading.{pair_of, load_of, start_by, start_of, told_alone, told_of, tell_of, event_by, event_of}
 use Rattle.moka_text.proofs.Spelled.{HasNoSpace, number_is, load_read, after_is, cut_at, alone_is, told_is, told_read, event_is}
 
+-- bytes that have this front are it and what follows
+parted : (front bytes rest : List ℕ) → after front bytes ≡ Some rest → bytes ≡ front ++ rest
+parted front bytes rest e = subst (λ o. IfSome o (λ r. bytes ≡ front ++ r)) e (after_is front bytes)
+
 -- what has the word and its space at its front has it for its first word
 fronted : (front word bytes rest : List ℕ) → ((b : List ℕ) → front ++ b ≡ word ++ 32 ∷ b) → HasNoSpace word → after front bytes ≡ Some rest → (before_byte 32 bytes ≡ word) × (after_byte 32 bytes ≡ rest)
 fronted front word bytes rest same close e =
-    let is : bytes ≡ word ++ 32 ∷ rest = subst (λ o. IfSome o (λ r. bytes ≡ front ++ r)) e (after_is front bytes) ∙ same rest in
+    let is : bytes ≡ word ++ 32 ∷ rest = parted front bytes rest e ∙ same rest in
     let cut = cut_at word rest 32 close in
     (ap (before_byte 32) is ∙ cut.0, ap (after_byte 32) is ∙ cut.1)
 
@@ -63,18 +68,24 @@ unless P None h never = refl
 pub no_event : (line : List ℕ) → after (codes "poll ") line ≡ None → after (codes "start ") line ≡ None → after (codes "tell ") line ≡ None → after (codes "step ") line ≡ None → after (codes "drop ") line ≡ None → after (codes "at ") line ≡ None → event_of line ≡ None
 no_event line p s t st d a = unless (λ e. (line ≡ event_line e) × EventFits e) (event_of line) (event_is line) (λ e h. other line p s t st d a e h.0)
 
--- what a call is started for by its front
+-- what a call with a key is started for by its front
 pub loads : (bytes rest : List ℕ) → after (codes "get_with ") bytes ≡ Some rest → start_of bytes ≡ option_map (λ l. start.GetWith l.0 l.1) (load_of rest)
 unfolding start_by
-loads bytes rest e = let cut = fronted (codes "get_with ") (codes "get_with") bytes rest (λ b. refl) (refl, (refl, (refl, (refl, (refl, (refl, (refl, (refl, tt)))))))) e in rw (cut.0, cut.1) refl
+loads bytes rest e =
+    let keyed : bytes_eq bytes (codes "invalidate_all") ≡ false = ap (λ b. bytes_eq b (codes "invalidate_all")) (parted (codes "get_with ") bytes rest e) in
+    let cut = fronted (codes "get_with ") (codes "get_with") bytes rest (λ b. refl) (refl, (refl, (refl, (refl, (refl, (refl, (refl, (refl, tt)))))))) e in rw (keyed, cut.0, cut.1) refl
 
 pub inserts : (bytes rest : List ℕ) → after (codes "insert ") bytes ≡ Some rest → start_of bytes ≡ option_map (λ p. start.Insert p.0 p.1) (pair_of rest)
 unfolding start_by
-inserts bytes rest e = let cut = fronted (codes "insert ") (codes "insert") bytes rest (λ b. refl) (refl, (refl, (refl, (refl, (refl, (refl, tt)))))) e in rw (cut.0, cut.1) refl
+inserts bytes rest e =
+    let keyed : bytes_eq bytes (codes "invalidate_all") ≡ false = ap (λ b. bytes_eq b (codes "invalidate_all")) (parted (codes "insert ") bytes rest e) in
+    let cut = fronted (codes "insert ") (codes "insert") bytes rest (λ b. refl) (refl, (refl, (refl, (refl, (refl, (refl, tt)))))) e in rw (keyed, cut.0, cut.1) refl
 
 pub gets : (bytes rest : List ℕ) → after (codes "get ") bytes ≡ Some rest → start_of bytes ≡ option_map start.Get (key_in rest)
 unfolding start_by
-gets bytes rest e = let cut = fronted (codes "get ") (codes "get") bytes rest (λ b. refl) (refl, (refl, (refl, tt))) e in rw (cut.0, cut.1) refl
+gets bytes rest e =
+    let keyed : bytes_eq bytes (codes "invalidate_all") ≡ false = ap (λ b. bytes_eq b (codes "invalidate_all")) (parted (codes "get ") bytes rest e) in
+    let cut = fronted (codes "get ") (codes "get") bytes rest (λ b. refl) (refl, (refl, (refl, tt))) e in rw (keyed, cut.0, cut.1) refl
 
 -- a key alone is a load without a replace test
 pub key_alone : (bytes : List ℕ) (key : ℕ) → key_in bytes ≡ Some key → load_of bytes ≡ Some (key, None)

@@ -6,3 +6,4 @@ pub mod Marks
 pub mod Begins
 pub mod CacheLine
 pub mod Texts
+pub mod Refused

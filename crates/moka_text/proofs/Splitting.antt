@@ -3,7 +3,7 @@ use Rattle.std.proofs.Common.{◌≡◌, ℕ, suc, ◌+◌, ◌<◌, ◌≤◌, 
 use Rattle.std.specs.List.{position_or_len, onto_first}
 use Rattle.std.proofs.lemmas.Option.{none-some}
 use Rattle.moka_hist.specs.declared.events.Event.{Event}
-use Rattle.moka_hist.specs.declared.rules.Rules.{Rules}
+use Rattle.moka_hist.specs.declared.settings.Settings.{Settings}
 use Rattle.moka_text.specs.declared.schedules.ScheduleError.{ScheduleError}
 use Rattle.moka_text.specs.declared.schedules.ScheduleError.TheVariants as errors
 use Rattle.moka_text.specs.Words.{before_byte, after_byte, from_byte}
@@ -100,7 +100,7 @@ pub same_error : {X Y : Type 0} (e f : ScheduleError) (r : Result X ScheduleErro
 same_error e f r h m q g = let same : e ≡ f = cc in g ∙ ap Err same
 
 -- the whole takes memory where its events do
-pub whole_takes_memory : (cache : ℕ × Rules) (whole : Result (ℕ × Rules × List (Event ℕ ℕ ℕ)) ℕ) (events : Result (List (Event ℕ ℕ ℕ)) ℕ) → whole ≡ with_cache cache events → EventsMayWantMemory events → MayWantMemory whole
+pub whole_takes_memory : (cache : ℕ × Settings) (whole : Result (ℕ × Settings × List (Event ℕ ℕ ℕ)) ℕ) (events : Result (List (Event ℕ ℕ ℕ)) ℕ) → whole ≡ with_cache cache events → EventsMayWantMemory events → MayWantMemory whole
 whole_takes_memory cache whole events e h = subst MayWantMemory (sym e) (by events h) where
   by : (r : Result (List (Event ℕ ℕ ℕ)) ℕ) → EventsMayWantMemory r → MayWantMemory (with_cache cache r)
   by (Ok xs) g = g
@@ -121,12 +121,12 @@ no_cache_of_nothing : cache_of [] ≡ None
 no_cache_of_nothing = refl
 
 -- a first line that says one
-pub with_rest : (text : List ℕ) (cache : ℕ × Rules) → Some cache ≡ cache_of (before_byte 10 text) → schedule text ≡ with_cache cache (events_from 2 (lines (after_byte 10 text)))
+pub with_rest : (text : List ℕ) (cache : ℕ × Settings) → Some cache ≡ cache_of (before_byte 10 text) → schedule text ≡ with_cache cache (events_from 2 (lines (after_byte 10 text)))
 unfolding schedule
 with_rest [] cache h = absurd (none-some cache (sym (h ∙ no_cache_of_nothing)))
 with_rest (b ∷ bs) cache h = ap schedule_of (lines_cut (b ∷ bs) (omega arith)) ∙ ap (λ o. cache_then o (events_from 2 (lines (after_byte 10 (b ∷ bs))))) (sym h)
 
 -- an error of the events is one of the whole
-pub passed_on : (e : ScheduleError) (cache : ℕ × Rules) (whole : Result (ℕ × Rules × List (Event ℕ ℕ ℕ)) ℕ) (events : Result (List (Event ℕ ℕ ℕ)) ℕ) → whole ≡ with_cache cache events → Fails e events → Fails e whole
+pub passed_on : (e : ScheduleError) (cache : ℕ × Settings) (whole : Result (ℕ × Settings × List (Event ℕ ℕ ℕ)) ℕ) (events : Result (List (Event ℕ ℕ ℕ)) ℕ) → whole ≡ with_cache cache events → Fails e events → Fails e whole
 passed_on (errors.BadLine line) cache whole events e h = e ∙ ap (with_cache cache) h
 passed_on errors.Memory cache whole events e h = tt

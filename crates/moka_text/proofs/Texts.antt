@@ -3,7 +3,7 @@ use Rattle.std.proofs.Common.{◌≡◌, ℕ, suc, ◌+◌, ◌⊎◌, List, [],
 use Rattle.std.specs.List.{AllByRecursion}
 use Rattle.std.proofs.lemmas.Option.{same_Some, none-some}
 use Rattle.moka_hist.specs.declared.events.Event.{Event}
-use Rattle.moka_hist.specs.declared.rules.Rules.{Rules}
+use Rattle.moka_hist.specs.declared.settings.Settings.{Settings}
 use Rattle.moka_text.specs.declared.schedules.Schedule.{Schedule}
 use Rattle.moka_text.specs.declared.schedules.ScheduleError.{ScheduleError}
 use Rattle.moka_text.specs.declared.schedules.ScheduleError.TheVariants as errors
@@ -90,49 +90,49 @@ events_bad number [] bad h = absurd cc
 events_bad number (l ∷ ls) bad h = bad_at number l ls bad (events_bad (suc number) ls bad) (stops number (event_of l) (events_from (suc number) ls) bad h)
 
 -- the cache and the events of what is read
-cache_and_events : (o : Option (ℕ × Rules)) (r : Result (List (Event ℕ ℕ ℕ)) ℕ) (log : ℕ) (rules : Rules) (events : List (Event ℕ ℕ ℕ)) → cache_then o r ≡ Ok (log, rules, events) → (o ≡ Some (log, rules)) × (r ≡ Ok events)
-cache_and_events None r log rules events h = absurd cc
-cache_and_events (Some c) (Err bad) log rules events h = absurd cc
-cache_and_events (Some c) (Ok es) log rules events h =
-    let p : ◌≡◌ {A = ℕ × Rules × List (Event ℕ ℕ ℕ)} (c.0, c.1, es) (log, rules, events) = cc in
+cache_and_events : (o : Option (ℕ × Settings)) (r : Result (List (Event ℕ ℕ ℕ)) ℕ) (log : ℕ) (settings : Settings) (events : List (Event ℕ ℕ ℕ)) → cache_then o r ≡ Ok (log, settings, events) → (o ≡ Some (log, settings)) × (r ≡ Ok events)
+cache_and_events None r log settings events h = absurd cc
+cache_and_events (Some c) (Err bad) log settings events h = absurd cc
+cache_and_events (Some c) (Ok es) log settings events h =
+    let p : ◌≡◌ {A = ℕ × Settings × List (Event ℕ ℕ ℕ)} (c.0, c.1, es) (log, settings, events) = cc in
     (ap (λ q. Some (q.0, q.1)) p, ap (λ q. Ok q.2) p)
 
-said_of : (text : List ℕ) (ls : List (List ℕ)) (log : ℕ) (rules : Rules) (events : List (Event ℕ ℕ ℕ)) → lines text ≡ ls → schedule_of ls ≡ Ok (log, rules, events) → Says text log rules events
-said_of text [] log rules events split h = absurd cc
-said_of text (first ∷ rest) log rules events split h =
-    let p = cache_and_events (cache_of first) (events_from 2 rest) log rules events h in
+said_of : (text : List ℕ) (ls : List (List ℕ)) (log : ℕ) (settings : Settings) (events : List (Event ℕ ℕ ℕ)) → lines text ≡ ls → schedule_of ls ≡ Ok (log, settings, events) → Says text log settings events
+said_of text [] log settings events split h = absurd cc
+said_of text (first ∷ rest) log settings events split h =
+    let p = cache_and_events (cache_of first) (events_from 2 rest) log settings events h in
     let said = events_said 2 rest events p.1 in
     record {
       first = first;
-      cache = value_has (λ c. IsCacheLine first c.0 c.1) (cache_of first) (log, rules) (cache_is first) p.0;
+      cache = value_has (λ c. IsCacheLine first c.0 c.1) (cache_of first) (log, settings) (cache_is first) p.0;
       split = split ∙ ap (λ ls. first ∷ ls) said.0;
       fit = said.1;
     }
 
 -- what is read of a text is what it says
-pub schedule_said : (text : List ℕ) (log : ℕ) (rules : Rules) (events : List (Event ℕ ℕ ℕ)) → schedule text ≡ Ok (log, rules, events) → Says text log rules events
+pub schedule_said : (text : List ℕ) (log : ℕ) (settings : Settings) (events : List (Event ℕ ℕ ℕ)) → schedule text ≡ Ok (log, settings, events) → Says text log settings events
 unfolding schedule
-schedule_said text log rules events h = said_of text (lines text) log rules events refl h
+schedule_said text log settings events h = said_of text (lines text) log settings events refl h
 
 -- what a text says is read
-pub says_read : (text : List ℕ) (log : ℕ) (rules : Rules) (events : List (Event ℕ ℕ ℕ)) → Says text log rules events → schedule text ≡ Ok (log, rules, events)
+pub says_read : (text : List ℕ) (log : ℕ) (settings : Settings) (events : List (Event ℕ ℕ ℕ)) → Says text log settings events → schedule text ≡ Ok (log, settings, events)
 unfolding schedule
-says_read text log rules events s =
+says_read text log settings events s =
     ap schedule_of s.split
-    ∙ ap (λ o. cache_then o (events_from 2 (map event_line events))) (cache_read s.first log rules s.cache) ∙ ap (with_cache (log, rules)) (events_read 2 events s.fit)
+    ∙ ap (λ o. cache_then o (events_from 2 (map event_line events))) (cache_read s.first log settings s.cache) ∙ ap (with_cache (log, settings)) (events_read 2 events s.fit)
 
-first_or_later : (o : Option (ℕ × Rules)) (r : Result (List (Event ℕ ℕ ℕ)) ℕ) (bad : ℕ) → cache_then o r ≡ Err bad → ((o ≡ None) × (bad ≡ 1)) ⊎ ((c : ℕ × Rules) × (o ≡ Some c) × (r ≡ Err bad))
+first_or_later : (o : Option (ℕ × Settings)) (r : Result (List (Event ℕ ℕ ℕ)) ℕ) (bad : ℕ) → cache_then o r ≡ Err bad → ((o ≡ None) × (bad ≡ 1)) ⊎ ((c : ℕ × Settings) × (o ≡ Some c) × (r ≡ Err bad))
 first_or_later None r bad h = inl (refl, cc)
 first_or_later (Some c) (Ok events) bad h = absurd cc
 first_or_later (Some c) (Err k) bad h = inr (c, refl, cc)
 
-bad_of_lines : (text first : List ℕ) (rest : List (List ℕ)) (bad : ℕ) → lines text ≡ first ∷ rest → ((cache_of first ≡ None) × (bad ≡ 1)) ⊎ ((c : ℕ × Rules) × (cache_of first ≡ Some c) × (events_from 2 rest ≡ Err bad)) → IsFirstBad text bad
+bad_of_lines : (text first : List ℕ) (rest : List (List ℕ)) (bad : ℕ) → lines text ≡ first ∷ rest → ((cache_of first ≡ None) × (bad ≡ 1)) ⊎ ((c : ℕ × Settings) × (cache_of first ≡ Some c) × (events_from 2 rest ≡ Err bad)) → IsFirstBad text bad
 bad_of_lines text first rest bad split (inl h) =
     inl (
       h.1,
-      λ other more log rules same cache.
+      λ other more log settings same cache.
           let one : other ≡ first = head_of (sym same ∙ split) in
-          none-some (log, rules) (sym h.0 ∙ ap cache_of (sym one) ∙ cache_read other log rules cache),
+          none-some (log, settings) (sym h.0 ∙ ap cache_of (sym one) ∙ cache_read other log settings cache),
     )
 bad_of_lines text first rest bad split (inr h) =
     let r = events_bad 2 rest bad h.2 in
@@ -141,7 +141,7 @@ bad_of_lines text first rest bad split (inr h) =
       record {
         first = first;
         log = h.0.0;
-        rules = h.0.1;
+        settings = h.0.1;
         cache = value_has (λ c. IsCacheLine first c.0 c.1) (cache_of first) h.0 (cache_is first) h.1;
         line = r.line;
         rest = r.rest;
@@ -153,7 +153,7 @@ bad_of_lines text first rest bad split (inr h) =
     )
 
 bad_of : (text : List ℕ) (ls : List (List ℕ)) (bad : ℕ) → lines text ≡ ls → schedule_of ls ≡ Err bad → IsFirstBad text bad
-bad_of text [] bad split h = inl (cc, λ first rest log rules same cache. absurd cc)
+bad_of text [] bad split h = inl (cc, λ first rest log settings same cache. absurd cc)
 bad_of text (first ∷ rest) bad split h = bad_of_lines text first rest bad split (first_or_later (cache_of first) (events_from 2 rest) bad h)
 
 -- a bad line that is read is the first
@@ -162,8 +162,8 @@ unfolding schedule
 schedule_bad text bad h = bad_of text (lines text) bad refl h
 
 -- what was returned is what the text says
-pub found_said : (text : List ℕ) (r : Result Schedule ScheduleError) → Gives parts r (schedule text) → IfOk r (λ s. Says text s.log s.rules s.events.items)
-found_said text (Ok s) h = schedule_said text s.log s.rules s.events.items h
+pub found_said : (text : List ℕ) (r : Result Schedule ScheduleError) → Gives parts r (schedule text) → IfOk r (λ s. Says text s.log s.settings s.events.items)
+found_said text (Ok s) h = schedule_said text s.log s.settings s.events.items h
 found_said text (Err e) h = tt
 
 -- and the bad line that was returned is the first
@@ -195,5 +195,5 @@ bad_read text number (inl h) = bad_first text (lines text) refl h.1 ∙ ap Err (
 bad_read text number (inr h) =
     let g = h.1 in
     ap schedule_of g.split
-    ∙ ap (λ o. cache_then o (events_from 2 (map event_line h.0 ++ g.line ∷ g.rest))) (cache_read g.first g.log g.rules g.cache)
-    ∙ ap (with_cache (g.log, g.rules)) (read_stops 2 h.0 g.line g.rest g.fit g.none) ∙ ap Err (sym h.2)
+    ∙ ap (λ o. cache_then o (events_from 2 (map event_line h.0 ++ g.line ∷ g.rest))) (cache_read g.first g.log g.settings g.cache)
+    ∙ ap (with_cache (g.log, g.settings)) (read_stops 2 h.0 g.line g.rest g.fit g.none) ∙ ap Err (sym h.2)

@@ -10,12 +10,12 @@ use Rattle.moka_hist.specs.declared.events.Event.{Event}
 use Rattle.moka_hist.specs.declared.events.Event.TheVariants as event
 use Rattle.moka_hist.specs.declared.rules.Cause.{Cause}
 use Rattle.moka_hist.specs.declared.rules.Cause.TheVariants as cause
-use Rattle.moka_hist.specs.declared.rules.Rules.{Rules}
+use Rattle.moka_hist.specs.declared.settings.Settings.{Settings}
 use Rattle.moka_text.specs.declared.schedules.Schedule.{Schedule}
 use Rattle.moka_text.specs.declared.schedules.ScheduleError.{ScheduleError}
 use Rattle.moka_text.specs.declared.schedules.ScheduleError.TheVariants as errors
 use Rattle.moka_text.specs.Words.{call_in, key_in, after, before_byte, after_byte, from_byte}
-use Rattle.moka_text.specs.ScheduleText.{event_line, EventFits, rules_from, lines, Says, IsFirstBad}
+use Rattle.moka_text.specs.ScheduleText.{event_line, EventFits, lines, Says, IsFirstBad}
 
 infixl 10 ◌>>=◌
 abbrev pub ◌>>=◌ : {A B : Type 0} → Option A → (A → Option B) → Option B
@@ -85,8 +85,11 @@ start_by word rest =
     option_map (λ e. start.Evict e.0 e.1.0 e.1.1) (evict_of rest)
     else None
 
+-- what a call is started for: without a key by all of what stands there, and else by its first word
 abbrev pub start_of : List ℕ → Option (Start ℕ ℕ)
-start_of bytes = start_by (before_byte 32 bytes) (after_byte 32 bytes)
+start_of bytes =
+    if bytes_eq bytes (codes "invalidate_all") then Some start.InvalidateAll
+    else start_by (before_byte 32 bytes) (after_byte 32 bytes)
 
 -- what an ask is told by a word alone
 unfoldable pub told_alone : List ℕ → Option (Told ℕ ℕ)
@@ -145,10 +148,10 @@ cut_option name bytes = said_in bytes (after name bytes)
 abbrev pub within : ℕ → ℕ → ℕ → Option ℕ
 within least greatest n = if nat_le least n && nat_le n greatest then Some n else None
 
--- the capacity, where one is said
-unfoldable pub cap_of : Option (List ℕ) → Option (Option ℕ)
-cap_of None = Some None
-cap_of (Some said) = option_map Some (call_in said)
+-- the capacity or the time of an option, where one is said
+unfoldable pub number_of : Option (List ℕ) → Option (Option ℕ)
+number_of None = Some None
+number_of (Some said) = option_map Some (call_in said)
 
 -- the size of the write log
 unfoldable pub log_of : Option (List ℕ) → Option ℕ
@@ -166,25 +169,40 @@ abbrev pub unless_left : {A : Type 0} → List ℕ → Option A → Option A
 unless_left [] value = value
 unless_left (b ∷ bytes) value = None
 
--- the size of the write log and the rules, from what is said of each option
-unfoldable pub made_of :
-    Option (List ℕ) → Option (List ℕ) → Option (List ℕ) → Option (ℕ × Rules)
-made_of cap log listener = do
-  capacity ← cap_of cap
-  size ← log_of log
-  set ← switch_of listener
-  Some (size, rules_from capacity set)
+-- the settings of this capacity, these times and this switch
+abbrev pub settings_from : Option ℕ → Option ℕ → Option ℕ → Bool → Settings
+settings_from capacity live idle set =
+    record {
+      max_capacity = capacity;
+      time_to_live = live;
+      time_to_idle = idle;
+      listener = set;
+    }
 
--- the size of the write log and the rules that the options say, one after the other
-abbrev pub options_of : List ℕ → Option (ℕ × Rules)
+-- the size of the write log and the settings, from what is said of each option
+unfoldable pub made_of :
+    Option (List ℕ) → Option (List ℕ) → Option (List ℕ) → Option (List ℕ) → Option (List ℕ)
+    → Option (ℕ × Settings)
+made_of cap log ttl tti listener = do
+  capacity ← number_of cap
+  size ← log_of log
+  live ← number_of ttl
+  idle ← number_of tti
+  set ← switch_of listener
+  Some (size, settings_from capacity live idle set)
+
+-- the size of the write log and the settings that the options say, one after the other
+abbrev pub options_of : List ℕ → Option (ℕ × Settings)
 options_of bytes =
     let cap : Option (List ℕ) × List ℕ = cut_option (codes " cap=") bytes in
     let log : Option (List ℕ) × List ℕ = cut_option (codes " log=") cap.1 in
-    let listener : Option (List ℕ) × List ℕ = cut_option (codes " listener") log.1 in
-    unless_left listener.1 (made_of cap.0 log.0 listener.0)
+    let ttl : Option (List ℕ) × List ℕ = cut_option (codes " ttl=") log.1 in
+    let tti : Option (List ℕ) × List ℕ = cut_option (codes " tti=") ttl.1 in
+    let listener : Option (List ℕ) × List ℕ = cut_option (codes " listener") tti.1 in
+    unless_left listener.1 (made_of cap.0 log.0 ttl.0 tti.0 listener.0)
 
--- the size of the write log and the rules that the first line says
-abbrev pub cache_of : List ℕ → Option (ℕ × Rules)
+-- the size of the write log and the settings that the first line says
+abbrev pub cache_of : List ℕ → Option (ℕ × Settings)
 cache_of line = after (codes "cache") line >>= options_of
 
 -- what was read goes before what is read
@@ -203,23 +221,23 @@ abbrev pub events_from : ℕ → List (List ℕ) → Result (List (Event ℕ ℕ
 events_from number [] = Ok []
 events_from number (line ∷ rest) = event_then number (event_of line) (events_from (suc number) rest)
 
--- the log's size and the rules beside the events
+-- the log's size and the settings beside the events
 abbrev pub with_cache :
-    ℕ × Rules → Result (List (Event ℕ ℕ ℕ)) ℕ → Result (ℕ × Rules × List (Event ℕ ℕ ℕ)) ℕ
+    ℕ × Settings → Result (List (Event ℕ ℕ ℕ)) ℕ → Result (ℕ × Settings × List (Event ℕ ℕ ℕ)) ℕ
 with_cache cache (Ok events) = Ok (cache.0, cache.1, events)
 with_cache cache (Err number) = Err number
 
 abbrev pub cache_then :
-    Option (ℕ × Rules) → Result (List (Event ℕ ℕ ℕ)) ℕ → Result (ℕ × Rules × List (Event ℕ ℕ ℕ)) ℕ
+    Option (ℕ × Settings) → Result (List (Event ℕ ℕ ℕ)) ℕ → Result (ℕ × Settings × List (Event ℕ ℕ ℕ)) ℕ
 cache_then None events = Err 1
 cache_then (Some cache) events = with_cache cache events
 
-abbrev pub schedule_of : List (List ℕ) → Result (ℕ × Rules × List (Event ℕ ℕ ℕ)) ℕ
+abbrev pub schedule_of : List (List ℕ) → Result (ℕ × Settings × List (Event ℕ ℕ ℕ)) ℕ
 schedule_of [] = Err 1
 schedule_of (first ∷ rest) = cache_then (cache_of first) (events_from 2 rest)
 
--- the log's size, the rules and the events of a schedule, or the number of the first bad line
-unfoldable pub schedule : List ℕ → Result (ℕ × Rules × List (Event ℕ ℕ ℕ)) ℕ
+-- the log's size, the settings and the events of a schedule, or the number of the first bad line
+unfoldable pub schedule : List ℕ → Result (ℕ × Settings × List (Event ℕ ℕ ℕ)) ℕ
 schedule text = schedule_of (lines text)
 
 -- this error was returned for this bad line, or for want of memory, whatever is read
@@ -238,13 +256,13 @@ EventsMayWantMemory (Ok events) = 0 < length events
 EventsMayWantMemory (Err number) = 2 < number
 
 -- reading the schedule takes memory: it has an event, or its bad line is past the second
-abbrev pub MayWantMemory : Result (ℕ × Rules × List (Event ℕ ℕ ℕ)) ℕ → Type 0
+abbrev pub MayWantMemory : Result (ℕ × Settings × List (Event ℕ ℕ ℕ)) ℕ → Type 0
 MayWantMemory (Ok s) = 0 < length s.2
 MayWantMemory (Err number) = 2 < number
 
 -- a schedule without where it lies in memory
-abbrev pub parts : Schedule → ℕ × Rules × List (Event ℕ ℕ ℕ)
-parts s = (s.log, s.rules, s.events.items)
+abbrev pub parts : Schedule → ℕ × Settings × List (Event ℕ ℕ ℕ)
+parts s = (s.log, s.settings, s.events.items)
 
 -- each event's own line is read as that event
 abbrev pub LinesAreRead : Type 0
@@ -253,8 +271,8 @@ LinesAreRead = (e : Event ℕ ℕ ℕ) → EventFits e → event_of (event_line 
 -- each text that says a schedule is read as that schedule
 abbrev pub TextsAreRead : Type 0
 TextsAreRead =
-    (text : List ℕ) (log : ℕ) (rules : Rules) (events : List (Event ℕ ℕ ℕ)) →
-    Says text log rules events → schedule text ≡ Ok (log, rules, events)
+    (text : List ℕ) (log : ℕ) (settings : Settings) (events : List (Event ℕ ℕ ℕ)) →
+    Says text log settings events → schedule text ≡ Ok (log, settings, events)
 
 -- each text with a bad line is read as the number of the first
 abbrev pub BadLinesAreRead : Type 0

@@ -1,5 +1,5 @@
 -- The text of a schedule: how its lines are spelled, and what a whole text says.
-use Rattle.std.specs.Prelude.{◌≡◌, ℕ, ◌+◌, ◌^◌, ◌<◌, ◌≤◌, ◌==◌, ◌⊎◌, Bool, false, List, [], ◌∷◌, ◌++◌, map, length, Option, Some, None, IfSome, codes, decimal, if◌then◌else◌}
+use Rattle.std.specs.Prelude.{◌≡◌, ℕ, ◌+◌, ◌^◌, ◌<◌, ◌≤◌, ◌==◌, ◌⊎◌, Bool, List, [], ◌∷◌, ◌++◌, map, length, Option, Some, None, IfSome, codes, decimal, if◌then◌else◌}
 use Rattle.std.specs.Option.{option_map, unwrap_or}
 use Rattle.std.specs.List.{AllByRecursion, onto_first}
 use Rattle.moka_hist.specs.declared.events.Start.{Start}
@@ -10,7 +10,9 @@ use Rattle.moka_hist.specs.declared.events.Told.TheVariants as told
 use Rattle.moka_hist.specs.declared.events.Event.{Event}
 use Rattle.moka_hist.specs.declared.events.Event.TheVariants as event
 use Rattle.moka_hist.specs.declared.rules.Cause.{Cause}
+use Rattle.moka_hist.specs.Settings.{AreRulesOf, refusal_of}
 use Rattle.moka_hist.specs.declared.rules.Rules.{Rules}
+use Rattle.moka_hist.specs.declared.settings.Settings.{Settings}
 use Rattle.moka_text.specs.Words.{cause_word}
 
 -- the stamp of a record that was chosen to leave, and the cause
@@ -38,6 +40,7 @@ start_words (start.Invalidate key) = codes "invalidate " ++ decimal key
 start_words (start.Remove key) = codes "remove " ++ decimal key
 start_words (start.Evict key stamp cause) =
     codes "evict " ++ (decimal key ++ 32 ∷ chosen_words stamp cause)
+start_words start.InvalidateAll = codes "invalidate_all"
 
 -- what an ask is told
 abbrev pub told_words : Told ℕ ℕ → List ℕ
@@ -74,6 +77,7 @@ StartFits (start.Upsert key) = key < 2 ^ 32
 StartFits (start.Invalidate key) = key < 2 ^ 32
 StartFits (start.Remove key) = key < 2 ^ 32
 StartFits (start.Evict key stamp cause) = (key < 2 ^ 32) × (stamp < 2 ^ 64)
+StartFits start.InvalidateAll = Unit {0}
 
 -- errors are of 32 bits, as values are
 abbrev pub ToldFits : Told ℕ ℕ → Type 0
@@ -104,34 +108,37 @@ option_words name (Some said) = 32 ∷ name ++ said
 abbrev pub switch : Bool → Option (List ℕ)
 switch set = if set then Some [] else None
 
--- the one spelling of a first line that says the size of the write log, or doesn't, and these rules
-abbrev pub cache_line : Option ℕ → Rules → List ℕ
-cache_line log rules =
+-- the one spelling of a first line that says the size of the write log, or doesn't, and these
+-- settings
+abbrev pub cache_line : Option ℕ → Settings → List ℕ
+cache_line log settings =
     codes "cache"
-    ++ (option_words (codes "cap=") (option_map decimal rules.max_capacity)
+    ++ (option_words (codes "cap=") (option_map decimal settings.max_capacity)
     ++ (option_words (codes "log=") (option_map decimal log)
-    ++ option_words (codes "listener") (switch rules.listener)))
+    ++ (option_words (codes "ttl=") (option_map decimal settings.time_to_live)
+    ++ (option_words (codes "tti=") (option_map decimal settings.time_to_idle)
+    ++ option_words (codes "listener") (switch settings.listener)))))
 
--- the rules of a cache of this capacity, where one is set, with a listener or without one, and no
--- other rule
-abbrev pub rules_from : Option ℕ → Bool → Rules
-rules_from capacity set =
-    record {
-      max_capacity = capacity;
-      time_to_live = None;
-      time_to_idle = None;
-      listener = set;
-      closures = false;
-    }
+-- the numbers that are set are of 64 bits
+pub record SettingsFit (settings : Settings) : Type 0 where
+  pub capacity : IfSome settings.max_capacity (λ most. most < 2 ^ 64)
+  pub live : IfSome settings.time_to_live (λ nanos. nanos < 2 ^ 64)
+  pub idle : IfSome settings.time_to_idle (λ nanos. nanos < 2 ^ 64)
 
--- the first line makes a cache of these rules, with a log of this size: 384 where it isn't said
-pub record IsCacheLine (line : List ℕ) (log : ℕ) (rules : Rules) : Type 0 where
+-- rules of settings whose numbers are of 64 bits are never refused: so many nanoseconds are fewer
+-- than those of a thousand years
+abbrev pub AreNeverRefused : Type 0
+AreNeverRefused =
+    (settings : Settings) (rules : Rules) → SettingsFit settings → AreRulesOf settings rules
+    → refusal_of rules ≡ None
+
+-- the first line makes a cache of these settings, with a log of this size: 384 where it isn't said
+pub record IsCacheLine (line : List ℕ) (log : ℕ) (settings : Settings) : Type 0 where
   pub said : Option ℕ
-  pub spelled : line ≡ cache_line said rules
+  pub spelled : line ≡ cache_line said settings
   pub size : log ≡ unwrap_or said 384
   pub range : (1 ≤ log) × (log ≤ 65536)
-  pub capacity : IfSome rules.max_capacity (λ most. most < 2 ^ 64)
-  pub others : rules ≡ rules_from rules.max_capacity rules.listener
+  pub fit : SettingsFit settings
 
 -- Each line ends with byte 10, and the last may lack it: what stands after the last byte 10 is a
 -- line only where it isn't empty.
@@ -140,17 +147,18 @@ lines [] = []
 lines (b ∷ bytes) = if b == 10 then [] ∷ lines bytes else onto_first b (lines bytes)
 
 -- the text is the first line and a line for each event
-pub record Says (text : List ℕ) (log : ℕ) (rules : Rules) (events : List (Event ℕ ℕ ℕ)) : Type 0 where
+pub record Says (text : List ℕ) (log : ℕ) (settings : Settings)
+    (events : List (Event ℕ ℕ ℕ)) : Type 0 where
   pub first : List ℕ
-  pub cache : IsCacheLine first log rules
+  pub cache : IsCacheLine first log settings
   pub split : lines text ≡ first ∷ map event_line events
   pub fit : AllByRecursion EventFits events
 
 -- the first line is none of a cache, or there is no line
 abbrev pub BeginsBadly : List ℕ → Type 0
 BeginsBadly text =
-    (first : List ℕ) (rest : List (List ℕ)) (log : ℕ) (rules : Rules) →
-    lines text ≡ first ∷ rest → IsCacheLine first log rules → ⊥
+    (first : List ℕ) (rest : List (List ℕ)) (log : ℕ) (settings : Settings) →
+    lines text ≡ first ∷ rest → IsCacheLine first log settings → ⊥
 
 -- the line spells no event
 abbrev pub SpellsNone : List ℕ → Type 0
@@ -160,8 +168,8 @@ SpellsNone line = (e : Event ℕ ℕ ℕ) → EventFits e → line ≡ event_lin
 pub record GoesBad (text : List ℕ) (events : List (Event ℕ ℕ ℕ)) : Type 0 where
   pub first : List ℕ
   pub log : ℕ
-  pub rules : Rules
-  pub cache : IsCacheLine first log rules
+  pub settings : Settings
+  pub cache : IsCacheLine first log settings
   pub line : List ℕ
   pub rest : List (List ℕ)
   pub split : lines text ≡ first ∷ (map event_line events ++ line ∷ rest)

@@ -10,6 +10,6 @@ mod reports;
 mod schedules;
 mod words;
 
-pub use laws::schedule_text_round_trip;
+pub use laws::{schedule_text_round_trip, schedules_are_never_refused};
 pub use reports::write_report;
 pub use schedules::{Schedule, ScheduleError, read_schedule};

@@ -1,6 +1,6 @@
 //! The lines of events. A line's first word is cut off, and decides how the rest is read.
 
-ghost use Rattle.std.specs.Prelude.{◌≡◌};
+ghost use Rattle.std.specs.Prelude.{◌≡◌, bytes_eq, codes};
 ghost use Rattle.moka_text.specs.ScheduleReading.{
   pair_of,
   cause_of,
@@ -119,6 +119,13 @@ fn start_by(word: &[u8], rest: &[u8]) -> Option<Start<u32, u32>>
     }
 }
 
+/// Whether a call is started for all records. The words are matched whole.
+fn is_for_all(bytes: &[u8]) -> bool
+    ensures { result ≡ bytes_eq bytes.now (codes "invalidate_all") }
+{
+    bytes == b"invalidate_all".as_slice()
+}
+
 /// What a call is started for.
 fn start_of(bytes: &[u8]) -> Option<Start<u32, u32>>
     ensures { result ≡ start_of bytes.now }
@@ -132,6 +139,9 @@ fn start_of(bytes: &[u8]) -> Option<Start<u32, u32>>
     }
     if let Some(key) = after(bytes, b"get ") {
         return key_in(key).map(|key| Start::Get { key });
+    }
+    if is_for_all(bytes) {
+        return Some(Start::InvalidateAll);
     }
     let (word, rest) = cut(bytes, b' ');
     start_by(word, rest)

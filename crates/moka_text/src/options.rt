@@ -2,10 +2,9 @@
 
 ghost use Rattle.std.specs.Prelude.{◌≡◌};
 ghost use Rattle.std.specs.Option.{option_copied};
-ghost use Rattle.moka_text.specs.ScheduleText.{rules_from};
 ghost use Rattle.moka_text.specs.ScheduleReading.{
   cut_option,
-  cap_of,
+  number_of,
   log_of,
   switch_of,
   made_of,
@@ -13,7 +12,7 @@ ghost use Rattle.moka_text.specs.ScheduleReading.{
 };
 
 use crate::words::{after, call_in, cut};
-use moka_hist::Rules;
+use moka_hist::Settings;
 
 /// How many writes the write log has room for where the first line doesn't say.
 const DEFAULT_LOG: usize = 384;
@@ -36,10 +35,10 @@ fn cut_option<'a>(bytes: &'a [u8], name: &[u8]) -> (Option<&'a [u8]>, &'a [u8])
     }
 }
 
-/// The capacity, where one is said.
-#[tactic(auto, unfolding(crate::specs::ScheduleReading::cap_of))]
-fn cap_of(said: Option<&[u8]>) -> Option<Option<u64>>
-    ensures { result ≡ cap_of (option_copied said.entry) }
+/// The capacity or the time of an option, where one is said.
+#[tactic(auto, unfolding(crate::specs::ScheduleReading::number_of))]
+fn number_of(said: Option<&[u8]>) -> Option<Option<u64>>
+    ensures { result ≡ number_of (option_copied said.entry) }
 {
     match said {
         None => Some(None),
@@ -74,46 +73,46 @@ fn switch_of(said: Option<&[u8]>) -> Option<bool>
     }
 }
 
-/// The rules of a cache of this capacity, where one is set, with a listener or without one, and no
-/// other rule.
-fn rules_from(capacity: Option<u64>, set: bool) -> Rules
-    ensures { result ≡ rules_from capacity set }
-{
-    Rules {
-        max_capacity: capacity,
-        time_to_live: None,
-        time_to_idle: None,
-        listener: set,
-        closures: false,
-    }
-}
-
-/// How many writes the write log has room for, and the rules, from what is said of each option.
+/// How many writes the write log has room for, and the settings, from what is said of each option.
 #[tactic(auto, unfolding(crate::specs::ScheduleReading::made_of))]
 fn made_of(
     cap: Option<&[u8]>,
     log: Option<&[u8]>,
+    ttl: Option<&[u8]>,
+    tti: Option<&[u8]>,
     listener: Option<&[u8]>,
-) -> Option<(usize, Rules)>
+) -> Option<(usize, Settings)>
     ensures { result ≡ made_of (option_copied cap.entry) (option_copied log.entry)
-        (option_copied listener.entry) }
+        (option_copied ttl.entry) (option_copied tti.entry) (option_copied listener.entry) }
 {
-    let capacity = cap_of(cap)?;
+    let max_capacity = number_of(cap)?;
     let log = log_of(log)?;
+    let time_to_live = number_of(ttl)?;
+    let time_to_idle = number_of(tti)?;
     let listener = switch_of(listener)?;
-    Some((log, rules_from(capacity, listener)))
+    Some((
+        log,
+        Settings {
+            max_capacity,
+            time_to_live,
+            time_to_idle,
+            listener,
+        },
+    ))
 }
 
-/// How many writes the write log has room for, and the rules, as a schedule's first line says.
-pub(crate) fn cache_of(line: &[u8]) -> Option<(usize, Rules)>
+/// How many writes the write log has room for, and the settings, as a schedule's first line says.
+pub(crate) fn cache_of(line: &[u8]) -> Option<(usize, Settings)>
     ensures { result ≡ cache_of line.now }
 {
     let bytes = after(line, b"cache")?;
     let (cap, bytes) = cut_option(bytes, b" cap=");
     let (log, bytes) = cut_option(bytes, b" log=");
+    let (ttl, bytes) = cut_option(bytes, b" ttl=");
+    let (tti, bytes) = cut_option(bytes, b" tti=");
     let (listener, bytes) = cut_option(bytes, b" listener");
     match bytes {
-        [] => made_of(cap, log, listener),
+        [] => made_of(cap, log, ttl, tti, listener),
         [_, ..] => None,
     }
 }

@@ -16,17 +16,17 @@ ghost use Rattle.moka_text.specs.declared.schedules.ScheduleError.TheVariants.{M
 use crate::lines::event_of;
 use crate::options::cache_of;
 use crate::words::cut_line;
-use moka_hist::{Event, Rules};
+use moka_hist::{Event, Settings};
 use std::alloc::{AllocError, AllocFailed, Global};
 use std::error::Error;
 use std::fmt;
 
-/// A schedule: how many writes the write log has room for, the rules of the cache, and the events
-/// in order.
+/// A schedule: how many writes the write log has room for, the settings of the cache, and the
+/// events in order.
 #[derive(Drop)]
 pub struct Schedule {
     pub log: usize,
-    pub rules: Rules,
+    pub settings: Settings,
     pub events: Vec<Event<u32, u32, u32>>,
 }
 
@@ -95,21 +95,25 @@ fn read_whole(alloc: Global, text: &[u8]) -> Result<Schedule, ScheduleError>
     ensures memory { IsErrOf result ScheduleError.Memory → MayWantMemory (schedule text.now) }
 {
     let (first, rest) = cut_line(text);
-    let Some((log, rules)) = cache_of(first) else {
+    let Some((log, settings)) = cache_of(first) else {
         return Err(ScheduleError::BadLine { line: 1 });
     };
     let events = read_events(alloc, rest)?;
-    Ok(Schedule { log, rules, events })
+    Ok(Schedule {
+        log,
+        settings,
+        events,
+    })
 }
 
-/// Reads a schedule: the log's size and the rules that its first line says, and the events of the
-/// other lines.
+/// Reads a schedule: the log's size and the settings that its first line says, and the events of
+/// the other lines.
 ///
 /// Answers `BadLine` with the first line that is not in the grammar, and `Memory` where memory
 /// runs out: only past a second line that spells an event.
 pub fn read_schedule(alloc: Global, bytes: &[u8]) -> Result<Schedule, ScheduleError>
     ensures exact { Gives parts result (schedule bytes.now) }
-    ensures found { IfOk result (λ s. Says bytes.now s.log s.rules s.events.items) }
+    ensures found { IfOk result (λ s. Says bytes.now s.log s.settings s.events.items) }
     ensures bad_line { (line : ℕ) → IsErrOf result (ScheduleError.BadLine line)
         → IsFirstBad bytes.now line }
     ensures memory { IsErrOf result ScheduleError.Memory → MayWantMemory (schedule bytes.now) }

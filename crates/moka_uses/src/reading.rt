@@ -1,11 +1,11 @@
 //! A caller for any keys and values that the cache takes.
 ghost use Rattle.std.specs.Prelude.{◌≡◌, ◌∷◌, [], ℕ, IfOk, length};
-ghost use Rattle.moka_hist.specs.State.{State};
+ghost use Rattle.moka_hist.specs.State.{State, fresh};
 ghost use Rattle.moka_hist.specs.Run.{IsReached};
 ghost use Rattle.moka_hist.specs.declared.replies.Reply.{Reply};
 ghost use Rattle.moka_machine.specs.Machine.{MachineIs, IsValid};
 ghost use Rattle.moka_run.specs.Running.{Answers};
-ghost use Rattle.moka_uses.specs.ReadBack.{IsReadBack, found_in, looking, no_tests, storing};
+ghost use Rattle.moka_uses.specs.ReadBack.{IsReadBack, found_in, log_size, looking, no_rules, no_test, no_tests, storing};
 
 use moka_hist::{Answer, Event, Reply, Rules, Start, Tests};
 use moka_run::{Machine, Report, run};
@@ -112,6 +112,20 @@ fn looking<K: Drop, V: Drop>(alloc: Global, key: K) -> Result<Vec<Event<K, V, u1
     Ok(events)
 }
 
+/// Builds a cache without rules and tests.
+fn build<K: Eq + Hash + Exact, V: Exact>(
+    alloc: Global,
+) -> Result<Machine<K, V, u16, NoTests>, AllocError>
+    ensures fresh { IfOk result (λ cache. MachineIs K.eq no_tests cache
+        (fresh K V ℕ no_rules log_size no_test)) }
+    ensures valid { IfOk result (λ cache. IsValid K.eq no_tests cache) }
+{
+    match Machine::build(alloc, RULES, LOG, NoTests) {
+        Ok(cache) => Ok(cache),
+        Err(_) => Err(AllocError),
+    }
+}
+
 /// Builds a cache that tests no record, and whose loads may fail with a status. Stores the value
 /// under the key in one run, and in a second looks the key up. Answers what that found.
 pub fn read_back<K: Eq + Hash + Exact, V: Exact>(
@@ -124,7 +138,7 @@ pub fn read_back<K: Eq + Hash + Exact, V: Exact>(
     moka_laws::reached_by_lawful_run::<K, V, u16>();
     let looks = looking(alloc, key.clone()?)?;
     let stores = storing(alloc, key, value)?;
-    let mut cache = Machine::build(alloc, RULES, LOG, NoTests)?;
+    let mut cache = build(alloc)?;
     let Ok(_) = run_all(alloc, &mut cache, &stores) else {
         drop(cache);
         return Err(AllocError);

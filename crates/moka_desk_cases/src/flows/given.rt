@@ -54,6 +54,7 @@ pub(crate) fn start_named(name: &str) -> Option<Start<u32, u32>> {
         "insert" => Some(Start::Insert { key: KEY, value: 5 }),
         "remove" => Some(Start::Remove { key: KEY }),
         "invalidate" => Some(Start::Invalidate { key: KEY }),
+        "invalidate all" => Some(Start::InvalidateAll),
         "evict" => evict(2),
         "evict another" => evict(1),
         _ => load_named(name),
@@ -212,6 +213,7 @@ fn of_turns(word: &str) -> Option<Got<u32, u32, u32>> {
         "applied" => desk(Found::ApplyOne(true)),
         "none is left" => desk(Found::ApplyOne(false)),
         "ended" => desk(Found::EndTurn),
+        "invalidated" => desk(Found::InvalidateAll),
         _ => None,
     }
 }

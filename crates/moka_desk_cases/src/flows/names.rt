@@ -38,6 +38,7 @@ fn visit_name(visit: &Visit<u32, u32, u32>) -> &'static str {
         Visit::TakeTurn { .. } => "take turn",
         Visit::ApplyOne { .. } => "apply one",
         Visit::EndTurn { .. } => "end turn",
+        Visit::InvalidateAll => "invalidate all",
     }
 }
 

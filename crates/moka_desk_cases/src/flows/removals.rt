@@ -6,7 +6,7 @@ use moka_init::Flow;
 use std::alloc::AllocError;
 
 /// Flows: what is started, the rules, and the rows.
-const FLOWS: [(&str, &str, &str); 12] = [
+const FLOWS: [(&str, &str, &str); 15] = [
     // A removal that finds nothing posts no write.
     (
         "remove",
@@ -81,6 +81,22 @@ const FLOWS: [(&str, &str, &str); 12] = [
             stamp moment / stamped / going\n\
             remove / absent / going\n\
             clock / told / nothing\n",
+    ),
+    // An invalidation of all is one step, also in a disabled cache.
+    (
+        "invalidate all",
+        "no rule",
+        "invalidate all / invalidated / done\n",
+    ),
+    (
+        "invalidate all",
+        "a listener",
+        "invalidate all / invalidated / done\n",
+    ),
+    (
+        "invalidate all",
+        "disabled",
+        "invalidate all / invalidated / done\n",
     ),
 ];
 

@@ -74,5 +74,8 @@ returns-in-ApplyOne-clause-ok g c =
     record { form = (made.result, refl); made = λ w h may. (made.ensures.finds w h may, made.ensures.makes w h may) } in
     by_tests g.K.PartialEq.eq c.args.desk.now _ _ c.in-ApplyOne.is (g.Q.Tests.answers c.args.tests.now) made.new.self (found.ApplyOne made.result) is
 
+pub returns-in-InvalidateAll-clause-ok : goal.returns-in-InvalidateAll-clause-ok
+returns-in-InvalidateAll-clause-ok g c = by_tests g.K.PartialEq.eq c.args.desk.now _ _ c.in-InvalidateAll.is (g.Q.Tests.answers c.args.tests.now) c.invalidate_all.new.desk c.invalidate_all.result c.invalidate_all.ensures.visit
+
 pub returns-clause-ok : goal.returns-clause-ok
 returns-clause-ok g c = by_tests g.K.PartialEq.eq c.args.desk.now _ _ c.in-EndTurn.is (g.Q.Tests.answers c.args.tests.now) c.end_turn.new.desk c.end_turn.result c.end_turn.ensures.visit

@@ -9,12 +9,14 @@ use Rattle.moka_run.proofs.answers.run_fresh.Goals as goal
 
 pub returns : goal.returns
 returns c =
-    let rules = c.args.rules in
+    let rules = c.rules.result in
     let first = fresh ℕ ℕ ℕ rules c.args.log number_test in
     let reached : IsReached nat_eq first = record { rules = rules; size = c.args.log; tests = number_test; has_log = c.requires.least; events = []; replies = []; run = refl } in
     let ran = c.in_ok-replies.ensures first c.in_ok-machine.ensures.fresh reached in
-    subst (λ (r : Report ℕ ℕ ℕ). RunsFresh rules c.args.log c.args.events.items r) (sym c.report_of.ensures)
+    subst (λ (r : Report ℕ ℕ ℕ). RunsFresh c.args.settings c.args.log c.args.events.items r) (sym c.report_of.ensures)
     (record {
+      rules = rules;
+      ruled = c.rules.ensures;
       final = ran.final;
       run = ran.run;
       reports = c.in_ok-lists.ensures ran.final ran.stands;

@@ -2,7 +2,7 @@
 use Rattle.moka_run.proofs.laws.says_or_is_bad.Goals as goal
 
 pub returns : goal.returns
-returns c = λ text log rules events line says bad.
-    let ok = c.schedule_text_round_trip.ensures.text text log rules events says in
+returns c = λ text log settings events line says bad.
+    let ok = c.schedule_text_round_trip.ensures.text text log settings events says in
     let err = c.schedule_text_round_trip.ensures.bad_line text line bad in
     cc

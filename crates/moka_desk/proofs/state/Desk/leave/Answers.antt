@@ -27,6 +27,7 @@ returns-clause-makes g c = λ w h may.
     record {
       rules = h.rules;
       clock = h.clock;
+      valid_after = h.valid_after;
       accessed = h.accessed;
       turn = h.turn;
       published = h.published;

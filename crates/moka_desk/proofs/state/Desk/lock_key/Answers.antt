@@ -19,6 +19,7 @@ returns-in-Some-clause-makes g c = λ w h may.
     subst (λ b. StandsFor g.K.PartialEq.eq (record c.args.self.now { waits = record c.args.self.now.waits { locks = c.wait.new.self } }) (locked_by g.K.PartialEq.eq w c.args.call c.args.key.now b)) (sym other) (record {
       rules = h.rules;
       clock = h.clock;
+      valid_after = h.valid_after;
       accessed = h.accessed;
       turn = h.turn;
       published = h.published;

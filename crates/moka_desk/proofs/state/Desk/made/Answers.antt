@@ -12,6 +12,7 @@ pub returns-clause-stands : goal.returns-clause-stands
 returns-clause-stands g c = λ tests. record {
   rules = refl;
   clock = refl;
+  valid_after = refl;
   accessed = λ kept n. rw c.new.ensures.empty refl;
   turn = refl;
   published = refl;

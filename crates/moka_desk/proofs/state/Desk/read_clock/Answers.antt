@@ -6,6 +6,7 @@ pub returns-clause-makes : goal.returns-clause-makes
 returns-clause-makes g c = λ w h may. record {
   rules = h.rules;
   clock = h.clock;
+  valid_after = h.valid_after;
   accessed = h.accessed;
   turn = h.turn;
   published = h.published;

@@ -40,6 +40,7 @@ pub returns-in_err-stamp-clause-err : goal.returns-in_err-stamp-clause-err
 returns-in_err-stamp-clause-err g c = on_err c.from_residual.result (λ w h. record {
   rules = h.rules;
   clock = h.clock;
+  valid_after = h.valid_after;
   accessed = h.accessed;
   turn = h.turn;
   published = h.published;
@@ -55,6 +56,7 @@ pub returns-clause-makes : goal.returns-clause-makes
 returns-clause-makes g c = λ w h may. record {
   rules = h.rules;
   clock = h.clock;
+  valid_after = h.valid_after;
   accessed = h.accessed;
   turn = h.turn;
   published = h.published;

@@ -13,6 +13,7 @@ returns-clause-kept g c =
         desk = record {
           rules = desk.rules;
           clock = desk.clock;
+          valid_after = desk.valid_after;
           accessed = desk.accessed;
           turn = desk.turn;
           published = desk.published;

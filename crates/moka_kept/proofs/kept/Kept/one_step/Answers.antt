@@ -1,5 +1,5 @@
 -- The step goes by what was brought.
-use Rattle.std.proofs.Common.{◌≡◌, Bool, true, false, Option, Some, None, IfOk, refl, sym, ap, ◌∙◌, subst}
+use Rattle.std.proofs.Common.{◌≡◌, Option, Some, None, IfOk, refl, ap, ◌∙◌, subst}
 use Rattle.std.proofs.lemmas.Result.{IfOk-weaker}
 use Rattle.moka_init.specs.FlowPlan.{call_of, next_in, tested_in}
 use Rattle.moka_kept.specs.Kept.{IsBrought}

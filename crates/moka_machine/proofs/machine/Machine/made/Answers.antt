@@ -5,7 +5,7 @@ use Rattle.moka_hist.specs.State.{fresh}
 use Rattle.moka_machine.specs.Calls.{IsUsed, runs_in}
 use Rattle.moka_machine.specs.Machine.{call_in}
 use Rattle.moka_machine.specs.declared.calls.Running.{Running}
-use Rattle.moka_machine.proofs.machine.Machine.build.Goals as goal
+use Rattle.moka_machine.proofs.machine.Machine.made.Goals as goal
 
 pub returns-clause-fresh : goal.returns-clause-fresh
 returns-clause-fresh g c =

@@ -1,18 +1,20 @@
 -- The look decides, and changes nothing.
-use Rattle.std.proofs.Common.{is_some, ap, ◌∙◌, arith}
+use Rattle.std.proofs.Common.{ap, ◌∙◌, arith}
+use Rattle.std.specs.Option.{option_map}
 use Rattle.moka_hist.specs.declared.tables.TableOp.TheVariants as op
 use Rattle.moka_table.specs.Plain.{map_of}
+use Rattle.moka_kept.specs.Counts.{mark_of}
 use Rattle.moka_kept.proofs.Looks.{looked_count, looked_found, looked_same}
-use Rattle.moka_kept.proofs.looking.has_key.Goals as goal
+use Rattle.moka_kept.proofs.looking.find_mark.Goals as goal
 
 pub returns-clause-there : goal.returns-clause-there
 returns-clause-there g c =
     let eq = g.K.PartialEq.eq in
     let key = c.in_ok-key.key in
     let moves = c.in_ok-turn.ensures.moves (op.Get key) c.begin-look.ensures.operation in
-    c.is_found.ensures
+    c.mark_found.ensures
     ∙ looked_found eq key _ _ _ _ c.in_ok-turn.turn (λ going. let nearer = c.in_ok-turn.ensures.nears going in omega (arith, nearer)) moves
-    ∙ ap (λ k. is_some (map_of eq c.args.table.now k)) (g.met.K.Exact.exact _ _ c.in_ok-key.ensures.cases)
+    ∙ ap (λ k. option_map (λ pair. mark_of pair.1) (map_of eq c.args.table.now k)) (g.met.K.Exact.exact _ _ c.in_ok-key.ensures.cases)
 
 pub returns-clause-map : goal.returns-clause-map
 returns-clause-map g c =
