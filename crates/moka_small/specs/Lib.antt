@@ -1,0 +1,5 @@
+pub mod Small
+pub mod Polled
+pub mod Seen
+pub mod Laws
+pub mod Standing
