@@ -9,7 +9,7 @@ ghost use Rattle.moka_map.specs.Calls.{GivesOf};
 
 use moka_hist::TableAnswer;
 
-/// The pair of the answer.
+/// Gives the pair of a table's answer, if it has one.
 pub fn pair_in<K: Drop, V: Drop>(answer: TableAnswer<K, V>) -> Option<(K, V)>
     ensures { (o : Option (K × Stored V)) → answer ≡ answer_of o → result ≡ entry_of o }
 {
@@ -19,7 +19,7 @@ pub fn pair_in<K: Drop, V: Drop>(answer: TableAnswer<K, V>) -> Option<(K, V)>
     }
 }
 
-/// What the closure gives of the pair, if there is one.
+/// Calls the closure on the pair, if there is one, and gives what it answers.
 pub fn given_of<K: Drop, V: Drop, T, F: FnOnce(&K, &V) -> T>(
     pair: Option<(K, V)>,
     with_entry: F,
@@ -33,7 +33,7 @@ pub fn given_of<K: Drop, V: Drop, T, F: FnOnce(&K, &V) -> T>(
     }
 }
 
-/// The value of the pair, if there is one.
+/// Gives the value of the pair, if there is one.
 pub fn value_in<K: Drop, V: Drop>(pair: Option<(K, V)>) -> Option<V>
     ensures { result ≡ option_map (λ p. p.1) pair }
 {

@@ -14,12 +14,12 @@ use moka_values::Exact;
 use std::alloc::AllocError;
 use std::hash::{BuildHasher, Hash};
 
-/// Half as many nodes a segment may have beside those of twice its keys.
+/// Half of the number of nodes that a segment may have beside two for each of its keys.
 const SPARED: u64 = 16;
 
 impl<K: Eq + Hash + Exact, V: Exact, S: BuildHasher + Drop> HashMap<K, V, S> {
-    /// Stores the pair, and gives the one that was under its key. Without memory the pair handed in
-    /// is dropped.
+    /// Stores the pair, and gives the pair that stood under its key. On want of memory the map
+    /// drops the pair handed in, and stays as it was.
     #[tactic(auto, using(crate::proofs::Staying::stays_so))]
     pub(crate) fn put(&mut self, key: K, hash: u64, value: V) -> Result<Option<(K, V)>, AllocError>
         requires hashed { hash ≡ hash_for S.BuildHasher S.Hasher.Hasher K.hash_input
@@ -37,7 +37,7 @@ impl<K: Eq + Hash + Exact, V: Exact, S: BuildHasher + Drop> HashMap<K, V, S> {
         Ok(before)
     }
 
-    /// Removes the key, and gives its pair.
+    /// Removes the pair of the key, and gives it.
     #[tactic(auto, using(crate::proofs::Staying::stays_so))]
     pub(crate) fn take(&mut self, key: K, hash: u64) -> Result<Option<(K, V)>, AllocError>
         requires hashed { hash ≡ hash_for S.BuildHasher S.Hasher.Hasher K.hash_input

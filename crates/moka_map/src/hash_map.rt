@@ -12,7 +12,7 @@ use std::alloc::{AllocError, Global};
 use std::hash::{BuildHasher, Hash};
 use std::marker::Model;
 
-/// How many segments a map has where none are asked for, as moka's.
+/// The number of segments of a map whose caller asks for none, as in moka.
 const SEGMENTS: usize = 64;
 
 /// A map of one owner, whose keys are spread over segments by their hashes, and whose arrays grow.
@@ -37,7 +37,8 @@ impl<K: Eq + Hash, V, S: BuildHasher> Model for HashMap<K, V, S> {
 }
 
 impl<K: Eq + Hash + Drop, V: Drop, S: BuildHasher + Drop> HashMap<K, V, S> {
-    /// An empty map of so many segments, rounded up to a power of two, without arrays.
+    /// Makes an empty map of `num_segments` segments, rounded up to a power of two. No segment has
+    /// an array yet.
     pub fn with_num_segments_and_hasher(
         alloc: Global,
         num_segments: usize,
@@ -54,8 +55,8 @@ impl<K: Eq + Hash + Drop, V: Drop, S: BuildHasher + Drop> HashMap<K, V, S> {
         Self::with_num_segments_capacity_and_hasher(alloc, num_segments, 0, build_hasher)
     }
 
-    /// An empty map of so many segments, rounded up to a power of two, with arrays for so many keys.
-    /// Longer ones than 2^60 are want of memory.
+    /// Makes an empty map of `num_segments` segments, rounded up to a power of two, with arrays for
+    /// `capacity` keys. Arrays longer than 2^60 are answered as want of memory.
     pub fn with_num_segments_capacity_and_hasher(
         alloc: Global,
         num_segments: usize,
@@ -79,8 +80,8 @@ impl<K: Eq + Hash + Drop, V: Drop, S: BuildHasher + Drop> HashMap<K, V, S> {
         })
     }
 
-    /// An empty map of 64 segments, with arrays for so many keys. Longer ones than 2^60 are want of
-    /// memory.
+    /// Makes an empty map of 64 segments, with arrays for `capacity` keys. Arrays longer than 2^60
+    /// are answered as want of memory.
     pub fn with_capacity(
         alloc: Global,
         capacity: usize,
@@ -96,15 +97,15 @@ impl<K: Eq + Hash + Drop, V: Drop, S: BuildHasher + Drop> HashMap<K, V, S> {
         Self::with_num_segments_capacity_and_hasher(alloc, SEGMENTS, capacity, build_hasher)
     }
 
-    /// How many keys the arrays are meant for: half of each one's length. It stops at the greatest
-    /// number.
+    /// Answers how many keys the arrays are meant for: half of each one's length, together. It
+    /// stops at the greatest number.
     pub fn capacity(&self) -> usize
         ensures { result ≡ min (capacity_in self.now) (2 ^ 64 - 1) }
     {
         self.table.capacity()
     }
 
-    /// The hash of the key, by the map's hasher.
+    /// Answers the hash of the key, by the map's hasher.
     pub fn hash(&self, key: &K) -> u64
         ensures { result ≡ hash_for S.BuildHasher S.Hasher.Hasher K.hash_input
             self.now key.now }
@@ -114,21 +115,21 @@ impl<K: Eq + Hash + Drop, V: Drop, S: BuildHasher + Drop> HashMap<K, V, S> {
 }
 
 impl<K: Eq + Hash + Exact, V: Exact, S: BuildHasher + Drop> HashMap<K, V, S> {
-    /// How many segments the keys are spread over.
+    /// Answers how many segments the keys are spread over.
     pub fn actual_num_segments(&self) -> usize
         ensures { result ≡ segments_in self.now }
     {
         self.table.segments()
     }
 
-    /// How many keys there are.
+    /// Answers how many keys are stored.
     pub fn len(&self) -> usize
         ensures { result ≡ keys_in self.now }
     {
         self.table.len()
     }
 
-    /// Whether there are no keys.
+    /// Answers whether no key is stored.
     pub fn is_empty(&self) -> bool
         ensures { IsTrue result ↔ (keys_in self.now ≡ 0) }
     {

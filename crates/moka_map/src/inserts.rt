@@ -12,8 +12,8 @@ use std::alloc::AllocError;
 use std::hash::{BuildHasher, Hash};
 
 impl<K: Eq + Hash + Exact, V: Exact, S: BuildHasher + Drop> HashMap<K, V, S> {
-    /// Stores the pair, in place of the one under its key, if there is one, and gives what the
-    /// closure makes of that one. Without memory the pair handed in is dropped, and all stays.
+    /// Stores the pair. Where a pair stood under its key, gives what the closure answers of that
+    /// former pair. On want of memory the map drops the pair handed in, and stays as it was.
     pub fn insert_entry_and<T, F: FnOnce(&K, &V) -> T>(
         &mut self,
         key: K,
@@ -35,9 +35,9 @@ impl<K: Eq + Hash + Exact, V: Exact, S: BuildHasher + Drop> HashMap<K, V, S> {
         Ok(given_of(before, with_previous_entry))
     }
 
-    /// Stores the pair where its key is absent, and gives None. Where it is present all stays, and a
-    /// clone of the value that is there is given. Without memory the pair handed in is dropped, and
-    /// all stays.
+    /// Stores the pair where its key is absent, and answers `None`. Where the key is present the
+    /// map stays, and the caller gets a clone of the stored value. On want of memory the map drops
+    /// the pair handed in, and stays as it was.
     pub fn insert_if_not_present(
         &mut self,
         key: K,
@@ -61,9 +61,10 @@ impl<K: Eq + Hash + Exact, V: Exact, S: BuildHasher + Drop> HashMap<K, V, S> {
         Ok(None)
     }
 
-    /// Stores under the key what the first closure makes where it is absent, or the second of the
-    /// stored pair where it is present; the key handed in takes the place of the stored one. Gives
-    /// what `with_old_entry` makes of the pair that was there. Without memory all stays.
+    /// Stores a value under the key: what `on_insert` makes where the key is absent, or what
+    /// `on_modify` makes of the stored pair where it is present. The key handed in takes the place
+    /// of the stored one. Gives what `with_old_entry` answers of the former pair. On want of memory
+    /// the map stays as it was.
     pub fn insert_with_or_modify_entry_and<
         T,
         I: FnMut() -> V,
@@ -95,9 +96,9 @@ impl<K: Eq + Hash + Exact, V: Exact, S: BuildHasher + Drop> HashMap<K, V, S> {
         Ok(given_of(before, with_old_entry))
     }
 
-    /// Stores under the key what the first closure makes where it is absent, or the second of the
-    /// stored pair where it is present; the key handed in takes the place of the stored one. Gives
-    /// the value that was there. Without memory all stays.
+    /// Stores a value under the key: what `on_insert` makes where the key is absent, or what
+    /// `on_modify` makes of the stored pair where it is present. The key handed in takes the place
+    /// of the stored one. Gives the former value. On want of memory the map stays as it was.
     pub fn insert_with_or_modify<I: FnMut() -> V, M: FnMut(&K, &V) -> V>(
         &mut self,
         key: K,

@@ -10,8 +10,8 @@ use std::alloc::AllocError;
 use std::hash::{BuildHasher, Hash};
 use std::marker::Model;
 
-/// Goes over the pairs of a map, the keys of a segment at a time; the pair of each key is looked up
-/// again. An item is an error where memory was wanting.
+/// An iterator over the pairs of a map. It lists the keys of one segment at a time, and looks each
+/// key up again. An item is an error where memory was wanting.
 #[derive(Drop)]
 pub struct Iter<'a, K: Eq + Hash, V, S: BuildHasher> {
     map: &'a HashMap<K, V, S>,

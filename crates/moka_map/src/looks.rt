@@ -14,7 +14,7 @@ use std::alloc::AllocError;
 use std::hash::{BuildHasher, Hash};
 
 impl<K: Eq + Hash + Drop, V: Drop, S: BuildHasher + Drop> HashMap<K, V, S> {
-    /// The pair under the key that the test is true of.
+    /// Lends the pair of the key for which `eq` answers true, if it is stored.
     pub(crate) fn find<F: FnMut(&K) -> bool>(&self, hash: u64, eq: F) -> Option<(&K, &V)>
         requires callable { F.IsAlwaysCallable eq }
         requires one { (q : K) × Names
@@ -30,7 +30,7 @@ impl<K: Eq + Hash + Drop, V: Drop, S: BuildHasher + Drop> HashMap<K, V, S> {
         }
     }
 
-    /// Whether a key is present that the test is true of. It takes no memory.
+    /// Answers whether a key is stored for which `eq` answers true. The look takes no memory.
     pub fn contains_key<F: FnMut(&K) -> bool>(&self, hash: u64, eq: F) -> Result<bool, AllocError>
         requires callable { F.IsAlwaysCallable eq }
         requires one { (q : K) × Names
@@ -44,8 +44,8 @@ impl<K: Eq + Hash + Drop, V: Drop, S: BuildHasher + Drop> HashMap<K, V, S> {
         Ok(self.find(hash, eq).is_some())
     }
 
-    /// What the closure gives of the pair under the key that the test is true of. It takes no
-    /// memory.
+    /// Gives what the closure answers of the pair of the key for which `eq` answers true, or `None`
+    /// where there is none. The look takes no memory.
     pub fn get_key_value_and<T, F: FnMut(&K) -> bool, W: FnOnce(&K, &V) -> T>(
         &self,
         hash: u64,
@@ -68,8 +68,8 @@ impl<K: Eq + Hash + Drop, V: Drop, S: BuildHasher + Drop> HashMap<K, V, S> {
         }
     }
 
-    /// The closure's own answer on the pair under the key that the test is true of; None where
-    /// there is no pair. It takes no memory.
+    /// Gives the closure's own answer of the pair of the key for which `eq` answers true, or `None`
+    /// where there is no pair. The look takes no memory.
     pub fn get_key_value_and_then<T, F: FnMut(&K) -> bool, W: FnOnce(&K, &V) -> Option<T>>(
         &self,
         hash: u64,
@@ -94,8 +94,8 @@ impl<K: Eq + Hash + Drop, V: Drop, S: BuildHasher + Drop> HashMap<K, V, S> {
 }
 
 impl<K: Eq + Hash + Drop, V: Drop, S: BuildHasher + Drop> HashMap<K, V, S> {
-    /// What the closure makes of each key of the segment, each once; None exactly where there is no
-    /// such segment.
+    /// Lists what the closure makes of each key of the segment, each key once, or answers `None`
+    /// exactly where there is no such segment.
     pub fn keys<T: Drop, F: FnMut(&K) -> T>(
         &self,
         segment: usize,
@@ -116,7 +116,7 @@ impl<K: Eq + Hash + Drop, V: Drop, S: BuildHasher + Drop> HashMap<K, V, S> {
 }
 
 impl<K: Eq + Hash + Drop, V: Exact + Drop, S: BuildHasher + Drop> HashMap<K, V, S> {
-    /// A clone of the value under the key that the test is true of.
+    /// Gives a clone of the value of the key for which `eq` answers true, if it is stored.
     pub fn get<F: FnMut(&K) -> bool>(&self, hash: u64, eq: F) -> Result<Option<V>, AllocError>
         requires callable { F.IsAlwaysCallable eq }
         requires one { (q : K) × Names
@@ -134,7 +134,7 @@ impl<K: Eq + Hash + Drop, V: Exact + Drop, S: BuildHasher + Drop> HashMap<K, V, 
 }
 
 impl<K: Eq + Hash + Exact, V: Exact, S: BuildHasher + Drop> HashMap<K, V, S> {
-    /// Clones of the keys of the segment; None where there is no such segment.
+    /// Lists clones of the keys of the segment, or answers `None` where there is no such segment.
     pub(crate) fn copies(&self, segment: usize) -> Result<Option<Vec<K>>, AllocError>
         ensures there { IfOk result (λ keys. IsSome keys ↔ (segment < segments_in self.now)) }
         ensures lists { IfOk result (λ keys. IfSome keys (λ list. ListsSegment K.eq
@@ -145,7 +145,7 @@ impl<K: Eq + Hash + Exact, V: Exact, S: BuildHasher + Drop> HashMap<K, V, S> {
         self.table.copy_keys(segment)
     }
 
-    /// Clones of the pair under the key.
+    /// Gives a clone of the pair under the key, if there is one.
     pub(crate) fn pair_of(&self, key: &K) -> Result<Option<(K, V)>, AllocError>
         ensures { IfOk result (λ pair. pair
             ≡ entries S.BuildHasher S.Hasher.Hasher K.eq K.hash_input self.now key.now) }

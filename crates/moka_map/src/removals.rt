@@ -12,7 +12,8 @@ use std::alloc::AllocError;
 use std::hash::{BuildHasher, Hash};
 
 impl<K: Eq + Hash + Exact, V: Exact, S: BuildHasher + Drop> HashMap<K, V, S> {
-    /// Removes the key that the test is true of, and gives its pair. Without memory all stays.
+    /// Removes the pair of the key for which `eq` answers true, and gives it. On want of memory the
+    /// map stays as it was.
     pub fn remove_entry<F: FnMut(&K) -> bool>(
         &mut self,
         hash: u64,
@@ -39,7 +40,8 @@ impl<K: Eq + Hash + Exact, V: Exact, S: BuildHasher + Drop> HashMap<K, V, S> {
         }
     }
 
-    /// Removes the key that the test is true of, and gives its value. Without memory all stays.
+    /// Removes the pair of the key for which `eq` answers true, and gives its value. On want of
+    /// memory the map stays as it was.
     pub fn remove<F: FnMut(&K) -> bool>(
         &mut self,
         hash: u64,
@@ -81,8 +83,8 @@ impl<K: Eq + Hash + Exact, V: Exact, S: BuildHasher + Drop> HashMap<K, V, S> {
         }
     }
 
-    /// Removes the key that the test is true of, where the condition holds of its pair, and gives
-    /// its value. Without memory all stays.
+    /// Removes the pair of the key for which `eq` answers true, where the condition holds of the
+    /// pair, and gives its value. On want of memory the map stays as it was.
     pub fn remove_if<F: FnMut(&K) -> bool, C: FnMut(&K, &V) -> bool>(
         &mut self,
         hash: u64,
@@ -105,8 +107,8 @@ impl<K: Eq + Hash + Exact, V: Exact, S: BuildHasher + Drop> HashMap<K, V, S> {
         Ok(value_in(pair))
     }
 
-    /// Removes the key that the test is true of, where the condition holds of its pair, and gives
-    /// what the closure makes of the pair. Without memory all stays.
+    /// Removes the pair of the key for which `eq` answers true, where the condition holds of the
+    /// pair, and gives what the closure answers of it. On want of memory the map stays as it was.
     pub fn remove_entry_if_and<
         T,
         F: FnMut(&K) -> bool,
