@@ -30,16 +30,6 @@ pub(crate) fn insert<S: BuildHasher + Drop>(
     map.insert_entry_and(key, hash, value, |_, previous| *previous)
 }
 
-/// Stores the pair where the key is absent, or else gives the value that is there.
-pub(crate) fn insert_absent<S: BuildHasher + Drop>(
-    map: &mut HashMap<u64, u64, S>,
-    key: u64,
-    value: u64,
-) -> Result<Option<u64>, AllocError> {
-    let hash = map.hash(&key);
-    map.insert_if_not_present(key, hash, value)
-}
-
 /// Stores 1 or adds 1, and gives the value that was there.
 pub(crate) fn count<S: BuildHasher + Drop>(
     map: &mut HashMap<u64, u64, S>,

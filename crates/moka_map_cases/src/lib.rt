@@ -8,6 +8,8 @@ mod hashers;
 #[cfg(test)]
 mod many;
 #[cfg(test)]
+mod memory;
+#[cfg(test)]
 mod pairs;
 #[cfg(test)]
 mod walks;

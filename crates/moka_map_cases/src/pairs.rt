@@ -1,10 +1,9 @@
 //! One pair, with values of moka's own tests of its map.
 
 use crate::calls::{
-    count, count_pair, even_value, get, has, insert, insert_absent, remove, remove_pair,
-    remove_value, sum,
+    count, count_pair, even_value, get, has, insert, remove, remove_pair, remove_value, sum,
 };
-use moka_map::HashMap;
+use moka_map::{HashMap, ScanningGet};
 use std::alloc::{AllocError, Global};
 use std::hash::{BuildHasherDefault, FoldHasher};
 use std::test::Fail;
@@ -39,18 +38,26 @@ fn a_pair_is_stored_replaced_and_removed(rt: HostRuntime) -> Result<(), Fail> {
     Ok(())
 }
 
-// Key 1 is stored where it is absent, with 5 and then with 6.
-fn absent_once(map: &mut Map) -> Result<[Option<u64>; 3], AllocError> {
+type Named = HashMap<&'static str, u64, BuildHasherDefault<FoldHasher>>;
+
+// "key1" is stored with the value where it is absent.
+fn insert_key1(map: &mut Named, value: u64) -> Result<Option<u64>, AllocError> {
+    let hash = map.hash(&"key1");
+    map.insert_if_not_present("key1", hash, value)
+}
+
+// "key1" is stored where it is absent, with 5 and then with 6.
+fn absent_once(map: &mut Named) -> Result<[Option<u64>; 3], AllocError> {
     Ok([
-        insert_absent(map, 1, 5)?,
-        insert_absent(map, 1, 6)?,
-        get(map, 1)?,
+        insert_key1(map, 5)?,
+        insert_key1(map, 6)?,
+        map.scanning_get(&"key1")?,
     ])
 }
 
 #[test]
 fn a_present_value_stays(rt: HostRuntime) -> Result<(), Fail> {
-    let mut map = empty(rt.alloc(), 0)?;
+    let mut map = HashMap::with_capacity(rt.alloc(), 0, BuildHasherDefault::new())?;
     let answers = absent_once(&mut map);
     drop(map);
     assert!(rt; answers? == [None, Some(5), Some(5)]);
@@ -82,7 +89,7 @@ fn looked(map: &mut Map) -> Result<[Option<u64>; 8], AllocError> {
         get(map, 1)?,
         even_value(map, 1)?,
         remove_value(map, 1, 10)?,
-        get(map, 1)?,
+        map.scanning_get(&1)?,
     ])
 }
 
