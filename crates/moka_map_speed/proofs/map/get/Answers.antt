@@ -1,0 +1,12 @@
+use Rattle.std.proofs.Common.{rules}
+use Rattle.std.proofs.lemmas.Fn.{always_returns_same}
+use Rattle.moka_map_speed.proofs.map.get.Goals as goal
+
+pub get-requires-clause-one : goal.get-requires-clause-one
+get-requires-clause-one c = (
+  c.args.key,
+  record {
+    computes = always_returns_same _ _ _ (λ a r f k. search rules);
+    hashed = c.hash.ensures;
+  },
+)
