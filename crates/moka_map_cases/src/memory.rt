@@ -76,7 +76,7 @@ fn has_all(alloc: Global, map: &Map, count: u64, more: u64) -> Result<bool, Allo
     Ok(found && listed && gone_over)
 }
 
-// The same, once more where that was refused memory.
+// Whether the map has those keys, looked at once more where the first look was refused memory.
 fn has(alloc: Global, map: &Map, count: u64, more: u64) -> Result<bool, AllocError> {
     match has_all(alloc, map, count, more) {
         Ok(right) => Ok(right),
