@@ -2,15 +2,15 @@
 
 ghost use Rattle.moka_calls.specs.Laws.{SeenIsTaken, TakenIsMaps};
 
-/// Cites the law that a call may take what its access sees, if the access leads from one sound
-/// segment to another, and no array is longer than 2^60.
+/// A call may take what its access sees, if the access leads from one sound segment to another, and
+/// no array is longer than 2^60.
 pub fn seen_is_taken()
     ensures taken { SeenIsTaken }
 {}
 
-/// Cites the law of a call that fits a sound segment and takes what its access saw there. If the
-/// call goes on, it fits what the access left, and the map is as before. If it ends, it has what
-/// the map has under its key, and the map is changed there alone.
+/// A call that fits a sound segment takes what its access saw there. If the call goes on, it fits what
+/// the access left, and the map is as before. If it ends, it has what the map has under its key, and
+/// the map is changed there alone.
 pub fn taken_is_maps()
     ensures maps { TakenIsMaps }
 {}

@@ -22,11 +22,12 @@ pub trait ScanningGet<K: Eq, V> {
 
     ghost place: { Self → K → ℕ };
 
-    /// A clone of the value under the key.
+    /// Gives a clone of the value under the key, or `None` where there is none.
     fn scanning_get(&self, key: &K) -> Result<Option<V>, AllocError>
         ensures { IfOk result (λ value. value ≡ option_map (λ p. p.1) (pairs self.now key.now)) };
 
-    /// Clones of the keys of the segment, each once; None exactly where there is no such segment.
+    /// Lists clones of the keys of the segment, each once, or answers `None` exactly where there is no
+    /// such segment.
     fn keys(&self, cht_segment: usize) -> Result<Option<KeyList<K>>, AllocError>
         ensures there { IfOk result (λ keys. IsSome keys ↔ (cht_segment < segments self.now)) }
         ensures lists { IfOk result (λ keys. IfSome keys (λ list. ListsSegment K.eq

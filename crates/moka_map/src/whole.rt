@@ -6,8 +6,8 @@ ghost use Rattle.moka_map.specs.Maps.{entries};
 
 use std::hash::{BuildHasher, Hash};
 
-/// Cites the law of an iterator: an iterator that has the pairs of a map to come, gives some pairs
-/// one after the other and then None has given each pair of the map exactly once.
+/// An iterator that has the pairs of a map to come, gives some pairs one after the other and then None
+/// has given each pair of the map exactly once.
 pub fn each_pair_once<K: Eq + Hash, V, S: BuildHasher>()
     ensures once { (s mid last : Coming K V S) (given : List (K × V))
         → ((q : K) → IsToCome S.BuildHasher S.Hasher.Hasher K.eq K.hash_input s q
