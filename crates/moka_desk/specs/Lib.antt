@@ -19,3 +19,4 @@ pub mod Woken
 pub mod WakeList
 pub mod Past
 pub mod Meets
+pub mod Forgetting

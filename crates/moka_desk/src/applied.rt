@@ -1,6 +1,6 @@
 //! The writes that maintenance has applied, as far as anybody asks for them.
 
-ghost use Rattle.std.specs.Prelude.{◌≡◌, ℕ, ◌+◌, ◌≤◌, ◌<◌, ◌==◌, true, false, [], ◌∷◌, ◌++◌, List, nat_eq, OnOk, OnErr, vec_len, vec_capacity};
+ghost use Rattle.std.specs.Prelude.{◌≡◌, ℕ, ◌+◌, ◌≤◌, ◌<◌, ◌==◌, ◌||◌, true, false, [], ◌∷◌, ◌++◌, List, nat_eq, OnOk, OnErr, vec_len, vec_capacity};
 ghost use Rattle.std.specs.HashSet as hash_set;
 ghost use Rattle.std.specs.List.{list_any};
 ghost use Rattle.moka_hist.specs.Visits.{number_of, standing as standing_of};
@@ -10,15 +10,18 @@ use crate::records::Records;
 use moka_hist::Write;
 use std::alloc::{AllocError, Global};
 
-/// The records that applied writes left standing, kept as they come, and with a history the writes,
-/// oldest first. Each place that was reserved takes one more write without memory.
+/// The records that applied writes left standing, kept as they come; and writes, oldest first: with a
+/// history all, and else, where they are listed, those since the list was last given up. Each place
+/// that was reserved takes one more write without memory.
 #[derive(Drop)]
 pub(crate) struct Applied {
     pub(crate) history: bool,
+    pub(crate) listed: bool,
     pub(crate) writes: Vec<Write>,
     pub(crate) records: Records,
     pub(crate) room: usize,
-    ghost room_for_writes: { history ≡ true → vec_len writes + room ≤ vec_capacity writes },
+    ghost history_is_listed: { history ≡ true → listed ≡ true },
+    ghost room_for_writes: { listed ≡ true → vec_len writes + room ≤ vec_capacity writes },
     ghost room_to_stand: { room ≤ hash_set.spare records.standing },
     ghost room_to_go: { room ≤ hash_set.spare records.early },
 }
@@ -27,14 +30,18 @@ impl Applied {
     ghost use Rattle.moka_desk.specs.Applied.{AppliedAre, AppliedStays};
     ghost use Rattle.moka_desk.specs.Records.{is_made};
 
-    /// Nothing was applied, and no place is reserved.
-    pub(crate) fn new(alloc: Global, history: bool) -> Self
+    /// Nothing was applied, and no place is reserved. Writes are listed with a history, and else as
+    /// `lately` says.
+    pub(crate) fn new(alloc: Global, history: bool, lately: bool) -> Self
         ensures none { AppliedAre result [] }
         ensures kind { result.history ≡ history }
+        ensures listed { result.listed ≡ (history || lately) }
+        ensures empty { result.writes.items ≡ [] }
         ensures room { result.room ≡ 0 }
     {
         Applied {
             history,
+            listed: history || lately,
             writes: Vec::new(alloc),
             records: Records::new(alloc),
             room: 0,
@@ -64,16 +71,16 @@ impl Applied {
         Ok(())
     }
 
-    // Makes room for so many more writes in the history, if there is one.
+    // Makes room for so many more writes in the list, if there is one.
     fn reserve_writes(&mut self, room: usize) -> Result<(), AllocError>
         ensures same { AppliedStays self.old self.new }
         ensures kind { self.new.history ≡ self.old.history }
         ensures records { self.new.records ≡ self.old.records }
         ensures places { self.new.room ≡ self.old.room }
-        ensures room { OnOk result (self.new.history ≡ true
+        ensures room { OnOk result (self.new.listed ≡ true
             → vec_len self.new.writes + room ≤ vec_capacity self.new.writes) }
     {
-        if self.history {
+        if self.listed {
             self.writes.reserve(room)?;
         }
         Ok(())
@@ -99,10 +106,22 @@ impl Applied {
         ensures room { self.new.room + 1 ≡ self.old.room }
     {
         self.records.apply(write);
-        if self.history {
+        if self.listed {
             self.writes.push_reserved(write);
         }
         self.room -= 1;
+    }
+
+    /// Gives the list of the writes up, where there is no history. Its room stays.
+    pub(crate) fn give_list_up(&mut self)
+        requires { self.old.history ≡ false }
+        ensures same { AppliedStays self.old self.new }
+        ensures kind { self.new.history ≡ self.old.history }
+        ensures empty { self.new.writes.items ≡ [] }
+        ensures records { self.new.records ≡ self.old.records }
+        ensures room { self.new.room ≡ self.old.room }
+    {
+        self.writes.clear();
     }
 
     /// Whether a write of this number was applied, as far as is remembered: without a history, where

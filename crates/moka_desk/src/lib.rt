@@ -13,6 +13,7 @@ mod loading;
 mod loads;
 mod locks;
 mod maps;
+mod moments;
 mod notices;
 mod records;
 mod state;

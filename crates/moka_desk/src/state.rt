@@ -118,7 +118,7 @@ impl<K: Eq + Hash + Exact, V: Drop, E: Drop> Desk<K, V, E> {
             turn: None,
             published: 0,
             last,
-            writes: Writes::new(alloc, log, history)?,
+            writes: Writes::new(alloc, log, history, reads_moments(&rules))?,
             loads: Loads::new(alloc),
             locks: Locks::new(alloc),
             notices: Notices::new(alloc, history),

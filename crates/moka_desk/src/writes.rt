@@ -50,10 +50,17 @@ impl Writes {
     ghost use Rattle.moka_hist.specs.declared.writes.Holding.{Holding};
     ghost use Rattle.moka_hist.specs.declared.writes.Holding.TheVariants as holding;
     ghost use Rattle.moka_hist.specs.declared.writes.Write.{Write};
+    ghost use Rattle.moka_desk.specs.Forgetting.{is_kept};
     ghost use Rattle.moka_desk.specs.Writes.{ForgetsIn, IsUnusedIn, WritePart, WritesAre, WritesBecome, WritesBecomeIf};
 
-    /// No write yet, and a log of this size; with a history, or without one.
-    pub(crate) fn new(alloc: Global, size: usize, history: bool) -> Result<Self, AllocError>
+    /// No write yet, and a log of this size; with a history, or without one. Without one applied
+    /// writes are listed as `lately` says.
+    pub(crate) fn new(
+        alloc: Global,
+        size: usize,
+        history: bool,
+        lately: bool,
+    ) -> Result<Self, AllocError>
         ensures none { IfOk result (λ writes. WritesAre writes
             (record { holding = λ _. None; owed = []; log = []; applied = []; size = size })) }
         ensures kind { IfOk result (λ writes. writes.applied.history ≡ history) }
@@ -63,7 +70,7 @@ impl Writes {
             owed: VecDeque::new(alloc),
             log: VecDeque::with_capacity(alloc, size)?,
             posted: HashSet::new(alloc),
-            applied: Applied::new(alloc, history),
+            applied: Applied::new(alloc, history, lately),
             size,
         })
     }
@@ -90,6 +97,26 @@ impl Writes {
             return false;
         }
         !self.applied.recalls(number)
+    }
+
+    /// Whether the record of this stamp may still be seen: it stands by the applied writes, or its
+    /// write is held, owed or logged.
+    pub(crate) fn keeps(&self, stamp: u64) -> bool
+        ensures { result ≡ is_kept self.now stamp }
+    {
+        self.applied.records.stands(stamp)
+            || self.held.contains(stamp)
+            || self.posted.contains(&stamp)
+    }
+
+    /// Gives the list of applied writes up, where there is no history.
+    pub(crate) fn give_list_up(&mut self)
+        requires { self.old.applied.history ≡ false }
+        ensures makes { WritesBecome self.old (λ p. p) self.new }
+        ensures kind { self.new.applied.history ≡ self.old.applied.history }
+        ensures empty { self.new.applied.writes.items ≡ [] }
+    {
+        self.applied.give_list_up();
     }
 
     /// Gives the call the places of a write of its own, with the moment: held, owed, logged where
