@@ -50,6 +50,12 @@ module _ {K V E : Type 0} where
       option_map (λ test. found.value) (replace_of aim)
   tested_in _ = None
 
+  -- the plan's first item judges a record that a look found
+  abbrev pub carries_in : List (Item K V E) → Bool
+  carries_in (plan.Judge aim key found ∷ rest) = true
+  carries_in (plan.Holds key stamp cause there found ∷ rest) = true
+  carries_in _ = false
+
   -- the plan's first item takes the answer to its call's own ask
   abbrev pub takes_told : List (Item K V E) → Bool
   takes_told (plan.Told load ∷ rest) = true

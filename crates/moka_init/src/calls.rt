@@ -6,12 +6,12 @@ ghost use Rattle.moka_hist.specs.Plan.{hearing};
 ghost use Rattle.std.specs.Option.{option_map};
 ghost use Rattle.moka_needs.specs.Reads.{kind_read};
 ghost use Rattle.moka_init.specs.PointPlan.{aim_of, posting_plan, listening_plan};
-ghost use Rattle.moka_init.specs.FlowPlan.{opening, owed_in, takes_told, tested_in};
+ghost use Rattle.moka_init.specs.FlowPlan.{carries_in, opening, owed_in, takes_told, tested_in};
 
 use crate::copies::replace_of;
 use crate::flow::Flow;
 use crate::points::{
-    Computing, Listening, Loading, Look, Looking, Point, PostStep, Posted, Posting,
+    Computing, Listening, Loading, Look, Looking, Point, PostStep, Posted, Posting, Removing,
 };
 use moka_hist::{Cause, Kind, Mode, Owed, Rules, Start, Stored, Visit, Write};
 use moka_values::Exact;
@@ -82,6 +82,17 @@ impl<K, V, E> Flow<K, V, E> {
         match &self.point {
             Point::Looking(Looking::Judge { look, stored, .. }) => tested_by(look, stored),
             _ => None,
+        }
+    }
+
+    /// Whether the call carries a record: its next visit judges one that its last look found.
+    pub fn carries(&self) -> bool
+        ensures { result ≡ carries_in (call_of self.now).plan }
+    {
+        match &self.point {
+            Point::Looking(Looking::Judge { .. }) => true,
+            Point::Removing(Removing::Holds { .. }) => true,
+            _ => false,
         }
     }
 
