@@ -34,11 +34,20 @@ module _ {K V E : Type 0} where
   -- Memory may be wanting in such an event in this state. In a step or a poll it may only where the
   -- call stands at an access that needs some: none is needed to take up what is owed or told, to
   -- free a lock, to post a write and to apply the log, nor to take a turn that is free or to hear
-  -- of a notice that has ended.
+  -- of a notice that has ended. Nor is any needed to tell an answer that is handed in.
   abbrev pub MayStopIn : State K V E → Event K V E → Type 0
   MayStopIn s (event.At moment) = ⊥
   MayStopIn s (event.Start start) = Unit {0}
   MayStopIn s (event.Step n) = CallNeedsMemory s n
   MayStopIn s (event.Poll n) = CallNeedsMemory s n
-  MayStopIn s (event.Tell n answer) = ToldNeedsMemory answer
+  MayStopIn s (event.Tell n answer) = ⊥
   MayStopIn s (event.Drop n) = ⊥
+
+  -- and where the event's answer, if it tells one, is copied first
+  abbrev pub MayStopServing : State K V E → Event K V E → Type 0
+  MayStopServing s (event.At moment) = ⊥
+  MayStopServing s (event.Start start) = MayStopIn s (event.Start start)
+  MayStopServing s (event.Step n) = MayStopIn s (event.Step n)
+  MayStopServing s (event.Poll n) = MayStopIn s (event.Poll n)
+  MayStopServing s (event.Tell n answer) = ToldNeedsMemory answer
+  MayStopServing s (event.Drop n) = ⊥

@@ -36,7 +36,7 @@ impl<K: Eq + Hash + Exact, V: Exact, E: Exact, T: Tests<K, V> + Drop> Machine<K,
     ghost use Rattle.moka_hist.specs.State.{State, fresh};
     ghost use Rattle.moka_hist.specs.Settings.{refusal_of};
     ghost use Rattle.moka_machine.specs.Machine.{MachineIs, IsValid, ServesEvent, Stops};
-    ghost use Rattle.moka_machine.specs.WantOfMemory.{MayStopIn};
+    ghost use Rattle.moka_machine.specs.WantOfMemory.{MayStopServing};
 
     /// Builds a fresh cache of these rules, with a log of this many writes, 1 to 65536, and these
     /// tests. It is refused where a time is too long, the time to live first, whatever memory
@@ -99,14 +99,14 @@ impl<K: Eq + Hash + Exact, V: Exact, E: Exact, T: Tests<K, V> + Drop> Machine<K,
         ensures serves { IfOk result (λ r. ServesEvent K.eq T.Tests self.old event.now r self.new) }
         ensures stops { IfErr result (λ u. Stops K.eq T.Tests self.old event.now u.steps self.new) }
         ensures needs { OnErr result ((s : State K V E) → MachineIs K.eq T.Tests self.new s
-            → MayStopIn s event.now) }
+            → MayStopServing s event.now) }
     {
         match event {
             Event::At { moment } => Ok(self.at(*moment)),
             Event::Start { start } => unpolled(self.start(start)),
             Event::Step { call } => unpolled(self.step(*call)),
             Event::Poll { call } => self.poll(*call),
-            Event::Tell { call, answer } => unpolled(self.tell(*call, answer)),
+            Event::Tell { call, answer } => unpolled(self.tell_copy(*call, answer)),
             Event::Drop { call } => Ok(self.drop_call(*call)),
         }
     }

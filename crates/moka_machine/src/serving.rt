@@ -79,9 +79,22 @@ impl<K: Eq + Hash + Exact, V: Exact, E: Exact, T: Tests<K, V> + Drop> Machine<K,
         }
     }
 
-    /// Answers the open ask of a call, or of the listener by the number of its notice. Who waited
-    /// for it is let go: nobody polls calls here but events.
-    pub(crate) fn tell(
+    /// Answers the open ask of a call, or of the listener by the number of its notice. Where no such
+    /// ask is open, or it doesn't take such an answer, the event is refused and nothing changes. It
+    /// takes no memory.
+    pub fn tell(&mut self, call: u64, answer: Told<V, E>) -> Reply<K, V, E>
+        ensures { ServesEvent K.eq T.Tests self.old (Event.Tell call answer) result self.new }
+    {
+        // Who waited for it is let go: nobody polls calls here but events.
+        if self.tell_desk(call, answer) {
+            Reply::Told
+        } else {
+            Reply::Refused(Refusal::NotAsked)
+        }
+    }
+
+    /// Answers the open ask with a copy of the answer.
+    pub(crate) fn tell_copy(
         &mut self,
         call: u64,
         answer: &Told<V, E>,
@@ -92,11 +105,7 @@ impl<K: Eq + Hash + Exact, V: Exact, E: Exact, T: Tests<K, V> + Drop> Machine<K,
         ensures err_needs { OnErr result (ToldNeedsMemory answer.now) }
     {
         let answer = answer.clone()?;
-        if self.tell_desk(call, answer) {
-            Ok(Reply::Told)
-        } else {
-            Ok(Reply::Refused(Refusal::NotAsked))
-        }
+        Ok(self.tell(call, answer))
     }
 
     // Tells the desk the answer. Answers whether an ask was open that takes it.

@@ -19,7 +19,7 @@ use Rattle.moka_hist.specs.declared.replies.Reply.{Reply}
 use Rattle.moka_hist.specs.declared.replies.Reply.TheVariants as reply
 use Rattle.moka_laws.proofs.Counting.{none_some, some_same}
 use Rattle.moka_machine.specs.Machine.{MachineIs, Stops}
-use Rattle.moka_machine.specs.WantOfMemory.{MayStopIn}
+use Rattle.moka_machine.specs.WantOfMemory.{MayStopServing}
 use Rattle.moka_machine.specs.declared.machine.Machine.{Machine}
 use Rattle.moka_small.specs.declared.outcome.Outcome.{Outcome}
 use Rattle.moka_small.specs.declared.outcome.Outcome.TheVariants as outcome
@@ -63,8 +63,8 @@ told_by K outcome.Kept = refl
 pub may_stop : {K V E : Type 0} {same : PartialEq.Ghosts K} {hash : Hash.Ghosts K} (eq : K → K → Bool)
     (old : PolledMachine K V E same hash) (machine : Machine K V E NoTests same hash) (e : Event K V E) (steps : ℕ) →
     Stops eq no_tests old.machine e steps machine →
-    ((s : State K V E) → MachineIs eq no_tests machine s → MayStopIn s e) →
-    (m : Small K V E) → IsPolled eq old m → (s : State K V E) × MayStopIn s e
+    ((s : State K V E) → MachineIs eq no_tests machine s → MayStopServing s e) →
+    (m : Small K V E) → IsPolled eq old m → (s : State K V E) × MayStopServing s e
 may_stop eq old machine e steps stops needs m p =
     let t = stops p.state p.stands p.seen.reached in (t.0, needs t.0 t.2)
 
@@ -237,7 +237,7 @@ module _ {K V E : Type 0} {same : PartialEq.Ghosts K} {hash : Hash.Ghosts K} (eq
   -- dropping a call needs no memory
   pub drop_served : {B : Type 0} (call : ℕ) (result : Result (Reply K V E) B) →
       IfOk result (λ r. (m : Small K V E) → IsPolled eq old m → IsServed eq m (event.Drop call) r new) →
-      OnErr result ((m : Small K V E) → IsPolled eq old m → (s : State K V E) × MayStopIn s (event.Drop call)) →
+      OnErr result ((m : Small K V E) → IsPolled eq old m → (s : State K V E) × MayStopServing s (event.Drop call)) →
       DropIsGone K V E eq → (m : Small K V E) → IsPolled eq old m → MayDrop call m →
       IsPolled eq new (gone_waiter m call)
   drop_served call (Ok r) serves needs law m p may = drops eq new m law call r may (serves m p)

@@ -27,7 +27,7 @@ pub struct PolledMachine<K: Eq + Hash, V, E> {
 impl<K: Eq + Hash + Exact, V: Exact, E: Exact> PolledMachine<K, V, E> {
     ghost use Rattle.moka_hist.specs.State.{State};
     ghost use Rattle.moka_hist.specs.declared.loads.Load.{Load};
-    ghost use Rattle.moka_machine.specs.WantOfMemory.{MayStopIn};
+    ghost use Rattle.moka_machine.specs.WantOfMemory.{MayStopServing};
     ghost use Rattle.moka_small.specs.Small.{Small, Stand, End, Was_told, empty, is_plain_start, started, with_stand};
     ghost use Rattle.moka_small.specs.Laws.{takes};
     ghost use Rattle.moka_small.specs.Polled.{gone_waiter, polled};
@@ -202,7 +202,7 @@ impl<K: Eq + Hash + Exact, V: Exact, E: Exact> PolledMachine<K, V, E> {
         ensures serves { IfOk result (λ r. (m : Small K V E) → IsPolled K.eq self.old m
             → IsServed K.eq m event r self.new) }
         ensures needs { OnErr result ((m : Small K V E) → IsPolled K.eq self.old m
-            → (s : State K V E) × MayStopIn s event) }
+            → (s : State K V E) × MayStopServing s event) }
         ensures spent { OnErr result (IsSpent self.new) }
         ensures stays { IsSpent self.old → OnOk result ⊥ }
     {
@@ -216,7 +216,7 @@ impl<K: Eq + Hash + Exact, V: Exact, E: Exact> PolledMachine<K, V, E> {
         ensures serves { IfOk result (λ r. (m : Small K V E) → IsPolled K.eq self.old m
             → IsServed K.eq m event.now r self.new) }
         ensures needs { OnErr result ((m : Small K V E) → IsPolled K.eq self.old m
-            → (s : State K V E) × MayStopIn s event.now) }
+            → (s : State K V E) × MayStopServing s event.now) }
         ensures spent { OnErr result (IsSpent self.new) }
         ensures stays { IsSpent self.old → OnOk result ⊥ }
     {

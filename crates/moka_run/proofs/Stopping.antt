@@ -1,5 +1,5 @@
 -- Where a run stops for want of memory.
-use Rattle.std.proofs.Common.{◌≡◌, ℕ, Bool, List, take, Option, Some, None, IfSome, refl, sym, subst, ◌⊎◌, inr, arith}
+use Rattle.std.proofs.Common.{◌≡◌, ℕ, Bool, List, take, Option, Some, None, refl, sym, subst, arith}
 use Rattle.std.specs.Prelude.{slice_get}
 use Rattle.std.specs.declared.cmp.PartialEq as PartialEq
 use Rattle.std.specs.declared.hash.Hash as Hash
@@ -12,7 +12,7 @@ use Rattle.moka_hist.specs.declared.replies.Reply.{Reply}
 use Rattle.moka_hist.specs.declared.record_tests.Tests as Tests
 use Rattle.moka_machine.specs.Machine.{BeginsEvent, MachineIs}
 use Rattle.moka_machine.specs.WantOfMemory.{MayStopIn}
-use Rattle.moka_run.specs.Running.{StopsAt}
+use Rattle.moka_run.specs.Running.{StopCause, In_event, StopsAt}
 use Rattle.moka_machine.specs.declared.machine.Machine.{Machine}
 use Rattle.moka_run.specs.declared.report.Memory.{Memory}
 
@@ -52,7 +52,7 @@ module _ {K V E T : Type 0} {same : PartialEq.Ghosts K} {hash : Hash.Ghosts K} (
   -- memory was wanting between two events, or after the last
   pub stops_between : (m : Machine K V E T same hash) (events : List (Event K V E)) (stop : Memory K V E) (done : ℕ) (replies : List (Reply K V E)) (s mid : State K V E)
       → stop ≡ record { done = done; steps = 0; replies = replies } → Run eq (IsLawful eq) s (take done events) replies mid → MachineIs eq q m mid
-      → ((done ≡ 0) × (◌≡◌ {A = ℕ} 0 0)) ⊎ IfSome (slice_get events done) (MayStopIn mid)
+      → StopCause events done 0 mid
       → StopsAt eq q events stop.done stop.steps stop.replies m s
   stops_between m events stop done replies s mid is run stands cause =
       subst (λ (x : Memory K V E). StopsAt eq q events x.done x.steps x.replies m s) (sym is)
@@ -71,5 +71,5 @@ module _ {K V E T : Type 0} {same : PartialEq.Ghosts K} {hash : Hash.Ghosts K} (
         final = t;
         begins = subst (λ (o : Option (Event K V E)). BeginsEvent eq (IsLawful eq) mid o steps t) (sym next) (begins_lawful eq mid t e steps lawful begins);
         stands = stands;
-        cause = inr (subst (λ (o : Option (Event K V E)). IfSome o (MayStopIn t)) (sym next) takes);
+        cause = In_event e next takes;
       })

@@ -1,6 +1,5 @@
 -- The lists of the report are those of the last state; where they find no memory all events were done.
 use Rattle.std.proofs.Common.{◌≡◌, List, Option, IfSome, take, length, refl, sym, subst, inr, arith}
-use Rattle.std.proofs.lemmas.Option.{slice_get_past}
 use Rattle.std.proofs.Math.Seq.{take-length}
 use Rattle.moka_hist.specs.Places.{IsLawful}
 use Rattle.moka_hist.specs.Run.{Run}
@@ -9,8 +8,7 @@ use Rattle.moka_hist.specs.declared.replies.Reply.{Reply}
 use Rattle.moka_run.specs.declared.report.Memory.{Memory}
 use Rattle.moka_run.specs.declared.report.Report.{Report}
 use Rattle.moka_run.specs.Report.{Reports}
-use Rattle.moka_machine.specs.WantOfMemory.{MayStopIn}
-use Rattle.moka_run.specs.Running.{Answers}
+use Rattle.moka_run.specs.Running.{Answers, For_lists}
 use Rattle.moka_run.proofs.Stopping.{stops_between}
 use Rattle.moka_run.proofs.runs.run.Goals as goal
 
@@ -38,4 +36,4 @@ returns-in-Err-clause-memory g c = λ s h reached.
     (subst (λ (rs : List (Reply g.row.K.Denot g.row.V.Denot g.row.E.Denot)). Run g.K.PartialEq.eq (IsLawful g.K.PartialEq.eq) s (take (length events) events) rs a.final) same
     (subst (λ (es : List (Event g.row.K.Denot g.row.V.Denot g.row.E.Denot)). Run g.K.PartialEq.eq (IsLawful g.K.PartialEq.eq) s es c.in_ok-replies.replies.items a.final) (sym (take-length events)) a.run))
     a.stands
-    (inr (subst (λ (o : Option (Event g.row.K.Denot g.row.V.Denot g.row.E.Denot)). IfSome o (MayStopIn a.final)) (sym (slice_get_past events (length events) (omega arith))) tt))
+    (For_lists refl refl)

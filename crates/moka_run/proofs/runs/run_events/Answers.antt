@@ -1,5 +1,5 @@
 -- The run so far, and one event more.
-use Rattle.std.proofs.Common.{◌≡◌, ℕ, ◌+◌, List, [], ◌∷◌, ◌++◌, take, length, Some, refl, sym, ap, subst, ◌∙◌, inl, arith}
+use Rattle.std.proofs.Common.{◌≡◌, ℕ, ◌+◌, List, [], ◌∷◌, ◌++◌, take, drop, length, Some, refl, sym, ap, subst, ◌∙◌, arith}
 use Rattle.std.proofs.lemmas.List.{take_more, take_all}
 use Rattle.std.proofs.lemmas.Option.{slice_get_read}
 use Rattle.std.specs.Prelude.{slice_get}
@@ -7,7 +7,9 @@ use Rattle.moka_hist.specs.Places.{IsLawful}
 use Rattle.moka_hist.specs.Run.{Run}
 use Rattle.moka_hist.specs.declared.events.Event.{Event}
 use Rattle.moka_hist.specs.declared.replies.Reply.{Reply}
+use Rattle.moka_run.specs.Running.{At_start, told_in}
 use Rattle.moka_run.specs.declared.report.Memory.{Memory}
+use Rattle.moka_run.proofs.Tellings.{next_told}
 use Rattle.moka_run.proofs.Stopping.{stops_between, stops_in, begins_reached}
 use Rattle.moka_run.proofs.runs.run_events.Goals as goal
 
@@ -16,32 +18,40 @@ returns-in-Err-clause-memory g c = λ s h reached.
     let at_done : ℕ → Memory g.row.K.Denot g.row.V.Denot g.row.E.Denot = λ n. record { done = n; steps = 0; replies = c.new.result.items } in
     let with_replies : List (Reply g.row.K.Denot g.row.V.Denot g.row.E.Denot) → Memory g.row.K.Denot g.row.V.Denot g.row.E.Denot = λ rs. record { done = 0; steps = 0; replies = rs } in
     stops_between g.K.PartialEq.eq g.T.Tests c.args.cache.now c.args.events.now c.stopped.result 0 [] s s
-    (c.stopped.ensures ∙ ap at_done c.new.ensures.len ∙ ap with_replies c.new.ensures.items) refl h (inl (refl, refl))
+    (c.stopped.ensures ∙ ap at_done c.new.ensures.len ∙ ap with_replies c.new.ensures.items) refl h (At_start refl refl)
 
 pub loop-event-init : goal.loop-event-init
 loop-event-init g c = record {
   told = c.in-Ok.ensures.len;
   room = omega (arith, c.in-Ok.ensures.capacity);
   valid = c.requires.valid;
-  ran = λ s h reached. (s, subst (λ (rs : List (Reply g.row.K.Denot g.row.V.Denot g.row.E.Denot)). Run g.K.PartialEq.eq (IsLawful g.K.PartialEq.eq) s [] rs s) (sym c.in-Ok.ensures.items) refl, h, reached);
+  ran = λ s h reached. (s, subst (λ (rs : List (Reply g.row.K.Denot g.row.V.Denot g.row.E.Denot)). Run g.K.PartialEq.eq (IsLawful g.K.PartialEq.eq) s [] rs s) (sym c.in-Ok.ensures.empty) refl, h, reached);
+  left = c.in-Ok.ensures.told;
 }
 
-pub returns-in-Err-serve-clause-memory : goal.returns-in-Err-serve-clause-memory
-returns-in-Err-serve-clause-memory g c = λ s h reached.
+pub serve_next-requires-clause-front : goal.serve_next-requires-clause-front
+serve_next-requires-clause-front g c =
+    let i = c.loop-event.event-index in (
+      told_in (drop (i + 1) c.args.events.now),
+      next_told c.args.events.now i c.event-item.result c.loop-event.told.items c.loop-event-test.true c.event-item.is c.loop-event.invariant.left,
+    )
+
+pub returns-in-Err-serve_next-clause-memory : goal.returns-in-Err-serve_next-clause-memory
+returns-in-Err-serve_next-clause-memory g c = λ s h reached.
     let i = c.loop-event.event-index in
     let m = c.loop-event.invariant.ran s h reached in
-    let k = c.in-Err-serve.ensures.stops m.0 m.2 m.3 in
-    let at_done : ℕ → Memory g.row.K.Denot g.row.V.Denot g.row.E.Denot = λ n. record { done = n; steps = c.in-Err-serve.unfinished.steps; replies = c.loop-event.replies.items } in
+    let k = c.in-Err-serve_next.ensures.stops m.0 m.2 m.3 in
+    let at_done : ℕ → Memory g.row.K.Denot g.row.V.Denot g.row.E.Denot = λ n. record { done = n; steps = c.in-Err-serve_next.unfinished.steps; replies = c.loop-event.replies.items } in
     let next : slice_get c.args.events.now i ≡ Some c.event-item.result =
     slice_get_read c.args.events.now (length c.args.events.now) i c.event-item.result refl c.loop-event-test.true c.event-item.is in
-    stops_in g.K.PartialEq.eq g.T.Tests c.serve.new.self c.args.events.now c.stopped-in-Err-serve.result i c.in-Err-serve.unfinished.steps c.loop-event.replies.items s m.0 k.0 c.event-item.result
-    (c.stopped-in-Err-serve.ensures ∙ ap at_done c.loop-event.invariant.told) m.1 next (λ j n going. (c.steps_are_lawful.ensures.lawful j m.0 k.0 n m.3).0 going) k.1 k.2 (c.in-Err-serve.ensures.needs k.0 k.2)
+    stops_in g.K.PartialEq.eq g.T.Tests c.serve_next.new.cache c.args.events.now c.stopped-in-Err-serve_next.result i c.in-Err-serve_next.unfinished.steps c.loop-event.replies.items s m.0 k.0 c.event-item.result
+    (c.stopped-in-Err-serve_next.ensures ∙ ap at_done c.loop-event.invariant.told) m.1 next (λ j n going. (c.steps_are_lawful.ensures.lawful j m.0 k.0 n m.3).0 going) k.1 k.2 (c.in-Err-serve_next.ensures.needs k.0 k.2)
 
-pub returns-in-Err-serve-clause-valid : goal.returns-in-Err-serve-clause-valid
-returns-in-Err-serve-clause-valid g c =
+pub returns-in-Err-serve_next-clause-valid : goal.returns-in-Err-serve_next-clause-valid
+returns-in-Err-serve_next-clause-valid g c =
     let v = c.loop-event.invariant.valid in
-    let k = c.in-Err-serve.ensures.stops v.state v.stands v.reached in
-    let steps = c.in-Err-serve.unfinished.steps in
+    let k = c.in-Err-serve_next.ensures.stops v.state v.stands v.reached in
+    let steps = c.in-Err-serve_next.unfinished.steps in
     record {
       state = k.0;
       stands = k.2;
@@ -52,16 +62,18 @@ pub loop-event-preserved : goal.loop-event-preserved
 loop-event-preserved g c =
     let i = c.loop-event.event-index in
     let e = c.event-item.result in
-    let r = c.in-Ok-serve.reply in
+    let r = c.in-Ok-serve_next.reply in
     let v = c.loop-event.invariant.valid in
-    let p = c.in-Ok-serve.ensures.serves v.state v.stands v.reached in
+    let p = c.in-Ok-serve_next.ensures.serves v.state v.stands v.reached in
     record {
       told = c.push_reserved.ensures.len ∙ ap (λ (n : ℕ). n + 1) c.loop-event.invariant.told;
       room = omega (arith, c.push_reserved.ensures.capacity, c.loop-event.invariant.room);
+      left = c.serve_next.ensures.rest (told_in (drop (i + 1) c.args.events.now))
+          (next_told c.args.events.now i e c.loop-event.told.items c.loop-event-test.true c.event-item.is c.loop-event.invariant.left);
       valid = record { state = p.0; stands = p.2; reached = c.reached_by_event.ensures.reached v.state p.0 e r v.reached p.1 };
       ran = λ s h reached.
           let m = c.loop-event.invariant.ran s h reached in
-          let k = c.in-Ok-serve.ensures.serves m.0 m.2 m.3 in
+          let k = c.in-Ok-serve_next.ensures.serves m.0 m.2 m.3 in
           let there = c.reached_by_event.ensures.reached m.0 k.0 e r m.3 k.1 in
           let more = c.lawful_run_goes_on.ensures.goes_on s m.0 k.0 (take i c.args.events.now) c.loop-event.replies.items e r m.1
           ((c.event_is_lawful.ensures.lawful m.0 k.0 e r m.3).0 k.1) (c.reached_is_lawful.ensures.lawful k.0 there) in

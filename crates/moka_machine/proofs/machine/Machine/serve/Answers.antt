@@ -4,7 +4,7 @@ use Rattle.std.proofs.lemmas.Result.{on_err_weaker, IfErr-weaker}
 use Rattle.moka_hist.specs.State.{State}
 use Rattle.moka_hist.specs.declared.events.Event.{Event}
 use Rattle.moka_machine.specs.Machine.{ServesEvent, Stops, MachineIs}
-use Rattle.moka_machine.specs.WantOfMemory.{MayStopIn}
+use Rattle.moka_machine.specs.WantOfMemory.{MayStopServing}
 use Rattle.moka_machine.proofs.Happening.{unpolled_ok, unpolled_err, unpolled_on_err}
 use Rattle.moka_machine.proofs.machine.Machine.serve.Goals as goal
 
@@ -15,8 +15,8 @@ returns-in-Step-clause-serves g c =
 
 pub returns-in-Tell-clause-serves : goal.returns-in-Tell-clause-serves
 returns-in-Tell-clause-serves g c =
-    subst (λ (e : Event g.row.K.Denot g.row.V.Denot g.row.E.Denot). IfOk c.unpolled-in-Tell.result (λ r. ServesEvent g.K.PartialEq.eq g.T.Tests c.args.self.now e r c.tell.new.self)) (sym c.in-Tell.is)
-    (unpolled_ok c.tell.result c.unpolled-in-Tell.result _ c.unpolled-in-Tell.ensures c.tell.ensures.serves)
+    subst (λ (e : Event g.row.K.Denot g.row.V.Denot g.row.E.Denot). IfOk c.unpolled-in-Tell.result (λ r. ServesEvent g.K.PartialEq.eq g.T.Tests c.args.self.now e r c.tell_copy.new.self)) (sym c.in-Tell.is)
+    (unpolled_ok c.tell_copy.result c.unpolled-in-Tell.result _ c.unpolled-in-Tell.ensures c.tell_copy.ensures.serves)
 
 pub returns-in-Poll-clause-serves : goal.returns-in-Poll-clause-serves
 returns-in-Poll-clause-serves g c =
@@ -28,17 +28,17 @@ returns-in-Poll-clause-stops g c =
 
 pub returns-in-Step-clause-needs : goal.returns-in-Step-clause-needs
 returns-in-Step-clause-needs g c =
-    subst (λ (e : Event g.row.K.Denot g.row.V.Denot g.row.E.Denot). OnErr c.unpolled-in-Step.result ((s : State g.row.K.Denot g.row.V.Denot g.row.E.Denot) → MachineIs g.K.PartialEq.eq g.T.Tests c.step.new.self s → MayStopIn s e)) (sym c.in-Step.is)
+    subst (λ (e : Event g.row.K.Denot g.row.V.Denot g.row.E.Denot). OnErr c.unpolled-in-Step.result ((s : State g.row.K.Denot g.row.V.Denot g.row.E.Denot) → MachineIs g.K.PartialEq.eq g.T.Tests c.step.new.self s → MayStopServing s e)) (sym c.in-Step.is)
     (unpolled_on_err c.step.result c.unpolled-in-Step.result _ c.unpolled-in-Step.ensures c.step.ensures.err_needs)
 
 pub returns-in-Tell-clause-needs : goal.returns-in-Tell-clause-needs
 returns-in-Tell-clause-needs g c =
-    subst (λ (e : Event g.row.K.Denot g.row.V.Denot g.row.E.Denot). OnErr c.unpolled-in-Tell.result ((s : State g.row.K.Denot g.row.V.Denot g.row.E.Denot) → MachineIs g.K.PartialEq.eq g.T.Tests c.tell.new.self s → MayStopIn s e)) (sym c.in-Tell.is)
-    (unpolled_on_err c.tell.result c.unpolled-in-Tell.result _ c.unpolled-in-Tell.ensures (on_err_weaker c.tell.result (λ needs s stands. needs) c.tell.ensures.err_needs))
+    subst (λ (e : Event g.row.K.Denot g.row.V.Denot g.row.E.Denot). OnErr c.unpolled-in-Tell.result ((s : State g.row.K.Denot g.row.V.Denot g.row.E.Denot) → MachineIs g.K.PartialEq.eq g.T.Tests c.tell_copy.new.self s → MayStopServing s e)) (sym c.in-Tell.is)
+    (unpolled_on_err c.tell_copy.result c.unpolled-in-Tell.result _ c.unpolled-in-Tell.ensures (on_err_weaker c.tell_copy.result (λ needs s stands. needs) c.tell_copy.ensures.err_needs))
 
 pub returns-in-Poll-clause-needs : goal.returns-in-Poll-clause-needs
 returns-in-Poll-clause-needs g c =
-    subst (λ (e : Event g.row.K.Denot g.row.V.Denot g.row.E.Denot). OnErr c.poll.result ((s : State g.row.K.Denot g.row.V.Denot g.row.E.Denot) → MachineIs g.K.PartialEq.eq g.T.Tests c.poll.new.self s → MayStopIn s e)) (sym c.in-Poll.is) c.poll.ensures.needs
+    subst (λ (e : Event g.row.K.Denot g.row.V.Denot g.row.E.Denot). OnErr c.poll.result ((s : State g.row.K.Denot g.row.V.Denot g.row.E.Denot) → MachineIs g.K.PartialEq.eq g.T.Tests c.poll.new.self s → MayStopServing s e)) (sym c.in-Poll.is) c.poll.ensures.needs
 
 pub returns-in-Start-clause-serves : goal.returns-in-Start-clause-serves
 returns-in-Start-clause-serves g c =
@@ -57,8 +57,8 @@ returns-in-Step-clause-stops g c =
 
 pub returns-in-Tell-clause-stops : goal.returns-in-Tell-clause-stops
 returns-in-Tell-clause-stops g c =
-    subst (λ (e : Event g.row.K.Denot g.row.V.Denot g.row.E.Denot). IfErr c.unpolled-in-Tell.result (λ u. Stops g.K.PartialEq.eq g.T.Tests c.args.self.now e u.steps c.tell.new.self)) (sym c.in-Tell.is)
-    (IfErr-weaker c.unpolled-in-Tell.result _ _ (λ u stopped s stands reached. (s, (stopped.0, refl), stopped.1 s stands)) (unpolled_err c.tell.result c.unpolled-in-Tell.result _ c.unpolled-in-Tell.ensures c.tell.ensures.err))
+    subst (λ (e : Event g.row.K.Denot g.row.V.Denot g.row.E.Denot). IfErr c.unpolled-in-Tell.result (λ u. Stops g.K.PartialEq.eq g.T.Tests c.args.self.now e u.steps c.tell_copy.new.self)) (sym c.in-Tell.is)
+    (IfErr-weaker c.unpolled-in-Tell.result _ _ (λ u stopped s stands reached. (s, (stopped.0, refl), stopped.1 s stands)) (unpolled_err c.tell_copy.result c.unpolled-in-Tell.result _ c.unpolled-in-Tell.ensures c.tell_copy.ensures.err))
 
 pub returns-in-Drop-clause-serves : goal.returns-in-Drop-clause-serves
 returns-in-Drop-clause-serves g c =
