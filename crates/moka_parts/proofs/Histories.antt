@@ -7,7 +7,8 @@ use Rattle.moka_parts.specs.declared.note.Note.{Note}
 use Rattle.moka_parts.specs.declared.note.Note.TheVariants.{Opened, Changed, Nothing}
 use Rattle.moka_parts.specs.Changes.{pair_put, pair_after, map_after, IsLegal, count_of}
 use Rattle.moka_parts.specs.Logs.{changes_in, IsOpenedFor}
-use Rattle.moka_parts.specs.Parts.{EndsWith}
+use Rattle.moka_parts.specs.Hands.{Hand, change_by}
+use Rattle.moka_parts.specs.Parts.{EndsBy}
 use Rattle.moka_parts.specs.Tables.{Adds}
 use Rattle.moka_parts.proofs.Prefixes.{prefix_either, snoc_cases}
 
@@ -85,11 +86,18 @@ module _ {K V S : Type 0} where
   pub changes_in-prefix : (xs ys : List (Note K V S)) → IsPrefix xs ys → IsPrefix (changes_in xs) (changes_in ys)
   changes_in-prefix xs ys p = (changes_in p.0, sym (changes_in-append xs p.0) ∙ ap changes_in p.1)
 
-  -- a change with which a log ends stands at the end of what was seen
-  pub adds : (c : Change K V) (old new : List (Note K V S)) → EndsWith c old new → Adds c (changes_in old) (changes_in new)
-  adds c old new e =
-      let p = changes_in-prefix old e.0 e.1 in
-      (p.0, ap changes_in e.2 ∙ (changes_in-append e.0 (Changed c ∷ []) ∙ ap (λ (l : List (Change K V)). l ++ c ∷ []) (sym p.1)))
+  -- a change of the caller's own with which a log ends stands at the end of what was seen
+  pub adds : (key : K) (put : Option V) (before : Option (K × V)) (own own' : Hand K V) (old new : List (Note K V S)) → EndsBy key put before own own' old new
+      → Adds key put before (changes_in old, own) (changes_in new, own')
+  adds key put before own own' old new e =
+      let c = change_by own own' key put before in
+      let log = e.0.0 in
+      let p = changes_in-prefix old log e.0.1 in
+      record {
+        between = p.0;
+        ends = ap changes_in e.0.2 ∙ (changes_in-append log (Changed c ∷ []) ∙ ap (λ (l : List (Change K V)). l ++ c ∷ []) (sym p.1));
+        makes = e.1;
+      }
 
   map_more : (cs : List (Change K V)) (c : Change K V) → map {B = Note K V S} Changed (cs ++ c ∷ []) ≡ map Changed cs ++ Changed c ∷ []
   map_more [] c = refl

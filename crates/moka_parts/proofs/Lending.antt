@@ -11,7 +11,7 @@ lent_meets so (Some p) h = h
 
 -- an answer of `put_if_absent` of which the fact alone is known
 pub answer_meets : {K V E : Type 0} (so : V → Type 0) (key : K) (r : Result (Option V) E) → IfOk r (λ there. IfSome there so)
-    → IfOk r (λ there. MatchOption there (Unit {0}) (λ v. so v × ((found : Option (K × V)) × Unit {0} × (option_map (λ p. p.1) found ≡ Some v))))
+    → IfOk r (λ there. MatchOption there (Unit {0}) (λ v. so v × Unit {0} × ((found : Option (K × V)) × Unit {0} × (option_map (λ p. p.1) found ≡ Some v))))
 answer_meets so key (Ok None) h = tt
-answer_meets so key (Ok (Some v)) h = (h, (Some (key, v), tt, refl))
+answer_meets so key (Ok (Some v)) h = (h, tt, (Some (key, v), tt, refl))
 answer_meets so key (Err e) h = tt

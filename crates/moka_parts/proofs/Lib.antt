@@ -8,3 +8,6 @@ pub mod Taking
 pub mod Lending
 pub mod Listing
 pub mod Holding
+pub mod Tickets
+pub mod Cells
+pub mod Making

@@ -8,7 +8,7 @@ use denote.Ref.{Bor}
 use denote.Param.Members.{Once}
 use Rattle.moka_parts.specs.declared.note.Note.{Note}
 use Rattle.moka_parts.specs.Calls.{Judged, Stays, TakesOut}
-use Rattle.moka_parts.specs.Changes.{change_of}
+use Rattle.moka_parts.specs.Hands.{Hand}
 use Rattle.moka_parts.specs.Logs.{changes_in}
 use Rattle.moka_parts.specs.Tables.{Adds}
 use Rattle.moka_parts.proofs.Histories.{adds}
@@ -28,16 +28,16 @@ module _ {P : Type 0} where
       subst (λ (o : Option P). MatchOption o N X) (sym same) (by o h e)
 
 -- what a taking out answers, as the caller's seat shows it
-pub taken_seen : {F K V S E : Type 0} (g : Once F (Bor K × (Bor V × Unit {0})) Bool) (condition : F) (key : K) (found : Option (K × V)) (old new : List (Note K V S))
-    (r : Result (Option (K × V)) E) → IfOk r (λ taken. TakesOut g condition key found taken old new)
-    → IfOk r (λ taken. MatchOption taken (Stays g condition found) (λ p. Adds (change_of key None (Some p)) (changes_in old) (changes_in new) × Judged g condition p true))
-taken_seen {F} {K} {V} {S} {E} g condition key found old new r h =
-    IfOk-weaker r (λ taken. TakesOut g condition key found taken old new) _ by h
+pub taken_seen : {F K V S E : Type 0} (g : Once F (Bor K × (Bor V × Unit {0})) Bool) (condition : F) (key : K) (found : Option (K × V)) (own own' : Hand K V) (old new : List (Note K V S))
+    (r : Result (Option (K × V)) E) → IfOk r (λ taken. TakesOut g condition key found taken own own' old new)
+    → IfOk r (λ taken. MatchOption taken (Stays g condition found × (own' ≡ own)) (λ p. Adds key None (Some p) (changes_in old, own) (changes_in new, own') × Judged g condition p true))
+taken_seen {F} {K} {V} {S} {E} g condition key found own own' old new r h =
+    IfOk-weaker r (λ taken. TakesOut g condition key found taken own own' old new) _ by h
   where
-    by : (taken : Option (K × V)) → TakesOut g condition key found taken old new
-        → MatchOption taken (Stays g condition found) (λ p. Adds (change_of key None (Some p)) (changes_in old) (changes_in new) × Judged g condition p true)
+    by : (taken : Option (K × V)) → TakesOut g condition key found taken own own' old new
+        → MatchOption taken (Stays g condition found × (own' ≡ own)) (λ p. Adds key None (Some p) (changes_in old, own) (changes_in new, own') × Judged g condition p true)
     by None h = h
-    by (Some p) h = (adds (change_of key None (Some p)) old new h.0, h.1)
+    by (Some p) h = (adds key None (Some p) own own' old new h.0, h.1)
 
 -- a pair without a value is none
 pub no_value : {K V : Type 0} (o : Option (K × V)) → option_map (λ p. p.1) o ≡ None → o ≡ None

@@ -3,9 +3,9 @@ use Rattle.std.specs.Prelude.{◌≡◌, Bool, true, false, List, Option, None, 
 use denote.Ref.{Bor}
 use denote.Param.Members.{Once}
 use Rattle.moka_parts.specs.declared.note.Note.{Note}
-use Rattle.moka_parts.specs.Changes.{change_of}
 use Rattle.moka_parts.specs.Pairs.{lent}
-use Rattle.moka_parts.specs.Parts.{EndsWith}
+use Rattle.moka_parts.specs.Hands.{Hand}
+use Rattle.moka_parts.specs.Parts.{EndsBy}
 
 -- a call of the condition at the pair answered so
 pub record Judged {F K V : Type 0} (g : Once F (Bor K × (Bor V × Unit {0})) Bool) (f : F)
@@ -32,9 +32,11 @@ abbrev pub Stays : {F K V : Type 0} → Once F (Bor K × (Bor V × Unit {0})) Bo
     → Option (K × V) → Type 0
 Stays g condition found = MatchOption found ⊤ (λ p. Judged g condition p false)
 
--- what was taken out, by the change with which the new log ends; or nothing was
+-- what was taken out, by a change of the caller's own with which the new log ends; or nothing was,
+-- and the caller made no change
 abbrev pub TakesOut : {F K V S : Type 0} → Once F (Bor K × (Bor V × Unit {0})) Bool → F → K
-    → Option (K × V) → Option (K × V) → List (Note K V S) → List (Note K V S) → Type 0
-TakesOut g condition key found taken old new =
-    MatchOption taken (Stays g condition found)
-    (λ p. EndsWith (change_of key None (Some p)) old new × Judged g condition p true)
+    → Option (K × V) → Option (K × V) → Hand K V → Hand K V → List (Note K V S)
+    → List (Note K V S) → Type 0
+TakesOut g condition key found taken own own' old new =
+    MatchOption taken (Stays g condition found × (own' ≡ own))
+    (λ p. EndsBy key None (Some p) own own' old new × Judged g condition p true)

@@ -1,12 +1,13 @@
 -- What a list of changes says of a table.
-use Rattle.std.specs.Prelude.{◌≡◌, ℕ, ◌+◌, ◌==◌, Bool, cond, List, [], ◌∷◌, ◌++◌, Option, None}
+use Rattle.std.specs.Prelude.{◌≡◌, ℕ, ◌+◌, ◌==◌, Bool, false, cond, List, [], ◌∷◌, ◌++◌, Option, None}
 use Rattle.std.specs.Option.{option_map}
 use Rattle.moka_parts.specs.declared.change.Change.{Change}
 
 module _ {K V : Type 0} where
-  -- this change
-  abbrev pub change_of : K → Option V → Option (K × V) → Change K V
-  change_of key put before = record { key = key; put = put; before = before }
+  -- this change, whose maker spends the one ticket on it, and has the next one from then on
+  abbrev pub change_of : ℕ → ℕ → K → Option V → Option (K × V) → Change K V
+  change_of spent next key put before =
+      record { key = key; put = put; before = before; spent = spent; next = next }
 
   -- the pair that stands at the key after the change
   abbrev pub pair_put : Change K V → Option (K × V)
@@ -26,6 +27,22 @@ module _ {K V : Type 0} where
   IsLegal eq history =
       (before : List (Change K V)) (c : Change K V) (after : List (Change K V))
       → history ≡ before ++ c ∷ after → c.before ≡ map_after eq before c.key
+
+  -- the changes on which this ticket was spent, and then those that took its place
+  abbrev pub made_with : ℕ → List (Change K V) → List (Change K V)
+  made_with ticket [] = []
+  made_with ticket (c ∷ cs) =
+      cond (c.spent == ticket) (c ∷ made_with c.next cs) (made_with ticket cs)
+
+  -- the ticket that has its place after these changes
+  abbrev pub ticket_after : ℕ → List (Change K V) → ℕ
+  ticket_after ticket [] = ticket
+  ticket_after ticket (c ∷ cs) = ticket_after (cond (c.spent == ticket) c.next ticket) cs
+
+  -- none of the changes spends this ticket
+  abbrev pub IsUnspent : ℕ → List (Change K V) → Type 0
+  IsUnspent ticket [] = Unit {0}
+  IsUnspent ticket (c ∷ cs) = ((c.spent == ticket) ≡ false) × IsUnspent ticket cs
 
   -- how many of the changes are of keys of this part
   abbrev pub count_of : (K → ℕ) → ℕ → List (Change K V) → ℕ

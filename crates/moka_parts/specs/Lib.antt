@@ -1,4 +1,5 @@
 pub mod Changes
+pub mod Hands
 pub mod Hashing
 pub mod Pairs
 pub mod Logs

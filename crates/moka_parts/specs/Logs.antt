@@ -1,5 +1,5 @@
 -- The log of a book: the hash builder that it was opened for, and then the changes.
-use Rattle.std.specs.Prelude.{◌≡◌, ℕ, Bool, List, [], ◌∷◌, ◌++◌, map}
+use Rattle.std.specs.Prelude.{◌≡◌, ℕ, Bool, List, [], ◌∷◌, ◌++◌, map, Option}
 use mathlib.Core.List.{IsPrefix}
 use Rattle.moka_parts.specs.declared.change.Change.{Change}
 use Rattle.moka_parts.specs.declared.note.Note.{Note}
@@ -31,15 +31,15 @@ module _ {K V S : Type 0} where
     pub count_is : count ≡ count_of (part s) number (changes_in log)
     pub legal : IsLegal eq (changes_in log)
 
-  -- some beginning of the log has so many changes of the part, to which the change's key belongs,
-  -- and the pair that the change names as the former one stands there
+  -- some beginning of the log has so many changes of the part, to which the key belongs, and this
+  -- pair stands there at the key
   pub record Stands (eq : K → K → Bool) (part : S → K → ℕ) (s : S) (number count : ℕ)
-      (c : Change K V) (log : List (Note K V S)) : Type 0 where
+      (key : K) (found : Option (K × V)) (log : List (Note K V S)) : Type 0 where
     pub front : List (Note K V S)
     pub begins : IsPrefix front log
     pub seen : Counts eq part s number count front
-    pub here : part s c.key ≡ number
-    pub before : c.before ≡ map_after eq (changes_in front) c.key
+    pub here : part s key ≡ number
+    pub before : found ≡ map_after eq (changes_in front) key
 
   -- the change was added to a log that begins with the old one, and the part has so many then
   pub record Grows (eq : K → K → Bool) (part : S → K → ℕ) (number count : ℕ) (c : Change K V)

@@ -1,5 +1,5 @@
 -- What lies under the lock of a part.
-use Rattle.std.specs.Prelude.{◌≡◌, ℕ, ◌<◌, ◌==◌, Bool, cond, List, None, IfSome, ◌++◌, ◌∷◌, []}
+use Rattle.std.specs.Prelude.{◌≡◌, ℕ, ◌<◌, ◌==◌, Bool, cond, List, Option, None, IfSome, ◌++◌, ◌∷◌, []}
 use Rattle.std.specs.HashMap.{HashMap}
 use mathlib.Core.List.{IsPrefix}
 use Rattle.logbook.specs.Pages.{Book, Named}
@@ -8,6 +8,7 @@ use Rattle.moka_parts.specs.declared.held.Held.{Held}
 use Rattle.moka_parts.specs.declared.note.Note.{Note}
 use Rattle.moka_parts.specs.declared.note.Note.TheVariants.{Changed}
 use Rattle.moka_parts.specs.Changes.{map_after}
+use Rattle.moka_parts.specs.Hands.{Hand, Makes, change_by}
 use Rattle.moka_parts.specs.Logs.{changes_in, IsOpenedFor, Counts}
 use Rattle.moka_parts.specs.Pairs.{pair_at}
 use Rattle.moka_parts.specs.Rules.{word_of}
@@ -37,3 +38,10 @@ module _ {K V S : Type 0} (eq : K → K → Bool) (part : S → K → ℕ) (hold
 abbrev pub EndsWith : {K V S : Type 0} → Change K V → List (Note K V S) → List (Note K V S) → Type 0
 EndsWith {K} {V} {S} c old new =
     (log : List (Note K V S)) × IsPrefix old log × (new ≡ log ++ Changed c ∷ [])
+
+-- the caller has made this change: it ends the new log, and is one more of its own
+abbrev pub EndsBy : {K V S : Type 0} → K → Option V → Option (K × V) → Hand K V → Hand K V
+    → List (Note K V S) → List (Note K V S) → Type 0
+EndsBy key put before own own' old new =
+    EndsWith (change_by own own' key put before) old new
+    × Makes (change_by own own' key put before) own own' (changes_in new)

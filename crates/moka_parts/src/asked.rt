@@ -1,10 +1,11 @@
 //! A change that is asked for.
-ghost use Rattle.std.specs.Prelude.{◌≡◌, None};
+ghost use Rattle.std.specs.Prelude.{◌≡◌, ℕ, None};
 ghost use Rattle.moka_parts.specs.Asks.{asked_change};
 ghost use Rattle.moka_parts.specs.Changes.{change_of};
 ghost use Rattle.moka_parts.specs.Pairs.{pair_at};
 
 use crate::held::Held;
+use logbook::Pen;
 use std::collections::HashMap;
 use std::hash::{BuildHasher, Hash};
 
@@ -17,11 +18,19 @@ pub(crate) struct Asked<'a, K: Eq + Hash, V, S: BuildHasher> {
     pub(crate) map: &'a HashMap<K, Held<K, V>, S>,
 }
 
+/// The same, with the ticket that is spent on it, and the next one.
+#[derive(Drop)]
+pub(crate) struct Ticketed<'a, 'b, K: Eq + Hash, V, S: BuildHasher> {
+    pub(crate) asked: &'a Asked<'b, K, V, S>,
+    pub(crate) ticket: &'a Pen,
+    pub(crate) next: &'a Pen,
+}
+
 impl<'a, K: Eq + Hash, V, S: BuildHasher> Asked<'a, K, V, S> {
     /// The change that takes the pair at the key out.
     pub(crate) fn out(key: &'a K, map: &'a HashMap<K, Held<K, V>, S>) -> Self
-        ensures { asked_change K.eq result
-            ≡ change_of key.now None (pair_at K.eq map.now key.now) }
+        ensures { (spent next : ℕ) → asked_change K.eq spent next result
+            ≡ change_of spent next key.now None (pair_at K.eq map.now key.now) }
     {
         Asked {
             key,

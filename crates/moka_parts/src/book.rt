@@ -2,12 +2,13 @@
 ghost use Rattle.std.specs.Prelude.{◌≡◌};
 
 use crate::Note;
-use crate::asked::Asked;
+use crate::asked::Ticketed;
 use logbook::{Gain, Plain, Play, Rule};
 use std::hash::{BuildHasher, Hash};
 use std::marker::Brand;
 
-/// The rule of the book: each of its words counts the changes of a part, and the history is legal.
+/// The rule of the book: each of its first words counts the changes of a part, by the next one
+/// tickets are drawn, each ticket is spent on one change, and the history is legal.
 pub struct Law;
 
 impl<K: Eq + Hash, V, S: BuildHasher> Rule<Note<K, V, S>, u64> for Law {
@@ -58,6 +59,16 @@ impl<K, V, S> Plain<(), Note<K, V, S>, u64> for Look {
     ghost state = { λ x. None };
 }
 
+/// A step that draws a ticket.
+pub struct Draw;
+
+impl<K: Eq + Hash, V, S: BuildHasher> Play<Note<K, V, S>, u64> for Draw {
+    ghost use Rattle.moka_parts.specs.Hashing.{part_in};
+    ghost use Rattle.moka_parts.specs.Rules.{Draws};
+
+    ghost then = { Draws K.eq (part_in S.BuildHasher S.Hasher.Hasher K.hash_input) };
+}
+
 /// A step that adds a change.
 pub struct Add;
 
@@ -68,12 +79,13 @@ impl<K: Eq + Hash, V, S: BuildHasher> Play<Note<K, V, S>, u64> for Add {
     ghost then = { Adds K.eq (part_in S.BuildHasher S.Hasher.Hasher K.hash_input) };
 }
 
-impl<'a, K: Eq + Hash, V, S: BuildHasher> Plain<Asked<'a, K, V, S>, Note<K, V, S>, u64> for Add {
+impl<'a, 'b, K: Eq + Hash, V, S: BuildHasher> Plain<Ticketed<'a, 'b, K, V, S>, Note<K, V, S>, u64>
+    for Add {
     ghost use Rattle.std.specs.Prelude.{None};
     ghost use Rattle.moka_parts.specs.declared.note.Note.TheVariants.{Changed};
-    ghost use Rattle.moka_parts.specs.Asks.{asked_change};
+    ghost use Rattle.moka_parts.specs.Asks.{ticketed_change};
 
-    ghost ask = { λ asked. Changed (asked_change K.eq asked) };
+    ghost ask = { λ asked. Changed (ticketed_change K.eq asked) };
 
     ghost state = { λ asked. None };
 }

@@ -1,17 +1,23 @@
 //! A beginning of a history that was seen.
 ghost use Rattle.std.specs.Prelude.{◌≡◌, ◌+◌, ◌<◌, ◌^◌, [], ◌∷◌};
 ghost use Rattle.moka_parts.specs.declared.note.Note.TheVariants.{Opened};
-ghost use Rattle.std.specs.Bool.{OnTrue};
+ghost use Rattle.std.specs.Bool.{OnTrue, OnFalse};
 ghost use mathlib.Core.List.{IsPrefix};
 ghost use Rattle.moka_parts.specs.Hashing.{part_in};
 ghost use Rattle.moka_parts.specs.Logs.{Counts, IsLog, Stands, Grows};
 ghost use Rattle.moka_parts.specs.Rules.{word_of};
 ghost use Rattle.moka_parts.specs.Asks.{asked_change};
+ghost use Rattle.moka_parts.specs.Changes.{IsUnspent};
+ghost use Rattle.moka_parts.specs.Hands.{Makes, ticket};
+ghost use Rattle.moka_parts.specs.Logs.{changes_in};
+ghost use Rattle.moka_parts.specs.Pairs.{pair_at};
+ghost use Rattle.logbook.specs.Pages.{may_write};
 
 use crate::Note;
-use crate::asked::Asked;
-use crate::book::{Add, Law, Look, Naming, Nothing};
-use logbook::{Offer, Seen, Word};
+use crate::asked::{Asked, Ticketed};
+use crate::book::{Add, Draw, Law, Look, Naming, Nothing};
+use crate::own::Own;
+use logbook::{Offer, Pen, Seen, Word};
 use std::hash::{BuildHasher, Hash};
 use std::marker::{Model, PhantomData};
 
@@ -81,37 +87,75 @@ impl<K: Eq + Hash, V, S: BuildHasher, J: Naming> Front<K, V, S, J> {
         word.load::<Look, Nothing>(&mut self.seen, &mut offer)
     }
 
-    /// Adds the change to a history that begins with what was seen. Answers false where the part
-    /// has another count of changes; then nothing is added.
+    /// Draws a ticket that nobody has spent, by a step on this word of the book, and sees the
+    /// history as it is.
+    pub(crate) fn draw(
+        &mut self,
+        word: &Word<Note<K, V, S>, u64, Law>,
+        number: usize,
+    ) -> (Word<Note<K, V, S>, u64, Law>, Pen)
+        requires word { (word.now ≡ word_of J.book number) × (number < 65) }
+        ensures grows { IsPrefix self.old self.new }
+        ensures log { IsLog K.eq self.new }
+        ensures named { result.0.key ≡ result.1.nib.key }
+        ensures ticket { (result.1.book ≡ J.book) × (result.1.nib.right ≡ may_write) }
+        ensures unspent { IsUnspent result.1.nib.key (changes_in self.new) }
+    {
+        let mut offer: Offer<Note<K, V, S>, u64, Law, Nothing> = self
+            .seen
+            .plain::<Nothing, (), Look>(&());
+        let mut pen = self.seen.no_pen();
+        let _ = word.compare_exchange::<Draw, Nothing>(0, 0, &mut self.seen, &mut offer, &mut pen);
+        (Word::tracked(0, &mut pen), pen)
+    }
+
+    /// Adds the change to a history that begins with what was seen, as one of the caller's own, whose
+    /// ticket it spends. Answers false where the part has another count of changes; then nothing is
+    /// added.
     pub(crate) fn add(
         &mut self,
         word: &Word<Note<K, V, S>, u64, Law>,
         number: usize,
         count: u64,
         asked: &Asked<'_, K, V, S>,
+        own: &mut Own<K, V, S, J>,
     ) -> bool
         requires word { (word.now ≡ word_of J.book number) × (number < 64) }
         requires room { count + 1 < 2 ^ 64 }
         requires stands { (s : S) × Stands K.eq
-            (part_in S.BuildHasher S.Hasher.Hasher K.hash_input) s number count
-            (asked_change K.eq asked.now) self.old }
+            (part_in S.BuildHasher S.Hasher.Hasher K.hash_input) s number count asked.now.key.now
+            (pair_at K.eq asked.now.map.now asked.now.key.now) self.old }
         ensures log { IsLog K.eq self.new }
         ensures grows { IsPrefix self.old self.new }
         ensures added { OnTrue result (Grows K.eq
             (part_in S.BuildHasher S.Hasher.Hasher K.hash_input) number (count + 1)
-            (asked_change K.eq asked.now) self.old self.new) }
+            (asked_change K.eq (ticket own.old) (ticket own.new) asked.now) self.old self.new) }
+        ensures made { OnTrue result (Makes
+            (asked_change K.eq (ticket own.old) (ticket own.new) asked.now)
+            own.old own.new (changes_in self.new)) }
+        ensures rests { OnFalse result (own.new ≡ own.old) }
     {
+        self.learn(&own.last);
+        let (_, next) = self.draw(word, number);
         let mut offer: Offer<Note<K, V, S>, u64, Law, Nothing> = self
             .seen
-            .plain::<Nothing, Asked<'_, K, V, S>, Add>(asked);
-        let mut pen = self.seen.no_pen();
+            .plain::<Nothing, Ticketed<'_, '_, K, V, S>, Add>(&Ticketed {
+                asked,
+                ticket: &own.ticket,
+                next: &next,
+            });
         let found = word.compare_exchange::<Add, Nothing>(
             count,
             count + 1,
             &mut self.seen,
             &mut offer,
-            &mut pen,
+            &mut own.ticket,
         );
-        found == count
+        if found != count {
+            return false;
+        }
+        own.ticket = next;
+        own.last = self.again();
+        true
     }
 }

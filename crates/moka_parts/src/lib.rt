@@ -11,6 +11,7 @@ mod held;
 mod named;
 mod note;
 mod open_book;
+mod own;
 mod pairs;
 mod part;
 mod parts;

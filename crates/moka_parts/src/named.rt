@@ -1,43 +1,46 @@
 //! A table in parts whose history has a name.
-ghost use Rattle.std.specs.Prelude.{◌≡◌, ◌<◌, ◌==◌, [], true, cond, is_some, Option, Some, None, IfSome, IfOk, OnOk, MatchOption};
+ghost use Rattle.std.specs.Prelude.{◌≡◌, ◌<◌, ◌==◌, [], true, cond, is_some, Option, Some, None, IfSome, IfOk, OnOk, OnErr, MatchOption};
 ghost use denote.Ref.{Bor};
 ghost use Rattle.std.specs.List.{IsDistinct};
 ghost use Rattle.std.specs.Option.{option_map};
 ghost use Rattle.std.specs.Set.{is_member};
 ghost use mathlib.Core.List.{IsPrefix};
 ghost use Rattle.moka_parts.specs.Calls.{Judged, Shown, ShownSome, Stays};
-ghost use Rattle.moka_parts.specs.Changes.{change_of, map_after, IsLegal};
+ghost use Rattle.moka_parts.specs.Changes.{map_after, IsLegal};
 ghost use Rattle.moka_parts.specs.Hashing.{part_in};
-ghost use Rattle.moka_parts.specs.Tables.{Adds};
+ghost use Rattle.moka_parts.specs.Hands.{made};
+ghost use Rattle.moka_parts.specs.Tables.{history, own, Adds, Rests};
 
-use crate::book::Naming;
+use crate::book::{Law, Naming};
 use crate::front::Front;
 use crate::held::Held;
 use crate::open_book::{OpenBook, PARTS};
+use crate::own::Own;
 use crate::part::Part;
 use crate::placing::part_of;
-use crate::{Anything, Fact, SharedTable};
+use crate::{Anything, Fact, Note, SharedTable};
+use logbook::Word;
 use moka_values::Exact;
 use std::alloc::{AllocError, Global};
 use std::hash::{BuildHasher, Hash};
 use std::marker::Model;
 use std::sync::{Mutex, Wait};
 
-/// What one caller has seen of the history of the book that J names. Contracts see it as the
-/// changes that it has seen.
+/// What one caller has seen of the history of the book that J names, and what it has of its own: its
+/// first ticket, the one that it has now, and the changes that it has made. Contracts see both.
 #[derive(Drop)]
 pub struct NamedSeat<K: Eq + Hash, V, S: BuildHasher, J: Naming> {
     pub(crate) front: Front<K, V, S, J>,
+    pub(crate) own: Own<K, V, S, J>,
 }
 
 impl<K: Eq + Hash, V, S: BuildHasher, J: Naming> Model for NamedSeat<K, V, S, J> {
-    ghost use Rattle.std.specs.Prelude.{List};
-    ghost use Rattle.moka_parts.specs.declared.change.Change.{Change};
     ghost use Rattle.moka_parts.specs.Logs.{changes_in, IsLog};
+    ghost use Rattle.moka_parts.specs.Tables.{Sight};
 
-    ghost Value = { List (Change K V) };
+    ghost Value = { Sight K V };
 
-    ghost view = { λ s. changes_in s.front };
+    ghost view = { λ s. (changes_in s.front, s.own) };
 
     ghost invariant = { λ s. IsLog K.eq s.front };
 }
@@ -46,7 +49,7 @@ impl<K: Eq + Hash, V, S: BuildHasher, J: Naming> NamedSeat<K, V, S, J> {
     /// What was seen is a legal history: each change names as the former pair the one that stood
     /// there.
     pub fn is_legal(&self)
-        ensures { IsLegal K.eq self.now }
+        ensures { IsLegal K.eq (history self.now) }
     {
         let _ = &self.front;
     }
@@ -58,6 +61,7 @@ impl<K: Eq + Hash, V, S: BuildHasher, J: Naming> NamedSeat<K, V, S, J> {
 pub struct NamedParts<K: Eq + Hash, V, S: BuildHasher, J: Naming, F: Fact<K, V> = Anything> {
     hasher: S,
     start: Front<K, V, S, J>,
+    door: Word<Note<K, V, S>, u64, Law>,
     parts: Vec<Mutex<Part<K, V, S, J, F>>>,
 }
 
@@ -70,7 +74,10 @@ impl<K: Eq + Hash, V, S: BuildHasher, J: Naming, F: Fact<K, V>> Model
 
     ghost view = { λ t. t.hasher };
 
-    ghost invariant = { λ t. (t.start ≡ Opened t.hasher ∷ []) × (length t.parts.items ≡ 64) };
+    ghost use Rattle.moka_parts.specs.Rules.{word_of};
+
+    ghost invariant = { λ t. (t.start ≡ Opened t.hasher ∷ []) × (length t.parts.items ≡ 64)
+        × (t.door ≡ word_of J.book 64) };
 }
 
 impl<K: Eq + Hash, V, S: BuildHasher, J: Naming, F: Fact<K, V>> NamedParts<K, V, S, J, F> {
@@ -83,12 +90,16 @@ impl<K: Eq + Hash, V, S: BuildHasher, J: Naming, F: Fact<K, V>> NamedParts<K, V,
         part_of(&self.hasher, key)
     }
 
-    /// A seat that has seen nothing. It takes no memory.
+    /// A seat that has seen nothing and made no change. It takes no memory, and waits for nobody.
     pub fn seat(&self) -> NamedSeat<K, V, S, J>
-        ensures { result ≡ [] }
+        ensures seen { history result ≡ [] }
+        ensures made { made (own result) ≡ [] }
     {
+        let mut last = self.start.again();
+        let (first, ticket) = last.draw(&self.door, PARTS);
         NamedSeat {
             front: self.start.again(),
+            own: Own::new(first, ticket, last),
         }
     }
 
@@ -104,11 +115,12 @@ impl<K: Eq + Hash, V, S: BuildHasher, J: Naming, F: Fact<K, V>> NamedParts<K, V,
     ) -> Result<T, AllocError>
         requires callable { (shown : Option (Bor K × Bor V))
             → IfSome shown (λ p. F.holds key.now p.1.now) → W.pre with shown }
-        ensures grows { IsPrefix seat.old seat.new }
+        ensures grows { IsPrefix (history seat.old) (history seat.new) }
         ensures shown { IfOk result (λ given.
-            Shown W.FnOnce with (map_after K.eq seat.new key.now) given) }
-        ensures fact { OnOk result (IfSome (map_after K.eq seat.new key.now)
+            Shown W.FnOnce with (map_after K.eq (history seat.new) key.now) given) }
+        ensures fact { OnOk result (IfSome (map_after K.eq (history seat.new) key.now)
             (λ p. F.holds key.now p.1)) }
+        ensures rests { Rests seat.old seat.new }
     {
         let number = self.part_of(key);
         let guard = self.parts[number].lock(rt);
@@ -136,10 +148,11 @@ impl<K: Eq + Hash, V, S: BuildHasher, J: Naming, F: Fact<K, V>> NamedParts<K, V,
         requires fact { F.holds key value }
         requires callable { (shown : Option (Bor K × Bor V))
             → IfSome shown (λ p. F.holds key p.1.now) → W.pre with shown }
-        ensures grows { IsPrefix seat.old seat.new }
+        ensures grows { IsPrefix (history seat.old) (history seat.new) }
         ensures puts { IfOk result (ShownSome W.FnOnce with (λ before.
-            Adds (change_of key (Some value) before) seat.old seat.new
+            Adds key (Some value) before seat.old seat.new
             × IfSome before (λ p. F.holds key p.1))) }
+        ensures rests { OnErr result (Rests seat.old seat.new) }
     {
         let number = self.part_of(&key);
         self.replace_in(rt, seat, number, key, value, with).0
@@ -164,14 +177,23 @@ impl<K: Eq + Hash, V, S: BuildHasher, J: Naming, F: Fact<K, V>> NamedParts<K, V,
         requires fact { F.holds key value }
         requires callable { (shown : Option (Bor K × Bor V))
             → IfSome shown (λ p. F.holds key p.1.now) → W.pre with shown }
-        ensures grows { IsPrefix seat.old seat.new }
+        ensures grows { IsPrefix (history seat.old) (history seat.new) }
         ensures puts { IfOk result.0 (ShownSome W.FnOnce with (λ before.
-            Adds (change_of key (Some value) before) seat.old seat.new
+            Adds key (Some value) before seat.old seat.new
             × IfSome before (λ p. F.holds key p.1))) }
+        ensures rests { OnErr result.0 (Rests seat.old seat.new) }
     {
         let mut guard = self.parts[number].lock(rt);
         let part = &mut *guard;
-        part.put(number, &self.start, &mut seat.front, key, value, with)
+        part.put(
+            number,
+            &self.start,
+            &mut seat.front,
+            &mut seat.own,
+            key,
+            value,
+            with,
+        )
     }
 
     /// Puts the pair where none stands at the key: answers None, or a copy of the value that stands
@@ -187,11 +209,13 @@ impl<K: Eq + Hash, V, S: BuildHasher, J: Naming, F: Fact<K, V>> NamedParts<K, V,
         K: Drop,
         V: Exact + Drop,
         requires fact { F.holds key value }
-        ensures grows { IsPrefix seat.old seat.new }
+        ensures grows { IsPrefix (history seat.old) (history seat.new) }
         ensures answers { IfOk result (λ there. MatchOption there
-            (Adds (change_of key (Some value) None) seat.old seat.new)
-            (λ v. option_map (λ p. p.1) (map_after K.eq seat.new key) ≡ Some v)) }
+            (Adds key (Some value) None seat.old seat.new)
+            (λ v. (option_map (λ p. p.1) (map_after K.eq (history seat.new) key) ≡ Some v)
+            × Rests seat.old seat.new)) }
         ensures fact { IfOk result (λ there. IfSome there (F.holds key)) }
+        ensures rests { OnErr result (Rests seat.old seat.new) }
     {
         let number = self.part_of(&key);
         self.put_in(rt, seat, number, key, value).0
@@ -213,15 +237,24 @@ impl<K: Eq + Hash, V, S: BuildHasher, J: Naming, F: Fact<K, V>> NamedParts<K, V,
         requires part { (number ≡ part_in S.BuildHasher S.Hasher.Hasher K.hash_input self.now key)
             × (number < 64) }
         requires fact { F.holds key value }
-        ensures grows { IsPrefix seat.old seat.new }
+        ensures grows { IsPrefix (history seat.old) (history seat.new) }
         ensures answers { IfOk result.0 (λ there. MatchOption there
-            (Adds (change_of key (Some value) None) seat.old seat.new)
-            (λ v. option_map (λ p. p.1) (map_after K.eq seat.new key) ≡ Some v)) }
+            (Adds key (Some value) None seat.old seat.new)
+            (λ v. (option_map (λ p. p.1) (map_after K.eq (history seat.new) key) ≡ Some v)
+            × Rests seat.old seat.new)) }
         ensures fact { IfOk result.0 (λ there. IfSome there (F.holds key)) }
+        ensures rests { OnErr result.0 (Rests seat.old seat.new) }
     {
         let mut guard = self.parts[number].lock(rt);
         let part = &mut *guard;
-        part.put_if_absent(number, &self.start, &mut seat.front, key, value)
+        part.put_if_absent(
+            number,
+            &self.start,
+            &mut seat.front,
+            &mut seat.own,
+            key,
+            value,
+        )
     }
 
     /// Copies of the keys of a part, each once, as they stand while its lock is held. It is an
@@ -236,13 +269,14 @@ impl<K: Eq + Hash, V, S: BuildHasher, J: Naming, F: Fact<K, V>> NamedParts<K, V,
     where
         K: Exact + Drop,
         requires part { number < 64 }
-        ensures grows { IsPrefix seat.old seat.new }
+        ensures grows { IsPrefix (history seat.old) (history seat.new) }
         ensures distinct { IfOk result (λ keys. IsDistinct K.eq keys.items) }
         ensures listed { IfOk result (λ keys. (q : K) → is_member K.eq keys.items q ≡ is_some (cond
             (part_in S.BuildHasher S.Hasher.Hasher K.hash_input self.now q == number)
-            (map_after K.eq seat.new q) None)) }
+            (map_after K.eq (history seat.new) q) None)) }
         ensures fact { IfOk result (λ keys. (q : K) → is_member K.eq keys.items q ≡ true
             → (v : V) × F.holds q v) }
+        ensures rests { Rests seat.old seat.new }
     {
         let guard = self.parts[number].lock(rt);
         let part = &*guard;
@@ -263,12 +297,14 @@ impl<K: Eq + Hash, V, S: BuildHasher, J: Naming, F: Fact<K, V>> NamedParts<K, V,
         K: Drop,
         requires callable { (k : Bor K) (v : Bor V) → F.holds key.now v.now
             → C.pre condition k v }
-        ensures grows { IsPrefix seat.old seat.new }
+        ensures grows { IsPrefix (history seat.old) (history seat.new) }
         ensures out { IfOk result (λ taken. MatchOption taken
-            (Stays C.FnOnce condition (map_after K.eq seat.new key.now))
-            (λ p. Adds (change_of key.now None (Some p)) seat.old seat.new
+            (Stays C.FnOnce condition (map_after K.eq (history seat.new) key.now)
+            × Rests seat.old seat.new)
+            (λ p. Adds key.now None (Some p) seat.old seat.new
             × Judged C.FnOnce condition p true)) }
         ensures fact { IfOk result (λ taken. IfSome taken (λ p. F.holds key.now p.1)) }
+        ensures rests { OnErr result (Rests seat.old seat.new) }
     {
         let number = self.part_of(key);
         self.take_in(rt, seat, number, key, condition).0
@@ -288,24 +324,36 @@ impl<K: Eq + Hash, V, S: BuildHasher, J: Naming, F: Fact<K, V>> NamedParts<K, V,
             key.now) × (number < 64) }
         requires callable { (k : Bor K) (v : Bor V) → F.holds key.now v.now
             → C.pre condition k v }
-        ensures grows { IsPrefix seat.old seat.new }
+        ensures grows { IsPrefix (history seat.old) (history seat.new) }
         ensures out { IfOk result.0 (λ taken. MatchOption taken
-            (Stays C.FnOnce condition (map_after K.eq seat.new key.now))
-            (λ p. Adds (change_of key.now None (Some p)) seat.old seat.new
+            (Stays C.FnOnce condition (map_after K.eq (history seat.new) key.now)
+            × Rests seat.old seat.new)
+            (λ p. Adds key.now None (Some p) seat.old seat.new
             × Judged C.FnOnce condition p true)) }
         ensures fact { IfOk result.0 (λ taken. IfSome taken (λ p. F.holds key.now p.1)) }
+        ensures rests { OnErr result.0 (Rests seat.old seat.new) }
     {
         let mut guard = self.parts[number].lock(rt);
         let part = &mut *guard;
-        part.take_out_if(number, &self.start, &mut seat.front, key, condition)
+        part.take_out_if(
+            number,
+            &self.start,
+            &mut seat.front,
+            &mut seat.own,
+            key,
+            condition,
+        )
     }
 
     /// Each of the two seats has seen then what either had. It takes no memory, and waits for
     /// nobody.
     pub fn meet(&self, a: &mut NamedSeat<K, V, S, J>, b: &mut NamedSeat<K, V, S, J>)
-        ensures left { IsPrefix a.old a.new × IsPrefix b.old a.new }
-        ensures right { IsPrefix a.old b.new × IsPrefix b.old b.new }
-        ensures one { IsPrefix a.new b.new }
+        ensures left { IsPrefix (history a.old) (history a.new)
+            × IsPrefix (history b.old) (history a.new) }
+        ensures right { IsPrefix (history a.old) (history b.new)
+            × IsPrefix (history b.old) (history b.new) }
+        ensures one { IsPrefix (history a.new) (history b.new) }
+        ensures rests { Rests a.old a.new × Rests b.old b.new }
     {
         a.front.learn(&b.front);
         b.front.learn(&a.front);
@@ -352,9 +400,11 @@ impl<K: Eq + Hash, V, S: BuildHasher + Clone + Drop, J: Naming, F: Fact<K, V>> N
             let part = Part::new(alloc, number, hasher.clone()?, &start, &mut pen);
             parts.push(Mutex::new(part))?;
         }
+        let door = Word::tracked(0, &mut pens.take());
         Ok(NamedParts {
             hasher,
             start,
+            door,
             parts,
         })
     }
@@ -368,11 +418,13 @@ impl<K: Eq + Hash, V, S: BuildHasher, J: Naming, F: Fact<K, V>> SharedTable<K, V
 
     ghost holds = { F.holds };
 
-    ghost grows = { λ old new. IsPrefix old new };
+    ghost grows = { λ old new. IsPrefix (history old) (history new) };
 
-    ghost has = { λ seat key found. found ≡ map_after K.eq seat key };
+    ghost rests = { λ old new. Rests old new };
 
-    ghost adds = { λ old key put before new. Adds (change_of key put before) old new };
+    ghost has = { λ seat key found. found ≡ map_after K.eq (history seat) key };
+
+    ghost adds = { λ old key put before new. Adds key put before old new };
 
     fn part_of(&self, key: &K) -> usize {
         self.part_of(key)

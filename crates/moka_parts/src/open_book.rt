@@ -11,6 +11,9 @@ use std::marker::Model;
 /// How many parts a table has.
 pub const PARTS: usize = 64;
 
+/// How many words its book has: one a part, and one by which tickets are drawn.
+const WORDS: usize = PARTS + 1;
+
 /// The log of a book that was just opened.
 struct Opens;
 
@@ -40,7 +43,7 @@ impl<K: Eq + Hash, V, S: BuildHasher> Model for OpenBook<K, V, S> {
     ghost view = { λ b. (b.seen.book, b.hasher) };
 
     ghost invariant = { λ b. (b.seen.log ≡ Opened b.hasher ∷ []) × (b.pens.book ≡ b.seen.book)
-        × (b.pens.next ≡ 0) × (b.pens.left ≡ 64) };
+        × (b.pens.next ≡ 0) × (b.pens.left ≡ 65) };
 }
 
 impl<K: Eq + Hash, V, S: BuildHasher> OpenBook<K, V, S> {
@@ -48,7 +51,7 @@ impl<K: Eq + Hash, V, S: BuildHasher> OpenBook<K, V, S> {
     pub fn new(hasher: S) -> Self
         ensures { result.1 ≡ hasher }
     {
-        let (seen, pens) = Seen::open_row::<S, Opens>(&hasher, Start::alone(), PARTS);
+        let (seen, pens) = Seen::open_row::<S, Opens>(&hasher, Start::alone(), WORDS);
         OpenBook { hasher, seen, pens }
     }
 }

@@ -9,16 +9,17 @@ ghost use mathlib.Core.List.{IsPrefix};
 ghost use Rattle.logbook.specs.Pages.{nib, may_make_home};
 ghost use Rattle.moka_parts.specs.declared.note.Note.TheVariants.{Opened};
 ghost use Rattle.moka_parts.specs.Calls.{Judged, ShownSome, TakesOut};
-ghost use Rattle.moka_parts.specs.Changes.{change_of, map_after};
+ghost use Rattle.moka_parts.specs.Changes.{map_after};
 ghost use Rattle.moka_parts.specs.Hashing.{part_in};
 ghost use Rattle.moka_parts.specs.Logs.{changes_in, IsLog, IsOpenedFor};
 ghost use Rattle.moka_parts.specs.Pairs.{lent, pair_in, PutsAt, SamePairs};
-ghost use Rattle.moka_parts.specs.Parts.{IsIn, EndsWith};
+ghost use Rattle.moka_parts.specs.Parts.{EndsBy, IsIn};
 
 use crate::asked::Asked;
 use crate::book::{Law, Naming};
 use crate::front::Front;
 use crate::held::Held;
+use crate::own::Own;
 use crate::{Fact, Note, pairs};
 use logbook::{Pen, Word};
 use moka_values::Exact;
@@ -112,6 +113,7 @@ impl<K: Eq + Hash, V, S: BuildHasher, J: Naming, F: Fact<K, V>> Part<K, V, S, J,
         number: usize,
         start: &Front<K, V, S, J>,
         me: &mut Front<K, V, S, J>,
+        own: &mut Own<K, V, S, J>,
         key: K,
         value: V,
         with: W,
@@ -127,10 +129,11 @@ impl<K: Eq + Hash, V, S: BuildHasher, J: Naming, F: Fact<K, V>> Part<K, V, S, J,
         ensures grows { IsPrefix me.old me.new }
         ensures log { IsLog K.eq me.new }
         ensures ends { IfOk result.0 (ShownSome W.FnOnce with (λ before.
-            EndsWith (change_of key (Some value) before) me.old me.new
+            EndsBy key (Some value) before own.old own.new me.old me.new
             × (before ≡ pair_in K.eq self.old key) × IfSome before (λ p. F.holds key p.1))) }
         ensures map { OnOk result.0 (PutsAt K.eq key (Some (key, value)) self.old self.new) }
         ensures err { OnErr result.0 (SamePairs K.eq self.old self.new) }
+        ensures rests { OnErr result.0 (own.new ≡ own.old) }
     {
         me.learn(start);
         me.learn(&self.front);
@@ -157,7 +160,7 @@ impl<K: Eq + Hash, V, S: BuildHasher, J: Naming, F: Fact<K, V>> Part<K, V, S, J,
             put: Some(&value),
             map: &self.map,
         };
-        if !me.add(&self.word, number, self.count, &asked) {
+        if !me.add(&self.word, number, self.count, &asked, own) {
             return (
                 Err(AllocError),
                 Some(Held {
@@ -181,6 +184,7 @@ impl<K: Eq + Hash, V, S: BuildHasher, J: Naming, F: Fact<K, V>> Part<K, V, S, J,
         number: usize,
         start: &Front<K, V, S, J>,
         me: &mut Front<K, V, S, J>,
+        own: &mut Own<K, V, S, J>,
         key: &K,
         condition: C,
     ) -> (Result<Option<(K, V)>, AllocError>, Option<K>)
@@ -191,8 +195,9 @@ impl<K: Eq + Hash, V, S: BuildHasher, J: Naming, F: Fact<K, V>> Part<K, V, S, J,
         ensures grows { IsPrefix me.old me.new }
         ensures log { IsLog K.eq me.new }
         ensures ok { IfOk result.0 (λ taken. TakesOut C.FnOnce condition key.now
-            (map_after K.eq (changes_in me.new) key.now) taken me.old me.new) }
+            (map_after K.eq (changes_in me.new) key.now) taken own.old own.new me.old me.new) }
         ensures err { OnErr result.0 (SamePairs K.eq self.old self.new) }
+        ensures rests { OnErr result.0 (own.new ≡ own.old) }
         ensures fact { IfOk result.0 (λ taken. IfSome taken (λ p. F.holds key.now p.1)) }
     {
         me.learn(start);
@@ -204,7 +209,7 @@ impl<K: Eq + Hash, V, S: BuildHasher, J: Naming, F: Fact<K, V>> Part<K, V, S, J,
             return (Ok(None), None);
         }
         let asked = Asked::out(key, &self.map);
-        if self.count == u64::MAX || !me.add(&self.word, number, self.count, &asked) {
+        if self.count == u64::MAX || !me.add(&self.word, number, self.count, &asked, own) {
             return (Err(AllocError), None);
         }
         self.count += 1;
@@ -221,6 +226,7 @@ impl<K: Eq + Hash, V, S: BuildHasher, J: Naming, F: Fact<K, V>> Part<K, V, S, J,
         number: usize,
         start: &Front<K, V, S, J>,
         me: &mut Front<K, V, S, J>,
+        own: &mut Own<K, V, S, J>,
         key: K,
         value: V,
     ) -> (Result<Option<V>, AllocError>, Option<Held<K, V>>)
@@ -233,13 +239,15 @@ impl<K: Eq + Hash, V, S: BuildHasher, J: Naming, F: Fact<K, V>> Part<K, V, S, J,
         ensures grows { IsPrefix me.old me.new }
         ensures log { IsLog K.eq me.new }
         ensures answers { IfOk result.0 (λ there. MatchOption there
-            (EndsWith (change_of key (Some value) None) me.old me.new)
-            (λ v. option_map (λ p. p.1) (map_after K.eq (changes_in me.new) key) ≡ Some v)) }
+            (EndsBy key (Some value) None own.old own.new me.old me.new)
+            (λ v. (option_map (λ p. p.1) (map_after K.eq (changes_in me.new) key) ≡ Some v)
+            × (own.new ≡ own.old))) }
         ensures err { OnErr result.0 (SamePairs K.eq self.old self.new) }
+        ensures rests { OnErr result.0 (own.new ≡ own.old) }
         ensures fact { IfOk result.0 (λ there. IfSome there (F.holds key)) }
     {
         match self.copy_at(number, start, me, &key) {
-            Ok(None) => answered(self.put(number, start, me, key, value, |_| ())),
+            Ok(None) => answered(self.put(number, start, me, own, key, value, |_| ())),
             found => (
                 found,
                 Some(Held {

@@ -241,6 +241,8 @@ impl<K: Eq + Hash, V, S: BuildHasher, F: Fact<K, V>> SharedTable<K, V> for Parts
 
     ghost grows = { λ old new. Unit {0} };
 
+    ghost rests = { λ old new. Unit {0} };
+
     ghost has = { λ seat key found. Unit {0} };
 
     ghost adds = { λ old key put before new. Unit {0} };

@@ -1,5 +1,5 @@
 //! What a cache needs of a table that threads share.
-ghost use Rattle.std.specs.Prelude.{◌≡◌, ◌<◌, ℕ, true, Option, Some, None, IfSome, IfOk, is_some};
+ghost use Rattle.std.specs.Prelude.{◌≡◌, ◌<◌, ℕ, true, Option, Some, None, IfSome, IfOk, OnErr, is_some};
 ghost use Rattle.std.specs.Prelude.{MatchOption};
 ghost use denote.Ref.{Bor};
 ghost use Rattle.std.specs.List.{IsDistinct};
@@ -30,11 +30,14 @@ pub trait SharedTable<K: Eq + Hash, V> {
     /// The second seat has seen what the first has.
     ghost grows: { Self.Seat → Self.Seat → Type 0 };
 
+    /// The seat has made no change since.
+    ghost rests: { Self.Seat → Self.Seat → Type 0 };
+
     /// After what the seat has seen, this stands at the key.
     ghost has: { Self.Seat → K → Option (K × V) → Type 0 };
 
-    /// What the second seat has seen ends with a change of the key: what was put there, and what
-    /// stood there before.
+    /// What the second seat has seen ends with a change of the key, which is one more of its own: what
+    /// was put there, and what stood there before.
     ghost adds: { Self.Seat → K → Option V → Option (K × V) → Self.Seat → Type 0 };
 
     /// The part of the key, of 64.
@@ -57,6 +60,7 @@ pub trait SharedTable<K: Eq + Hash, V> {
         requires callable { (shown : Option (Bor K × Bor V))
             → IfSome shown (λ p. holds key.now p.1.now) → W.pre with shown }
         ensures grows { grows seat.old seat.new }
+        ensures rests { rests seat.old seat.new }
         ensures shown { IfOk result (ShownSome W.FnOnce with (λ found.
             has seat.new key.now found × IfSome found (λ p. holds key.now p.1))) };
 
@@ -80,7 +84,8 @@ pub trait SharedTable<K: Eq + Hash, V> {
         ensures grows { grows seat.old seat.new }
         ensures puts { IfOk result (ShownSome W.FnOnce with (λ before.
             adds seat.old key (Some value) before seat.new
-            × IfSome before (λ p. holds key p.1))) };
+            × IfSome before (λ p. holds key p.1))) }
+        ensures rests { OnErr result (rests seat.old seat.new) };
 
     /// Puts the pair where none stands at the key: answers None, or a copy of the value that stands
     /// there. An error comes where memory is wanting, and the table is as before.
@@ -98,8 +103,9 @@ pub trait SharedTable<K: Eq + Hash, V> {
         ensures grows { grows seat.old seat.new }
         ensures answers { IfOk result (λ there. MatchOption there
             (adds seat.old key (Some value) None seat.new)
-            (λ v. holds key v × ((found : Option (K × V)) × has seat.new key found
-            × (option_map (λ p. p.1) found ≡ Some v)))) };
+            (λ v. holds key v × rests seat.old seat.new × ((found : Option (K × V))
+            × has seat.new key found × (option_map (λ p. p.1) found ≡ Some v)))) }
+        ensures rests { OnErr result (rests seat.old seat.new) };
 
     /// Takes the pair at the key out, where the condition holds of it, and answers it. The
     /// condition is asked under the lock of the part, and may not call the table.
@@ -115,10 +121,11 @@ pub trait SharedTable<K: Eq + Hash, V> {
         requires callable { (k : Bor K) (v : Bor V) → holds key.now v.now → C.pre condition k v }
         ensures grows { grows seat.old seat.new }
         ensures out { IfOk result (λ taken. MatchOption taken
-            ((found : Option (K × V)) × has seat.new key.now found
-            × Stays C.FnOnce condition found)
+            (rests seat.old seat.new × ((found : Option (K × V)) × has seat.new key.now found
+            × Stays C.FnOnce condition found))
             (λ p. adds seat.old key.now None (Some p) seat.new
-            × Judged C.FnOnce condition p true × holds key.now p.1)) };
+            × Judged C.FnOnce condition p true × holds key.now p.1)) }
+        ensures rests { OnErr result (rests seat.old seat.new) };
 
     /// Copies of the keys of a part, each once, as they stand while its lock is held: those at
     /// which a pair stands after what the seat has then seen. It is an error only where memory is
@@ -134,6 +141,7 @@ pub trait SharedTable<K: Eq + Hash, V> {
         K: Exact + Drop,
         requires part { number < 64 }
         ensures grows { grows seat.old seat.new }
+        ensures rests { rests seat.old seat.new }
         ensures distinct { IfOk result (λ keys. IsDistinct K.eq keys.items) }
         ensures of_part { IfOk result (λ keys. (q : K) → is_member K.eq keys.items q ≡ true
             → part self.now q ≡ number) }
@@ -148,7 +156,8 @@ pub trait SharedTable<K: Eq + Hash, V> {
     fn meet(&self, a: &mut Self::Seat, b: &mut Self::Seat)
         ensures left { grows a.old a.new × grows b.old a.new }
         ensures right { grows a.old b.new × grows b.old b.new }
-        ensures one { grows a.new b.new };
+        ensures one { grows a.new b.new }
+        ensures rests { rests a.old a.new × rests b.old b.new };
 
     /// How many parts there are.
     fn parts(&self) -> usize

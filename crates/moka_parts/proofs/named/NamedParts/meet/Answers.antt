@@ -1,3 +1,4 @@
+use Rattle.std.proofs.Common.{refl}
 use Rattle.moka_parts.proofs.Prefixes.{prefix_trans}
 use Rattle.moka_parts.proofs.Histories.{changes_in-prefix}
 use Rattle.moka_parts.proofs.named.NamedParts.meet.Goals as goal
@@ -18,3 +19,6 @@ returns-clause-right g c =
 
 pub returns-clause-one : goal.returns-clause-one
 returns-clause-one g c = changes_in-prefix c.learn.new.self c.learn-2.new.self c.learn-2.ensures.other
+
+pub returns-clause-rests : goal.returns-clause-rests
+returns-clause-rests g c = rw (← c.a.view_is, ← c.b.view_is) (refl, refl)

@@ -5,6 +5,6 @@ abbrev pub invariant-loop-number : goal.invariant-loop-number
 invariant-loop-number g l = record {
   book : l.pens.book ≡ g.J.Naming.book;
   next : l.pens.next ≡ l.number;
-  left : l.pens.left + l.number ≡ 64;
+  left : l.pens.left + l.number ≡ 65;
   many : length l.parts.items ≡ l.number;
 }

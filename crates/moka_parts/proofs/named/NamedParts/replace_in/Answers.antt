@@ -1,6 +1,5 @@
 use Rattle.std.proofs.Common.{Some}
 use Rattle.std.proofs.lemmas.Result.{IfOk-weaker}
-use Rattle.moka_parts.specs.Changes.{change_of}
 use Rattle.moka_parts.proofs.Histories.{changes_in-prefix, adds}
 use Rattle.moka_parts.proofs.named.NamedParts.replace_in.Goals as goal
 
@@ -10,4 +9,7 @@ returns-clause-grows g c = rw (← c.seat.view_is) (changes_in-prefix c.seat.ins
 pub returns-clause-puts : goal.returns-clause-puts
 returns-clause-puts g c = rw (← c.seat.view_is)
     (IfOk-weaker c.put.result.0 _ _
-    (λ given s. (s.0, (adds (change_of c.args.key (Some c.args.value) s.0) c.seat.inside.front c.put.new.me s.1.0, s.1.2), s.2)) c.put.ensures.ends)
+    (λ given s. (s.0, (adds c.args.key (Some c.args.value) s.0 c.seat.inside.own c.put.new.own c.seat.inside.front c.put.new.me s.1.0, s.1.2), s.2)) c.put.ensures.ends)
+
+pub returns-clause-rests : goal.returns-clause-rests
+returns-clause-rests g c = rw (← c.seat.view_is) c.put.ensures.rests

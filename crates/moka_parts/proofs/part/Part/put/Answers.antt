@@ -1,5 +1,5 @@
 use Rattle.std.proofs.Common.{◌≡◌, ◌+◌, Some, cond, Option, IfSome, sym, subst, ap, ◌∙◌}
-use Rattle.moka_parts.specs.Changes.{change_of}
+use Rattle.moka_parts.specs.Hands.{change_by}
 use Rattle.moka_parts.specs.Hashing.{part_in}
 use Rattle.moka_parts.specs.Logs.{Grows}
 use Rattle.moka_parts.specs.Pairs.{pair_at, pair_in}
@@ -19,7 +19,7 @@ invariant_of-self-2 g c =
     let key = c.args.key in
     let value = c.args.value in
     let seen = c.learn-2.new.self in
-    let change = change_of key (Some value) (pair_at eq c.make_room.new.map key) in
+    let change = change_by c.args.own.now c.add.new.own key (Some value) (pair_at eq c.make_room.new.map key) in
     let same = c.if-self-number.false in
     let grows : Grows eq part inside.number (inside.count + 1) change seen c.add.new.self =
     subst (λ (n : _). Grows eq part n (inside.count + 1) change seen c.add.new.self) (sym same) c.if-not-add.ensures.added in
@@ -43,4 +43,4 @@ returns-clause-ends g c =
     let same = c.make_room.ensures.map c.args.key in
     let there : pair_at eq c.make_room.new.map c.args.key ≡ pair_in eq c.args.self.now c.args.key = rw (← c.self.view_is) same in
     let fact = subst (λ (o : Option (g.row.K.Denot × g.row.V.Denot)). IfSome o (λ p. g.F.Fact.holds c.args.key p.1)) (sym same) (c.self.invariant.meets c.args.key) in
-    (pair_at eq c.make_room.new.map c.args.key, ((added.log, from, added.new_is), there, fact), c.replace-given.ensures.shown)
+    (pair_at eq c.make_room.new.map c.args.key, (((added.log, from, added.new_is), c.if-not-add.ensures.made), there, fact), c.replace-given.ensures.shown)
