@@ -6,3 +6,4 @@ pub mod Viewing
 pub mod Polling
 pub mod Happening
 pub mod Serving
+pub mod Giving

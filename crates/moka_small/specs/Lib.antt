@@ -3,3 +3,4 @@ pub mod Polled
 pub mod Seen
 pub mod Laws
 pub mod Standing
+pub mod Given

@@ -4,11 +4,13 @@
 #![tactic(auto)]
 
 mod events;
+mod given;
 mod outcome;
 mod polls;
 mod stands;
 
 pub use events::{drop_is_gone, fresh_is_empty, start_is_started, tell_is_told};
+pub use given::answers_are_given;
 pub use outcome::Outcome;
 pub use polls::poll_is_polled;
 pub use stands::{one_owns_each, waiters_are_served};
