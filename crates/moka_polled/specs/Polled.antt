@@ -14,9 +14,12 @@ use Rattle.moka_hist.specs.declared.records.Stored.{Stored}
 use Rattle.moka_hist.specs.declared.replies.Reply.{Reply}
 use Rattle.moka_table.specs.Map.{ListsPairs}
 use Rattle.moka_machine.specs.Machine.{MachineIs}
+use Rattle.moka_small.specs.declared.outcome.Outcome.{Outcome}
+use Rattle.moka_small.specs.Given.{AnswersOnly, HasOnly}
 use Rattle.moka_small.specs.Laws.{may_end}
+use Rattle.moka_small.specs.Polled.{polled}
 use Rattle.moka_small.specs.Seen.{IsSeenAs, answer_of, small_record}
-use Rattle.moka_small.specs.Small.{Asks, End, Small, waiting}
+use Rattle.moka_small.specs.Small.{Asks, End, Small, Stand, waiting}
 use Rattle.moka_polled.specs.Outcomes.{says_told}
 use Rattle.moka_polled.specs.Tests.{no_tests}
 use Rattle.moka_polled.specs.declared.machine.PolledMachine.{PolledMachine}
@@ -63,6 +66,14 @@ pub record Takes {K V E : Type 0} (n : ℕ) (answer : Told V E) (load : Load K) 
 -- it asks, and takes the answer
 abbrev pub TakesAnswer : {K V E : Type 0} → ℕ → Told V E → Small K V E → Type 0
 TakesAnswer {K} {V} {E} n answer m = (load : Load K) × (end : End V E) × Takes n answer load end m
+
+-- a poll of the call that stands there answers no value but those that were given for an equal key,
+-- whatever pairs were given so far, and gives none
+abbrev pub AnswersGiven : {K V E : Type 0} → (K → K → Bool) → Small K V E → ℕ → Stand K V E →
+    Outcome V E → Type 0
+AnswersGiven {K} {V} eq m call stand outcome =
+    (given : List (K × V)) → HasOnly eq given m →
+    AnswersOnly eq given stand outcome × HasOnly eq given (polled eq m call stand).1
 
 -- the answer says how a load ended: it is neither what a compute is to do nor a listener's
 abbrev pub is_end : {V E : Type 0} → Told V E → Bool

@@ -32,7 +32,7 @@ impl<K: Eq + Hash + Exact, V: Exact, E: Exact> PolledMachine<K, V, E> {
     ghost use Rattle.moka_small.specs.Laws.{takes};
     ghost use Rattle.moka_small.specs.Polled.{gone_waiter, polled};
     ghost use Rattle.moka_small.specs.Seen.{answer_of};
-    ghost use Rattle.moka_polled.specs.Polled.{AnySmall, AreEntries, is_end, IsLive, IsPolled, IsServed, IsSpent, IsTold, IsUsable, MayDrop, Takes, TakesAnswer};
+    ghost use Rattle.moka_polled.specs.Polled.{AnswersGiven, AnySmall, AreEntries, is_end, IsLive, IsPolled, IsServed, IsSpent, IsTold, IsUsable, MayDrop, Takes, TakesAnswer};
 
     /// Builds an empty cache of this capacity, if one is given. A capacity of 0 stores nothing, and is
     /// out of scope here.
@@ -96,6 +96,9 @@ impl<K: Eq + Hash + Exact, V: Exact, E: Exact> PolledMachine<K, V, E> {
             → IsPolled K.eq self.old m → m.stands call ≡ Some stand
             → (outcome ≡ (polled K.eq m call stand).0)
             × IsPolled K.eq self.new (polled K.eq m call stand).1) }
+        ensures given { IfOk result (λ outcome. (m : Small K V E) (stand : Stand K V E)
+            → IsPolled K.eq self.old m → m.stands call ≡ Some stand
+            → AnswersGiven K.eq m call stand outcome) }
         ensures usable { IsUsable K.eq self.new AnySmall }
         ensures spent { OnErr result (IsSpent self.new) }
         ensures stays { IsSpent self.old → OnOk result ⊥ }
@@ -114,6 +117,9 @@ impl<K: Eq + Hash + Exact, V: Exact, E: Exact> PolledMachine<K, V, E> {
             → IsPolled K.eq self.old m → m.stands call ≡ Some stand
             → (outcome ≡ Some (polled K.eq m call stand).0)
             × IsPolled K.eq self.new (polled K.eq m call stand).1) }
+        ensures given { IfOk result (λ came. (m : Small K V E) (stand : Stand K V E)
+            (outcome : Outcome V E) → IsPolled K.eq self.old m → m.stands call ≡ Some stand
+            → came ≡ Some outcome → AnswersGiven K.eq m call stand outcome) }
         ensures none { IfOk result (λ outcome. (m : Small K V E) → IsPolled K.eq self.old m
             → m.stands call ≡ None → (outcome ≡ None) × IsPolled K.eq self.new m) }
         ensures usable { IsUsable K.eq self.new AnySmall }
@@ -121,6 +127,7 @@ impl<K: Eq + Hash + Exact, V: Exact, E: Exact> PolledMachine<K, V, E> {
         ensures stays { IsSpent self.old → OnOk result ⊥ }
     {
         moka_small::poll_is_polled::<K, V, E>();
+        moka_small::answers_are_given::<K, V, E>();
         let reply = self.serve(Event::Poll { call })?;
         Ok(outcome_of(reply))
     }

@@ -38,6 +38,8 @@ pub enum Act {
     Start(Begin),
     Poll(u64),
     Tell(u64, End),
+    /// A call is started and polled.
+    Whole(Begin),
 }
 
 /// What came of it: the number of a call, what a poll came to, or whether an answer was taken.
@@ -97,6 +99,7 @@ pub fn carry_out(polled: &mut Polled, act: Act) -> Result<Came, AllocError>
         Act::Start(begin) => start(polled, begin),
         Act::Poll(call) => poll(polled, call),
         Act::Tell(call, end) => tell(polled, call, end),
+        Act::Whole(begin) => start_and_poll(polled, begin),
     }
 }
 
@@ -123,4 +126,12 @@ fn tell(polled: &mut Polled, call: u64, end: End) -> Result<Came, AllocError>
     polled
         .tell_if_asked(call, told_of(end))
         .map(|took| Came::Told(took))
+}
+
+fn start_and_poll(polled: &mut Polled, begin: Begin) -> Result<Came, AllocError>
+    requires { IsUsable nat_eq polled.old AnySmall }
+    ensures { IsUsable nat_eq polled.new AnySmall }
+{
+    let call = polled.start(start_of(begin))?;
+    poll(polled, call)
 }

@@ -68,7 +68,13 @@ impl Model {
             Act::Start(begin) => Came::Call(self.start(begin)),
             Act::Poll(call) => Came::Polled(self.poll(call)),
             Act::Tell(call, end) => Came::Told(self.tell(call, end)),
+            Act::Whole(begin) => Came::Polled(self.start_and_poll(begin)),
         }
+    }
+
+    fn start_and_poll(&mut self, begin: Begin) -> Option<Outcome<u32, u32>> {
+        let call = self.start(begin);
+        self.poll(call)
     }
 
     fn start(&mut self, begin: Begin) -> u64 {

@@ -49,8 +49,9 @@ fn end(random: &mut Pcg32) -> End {
 /// What is done next, once so many calls were started.
 fn act(random: &mut Pcg32, started: u64) -> Act {
     let call = u64::from(below(random, 31));
-    match below(random, 8) {
+    match below(random, 9) {
         0 | 1 | 2 if started < CALLS => Act::Start(begin(random)),
+        8 if started < CALLS => Act::Whole(begin(random)),
         3 => Act::Tell(call % started.max(1) + 1, end(random)),
         _ => Act::Poll(call % started.max(1) + 1),
     }

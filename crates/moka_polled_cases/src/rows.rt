@@ -4,12 +4,57 @@ ghost use Rattle.moka_polled.specs.Polled.{AnySmall, IsUsable};
 
 use crate::acts::{Act, Begin, Came, End, Polled, cache, carry_out};
 use moka_polled::Outcome;
-use std::alloc::AllocError;
+use std::alloc::{AllocError, Global};
 use std::test::Fail;
+
+/// One thing that is done, and what has to come of it.
+type Row = (Act, Came);
+
+// ---- the words of a row
+
+/// A call is started, and gets this number.
+fn start(begin: Begin, number: u64) -> Row {
+    (Act::Start(begin), Came::Call(number))
+}
+
+/// A call is polled.
+fn poll(call: u64, outcome: Outcome<u32, u32>) -> Row {
+    (Act::Poll(call), Came::Polled(Some(outcome)))
+}
+
+/// A call that isn't live is polled.
+fn poll_in_vain(call: u64) -> Row {
+    (Act::Poll(call), Came::Polled(None))
+}
+
+/// A call is told how its initializer ended, and takes that or doesn't.
+fn tell(call: u64, end: End, took: bool) -> Row {
+    (Act::Tell(call, end), Came::Told(took))
+}
+
+/// A call is started, gets the next number, and is polled.
+fn now(begin: Begin, outcome: Outcome<u32, u32>) -> Row {
+    (Act::Whole(begin), Came::Polled(Some(outcome)))
+}
+
+/// The value of a load that another call brought.
+fn shared(value: u32) -> Outcome<u32, u32> {
+    Outcome::Loaded {
+        value,
+        fresh: false,
+    }
+}
+
+/// The value of a load that this call brought.
+fn fresh(value: u32) -> Outcome<u32, u32> {
+    Outcome::Loaded { value, fresh: true }
+}
+
+// ---- the play
 
 /// Does each thing in turn. Answers the first of which something else came than is wanted, if there
 /// is one.
-fn first_other(polled: &mut Polled, rows: &[(Act, Came)]) -> Result<Option<Act>, AllocError>
+fn first_other(polled: &mut Polled, rows: &[Row]) -> Result<Option<Act>, AllocError>
     requires { IsUsable nat_eq polled.old AnySmall }
     ensures { IsUsable nat_eq polled.new AnySmall }
 {
@@ -22,213 +67,122 @@ fn first_other(polled: &mut Polled, rows: &[(Act, Came)]) -> Result<Option<Act>,
     Ok(None)
 }
 
+/// Does each thing to a new cache of this capacity.
+fn play(alloc: Global, capacity: Option<u64>, rows: &[Row]) -> Result<Option<Act>, AllocError> {
+    let mut polled = cache(alloc, capacity)?;
+    let other = first_other(&mut polled, rows);
+    drop(polled);
+    other
+}
+
 #[test]
 fn a_load_asks_once_and_those_that_wait_hear_its_value(rt: HostRuntime) -> Result<(), Fail> {
     let rows = [
-        (Act::Start(Begin::Try(7)), Came::Call(1)),
-        (Act::Start(Begin::Try(7)), Came::Call(2)),
-        (Act::Start(Begin::Try(7)), Came::Call(3)),
-        (Act::Poll(1), Came::Polled(Some(Outcome::Asks))),
-        (Act::Poll(2), Came::Polled(Some(Outcome::Waits))),
-        (Act::Poll(3), Came::Polled(Some(Outcome::Waits))),
-        (Act::Poll(1), Came::Polled(Some(Outcome::Waits))),
-        (Act::Tell(2, End::Value(5)), Came::Told(false)),
-        (Act::Tell(1, End::Nothing), Came::Told(false)),
-        (Act::Tell(1, End::Value(5)), Came::Told(true)),
-        (Act::Poll(2), Came::Polled(Some(Outcome::Waits))),
-        (
-            Act::Poll(1),
-            Came::Polled(Some(Outcome::Loaded {
-                value: 5,
-                fresh: true,
-            })),
-        ),
-        (Act::Poll(1), Came::Polled(None)),
-        (
-            Act::Poll(2),
-            Came::Polled(Some(Outcome::Loaded {
-                value: 5,
-                fresh: false,
-            })),
-        ),
-        (
-            Act::Poll(3),
-            Came::Polled(Some(Outcome::Loaded {
-                value: 5,
-                fresh: false,
-            })),
-        ),
-        (Act::Start(Begin::Get(7)), Came::Call(4)),
-        (Act::Poll(4), Came::Polled(Some(Outcome::Found(Some(5))))),
+        start(Begin::Try(7), 1),
+        start(Begin::Try(7), 2),
+        start(Begin::Try(7), 3),
+        poll(1, Outcome::Asks),
+        poll(2, Outcome::Waits),
+        poll(3, Outcome::Waits),
+        poll(1, Outcome::Waits),
+        tell(2, End::Value(5), false),
+        tell(1, End::Nothing, false),
+        tell(1, End::Value(5), true),
+        poll(2, Outcome::Waits),
+        poll(1, fresh(5)),
+        poll_in_vain(1),
+        poll(2, shared(5)),
+        poll(3, shared(5)),
+        now(Begin::Get(7), Outcome::Found(Some(5))),
     ];
-    let mut polled = cache(rt.alloc(), None)?;
-    let other = first_other(&mut polled, &rows);
-    drop(polled);
-    assert_eq!(rt; other?, None);
+    assert_eq!(rt; play(rt.alloc(), None, &rows)?, None);
     Ok(())
 }
 
 #[test]
 fn an_error_and_nothing_are_heard_and_not_stored(rt: HostRuntime) -> Result<(), Fail> {
     let rows = [
-        (Act::Start(Begin::Try(7)), Came::Call(1)),
-        (Act::Start(Begin::Try(7)), Came::Call(2)),
-        (Act::Start(Begin::Optional(7)), Came::Call(3)),
-        (Act::Start(Begin::Optional(7)), Came::Call(4)),
-        (Act::Poll(1), Came::Polled(Some(Outcome::Asks))),
-        (Act::Poll(2), Came::Polled(Some(Outcome::Waits))),
-        (Act::Poll(3), Came::Polled(Some(Outcome::Asks))),
-        (Act::Poll(4), Came::Polled(Some(Outcome::Waits))),
-        (Act::Tell(1, End::Error(9)), Came::Told(true)),
-        (Act::Tell(3, End::Nothing), Came::Told(true)),
-        (Act::Poll(1), Came::Polled(Some(Outcome::Failed(9)))),
-        (Act::Poll(3), Came::Polled(Some(Outcome::Nothing))),
-        (Act::Start(Begin::Try(7)), Came::Call(5)),
-        (Act::Poll(5), Came::Polled(Some(Outcome::Asks))),
-        (Act::Poll(2), Came::Polled(Some(Outcome::Failed(9)))),
-        (Act::Poll(4), Came::Polled(Some(Outcome::Nothing))),
-        (Act::Start(Begin::Get(7)), Came::Call(6)),
-        (Act::Poll(6), Came::Polled(Some(Outcome::Found(None)))),
+        now(Begin::Try(7), Outcome::Asks),
+        now(Begin::Try(7), Outcome::Waits),
+        now(Begin::Optional(7), Outcome::Asks),
+        now(Begin::Optional(7), Outcome::Waits),
+        tell(1, End::Error(9), true),
+        tell(3, End::Nothing, true),
+        poll(1, Outcome::Failed(9)),
+        poll(3, Outcome::Nothing),
+        now(Begin::Try(7), Outcome::Asks),
+        poll(2, Outcome::Failed(9)),
+        poll(4, Outcome::Nothing),
+        now(Begin::Get(7), Outcome::Found(None)),
     ];
-    let mut polled = cache(rt.alloc(), None)?;
-    let other = first_other(&mut polled, &rows);
-    drop(polled);
-    assert_eq!(rt; other?, None);
+    assert_eq!(rt; play(rt.alloc(), None, &rows)?, None);
     Ok(())
 }
 
 #[test]
 fn a_load_whose_key_is_stored_answers_it(rt: HostRuntime) -> Result<(), Fail> {
     let rows = [
-        (Act::Start(Begin::Insert(7, 5)), Came::Call(1)),
-        (Act::Poll(1), Came::Polled(Some(Outcome::Done))),
-        (Act::Start(Begin::GetWith(7)), Came::Call(2)),
-        (
-            Act::Poll(2),
-            Came::Polled(Some(Outcome::Loaded {
-                value: 5,
-                fresh: false,
-            })),
-        ),
-        (Act::Start(Begin::OrInsert(7, 6)), Came::Call(3)),
-        (
-            Act::Poll(3),
-            Came::Polled(Some(Outcome::Loaded {
-                value: 5,
-                fresh: false,
-            })),
-        ),
-        (Act::Start(Begin::OrInsert(8, 6)), Came::Call(4)),
-        (
-            Act::Poll(4),
-            Came::Polled(Some(Outcome::Loaded {
-                value: 6,
-                fresh: true,
-            })),
-        ),
-        (Act::Start(Begin::Get(8)), Came::Call(5)),
-        (Act::Poll(5), Came::Polled(Some(Outcome::Found(Some(6))))),
+        now(Begin::Insert(7, 5), Outcome::Done),
+        now(Begin::GetWith(7), shared(5)),
+        now(Begin::OrInsert(7, 6), shared(5)),
+        now(Begin::OrInsert(8, 6), fresh(6)),
+        now(Begin::Get(8), Outcome::Found(Some(6))),
     ];
-    let mut polled = cache(rt.alloc(), None)?;
-    let other = first_other(&mut polled, &rows);
-    drop(polled);
-    assert_eq!(rt; other?, None);
+    assert_eq!(rt; play(rt.alloc(), None, &rows)?, None);
     Ok(())
 }
 
 #[test]
 fn loads_of_other_keys_and_kinds_ask_for_themselves(rt: HostRuntime) -> Result<(), Fail> {
     let rows = [
-        (Act::Start(Begin::GetWith(7)), Came::Call(1)),
-        (Act::Start(Begin::Try(7)), Came::Call(2)),
-        (Act::Start(Begin::GetWith(8)), Came::Call(3)),
-        (Act::Poll(1), Came::Polled(Some(Outcome::Asks))),
-        (Act::Poll(2), Came::Polled(Some(Outcome::Asks))),
-        (Act::Poll(3), Came::Polled(Some(Outcome::Asks))),
-        (Act::Tell(1, End::Error(9)), Came::Told(false)),
-        (Act::Tell(1, End::Value(5)), Came::Told(true)),
-        (
-            Act::Poll(1),
-            Came::Polled(Some(Outcome::Loaded {
-                value: 5,
-                fresh: true,
-            })),
-        ),
-        (Act::Tell(2, End::Value(6)), Came::Told(true)),
-        (
-            Act::Poll(2),
-            Came::Polled(Some(Outcome::Loaded {
-                value: 6,
-                fresh: true,
-            })),
-        ),
-        (Act::Start(Begin::Get(7)), Came::Call(4)),
-        (Act::Poll(4), Came::Polled(Some(Outcome::Found(Some(6))))),
+        now(Begin::GetWith(7), Outcome::Asks),
+        now(Begin::Try(7), Outcome::Asks),
+        now(Begin::GetWith(8), Outcome::Asks),
+        tell(1, End::Error(9), false),
+        tell(1, End::Value(5), true),
+        poll(1, fresh(5)),
+        tell(2, End::Value(6), true),
+        poll(2, fresh(6)),
+        now(Begin::Get(7), Outcome::Found(Some(6))),
     ];
-    let mut polled = cache(rt.alloc(), None)?;
-    let other = first_other(&mut polled, &rows);
-    drop(polled);
-    assert_eq!(rt; other?, None);
+    assert_eq!(rt; play(rt.alloc(), None, &rows)?, None);
     Ok(())
 }
 
 #[test]
 fn what_is_taken_out_is_found_once(rt: HostRuntime) -> Result<(), Fail> {
     let rows = [
-        (Act::Start(Begin::Insert(7, 5)), Came::Call(1)),
-        (Act::Poll(1), Came::Polled(Some(Outcome::Done))),
-        (Act::Start(Begin::Remove(7)), Came::Call(2)),
-        (Act::Poll(2), Came::Polled(Some(Outcome::Found(Some(5))))),
-        (Act::Start(Begin::Remove(7)), Came::Call(3)),
-        (Act::Poll(3), Came::Polled(Some(Outcome::Found(None)))),
-        (Act::Start(Begin::Insert(7, 6)), Came::Call(4)),
-        (Act::Poll(4), Came::Polled(Some(Outcome::Done))),
-        (Act::Start(Begin::Invalidate(7)), Came::Call(5)),
-        (Act::Poll(5), Came::Polled(Some(Outcome::Done))),
-        (Act::Start(Begin::Get(7)), Came::Call(6)),
-        (Act::Poll(6), Came::Polled(Some(Outcome::Found(None)))),
+        now(Begin::Insert(7, 5), Outcome::Done),
+        now(Begin::Remove(7), Outcome::Found(Some(5))),
+        now(Begin::Remove(7), Outcome::Found(None)),
+        now(Begin::Insert(7, 6), Outcome::Done),
+        now(Begin::Invalidate(7), Outcome::Done),
+        now(Begin::Get(7), Outcome::Found(None)),
     ];
-    let mut polled = cache(rt.alloc(), None)?;
-    let other = first_other(&mut polled, &rows);
-    drop(polled);
-    assert_eq!(rt; other?, None);
+    assert_eq!(rt; play(rt.alloc(), None, &rows)?, None);
     Ok(())
 }
 
 #[test]
 fn a_chosen_record_leaves_for_want_of_room(rt: HostRuntime) -> Result<(), Fail> {
     let rows = [
-        (Act::Start(Begin::Insert(7, 5)), Came::Call(1)),
-        (Act::Poll(1), Came::Polled(Some(Outcome::Done))),
-        (Act::Start(Begin::Insert(7, 6)), Came::Call(2)),
-        (Act::Poll(2), Came::Polled(Some(Outcome::Done))),
-        (Act::Start(Begin::Evict(7, 1)), Came::Call(3)),
-        (Act::Poll(3), Came::Polled(Some(Outcome::Kept))),
-        (Act::Start(Begin::Evict(7, 2)), Came::Call(4)),
-        (Act::Poll(4), Came::Polled(Some(Outcome::Evicted))),
-        (Act::Start(Begin::Evict(7, 2)), Came::Call(5)),
-        (Act::Poll(5), Came::Polled(Some(Outcome::Kept))),
+        now(Begin::Insert(7, 5), Outcome::Done),
+        now(Begin::Insert(7, 6), Outcome::Done),
+        now(Begin::Evict(7, 1), Outcome::Kept),
+        now(Begin::Evict(7, 2), Outcome::Evicted),
+        now(Begin::Evict(7, 2), Outcome::Kept),
     ];
-    let mut polled = cache(rt.alloc(), Some(8))?;
-    let other = first_other(&mut polled, &rows);
-    drop(polled);
-    assert_eq!(rt; other?, None);
+    assert_eq!(rt; play(rt.alloc(), Some(8), &rows)?, None);
     Ok(())
 }
 
 #[test]
 fn without_a_capacity_none_leaves(rt: HostRuntime) -> Result<(), Fail> {
     let rows = [
-        (Act::Start(Begin::Insert(7, 5)), Came::Call(1)),
-        (Act::Poll(1), Came::Polled(Some(Outcome::Done))),
-        (Act::Start(Begin::Evict(7, 1)), Came::Call(2)),
-        (Act::Poll(2), Came::Polled(Some(Outcome::Kept))),
-        (Act::Start(Begin::Get(7)), Came::Call(3)),
-        (Act::Poll(3), Came::Polled(Some(Outcome::Found(Some(5))))),
+        now(Begin::Insert(7, 5), Outcome::Done),
+        now(Begin::Evict(7, 1), Outcome::Kept),
+        now(Begin::Get(7), Outcome::Found(Some(5))),
     ];
-    let mut polled = cache(rt.alloc(), None)?;
-    let other = first_other(&mut polled, &rows);
-    drop(polled);
-    assert_eq!(rt; other?, None);
+    assert_eq!(rt; play(rt.alloc(), None, &rows)?, None);
     Ok(())
 }

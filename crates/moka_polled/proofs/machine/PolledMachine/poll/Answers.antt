@@ -12,3 +12,7 @@ unreachable-requires g c =
     let stand = the_one (here.0.stands c.args.call) here.2 in
     let came = c.in_ok-outcome.ensures.polled here.0 stand.0 here.1 stand.1 in
     none_some (sym c.in-None.is ∙ came.0)
+
+pub returns-clause-given : goal.returns-clause-given
+returns-clause-given g c = λ m stand p live.
+    c.in_ok-outcome.ensures.given m stand c.in-Some.outcome p live c.in-Some.is
