@@ -1,8 +1,9 @@
 -- Which small states a polled machine stands for.
-use Rattle.std.specs.Prelude.{◌≡◌, ℕ, Bool, true, false, List, Option, Some, IsSome}
+use Rattle.std.specs.Prelude.{◌≡◌, ℕ, Bool, true, false, List, map, Option, Some, IsSome}
 use Rattle.std.specs.Option.{option_map}
 use Rattle.std.specs.declared.cmp.PartialEq as PartialEq
 use Rattle.std.specs.declared.hash.Hash as Hash
+use Rattle.moka_hist.specs.Finite.{Lists}
 use Rattle.moka_hist.specs.State.{State}
 use Rattle.moka_hist.specs.Run.{Any, Happens}
 use Rattle.moka_hist.specs.declared.events.Event.{Event}
@@ -83,6 +84,11 @@ is_end (told.Err error) = true
 is_end (told.Op op) = false
 is_end told.Done = false
 is_end told.Off = false
+
+-- the pairs list the small state's records: each key once, under it its value and stamp
+abbrev pub ListsStored : {K V : Type 0} → (K → K → Bool) → List (K × Stored V) →
+    (K → Option (V × ℕ)) → Type 0
+ListsStored eq pairs stored = Lists eq (map (λ pair. (pair.0, small_record pair)) pairs) stored
 
 -- the pairs are those whose values and stamps the small state has, each once
 pub record AreEntries {K V : Type 0} (eq : K → K → Bool) (pairs : List (K × Stored V))

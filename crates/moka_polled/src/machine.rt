@@ -32,7 +32,7 @@ impl<K: Eq + Hash + Exact, V: Exact, E: Exact> PolledMachine<K, V, E> {
     ghost use Rattle.moka_small.specs.Laws.{takes};
     ghost use Rattle.moka_small.specs.Polled.{gone_waiter, polled};
     ghost use Rattle.moka_small.specs.Seen.{answer_of};
-    ghost use Rattle.moka_polled.specs.Polled.{AnswersGiven, AnySmall, AreEntries, is_end, IsLive, IsPolled, IsServed, IsSpent, IsTold, IsUsable, MayDrop, Takes, TakesAnswer};
+    ghost use Rattle.moka_polled.specs.Polled.{AnswersGiven, AnySmall, AreEntries, is_end, IsLive, IsPolled, IsServed, IsSpent, IsTold, IsUsable, ListsStored, MayDrop, Takes, TakesAnswer};
 
     /// Builds an empty cache of this capacity, if one is given. A capacity of 0 stores nothing, and is
     /// out of scope here.
@@ -183,8 +183,11 @@ impl<K: Eq + Hash + Exact, V: Exact, E: Exact> PolledMachine<K, V, E> {
     pub fn entries(&self, alloc: Global) -> Result<EntryList<K, V>, AllocError>
         ensures entries { IfOk result (λ pairs. (m : Small K V E) → IsPolled K.eq self.now m
             → AreEntries K.eq pairs m.stored) }
+        ensures listed { IfOk result (λ pairs. (m : Small K V E) → IsPolled K.eq self.now m
+            → ListsStored K.eq pairs m.stored) }
         ensures stays { IsSpent self.now → OnOk result ⊥ }
     {
+        moka_laws::stored_under_own_keys::<K, V, E>();
         if self.spent {
             return Err(AllocError);
         }
