@@ -4,7 +4,10 @@ use Rattle.std.specs.declared.cmp.PartialEq as PartialEq
 use Rattle.std.specs.declared.hash.Hash as Hash
 use Rattle.std.specs.Option.{option_map}
 use Rattle.std.proofs.lemmas.Bool.{ltb-true}
-use Rattle.moka_hist.specs.Conditions.{MayLeave}
+use Rattle.moka_hist.specs.Conditions.{MayLeave, MayVisit}
+use Rattle.moka_hist.specs.Visits.{makes}
+use Rattle.moka_hist.specs.declared.visits.Visit.TheVariants as visit
+use Rattle.moka_desk.specs.Forgetting.{forgotten}
 use Rattle.moka_hist.specs.Dropping.{left}
 use Rattle.moka_hist.specs.Run.{last_call}
 use Rattle.moka_hist.specs.SoundDesk.{SoundDesk}
@@ -17,7 +20,7 @@ use Rattle.moka_hist.specs.declared.events.Told.{Told}
 use Rattle.moka_hist.specs.declared.events.Told.TheVariants as tells
 use Rattle.std.proofs.lemmas.Bool.{eqb-true, false≢true}
 use Rattle.std.proofs.lemmas.Option.{none-some}
-use Rattle.moka_laws.specs.Sound.{ClockKeepsSound, EnteringKeepsSound, LeavingKeepsSound, TellingKeepsSound}
+use Rattle.moka_laws.specs.Sound.{ClockKeepsSound, EnteringKeepsSound, LeavingKeepsSound, TellingKeepsSound, VisitsKeepSound}
 use Rattle.moka_laws.proofs.Counting.{put_here}
 use Rattle.moka_kept.specs.Taking.{is_of_call}
 use Rattle.moka_kept.specs.Kept.{CacheLayers, IsKept, IsToldTo}
@@ -61,6 +64,33 @@ module _ {K V E : Type 0} {same : PartialEq.Ghosts K} {hash : Hash.Ghosts K} (eq
     by : (b : Bool) → StandsFor eq desk (cond b kept.world.desk (record kept.world.desk { clock = moment })) → IsKept eq (record layers { desk = desk })
     by true stands = with_desk layers desk kept.world.desk kept stands kept.sound refl refl (omega arith)
     by false stands = with_desk layers desk (record kept.world.desk { clock = moment }) kept stands (law kept.world.desk moment kept.sound) refl refl (omega arith)
+
+  -- it is forgotten when some records were seen
+  pub kept_forgot : (layers : CacheLayers K V E same hash) (desk : Desk K V E same hash) (gone : ℕ → Bool)
+      → ((w : DeskPart K V E) → StandsFor eq layers.desk w → StandsFor eq desk (forgotten gone w))
+      → IsKept eq layers → IsKept eq (record layers { desk = desk })
+  kept_forgot layers desk gone makes kept =
+      let sound = kept.sound in
+      with_desk layers desk (forgotten gone kept.world.desk) kept (makes kept.world.desk kept.stands.desk)
+      (record {
+        once = sound.once;
+        held_apart = sound.held_apart;
+        one_holder = sound.one_holder;
+        one_owner = sound.one_owner;
+        owns = sound.owns;
+        owned = sound.owned;
+        one_locker = sound.one_locker;
+        locks = sound.locks;
+        locked = sound.locked;
+      }) refl refl (omega arith)
+
+  -- all is invalidated
+  pub kept_hidden : (layers : CacheLayers K V E same hash) (desk : Desk K V E same hash) → VisitsKeepSound K V E eq
+      → ((w : DeskPart K V E) → StandsFor eq layers.desk w → MayVisit w visit.InvalidateAll → StandsFor eq desk (makes eq w visit.InvalidateAll))
+      → IsKept eq layers → IsKept eq (record layers { desk = desk })
+  kept_hidden layers desk law hides kept =
+      with_desk layers desk (makes eq kept.world.desk visit.InvalidateAll) kept (hides kept.world.desk kept.stands.desk tt)
+      (law kept.world.desk visit.InvalidateAll kept.sound tt) refl refl (omega arith)
 
   -- it is at the moment or later then
   pub clock_at : (layers : CacheLayers K V E same hash) (desk : Desk K V E same hash) (moment : ℕ)

@@ -18,22 +18,26 @@ use moka_values::Exact;
 use std::alloc::AllocError;
 use std::hash::Hash;
 
-/// Table and desk of a cache, and the calls that the last visit handed out, if it is one that does.
-/// Each access to this table decides, so no operation stays begun.
+/// Table and desk of a cache; the calls that the last visit handed out, if it is one that does; and
+/// how many calls carry a record from one hold of the lock to the next. Each access to this table
+/// decides, so no operation stays begun.
 #[derive(Drop)]
 pub(crate) struct Reach<K: Eq + Hash, V, E> {
     pub(crate) layers: Layers<K, V, E, PlainTable<K, V>, PlainCall<K, V>, InHand>,
     woken: Option<CallList>,
+    pub(crate) carried: u64,
 }
 
 impl<K: Eq + Hash + Exact, V: Exact, E: Exact> Reach<K, V, E> {
-    /// Over these layers, whose last visit handed nobody out.
+    /// Over these layers, whose last visit handed nobody out, and of which no call carries a record.
     pub(crate) fn over(layers: Layers<K, V, E, PlainTable<K, V>, PlainCall<K, V>, InHand>) -> Self
-        ensures { result.layers ≡ layers }
+        ensures layers { result.layers ≡ layers }
+        ensures carried { result.carried ≡ 0 }
     {
         Reach {
             layers,
             woken: None,
+            carried: 0,
         }
     }
 

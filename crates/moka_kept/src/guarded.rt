@@ -123,9 +123,9 @@ impl<K: Eq + Hash + Exact, V: Exact, E: Exact> Guarded<K, V, E> {
         kept.leave(flow, woken);
     }
 
-    /// Whether the table has the key, once the clock has moved on to the moment. An error comes
-    /// where memory is wanting for a copy of the key or of its record, and nothing but the clock
-    /// has changed then.
+    /// Whether the key has a record that is visible, once the clock has moved on to the moment. It
+    /// is no access to the record. An error comes where memory is wanting for a copy of the key or
+    /// of its record, and nothing but the clock has changed then.
     pub fn contains_key<R: Wait>(&self, rt: &R, key: &K, moment: u64) -> Result<bool, AllocError>
         ensures { IfOk result (λ there.
             Behind K.eq (λ (w : World K V E). (moment ≤ w.desk.clock)
@@ -134,6 +134,14 @@ impl<K: Eq + Hash + Exact, V: Exact, E: Exact> Guarded<K, V, E> {
         let mut guard = self.kept.lock(rt);
         let kept = &mut *guard;
         kept.contains_key(key, moment)
+    }
+
+    /// Moves the clock on to the moment, where that is later, and invalidates all records that were
+    /// written before the clock, in one hold of the lock. Records stay stored. It takes no memory.
+    pub fn invalidate_all<R: Wait>(&self, rt: &R, moment: u64) {
+        let mut guard = self.kept.lock(rt);
+        let kept = &mut *guard;
+        kept.invalidate_all(moment);
     }
 
     /// How many records the last turn of maintenance counted.

@@ -91,8 +91,29 @@ impl<K: Eq + Hash + Exact, V: Exact, E: Exact> Kept<K, V, E> {
     /// Makes steps of the flow, at most 32, and none that judges by a replace test whose answer
     /// isn't there. The first goes by what was brought: it takes the answer to its own ask, or
     /// judges by that of its replace test. The wakers of all that the visits hand out come to those
-    /// in `woken`; where it waits its task is parked.
+    /// in `woken`; where it waits its task is parked. Where no call carries a record on, it is
+    /// forgotten when those were seen that have left.
     pub(crate) fn go(
+        &mut self,
+        flow: &mut Flow<K, V, E>,
+        brought: Brought<V, E>,
+        cx: &mut Context<'_>,
+        woken: &mut Wakers,
+    ) -> Stop<K, V, E>
+        requires rests { Rests flow.old }
+        ensures stops { StopIs K.eq (Brings (tested_in (call_of flow.old).plan) brought)
+            flow.old result flow.new }
+        ensures armed { result ≡ Stop.Waits → IsArmed cx.new }
+        ensures kept { Keeps cx.old cx.new }
+    {
+        let carried = flow.carries();
+        let stop = self.make_steps(flow, brought, cx, woken);
+        self.reach.settle(carried, flow.carries());
+        stop
+    }
+
+    // Makes those steps.
+    fn make_steps(
         &mut self,
         flow: &mut Flow<K, V, E>,
         brought: Brought<V, E>,
@@ -212,5 +233,13 @@ impl<K: Eq + Hash + Exact, V: Exact, E: Exact> Kept<K, V, E> {
         self.parked.hand_one(flow.number(), woken);
         let handed = self.reach.leave(flow);
         self.hand_out(handed, woken);
+        self.reach.settle(flow.carries(), false);
+    }
+
+    /// Invalidates all records that were written before the clock, once that has moved on to the
+    /// moment. It takes no record out, and no memory.
+    pub(crate) fn invalidate_all(&mut self, moment: u64) {
+        self.reach.move_clock(moment);
+        self.reach.invalidate_all();
     }
 }

@@ -3,6 +3,7 @@
 #![tactic(auto)]
 
 mod brought;
+mod carrying;
 mod ground;
 mod guarded;
 mod heard;

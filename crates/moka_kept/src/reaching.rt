@@ -4,7 +4,7 @@ ghost use Rattle.std.specs.Prelude.{OnErr, OnOk, OnSome, is_some, ◌+◌};
 ghost use Rattle.std.specs.Bool.{OnFalse, OnTrue};
 ghost use Rattle.std.specs.Option.{option_map};
 ghost use Rattle.moka_hist.specs.State.{DeskPart};
-ghost use Rattle.moka_hist.specs.Visits.{is_running};
+ghost use Rattle.moka_hist.specs.Visits.{is_running, makes};
 ghost use Rattle.moka_hist.specs.Telling.{is_asked, told};
 ghost use Rattle.moka_desk.specs.Past.{AllowsAlike};
 ghost use Rattle.moka_desk.specs.StandsFor.{StandsFor};
@@ -69,6 +69,19 @@ impl<K: Eq + Hash + Exact, V: Exact, E: Exact> Reach<K, V, E> {
     {
         moka_laws::clock_keeps_sound::<K, V, E>();
         self.layers.desk.at(moment);
+    }
+
+    /// Invalidates all records that were written before the clock: no look shows one from then on.
+    /// The records stay stored.
+    pub(crate) fn invalidate_all(&mut self)
+        requires { IsKept K.eq self.old.layers }
+        ensures kept { IsKept K.eq self.new.layers }
+        ensures hides { (w : DeskPart K V E) → StandsFor K.eq self.old.layers.desk w
+            → StandsFor K.eq self.new.layers.desk (makes K.eq w Visit.InvalidateAll) }
+        ensures table { self.new.layers.table ≡ self.old.layers.table }
+    {
+        moka_laws::visits_keep_sound::<K, V, E>();
+        self.layers.desk.invalidate_all();
     }
 
     /// Gives the next call number out. Answers None where the greatest one was given out.

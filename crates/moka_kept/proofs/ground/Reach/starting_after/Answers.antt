@@ -9,7 +9,7 @@ pub returns : goal.returns
 returns g c =
     let empty = c.new.ensures.empty in
     let none = empty.peak in
-    subst (λ layers. IsKept g.K.PartialEq.eq layers) (sym c.over.ensures) (record {
+    subst (λ layers. IsKept g.K.PartialEq.eq layers) (sym c.over.ensures.layers) (record {
       world = record {
         table = empty_table g.row.K.Denot g.row.V.Denot;
         desk = record (fresh_desk g.row.K.Denot g.row.V.Denot g.row.E.Denot c.args.rules 384 (λ test key value. false)) { last = c.args.last };

@@ -6,7 +6,7 @@ use Rattle.moka_kept.specs.declared.brought.Brought.{Brought}
 use Rattle.moka_kept.specs.Stops.{StopIs, stop_after}
 use Rattle.moka_kept.specs.declared.stop.Stop.{Stop}
 use Rattle.moka_kept.proofs.Stopping.{came_here, came_to_on, came_to_weaker, left_going, stops_on, stops_weaker}
-use Rattle.moka_kept.proofs.kept.Kept.go.Goals as goal
+use Rattle.moka_kept.proofs.kept.Kept.make_steps.Goals as goal
 
 pub loop-init : goal.loop-init
 loop-init g c = record {

@@ -3,7 +3,7 @@ use Rattle.futures.specs.Task.{Keeps}
 use Rattle.moka_init.specs.FlowPlan.{call_of, tested_in}
 use Rattle.moka_kept.specs.Stops.{CameTo, GoesOnWith}
 use Rattle.moka_kept.specs.Taking.{Brings, Taken}
-use Rattle.moka_kept.proofs.kept.Kept.go.Given as goal
+use Rattle.moka_kept.proofs.kept.Kept.make_steps.Given as goal
 
 abbrev pub invariant-loop : goal.invariant-loop
 invariant-loop g l = record {
