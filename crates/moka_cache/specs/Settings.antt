@@ -1,9 +1,10 @@
 -- What a cache was built with.
-use Rattle.std.specs.Prelude.{ℕ, Bool, false, List, Option, None}
+use Rattle.std.specs.Prelude.{ℕ, Bool, false, List, Option, None, is_some}
 use Rattle.std.specs.Arc.{arc_value}
 use Rattle.std.specs.Option.{option_map}
 use Rattle.std.specs.String.{string_bytes}
 use Rattle.moka_hist.specs.declared.rules.Rules.{Rules}
+use Rattle.moka_cache.specs.declared.builder.CacheBuilder.{CacheBuilder}
 use Rattle.moka_cache.specs.declared.cache.Cache.{Cache}
 
 module _ {K V E L S : Type 0} where
@@ -22,6 +23,16 @@ module _ {K V E L S : Type 0} where
   -- what makes its hashers
   abbrev pub hasher_of : Cache K V E L S → S
   hasher_of cache = (arc_value cache.shared).hasher
+
+-- the rules that a builder is to build a cache of: what was set, and a listener if there is one
+abbrev pub rules_asked : {K V E L : Type 0} → CacheBuilder K V E L → Rules
+rules_asked builder = record {
+  max_capacity = builder.max_capacity;
+  time_to_live = builder.time_to_live;
+  time_to_idle = builder.time_to_idle;
+  listener = is_some builder.listener;
+  closures = false;
+}
 
 -- rules of this capacity, with a listener or without, and of nothing else
 abbrev pub rules_with : Option ℕ → Bool → Rules

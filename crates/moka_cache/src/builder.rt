@@ -1,21 +1,16 @@
 //! How a cache is built.
-ghost use Rattle.std.specs.Prelude.{◌≡◌, Some, None, IfOk, is_some};
+ghost use Rattle.std.specs.Prelude.{◌≡◌, Some, None, Err, IfErr, IfNone, IfOk, IfSome};
 ghost use Rattle.std.specs.Option.{option_map};
 ghost use Rattle.std.specs.String.{string_bytes};
 
 use crate::cache::{Cache, FixedSeed};
 use crate::listener::NoListener;
+use moka_hist::{BuildError, Rules};
 use moka_values::Exact;
 use std::alloc::Global;
 use std::hash::Hash;
 use std::marker::PhantomData;
-
-/// Why a cache was not built.
-#[derive(Clone, Copy, PartialEq, Eq, Debug)]
-pub enum BuildError {
-    /// Memory was wanting.
-    Memory,
-}
+use std::time::Duration;
 
 /// What a cache is built by. No setter takes memory, and of each the last call counts.
 #[derive(Drop)]
@@ -23,20 +18,26 @@ pub struct CacheBuilder<K, V, E, L = NoListener> {
     pub(crate) name: Option<String>,
     pub(crate) max_capacity: Option<u64>,
     pub(crate) initial_capacity: Option<usize>,
+    pub(crate) time_to_live: Option<Duration>,
+    pub(crate) time_to_idle: Option<Duration>,
     pub(crate) listener: Option<L>,
     types: PhantomData<(K, V, E)>,
 }
 
 impl<K, V, E, L> Default for CacheBuilder<K, V, E, L> {
     ghost is_default = { λ b. (b.name ≡ None) × (b.max_capacity ≡ None)
-        × (b.initial_capacity ≡ None) × (b.listener ≡ None) };
+        × (b.initial_capacity ≡ None) × (b.time_to_live ≡ None) × (b.time_to_idle ≡ None)
+        × (b.listener ≡ None) };
 
-    /// Begins to build a cache without a name and a listener, whose capacity has no bound.
+    /// Begins to build a cache without a name and a listener, whose capacity has no bound, and whose
+    /// records don't expire.
     fn default() -> Self {
         CacheBuilder {
             name: None,
             max_capacity: None,
             initial_capacity: None,
+            time_to_live: None,
+            time_to_idle: None,
             listener: None,
             types: PhantomData,
         }
@@ -50,15 +51,18 @@ where
     E: Exact,
     L: Drop,
 {
+    ghost use Rattle.moka_hist.specs.Settings.{refusal_of};
     ghost use Rattle.moka_cache.specs.Settings.{hasher_of, listener_of, name_of, rules_of};
-    ghost use Rattle.moka_cache.specs.Settings.{rules_with};
+    ghost use Rattle.moka_cache.specs.Settings.{rules_asked};
 
     /// Begins to build a cache of this capacity: how many records it keeps. One of capacity 0
-    /// stores nothing. It has no name and no listener.
+    /// stores nothing. It has no name and no listener, and its records don't expire.
     pub fn new(max_capacity: u64) -> Self
         ensures name { result.name ≡ None }
         ensures capacity { result.max_capacity ≡ Some max_capacity }
         ensures initial { result.initial_capacity ≡ None }
+        ensures live { result.time_to_live ≡ None }
+        ensures idle { result.time_to_idle ≡ None }
         ensures listener { result.listener ≡ None }
     {
         CacheBuilder::default().max_capacity(max_capacity)
@@ -92,6 +96,27 @@ where
         built
     }
 
+    /// Sets how long after its last write a record has expired: from its last nanosecond on no look
+    /// shows it. At a time of 0 it has expired at once. An expired record stays stored until a write
+    /// takes its place or a call takes it out.
+    pub fn time_to_live(self, duration: Duration) -> Self
+        ensures { result ≡ record self { time_to_live = Some duration } }
+    {
+        let mut built = self;
+        built.time_to_live = Some(duration);
+        built
+    }
+
+    /// Sets how long after its last access a record has expired, as `time_to_live` does: its write,
+    /// and each look that shows it, is an access. `contains_key` is none.
+    pub fn time_to_idle(self, duration: Duration) -> Self
+        ensures { result ≡ record self { time_to_idle = Some duration } }
+    {
+        let mut built = self;
+        built.time_to_idle = Some(duration);
+        built
+    }
+
     /// Sets the listener, which hears of each record that a write replaces or a call takes out.
     pub fn eviction_listener(self, listener: L) -> Self
         ensures { result ≡ record self { listener = Some listener } }
@@ -108,12 +133,18 @@ where
         self.eviction_listener(listener)
     }
 
-    /// Builds the cache. `Memory` comes where memory is wanting for it.
+    /// Builds the cache. It is refused where a time is longer than 31,536,000,000 seconds, a
+    /// thousand years of 365 days, even by a nanosecond: by `TimeToLiveTooLong`, and where only the
+    /// time to idle is, by `TimeToIdleTooLong`, whatever memory there is. Else `Memory` is the only
+    /// error.
     pub fn build(self, alloc: Global) -> Result<Cache<K, V, E, L>, BuildError>
-        ensures rules { IfOk result (λ cache.
-            rules_of cache ≡ rules_with self.max_capacity (is_some self.listener)) }
+        ensures rules { IfOk result (λ cache. rules_of cache ≡ rules_asked self) }
         ensures name { IfOk result (λ cache. name_of cache ≡ option_map string_bytes self.name) }
         ensures listener { IfOk result (λ cache. listener_of cache ≡ self.listener) }
+        ensures refused { IfSome (refusal_of (rules_asked self))
+            (λ refusal. result ≡ Err refusal) }
+        ensures memory { IfNone (refusal_of (rules_asked self))
+            (IfErr result (λ e. e ≡ BuildError.Memory)) }
     {
         self.build_with_hasher(alloc, FixedSeed::new())
     }
@@ -125,22 +156,35 @@ where
         alloc: Global,
         hasher: S,
     ) -> Result<Cache<K, V, E, L, S>, BuildError>
-        ensures rules { IfOk result (λ cache.
-            rules_of cache ≡ rules_with self.max_capacity (is_some self.listener)) }
+        ensures rules { IfOk result (λ cache. rules_of cache ≡ rules_asked self) }
         ensures name { IfOk result (λ cache. name_of cache ≡ option_map string_bytes self.name) }
         ensures listener { IfOk result (λ cache. listener_of cache ≡ self.listener) }
         ensures hasher { IfOk result (λ cache. hasher_of cache ≡ hasher) }
+        ensures refused { IfSome (refusal_of (rules_asked self))
+            (λ refusal. result ≡ Err refusal) }
+        ensures memory { IfNone (refusal_of (rules_asked self))
+            (IfErr result (λ e. e ≡ BuildError.Memory)) }
     {
-        match Cache::made(
-            alloc,
-            self.name,
-            self.max_capacity,
-            self.listener,
-            hasher,
-            0,
-        ) {
+        let rules = self.rules();
+        if let Some(refusal) = rules.refusal() {
+            return Err(refusal);
+        }
+        match Cache::made(alloc, self.name, rules, self.listener, hasher, 0) {
             Ok(cache) => Ok(cache),
             Err(_) => Err(BuildError::Memory),
+        }
+    }
+
+    // The rules of the cache that is to be built.
+    fn rules(&self) -> Rules
+        ensures { result ≡ rules_asked self.now }
+    {
+        Rules {
+            max_capacity: self.max_capacity,
+            time_to_live: self.time_to_live,
+            time_to_idle: self.time_to_idle,
+            listener: self.listener.is_some(),
+            closures: false,
         }
     }
 }

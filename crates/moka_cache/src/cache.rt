@@ -1,5 +1,5 @@
 //! The cache.
-ghost use Rattle.std.specs.Prelude.{◌≡◌, Some, None, false, IfOk, is_some, map};
+ghost use Rattle.std.specs.Prelude.{◌≡◌, Some, None, false, IfOk, map};
 ghost use Rattle.std.specs.Option.{option_map};
 ghost use Rattle.std.specs.Arc.{arc_value};
 ghost use Rattle.std.specs.String.{string_bytes};
@@ -52,10 +52,13 @@ where
         Cache::starting_after(alloc, None, Some(max_capacity), 0)
     }
 
-    /// Begins to build a cache: one without a name and a listener, whose capacity has no bound.
+    /// Begins to build a cache: one without a name and a listener, whose capacity has no bound, and
+    /// whose records don't expire.
     pub fn builder() -> CacheBuilder<K, V, E, L>
         ensures name { result.name ≡ None }
         ensures capacity { result.max_capacity ≡ None }
+        ensures live { result.time_to_live ≡ None }
+        ensures idle { result.time_to_idle ≡ None }
         ensures listener { result.listener ≡ None }
     {
         CacheBuilder::default()
@@ -74,7 +77,14 @@ where
         ensures name { IfOk result (λ cache. name_of cache ≡ option_map string_bytes name) }
         ensures listener { IfOk result (λ cache. listener_of cache ≡ None) }
     {
-        Cache::made(alloc, name, max_capacity, None, FixedSeed::new(), last)
+        let rules = Rules {
+            max_capacity,
+            time_to_live: None,
+            time_to_idle: None,
+            listener: false,
+            closures: false,
+        };
+        Cache::made(alloc, name, rules, None, FixedSeed::new(), last)
     }
 }
 
@@ -87,31 +97,22 @@ where
     S: Drop,
 {
     ghost use Rattle.moka_cache.specs.Settings.{hasher_of, listener_of, name_of, rules_of};
-    ghost use Rattle.moka_cache.specs.Settings.{rules_with};
 
     /// Makes an empty cache of all this, of which this call number and those before it were given
     /// out.
     pub(crate) fn made(
         alloc: Global,
         name: Option<String>,
-        max_capacity: Option<u64>,
+        rules: Rules,
         listener: Option<L>,
         hasher: S,
         last: u64,
     ) -> Result<Self, AllocError>
-        ensures rules { IfOk result
-            (λ cache. rules_of cache ≡ rules_with max_capacity (is_some listener)) }
+        ensures rules { IfOk result (λ cache. rules_of cache ≡ rules) }
         ensures name { IfOk result (λ cache. name_of cache ≡ option_map string_bytes name) }
         ensures listener { IfOk result (λ cache. listener_of cache ≡ listener) }
         ensures hasher { IfOk result (λ cache. hasher_of cache ≡ hasher) }
     {
-        let rules = Rules {
-            max_capacity,
-            time_to_live: None,
-            time_to_idle: None,
-            listener: listener.is_some(),
-            closures: false,
-        };
         let guarded = Guarded::starting_after(alloc, rules, last)?;
         let shared = Arc::new(
             alloc,

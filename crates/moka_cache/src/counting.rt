@@ -1,4 +1,4 @@
-//! What a cache tells of its records, in one hold of the lock, and by no call.
+//! What a cache tells of its records, and what hides all, in one hold of the lock and by no call.
 ghost use Rattle.std.specs.Prelude.{◌≡◌, ◌≤◌, IfOk};
 ghost use Rattle.moka_hist.specs.State.{World};
 ghost use Rattle.moka_kept.specs.Counts.{Behind, sees};
@@ -17,9 +17,10 @@ where
     L: Drop,
     S: Drop,
 {
-    /// Whether the cache has the key at `moment`, in nanoseconds; one before the clock counts as
-    /// the clock. It is no access to the record. An error comes where memory is wanting for a copy
-    /// of the key or of its record, and nothing but the clock has changed then.
+    /// Whether a get would show a record of the key at `moment`, in nanoseconds; one before the
+    /// clock counts as the clock. It is no access to the record, so it puts off no time to idle. An
+    /// error comes where memory is wanting for a copy of the key or of its record, and nothing but
+    /// the clock has changed then.
     pub fn contains_key<R: Wait>(&self, rt: &R, key: &K, moment: u64) -> Result<bool, AllocError>
         ensures { IfOk result (λ there.
             Behind K.eq (λ (w : World K V E). (moment ≤ w.desk.clock)
@@ -27,6 +28,16 @@ where
     {
         let shared: &Shared<K, V, E, L, S> = &self.shared;
         shared.guarded.contains_key(rt, key, moment)
+    }
+
+    /// Invalidates all records that were written before `moment`, in nanoseconds; one before the
+    /// clock counts as the clock. No look shows such a record from then on; one that was written at
+    /// that very moment is spared. The records stay stored, and count, until a write takes their
+    /// place or a call takes them out. A later call hides what was written meanwhile, too. It takes
+    /// no memory and no call number, wakes nobody, and does nothing else.
+    pub fn invalidate_all<R: Wait>(&self, rt: &R, moment: u64) {
+        let shared: &Shared<K, V, E, L, S> = &self.shared;
+        shared.guarded.invalidate_all(rt, moment);
     }
 
     /// How many records the cache has, as the last turn of maintenance counted them. Writes that

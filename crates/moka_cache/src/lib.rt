@@ -40,7 +40,7 @@ mod upsert_with;
 
 pub use asked::{Asked, Nobody};
 pub use begin::{Begin, Begun};
-pub use builder::{BuildError, CacheBuilder};
+pub use builder::CacheBuilder;
 pub use by_compute::{ByCompute, ByUpsert, ComputeStage};
 pub use by_init::{ByInit, ByInitIf, ByOptionalInit, ByTryInit};
 pub use cache::{Cache, FixedSeed};
@@ -56,6 +56,7 @@ pub use insert::{Insert, ToInsert};
 pub use invalidate::{Invalidate, ToInvalidate};
 pub use key::CallKey;
 pub use listener::{Listener, NoListener};
+pub use moka_hist::BuildError;
 pub use moka_kept::ListenerEnd;
 pub use optionally_get_with::{OptionallyGetWith, ToLoadOptionally};
 pub use or_insert::{OrInsert, ToInsertEntry};

@@ -1,6 +1,6 @@
 //! Caches that are built.
 
-use moka_cache::{Cache, CacheBuilder};
+use moka_cache::{BuildError, Cache, CacheBuilder, NoListener};
 use moka_cache_runs::asks::Asked::Never;
 use moka_cache_runs::asks::{NOBODY, Told};
 use moka_cache_runs::at::Numbers;
@@ -10,7 +10,9 @@ use moka_cache_runs::calls::OfKey::{Get, Insert};
 use moka_cache_runs::replies::Reply::{Done, Value};
 use moka_cache_runs::rows::Event::Run;
 use moka_cache_runs::rows::{Row, wrong_row_on};
+use std::alloc::Global;
 use std::test::Fail;
+use std::time::Duration;
 
 #[test]
 fn a_built_cache_tells_its_policy(rt: HostRuntime) -> Result<(), Fail> {
@@ -37,5 +39,50 @@ fn a_default_cache_has_no_bound(rt: HostRuntime) -> Result<(), Fail> {
         .build(rt.alloc())?;
     assert_eq!(rt; cache.policy().max_capacity(), None);
     assert_eq!(rt; cache.name(), Some("numbers"));
+    Ok(())
+}
+
+/// A thousand years of 365 days, and so many nanoseconds.
+fn millennium_and(nanos: u32) -> Duration {
+    Duration::new(31_536_000_000, nanos)
+}
+
+/// What a cache of numbers is built by.
+type Builder = CacheBuilder<u32, u32, u32, NoListener>;
+
+/// Why no cache of these times is built, if none is.
+fn refusal(alloc: Global, builder: Builder) -> Option<BuildError> {
+    match builder.build(alloc) {
+        Ok(_) => None,
+        Err(refusal) => Some(refusal),
+    }
+}
+
+#[test]
+fn a_time_is_a_thousand_years_at_most(rt: HostRuntime) -> Result<(), Fail> {
+    let (longest, too_long) = (millennium_and(0), millennium_and(1));
+    let cache: Numbers = Cache::builder()
+        .time_to_live(longest)
+        .time_to_idle(longest)
+        .build(rt.alloc())?;
+    assert_eq!(rt; cache.policy().time_to_live(), Some(longest));
+    assert_eq!(rt; cache.policy().time_to_idle(), Some(longest));
+    let live = Builder::new(9).time_to_live(too_long);
+    assert_eq!(rt;
+        refusal(rt.alloc(), live),
+        Some(BuildError::TimeToLiveTooLong)
+    );
+    let idle = Builder::new(9).time_to_idle(too_long);
+    assert_eq!(rt;
+        refusal(rt.alloc(), idle),
+        Some(BuildError::TimeToIdleTooLong)
+    );
+    let both = Builder::new(9)
+        .time_to_idle(too_long)
+        .time_to_live(too_long);
+    assert_eq!(rt;
+        refusal(rt.alloc(), both),
+        Some(BuildError::TimeToLiveTooLong)
+    );
     Ok(())
 }

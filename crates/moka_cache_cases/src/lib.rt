@@ -4,6 +4,8 @@
 #[cfg(test)]
 mod building;
 #[cfg(test)]
+mod carrying;
+#[cfg(test)]
 mod computing;
 #[cfg(test)]
 mod counting;
@@ -12,9 +14,13 @@ mod dropping;
 #[cfg(test)]
 mod entries;
 #[cfg(test)]
+mod expiring;
+#[cfg(test)]
 mod failing;
 #[cfg(test)]
 mod finding;
+#[cfg(test)]
+mod invalidating;
 #[cfg(test)]
 mod loading;
 #[cfg(test)]

@@ -122,7 +122,7 @@ pub type Both = io::Result<(Reply, Reply)>;
 impl<R: Wait + RandomSource + AllocGlobal, L: Listener<u32, u32>> Caller<'_, R, L> {
     /// Runs the call to its end, and tells what it replied.
     pub fn run(&self, call: &Call) -> io::Result<Reply> {
-        let (reply, _) = self.make(call, Alone)?;
+        let (reply, _) = self.make(call, Alone(0))?;
         Ok(reply)
     }
 

@@ -12,11 +12,13 @@ use std::random::RandomSource;
 use std::sync::Wait;
 use std::sync::atomic::AtomicBool;
 
-/// What is done with a cache, at moment 0.
+/// What is done with a cache, at moment 0 where it has none.
 #[derive(Clone, Copy)]
 pub enum Event {
     /// A call is run to its end.
     Run(Call),
+    /// The same, at this moment.
+    RunAt(u64, Call),
     /// It is polled once, and dropped where that is pending.
     Once(Call),
     /// It is dropped as a future before it was polled.
@@ -31,6 +33,10 @@ pub enum Event {
     LetFirst(Call, Call),
     /// It is asked whether the key is there.
     Has(u32),
+    /// The same, at this moment.
+    HasAt(u64, u32),
+    /// All is invalidated, at this moment.
+    InvalidateAll(u64),
     /// It is asked how many entries there are.
     Count,
 }
@@ -85,7 +91,8 @@ fn told<R: Wait + RandomSource + AllocGlobal, L: Listener<u32, u32>>(
         asks: &first,
     };
     let (one, other) = match event {
-        Event::Run(call) => caller.make(call, Alone)?,
+        Event::Run(call) => caller.make(call, Alone(0))?,
+        Event::RunAt(moment, call) => caller.make(call, Alone(*moment))?,
         Event::Once(call) => caller.make(call, Once)?,
         Event::Unpolled(call) => caller.make(call, Unpolled::Future)?,
         Event::Cancelled(call) => caller.make(call, Unpolled::State)?,
@@ -103,7 +110,9 @@ fn told<R: Wait + RandomSource + AllocGlobal, L: Listener<u32, u32>>(
                 &Beside::of(call, other, &second, u64::MAX, first.is_let()),
             )?
         }
-        Event::Has(key) => (has(&caller, key)?, Reply::Dropped),
+        Event::Has(key) => (has(&caller, key, 0)?, Reply::Dropped),
+        Event::HasAt(moment, key) => (has(&caller, key, *moment)?, Reply::Dropped),
+        Event::InvalidateAll(moment) => (invalidate_all(&caller, *moment), Reply::Dropped),
         Event::Count => (count(&caller), Reply::Dropped),
     };
     Ok((first.told(one), second.told(other)))
@@ -176,10 +185,20 @@ where
     one.make(caller, pair.call, task)
 }
 
-// Whether the key is there.
-fn has<R: Wait, L: Listener<u32, u32>>(caller: &Caller<'_, R, L>, key: &u32) -> io::Result<Reply> {
-    let there = caller.cache.contains_key(caller.rt, key, 0)?;
+// Whether the key is there at this moment.
+fn has<R: Wait, L: Listener<u32, u32>>(
+    caller: &Caller<'_, R, L>,
+    key: &u32,
+    moment: u64,
+) -> io::Result<Reply> {
+    let there = caller.cache.contains_key(caller.rt, key, moment)?;
     Ok(Reply::Is(there))
+}
+
+// Invalidates all at this moment.
+fn invalidate_all<R: Wait, L: Listener<u32, u32>>(caller: &Caller<'_, R, L>, moment: u64) -> Reply {
+    caller.cache.invalidate_all(caller.rt, moment);
+    Reply::Done
 }
 
 // How many entries there are.

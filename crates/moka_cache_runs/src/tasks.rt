@@ -29,13 +29,13 @@ pub trait Task<R: Wait + RandomSource + AllocGlobal> {
         requires can { S.can_poll call };
 }
 
-/// The call is run to its end, at moment 0.
+/// The call is run to its end, at this moment.
 #[derive(Drop)]
-pub struct Alone;
+pub struct Alone(pub u64);
 
 impl<R: Wait + RandomSource + AllocGlobal> Task<R> for Alone {
     fn run<S: State<R, Output: Replies>>(self, rt: &R, call: S) -> io::Result<(Reply, Reply)> {
-        let answer = block_on(rt, Polled::new(rt, call, At(0)))?;
+        let answer = block_on(rt, Polled::new(rt, call, At(self.0)))?;
         Ok((reply_of(Some(answer)), Reply::Dropped))
     }
 }

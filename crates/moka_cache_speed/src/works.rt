@@ -11,12 +11,20 @@ pub(crate) enum Peer {
     Unbounded,
     /// A cache of such a capacity, with a listener.
     Heard,
+    /// A cache of such a capacity, with a time to idle that never passes.
+    Idle,
     /// Std's map under a lock.
     Map,
 }
 
 /// Each of them.
-pub(crate) const PEERS: [Peer; 4] = [Peer::Cache, Peer::Unbounded, Peer::Heard, Peer::Map];
+pub(crate) const PEERS: [Peer; 5] = [
+    Peer::Cache,
+    Peer::Unbounded,
+    Peer::Heard,
+    Peer::Idle,
+    Peer::Map,
+];
 
 impl Peer {
     /// Its word.
@@ -25,6 +33,7 @@ impl Peer {
             Peer::Cache => "cache",
             Peer::Unbounded => "unbounded",
             Peer::Heard => "heard",
+            Peer::Idle => "idle",
             Peer::Map => "map",
         }
     }

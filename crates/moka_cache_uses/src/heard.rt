@@ -2,7 +2,7 @@
 
 use crate::answers::{At, answered};
 use futures::task::{Context, Poll};
-use moka_cache::{BuildError, Cache, CacheBuilder, Listener, ListenerEnd};
+use moka_cache::{Cache, CacheBuilder, Listener, ListenerEnd};
 use moka_hist::Cause;
 use std::alloc::{AllocError, AllocGlobal, Global};
 use std::io;
@@ -29,14 +29,14 @@ impl Listener<u32, u32> for CountsLeft {
 /// A cache that a listener hears.
 type Heard<L> = Cache<u32, u32, u32, L>;
 
-/// Makes an empty cache that this listener hears.
+/// Makes an empty cache that this listener hears. No time is set, so memory alone may be wanting.
 fn heard_by<L: Listener<u32, u32>>(alloc: Global, listener: L) -> Result<Heard<L>, AllocError> {
     match CacheBuilder::new(100)
         .eviction_listener(listener)
         .build(alloc)
     {
         Ok(cache) => Ok(cache),
-        Err(BuildError::Memory) => Err(AllocError),
+        Err(_) => Err(AllocError),
     }
 }
 

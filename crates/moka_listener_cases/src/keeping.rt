@@ -52,6 +52,11 @@ impl Board {
         Ok(Arc::new(alloc, board)?)
     }
 
+    /// Lets the listener go.
+    pub(crate) fn open(&self) {
+        self.is_open.set(true);
+    }
+
     // One more record was told.
     fn note(&self, started: Started) {
         if self.started.get() == 0 {
@@ -75,7 +80,7 @@ impl Board {
 /// Leaves its notices pending until it is let go.
 #[derive(Drop)]
 pub(crate) struct KeepListener {
-    board: Arc<Board, Global>,
+    pub(crate) board: Arc<Board, Global>,
 }
 
 impl Listener<u32, u32> for KeepListener {
@@ -122,7 +127,7 @@ impl<F: Future> Future for Opens<'_, F> {
 
     fn poll(&mut self, cx: &mut Context<'_>) -> Poll<F::Output> {
         let polled = self.future.poll(cx);
-        self.board.is_open.set(true);
+        self.board.open();
         self.board
             .polls
             .set(self.board.polls.get().saturating_add(1));

@@ -4,6 +4,8 @@
 #[cfg(test)]
 mod calls;
 #[cfg(test)]
+mod expiring;
+#[cfg(test)]
 mod keeping;
 #[cfg(test)]
 mod leaving;
