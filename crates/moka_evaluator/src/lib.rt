@@ -1,0 +1,14 @@
+//! The reference evaluator of acyclic rules, and what it promises.
+//!
+//! Queries evaluate rules that build on one another, in any order of turns, and no rule is evaluated
+//! twice. The evaluator stands in `specs/`; each law is the contract of a function that does nothing.
+//! To call it is to cite the law.
+#![tactic(auto)]
+
+mod answers;
+mod rules;
+mod turns;
+
+pub use answers::{Answer, AnswerList};
+pub use rules::{Rule, RuleList};
+pub use turns::Turned;
