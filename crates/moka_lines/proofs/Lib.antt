@@ -1,0 +1,9 @@
+pub mod Numbers
+pub mod Marks
+pub mod Begins
+pub mod OneWord
+pub mod Splitting
+pub mod Parts
+pub mod InPlace
+pub mod OneReading
+pub mod Due
