@@ -6,9 +6,11 @@
 #![tactic(auto)]
 
 mod answers;
+mod frames;
 mod rules;
 mod turns;
 
 pub use answers::{Answer, AnswerList};
+pub use frames::{Frame, Operands};
 pub use rules::{Rule, RuleList};
 pub use turns::Turned;
