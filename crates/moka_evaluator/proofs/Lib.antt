@@ -1,0 +1,5 @@
+pub mod Basics
+pub mod Worths
+pub mod Stacks
+pub mod Sounding
+pub mod Calling

@@ -1,6 +1,7 @@
 -- The reference evaluator: what is known of the rules, who evaluates them, who waits, and how far
 -- each query is.
 use Rattle.std.specs.Prelude.{ℕ, zero, suc, ◌+◌, ◌==◌, not, Bool, false, cond, List, [], ◌∷◌, ◌++◌, filter, Option, Some, None, is_some}
+use Rattle.std.specs.List.{list_any}
 use Rattle.std.specs.Option.{option_map_or}
 use Rattle.moka_evaluator.specs.declared.frames.Frame.{Frame}
 use Rattle.moka_evaluator.specs.declared.rules.Rule.{Rule}
@@ -47,6 +48,10 @@ live e = numbers_to e.last (λ q. is_some (e.stack q))
 -- the query owns the rule
 abbrev pub is_owner : Evaluator → ℕ → ℕ → Bool
 is_owner e q r = option_map_or (λ o. o == q) (e.owner r) false
+
+-- the query is in the list
+abbrev pub is_in : ℕ → List ℕ → Bool
+is_in q queries = list_any (λ p. p == q) queries
 
 -- the list without the query
 abbrev pub without : ℕ → List ℕ → List ℕ

@@ -1,3 +1,4 @@
 pub mod Plain
 pub mod Evaluator
 pub mod Steps
+pub mod Sound

@@ -1,12 +1,12 @@
 -- What each call does to the reference evaluator, and what it answers.
 use Rattle.std.specs.Prelude.{ℕ, ◌+◌, ◌==◌, nat_lt, Bool, true, false, cond, ◌&&◌, List, [], ◌∷◌, ◌++◌, length, drop, Option, Some, None, is_some, slice_get}
-use Rattle.std.specs.List.{list_any}
 use Rattle.std.specs.Option.{option_map_or, option_and_then}
 use Rattle.moka_hist.specs.Finite.{put_at}
-use Rattle.moka_evaluator.specs.Evaluator.{Evaluator, Stack, is_owner, live, without}
+use Rattle.moka_evaluator.specs.Evaluator.{Evaluator, Stack, is_in, is_owner, live, without}
 use Rattle.moka_evaluator.specs.Plain.{next_operand, rule_at, value_from, with_value}
 use Rattle.moka_evaluator.specs.declared.frames.Frame.{Frame}
 use Rattle.moka_evaluator.specs.declared.frames.Operands.TheVariants.{Nothing}
+use Rattle.moka_evaluator.specs.declared.rules.Rule.{Rule}
 use Rattle.moka_evaluator.specs.declared.turns.Turned.{Turned}
 use Rattle.moka_evaluator.specs.declared.turns.Turned.TheVariants as turn
 
@@ -56,7 +56,7 @@ owns_top e q s =
 
 -- the query is in the line, at its end if it wasn't
 abbrev pub joined : List ℕ → ℕ → List ℕ
-joined line q = cond (list_any (λ p. p == q) line) line (line ++ q ∷ [])
+joined line q = cond (is_in q line) line (line ++ q ∷ [])
 
 -- it waits for the rule that its top frame seeks
 abbrev pub waits : Evaluator → ℕ → ℕ → Turned × Evaluator
@@ -82,24 +82,25 @@ with_known e r value =
     }
 
 -- the value of the rule, by the operands that were handed down
-abbrev pub worked_out : Evaluator → Frame → ℕ
-worked_out e f = option_map_or (λ rule. value_from rule f.operands) (rule_at e.rules f.rule) 0
+abbrev pub worked_out : List Rule → Frame → ℕ
+worked_out rules f = option_map_or (λ rule. value_from rule f.operands) (rule_at rules f.rule) 0
 
 -- the top frame owns its rule, and needs this operand, if any
 abbrev pub works : Evaluator → ℕ → Stack → Option ℕ → Turned × Evaluator
 works e q s None =
-    comes_off (with_known e s.top.rule (worked_out e s.top)) q (worked_out e s.top) s.below
+    let value = worked_out e.rules s.top in
+    comes_off (with_known e s.top.rule value) q value s.below
 works e q s (Some a) =
     (turn.Moved, with_stack e q (Some (record { top = seeking a; below = s.top ∷ s.below })))
 
 -- the operand that the frame needs next
-abbrev pub needs : Evaluator → Frame → Option ℕ
-needs e f = option_and_then (λ rule. next_operand rule f.operands) (rule_at e.rules f.rule)
+abbrev pub needs : List Rule → Frame → Option ℕ
+needs rules f = option_and_then (λ rule. next_operand rule f.operands) (rule_at rules f.rule)
 
 abbrev pub turned_at : Evaluator → ℕ → Option Stack → Turned × Evaluator
 turned_at e q None = (turn.NoQuery, e)
 turned_at e q (Some s) =
-    cond s.top.owns (works e q s (needs e s.top)) (seeks e q s (e.known s.top.rule))
+    cond s.top.owns (works e q s (needs e.rules s.top)) (seeks e q s (e.known s.top.rule))
 
 -- a turn of the query works on its top frame
 abbrev pub turned : Evaluator → ℕ → Turned × Evaluator

@@ -7,10 +7,12 @@
 
 mod answers;
 mod frames;
+mod laws;
 mod rules;
 mod turns;
 
 pub use answers::{Answer, AnswerList};
 pub use frames::{Frame, Operands};
+pub use laws::{calls_keep_sound, plain_values_follow};
 pub use rules::{Rule, RuleList};
 pub use turns::Turned;

@@ -1,0 +1,22 @@
+//! What holds of the evaluator.
+
+ghost use Rattle.std.specs.Prelude.{◌≡◌, Some, ℕ, List};
+ghost use Rattle.moka_evaluator.specs.Evaluator.{Evaluator, fresh};
+ghost use Rattle.moka_evaluator.specs.Sound.{IsSound};
+ghost use Rattle.moka_evaluator.specs.Steps.{asked, dropped, turned};
+ghost use Rattle.moka_evaluator.specs.Plain.{IsAcyclic, plain, rule_at, value_by};
+ghost use Rattle.moka_evaluator.specs.declared.rules.Rule.{Rule};
+
+/// The plain value of a rule follows from those of its operands, which are earlier rules.
+pub fn plain_values_follow()
+    ensures { (rules : List Rule) (r : ℕ) (rule : Rule) → IsAcyclic rules
+        → rule_at rules r ≡ Some rule → plain rules r ≡ value_by (plain rules) rule }
+{}
+
+/// An evaluator on which nothing was asked is sound, and so is one after each call.
+pub fn calls_keep_sound()
+    ensures fresh { (rules : List Rule) → IsAcyclic rules → IsSound (fresh rules) }
+    ensures asked { (e : Evaluator) (r : ℕ) → IsSound e → IsSound (asked e r).1 }
+    ensures turned { (e : Evaluator) (q : ℕ) → IsSound e → IsSound (turned e q).1 }
+    ensures dropped { (e : Evaluator) (q : ℕ) → IsSound e → IsSound (dropped e q).1 }
+{}
