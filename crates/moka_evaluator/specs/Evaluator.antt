@@ -1,6 +1,6 @@
 -- The reference evaluator: what is known of the rules, who evaluates them, who waits, and how far
 -- each query is.
-use Rattle.std.specs.Prelude.{ℕ, zero, suc, ◌+◌, ◌==◌, not, Bool, false, cond, List, [], ◌∷◌, ◌++◌, filter, Option, Some, None, is_some}
+use Rattle.std.specs.Prelude.{ℕ, zero, suc, ◌+◌, ◌==◌, not, Bool, false, cond, List, [], ◌∷◌, ◌++◌, filter, length, Option, Some, None, is_some}
 use Rattle.std.specs.List.{list_any}
 use Rattle.std.specs.Option.{option_map_or}
 use Rattle.moka_evaluator.specs.declared.frames.Frame.{Frame}
@@ -56,3 +56,7 @@ is_in q queries = list_any (λ p. p == q) queries
 -- the list without the query
 abbrev pub without : ℕ → List ℕ → List ℕ
 without q queries = filter (λ p. not (p == q)) queries
+
+-- how many rules have a known value
+abbrev pub known_in : Evaluator → ℕ
+known_in e = length (numbers_to (length e.rules) (λ r. is_some (e.known r)))
