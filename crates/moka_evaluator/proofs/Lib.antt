@@ -3,3 +3,7 @@ pub mod Worths
 pub mod Stacks
 pub mod Sounding
 pub mod Calling
+pub mod Claiming
+pub mod Counting
+pub mod Living
+pub mod Dropping

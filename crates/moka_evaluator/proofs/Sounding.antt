@@ -24,6 +24,7 @@ fresh_sound rules acyclic = record {
   owners = λ r q e. absurd (none_some e);
   waits = λ r q e. absurd (false≢true e);
   once = λ r. tt;
+  first = refl;
   numbered = λ q above. refl;
 }
 
@@ -51,6 +52,7 @@ ask_sound e sound r rule is = record {
   waits = λ x q at. let was = sound.waits x q at in
       record { stack = was.stack; is = still q was.stack was.is; rule = was.rule; seeks = was.seeks; other = was.other };
   once = sound.once;
+  first = put_there e.stack (e.last + 1) (Some (just r)) 0 (λ same. omega (arith, same)) ∙ sound.first;
   numbered = λ q above. put_there e.stack (e.last + 1) (Some (just r)) q (λ same. omega (arith, above, same)) ∙
       sound.numbered q (omega (arith, above));
 }
@@ -70,6 +72,10 @@ module _ (e : Evaluator) (sound : IsSound e) (q : ℕ) (s : Stack) (live : e.sta
   unnumbered : (t : Option Stack) (p : ℕ) → e.last < p → put_at e.stack q t p ≡ None
   unnumbered t p above = put_there e.stack q t p
       (λ same. none_some (sym (sound.numbered p above) ∙ ap e.stack (sym same) ∙ live)) ∙ sound.numbered p above
+
+  -- nor is 0
+  unfirst : (t : Option Stack) → put_at e.stack q t 0 ≡ None
+  unfirst t = put_there e.stack q t 0 (λ same. none_some (sym sound.first ∙ ap e.stack (sym same) ∙ live)) ∙ sound.first
 
   -- a query owns what it did, if the stack of this one has the frames that it had
   owns_still : (t : Stack) (x p : ℕ) → (has_frame s x ≡ true → has_frame t x ≡ true) → Owns e p x →
@@ -144,6 +150,7 @@ module _ (e : Evaluator) (sound : IsSound e) (q : ℕ) (s : Stack) (live : e.sta
           (put_holds e.owner s.top.rule (Some q) x (λ o. option_map_or (λ n. n == p) o false ≡ false)
           (λ same. differ q p (waits_elsewhere x p at)) (λ other. (sound.waits x p at).other));
       once = sound.once;
+      first = unfirst (Some (record s { top = record s.top { owns = true } }));
       numbered = unnumbered (Some (record s { top = record s.top { owns = true } }));
     }
       where
@@ -178,6 +185,7 @@ module _ (e : Evaluator) (sound : IsSound e) (q : ℕ) (s : Stack) (live : e.sta
         (λ elsewhere at. again x p (sound.waits x p at));
     once = λ x. put_holds e.line s.top.rule (joined (e.line s.top.rule) q) x IsOnce
         (λ same. once_joined q (e.line s.top.rule) (sound.once s.top.rule)) (λ elsewhere. sound.once x);
+    first = sound.first;
     numbered = sound.numbered;
   }
     where
@@ -211,6 +219,7 @@ module _ (e : Evaluator) (sound : IsSound e) (q : ℕ) (s : Stack) (live : e.sta
     waits = λ x p at. waits_still (Some pushed) x p (elsewhere x p (sound.waits x p at)) (sound.waits x p at)
         (with_stack e q (Some pushed)) (λ k. refl) (sound.waits x p at).other;
     once = sound.once;
+    first = unfirst (Some pushed);
     numbered = unnumbered (Some pushed);
   }
     where
@@ -275,6 +284,7 @@ module _ (e : Evaluator) (sound : IsSound e) (q : ℕ) (s : Stack) (live : e.sta
           (with_stack known_then q t) (λ k. refl)
           (ap (λ o. option_map_or (λ n. n == p) o false) (put_there e.owner s.top.rule None x other) ∙ was.other));
       once = λ x. put_holds e.line s.top.rule [] x IsOnce (λ same. tt) (λ other. sound.once x);
+      first = unfirst t;
       numbered = unnumbered t;
     }
       where
@@ -381,6 +391,7 @@ module _ (e : Evaluator) (sound : IsSound e) (q : ℕ) (s : Stack) (live : e.sta
         waits_still e sound q s live None x p left.1.0 (sound.waits x p left.0) after (λ k. refl) left.1.1;
     once = λ x. by_owner (λ owner line. IsOnce line) x
         (λ owned. once_drop (e.line x) (sound.once x)) (λ other. once_without q (e.line x) (sound.once x));
+    first = unfirst e sound q s live None;
     numbered = unnumbered e sound q s live None;
   }
     where

@@ -2,3 +2,4 @@ pub mod Plain
 pub mod Evaluator
 pub mod Steps
 pub mod Sound
+pub mod Claimed

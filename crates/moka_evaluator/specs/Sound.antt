@@ -75,5 +75,6 @@ pub record IsSound (e : Evaluator) : Type 0 where
   pub owners : (r q : ℕ) → e.owner r ≡ Some q → Owns e q r
   pub waits : (r q : ℕ) → is_in q (e.line r) ≡ true → WaitsFor e q r
   pub once : (r : ℕ) → IsOnce (e.line r)
-  -- live queries have numbers that were given out
+  -- live queries have numbers that were given out, from 1
+  pub first : e.stack 0 ≡ None
   pub numbered : (q : ℕ) → e.last < q → e.stack q ≡ None

@@ -38,13 +38,17 @@ asked e r =
 abbrev pub with_stack : Evaluator → ℕ → Option Stack → Evaluator
 with_stack e q stack = record e { stack = put_at e.stack q stack }
 
--- the top frame comes off: its value is the query's answer, or goes to the frame below
-abbrev pub comes_off : Evaluator → ℕ → ℕ → List Frame → Turned × Evaluator
-comes_off e q value [] = (turn.Value value, with_stack e q None)
-comes_off e q value (f ∷ below) =
+-- what a frame of this value replies that comes off, and the stack that is left on these frames: the
+-- value is the query's answer, or goes to the frame below
+abbrev pub off : List Frame → ℕ → Turned × Option Stack
+off [] value = (turn.Value value, None)
+off (f ∷ below) value =
     ( turn.Moved
-    , with_stack e q
-      (Some (record { top = record f { operands = with_value f.operands value }; below = below })) )
+    , Some (record { top = record f { operands = with_value f.operands value }; below = below }) )
+
+-- the top frame comes off
+abbrev pub comes_off : Evaluator → ℕ → ℕ → List Frame → Turned × Evaluator
+comes_off e q value below = ((off below value).0, with_stack e q (off below value).1)
 
 -- the query owns the rule that its top frame seeks
 abbrev pub owns_top : Evaluator → ℕ → Stack → Turned × Evaluator
@@ -116,10 +120,13 @@ passed e q r = cond (is_owner e q r) (slice_get (e.line r) 0) (e.owner r)
 abbrev pub line_after : Evaluator → ℕ → ℕ → List ℕ
 line_after e q r = cond (is_owner e q r) (drop 1 (e.line r)) (without q (e.line r))
 
+-- the evaluator without the query's stack, with these owners and lines
+abbrev pub let_go : Evaluator → ℕ → (ℕ → Option ℕ) → (ℕ → List ℕ) → Evaluator
+let_go e q owner line = record (with_stack e q None) { owner = owner; line = line }
+
 -- a live query is dropped
 abbrev pub dropped : Evaluator → ℕ → Bool × Evaluator
 dropped e q =
     cond (is_some (e.stack q))
-    ( true
-    , record (with_stack e q None) { owner = passed e q; line = line_after e q } )
+    (true, let_go e q (passed e q) (line_after e q))
     (false, e)

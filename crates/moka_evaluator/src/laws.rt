@@ -1,7 +1,8 @@
 //! What holds of the evaluator.
 
-ghost use Rattle.std.specs.Prelude.{◌≡◌, Some, ℕ, List};
-ghost use Rattle.moka_evaluator.specs.Evaluator.{Evaluator, fresh};
+ghost use Rattle.std.specs.Prelude.{◌≡◌, ◌≤◌, ℕ, List, length, Some};
+ghost use Rattle.moka_evaluator.specs.Claimed.{AreClaims, no_claims};
+ghost use Rattle.moka_evaluator.specs.Evaluator.{Evaluator, fresh, known_in};
 ghost use Rattle.moka_evaluator.specs.Sound.{IsSound};
 ghost use Rattle.moka_evaluator.specs.Steps.{asked, dropped, turned};
 ghost use Rattle.moka_evaluator.specs.Plain.{IsAcyclic, plain, rule_at, value_by};
@@ -19,4 +20,14 @@ pub fn calls_keep_sound()
     ensures asked { (e : Evaluator) (r : ℕ) → IsSound e → IsSound (asked e r).1 }
     ensures turned { (e : Evaluator) (q : ℕ) → IsSound e → IsSound (turned e q).1 }
     ensures dropped { (e : Evaluator) (q : ℕ) → IsSound e → IsSound (dropped e q).1 }
+{}
+
+/// An evaluator on which nothing was asked has no claims.
+pub fn claims_follow()
+    ensures fresh { (rules : List Rule) → AreClaims (fresh rules) no_claims }
+{}
+
+/// No more values are known than there are rules.
+pub fn known_are_of_rules()
+    ensures { (e : Evaluator) → known_in e ≤ length e.rules }
 {}

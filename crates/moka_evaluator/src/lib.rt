@@ -13,6 +13,6 @@ mod turns;
 
 pub use answers::{Answer, AnswerList};
 pub use frames::{Frame, Operands};
-pub use laws::{calls_keep_sound, plain_values_follow};
+pub use laws::{calls_keep_sound, claims_follow, known_are_of_rules, plain_values_follow};
 pub use rules::{Rule, RuleList};
 pub use turns::Turned;
