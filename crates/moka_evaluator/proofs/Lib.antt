@@ -7,3 +7,4 @@ pub mod Claiming
 pub mod Counting
 pub mod Living
 pub mod Dropping
+pub mod Promised

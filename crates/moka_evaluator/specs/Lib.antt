@@ -3,3 +3,4 @@ pub mod Evaluator
 pub mod Steps
 pub mod Sound
 pub mod Claimed
+pub mod Laws
