@@ -1,9 +1,9 @@
 -- What calls do to a sound evaluator.
-use Rattle.std.proofs.Common.{◌≡◌, ◌+◌, ℕ, ◌==◌, nat_lt, Bool, true, false, cond, ◌&&◌, List, [], Option, Some, None, is_some, length, refl, sym, ap, ◌∙◌, subst}
+use Rattle.std.proofs.Common.{◌≡◌, ◌+◌, ℕ, ◌==◌, nat_lt, Bool, true, false, cond, ◌&&◌, [], Option, Some, None, is_some, length, refl, sym, ◌∙◌, subst}
 use Rattle.std.proofs.lemmas.Bool.{eqb-true}
 use Rattle.moka_hist.specs.Finite.{put_at}
 use Rattle.moka_evaluator.specs.Evaluator.{Evaluator, Stack, live}
-use Rattle.moka_evaluator.specs.Plain.{plain, rule_at}
+use Rattle.moka_evaluator.specs.Plain.{rule_at}
 use Rattle.moka_evaluator.specs.Sound.{IsSound}
 use Rattle.moka_evaluator.specs.Steps.{asked, comes_off, dropped, just, line_after, most_live, needs, owns_top, passed, seeks, seeks_unknown, turned, turned_at, waits, with_known, with_stack, worked_out, works}
 use Rattle.moka_evaluator.specs.declared.rules.Rule.{Rule}

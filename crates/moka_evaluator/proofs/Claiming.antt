@@ -1,17 +1,16 @@
 -- The claims of an evaluator after each call.
-use Rattle.std.proofs.Common.{◌≡◌, ◌≢◌, ◌⊎◌, inl, inr, ◌<◌, ◌≤◌, ◌+◌, ℕ, ◌==◌, Bool, true, false, cond, ◌||◌, List, [], ◌∷◌, ◌++◌, drop, Option, Some, None, is_some, IsSome, slice_get, refl, sym, ap, ◌∙◌, subst, arith}
+use Rattle.std.proofs.Common.{◌≡◌, ◌≢◌, ◌<◌, ◌≤◌, ℕ, ◌==◌, Bool, true, false, cond, ◌||◌, List, [], ◌∷◌, ◌++◌, drop, Option, Some, None, is_some, slice_get, refl, sym, ap, ◌∙◌, subst, arith}
 use Rattle.std.proofs.lemmas.Bool.{eqb-true, eq-eqb, false≢true}
 use Rattle.std.specs.List.{list_any}
 use Rattle.std.specs.Option.{option_map, option_map_or, option_and_then}
 use Rattle.moka_hist.specs.Finite.{put_at}
-use Rattle.moka_evaluator.specs.Claimed.{AreClaims, Claimed, IsUnawaited, no_claims, sought_by}
-use Rattle.moka_evaluator.specs.Evaluator.{Evaluator, Stack, fresh, is_in, is_owner, without}
-use Rattle.moka_evaluator.specs.Plain.{with_value}
-use Rattle.moka_evaluator.specs.Sound.{IsOnce, IsSound, LieBelow}
+use Rattle.moka_evaluator.specs.Claimed.{AreClaims, Claimed, no_claims, sought_by}
+use Rattle.moka_evaluator.specs.Evaluator.{Evaluator, Stack, fresh, is_in, is_owner}
+use Rattle.moka_evaluator.specs.Sound.{IsSound, LieBelow}
 use Rattle.moka_evaluator.specs.Steps.{joined, just, needs, off, owns_top, seeking, waits, with_known, with_stack}
 use Rattle.moka_evaluator.specs.declared.frames.Frame.{Frame}
 use Rattle.moka_evaluator.specs.declared.rules.Rule.{Rule}
-use Rattle.moka_evaluator.proofs.Basics.{differ, first_in, in_joined, in_more, is_this, no_first, none_some, or_left, or_right, put_cases, put_here, put_holds, put_same, put_there, some_same, stays_in, this_is}
+use Rattle.moka_evaluator.proofs.Basics.{differ, none_some, or_right, put_cases, put_here, put_holds, put_same, put_there, some_same, this_is}
 use Rattle.moka_evaluator.proofs.Stacks.{need_less, stack_above}
 
 -- two maps with something put at one number

@@ -1,12 +1,11 @@
 -- How many numbers pass a test.
-use Rattle.std.proofs.Common.{◌≡◌, ◌≢◌, ◌<◌, ◌≤◌, ◌+◌, ℕ, zero, suc, ◌==◌, Bool, true, false, cond, List, [], ◌∷◌, ◌++◌, length, Option, Some, None, is_some, refl, sym, ap, ◌∙◌, arith, length-append, add-one, subst}
+use Rattle.std.proofs.Common.{◌≡◌, ◌≢◌, ◌<◌, ◌≤◌, ◌+◌, ℕ, zero, suc, ◌==◌, Bool, true, false, cond, List, [], ◌∷◌, ◌++◌, length, Some, refl, sym, ap, ◌∙◌, arith, length-append}
 use Rattle.std.proofs.lemmas.Bool.{eqb-true, eq-eqb, false≢true}
 use Rattle.std.proofs.lemmas.Option.{slice_get_within}
-use Rattle.moka_hist.specs.Finite.{put_at}
 use Rattle.moka_evaluator.specs.Evaluator.{numbers_to}
 use Rattle.moka_evaluator.specs.Plain.{rule_at}
 use Rattle.moka_evaluator.specs.declared.rules.Rule.{Rule}
-use Rattle.moka_evaluator.proofs.Basics.{none_some, put_holds}
+use Rattle.moka_evaluator.proofs.Basics.{none_some}
 
 pub numbers_same : (n : ℕ) (f g : ℕ → Bool) → ((k : ℕ) → k ≤ n → f k ≡ g k) → numbers_to n f ≡ numbers_to n g
 numbers_same zero f g same = refl

@@ -1,13 +1,13 @@
 -- The claims of an evaluator while a query is dropped.
-use Rattle.std.proofs.Common.{◌≡◌, ◌≢◌, ℕ, ◌==◌, Bool, true, false, cond, ◌||◌, List, [], ◌∷◌, drop, Option, Some, None, is_some, IsSome, slice_get, refl, sym, ap, ◌∙◌, subst}
-use Rattle.std.proofs.lemmas.Bool.{eqb-true, eq-eqb, false≢true}
+use Rattle.std.proofs.Common.{◌≡◌, ◌≢◌, ℕ, ◌==◌, Bool, true, false, cond, ◌||◌, List, [], ◌∷◌, drop, Option, Some, None, is_some, slice_get, refl, sym, ap, ◌∙◌}
+use Rattle.std.proofs.lemmas.Bool.{eq-eqb, false≢true}
 use Rattle.std.specs.Option.{option_map, option_map_or, option_and_then}
 use Rattle.moka_hist.specs.Finite.{put_at}
 use Rattle.moka_evaluator.specs.Claimed.{AreClaims, Claimed, IsUnawaited, sought_by}
-use Rattle.moka_evaluator.specs.Evaluator.{Evaluator, Stack, is_in, is_owner, without}
+use Rattle.moka_evaluator.specs.Evaluator.{Evaluator, Stack, is_in, without}
 use Rattle.moka_evaluator.specs.Sound.{IsSound, WaitsFor}
 use Rattle.moka_evaluator.specs.Steps.{let_go}
-use Rattle.moka_evaluator.proofs.Basics.{differ, first_in, no_first, none_some, put_cases, put_here, put_holds, put_there, some_same, stays_in, this_is}
+use Rattle.moka_evaluator.proofs.Basics.{differ, first_in, none_some, put_cases, put_here, put_holds, put_there, some_same, stays_in, this_is}
 use Rattle.moka_evaluator.proofs.Claiming.{put_both, rest_other, seeks_some}
 
 module _ (e : Evaluator) (a : Claimed) (are : AreClaims e a) (q : ℕ) where

@@ -1,19 +1,17 @@
 -- What a user of an evaluator is promised.
-use Rattle.std.proofs.Common.{◌≡◌, ◌≢◌, ◌⊎◌, inl, inr, ◌<◌, ◌≤◌, ◌+◌, ℕ, zero, suc, ◌==◌, nat_lt, Bool, true, false, cond, ◌&&◌, ◌||◌, List, [], ◌∷◌, filter, length, Option, Some, None, is_some, refl, sym, ap, ◌∙◌, subst, arith}
-use Rattle.std.proofs.lemmas.Bool.{eqb-true, eq-eqb, false≢true}
+use Rattle.std.proofs.Common.{◌≡◌, ◌<◌, ◌≤◌, ◌+◌, ℕ, suc, ◌==◌, nat_lt, Bool, true, false, cond, ◌&&◌, ◌||◌, List, [], ◌∷◌, filter, length, Option, Some, None, is_some, refl, sym, ap, ◌∙◌, arith}
+use Rattle.std.proofs.lemmas.Bool.{eqb-true, false≢true}
 use Rattle.std.specs.List.{list_any}
-use Rattle.std.specs.Option.{option_map_or}
 use Rattle.moka_hist.specs.Finite.{put_at}
-use Rattle.moka_evaluator.specs.Evaluator.{Evaluator, Stack, is_owner, live}
+use Rattle.moka_evaluator.specs.Evaluator.{Evaluator, Stack, live}
 use Rattle.moka_evaluator.specs.Laws.{AnswersArePlain, InOneFrame, KnownStays, OneEvaluates, OthersStay, RuleStays, StaysKnown, asked_for, evaluates, lowest}
 use Rattle.moka_evaluator.specs.Plain.{plain, rule_at}
-use Rattle.moka_evaluator.specs.Sound.{IsFrame, IsSound, IsStack, LieBelow}
-use Rattle.moka_evaluator.specs.Steps.{asked, comes_off, dropped, just, let_go, line_after, most_live, needs, off, owns_top, passed, seeking, seeks, seeks_unknown, turned, turned_at, waits, with_known, with_stack, worked_out, works}
+use Rattle.moka_evaluator.specs.Sound.{IsSound, IsStack, LieBelow}
+use Rattle.moka_evaluator.specs.Steps.{asked, dropped, just, let_go, line_after, most_live, needs, off, owns_top, passed, seeking, seeks, seeks_unknown, turned, turned_at, waits, worked_out, works}
 use Rattle.moka_evaluator.specs.declared.frames.Frame.{Frame}
 use Rattle.moka_evaluator.specs.declared.rules.Rule.{Rule}
-use Rattle.moka_evaluator.specs.declared.turns.Turned.{Turned}
 use Rattle.moka_evaluator.specs.declared.turns.Turned.TheVariants as turn
-use Rattle.moka_evaluator.proofs.Basics.{none_some, put_here, put_holds, put_there, some_same}
+use Rattle.moka_evaluator.proofs.Basics.{none_some, put_here, put_there, some_same}
 use Rattle.moka_evaluator.proofs.Calling.{asked_sound, dropped_sound, turned_sound}
 use Rattle.moka_evaluator.proofs.Stacks.{below_above, worked_plain}
 

@@ -1,17 +1,17 @@
 -- Evaluators stay sound.
-use Rattle.std.proofs.Common.{◌≡◌, ◌≢◌, ◌⊎◌, inl, inr, ◌<◌, ◌≤◌, ◌+◌, ℕ, ◌==◌, Bool, true, false, cond, ◌||◌, List, [], ◌∷◌, drop, Option, Some, None, slice_get, refl, sym, ap, ◌∙◌, subst, arith}
+use Rattle.std.proofs.Common.{◌≡◌, ◌≢◌, ◌⊎◌, inl, inr, ◌<◌, ◌+◌, ℕ, ◌==◌, Bool, true, false, cond, ◌||◌, List, [], ◌∷◌, drop, Option, Some, None, slice_get, refl, sym, ap, ◌∙◌, subst, arith}
 use Rattle.std.proofs.lemmas.Bool.{eqb-true, eq-eqb, false≢true}
 use Rattle.std.specs.List.{list_any}
 use Rattle.std.specs.Option.{option_map_or}
 use Rattle.moka_hist.specs.Finite.{put_at}
 use Rattle.moka_evaluator.specs.Evaluator.{Evaluator, Stack, fresh, is_in, is_owner, without}
 use Rattle.moka_evaluator.specs.Plain.{IsAcyclic, plain, rule_at, with_value}
-use Rattle.moka_evaluator.specs.Sound.{IsFrame, IsOnce, IsSound, IsStack, LieBelow, Owns, WaitsFor, has_frame}
-use Rattle.moka_evaluator.specs.Steps.{comes_off, dropped, joined, just, line_after, needs, owns_top, passed, seeking, waits, with_known, with_stack}
+use Rattle.moka_evaluator.specs.Sound.{IsOnce, IsSound, IsStack, LieBelow, Owns, WaitsFor, has_frame}
+use Rattle.moka_evaluator.specs.Steps.{comes_off, joined, just, line_after, needs, owns_top, passed, seeking, waits, with_known, with_stack}
 use Rattle.moka_evaluator.specs.declared.frames.Frame.{Frame}
 use Rattle.moka_evaluator.specs.declared.rules.Rule.{Rule}
-use Rattle.moka_evaluator.proofs.Basics.{differ, first_in, in_joined, in_rest, in_without, is_this, no_first, none_some, once_drop, once_joined, once_without, or_false, put_cases, put_here, put_holds, put_keeps, put_there, same_number, some_same, stays_in, this_is}
-use Rattle.moka_evaluator.proofs.Stacks.{below_kept, frame_handed, frame_kept, need_less, stack_kept}
+use Rattle.moka_evaluator.proofs.Basics.{differ, first_in, in_joined, in_rest, in_without, is_this, no_first, none_some, once_drop, once_joined, once_without, or_false, put_cases, put_here, put_holds, put_keeps, put_there, some_same, this_is}
+use Rattle.moka_evaluator.proofs.Stacks.{below_kept, frame_handed, need_less, stack_kept}
 use Rattle.moka_evaluator.proofs.Worths.{earlier_rule}
 
 pub fresh_sound : (rules : List Rule) → IsAcyclic rules → IsSound (fresh rules)

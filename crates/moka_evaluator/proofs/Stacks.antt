@@ -1,15 +1,14 @@
 -- Frames, and stacks of them.
-use Rattle.std.proofs.Common.{◌≡◌, ◌≢◌, ◌<◌, ◌≤◌, ℕ, ◌==◌, Bool, true, false, ◌||◌, List, [], ◌∷◌, Option, Some, None, refl, sym, ap, ◌∙◌, arith}
-use Rattle.std.proofs.lemmas.Bool.{eqb-true, eq-eqb, false≢true}
+use Rattle.std.proofs.Common.{◌≡◌, ◌<◌, ◌≤◌, ℕ, ◌==◌, Bool, true, false, ◌||◌, List, [], ◌∷◌, Option, Some, None, refl, sym, ap, ◌∙◌, arith}
+use Rattle.std.proofs.lemmas.Bool.{eqb-true, false≢true}
 use Rattle.std.specs.List.{list_any}
 use Rattle.std.specs.Option.{option_map_or, option_and_then}
 use Rattle.moka_evaluator.specs.Evaluator.{Stack}
-use Rattle.moka_evaluator.specs.Plain.{IsAcyclic, next_operand, plain, rule_at, value_by, value_from, with_value}
+use Rattle.moka_evaluator.specs.Plain.{IsAcyclic, next_operand, plain, value_from, with_value}
 use Rattle.moka_evaluator.specs.Sound.{IsFrame, IsStack, LieBelow, LiesBelow, has_frame}
 use Rattle.moka_evaluator.specs.Steps.{needs, worked_out}
 use Rattle.moka_evaluator.specs.declared.frames.Frame.{Frame}
 use Rattle.moka_evaluator.specs.declared.rules.Rule.{Rule}
-use Rattle.moka_evaluator.proofs.Basics.{or_right}
 use Rattle.moka_evaluator.proofs.Worths.{handed, needed, plain_is, worked}
 
 module _ (rules : List Rule) where

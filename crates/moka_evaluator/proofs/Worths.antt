@@ -1,14 +1,14 @@
 -- Plain values, and what follows from values that were handed down.
-use Rattle.std.proofs.Common.{◌≡◌, ◌≢◌, ◌<◌, ◌≤◌, ℕ, zero, suc, ◌+◌, ◌*◌, ◌%◌, ◌^◌, ◌==◌, min, max, Bool, true, false, cond, List, [], ◌∷◌, Option, Some, None, IfSome, IsSome, refl, sym, ap, ◌∙◌, subst, arith}
+use Rattle.std.proofs.Common.{◌≡◌, ◌≢◌, ◌<◌, ◌≤◌, ℕ, zero, suc, ◌+◌, ◌*◌, ◌%◌, ◌^◌, ◌==◌, min, max, Bool, true, false, cond, List, [], ◌∷◌, Some, None, IfSome, refl, sym, ap, ◌∙◌, subst, arith}
 use Rattle.std.proofs.lemmas.Bool.{eqb-true, eq-eqb, false≢true}
-use Rattle.std.specs.Option.{option_map_or, option_and_then}
+use Rattle.std.specs.Option.{option_map_or}
 use Rattle.moka_evaluator.specs.Plain.{BuildsOn, IsAcyclic, next_operand, plain, rule_at, value_by, value_from, values_to, with_value}
 use Rattle.moka_evaluator.specs.Sound.{AreWorth}
 use Rattle.moka_evaluator.specs.declared.frames.Operands.{Operands}
 use Rattle.moka_evaluator.specs.declared.frames.Operands.TheVariants.{Nothing, First, Both}
 use Rattle.moka_evaluator.specs.declared.rules.Rule.{Rule}
 use Rattle.moka_evaluator.specs.declared.rules.Rule.TheVariants.{Const, Add, Mul, Min, Max, If}
-use Rattle.moka_evaluator.proofs.Basics.{differ, none_some, same_number, some_same}
+use Rattle.moka_evaluator.proofs.Basics.{none_some, same_number, some_same}
 
 value_same : (f g : ℕ → ℕ) (rule : Rule) → BuildsOn (λ a. f a ≡ g a) rule → value_by f rule ≡ value_by g rule
 value_same f g (Const n) h = refl

@@ -1,6 +1,6 @@
 -- The reference evaluator: what is known of the rules, who evaluates them, who waits, and how far
 -- each query is.
-use Rattle.std.specs.Prelude.{ℕ, zero, suc, ◌+◌, ◌==◌, not, Bool, false, cond, List, [], ◌∷◌, ◌++◌, filter, length, Option, Some, None, is_some}
+use Rattle.std.specs.Prelude.{ℕ, zero, suc, ◌==◌, not, Bool, false, cond, List, [], ◌∷◌, ◌++◌, filter, length, Option, None, is_some}
 use Rattle.std.specs.List.{list_any}
 use Rattle.std.specs.Option.{option_map_or}
 use Rattle.moka_evaluator.specs.declared.frames.Frame.{Frame}

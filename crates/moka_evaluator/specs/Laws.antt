@@ -1,10 +1,10 @@
 -- What a user of an evaluator is promised.
-use Rattle.std.specs.Prelude.{◌≡◌, ◌≢◌, ◌≤◌, ℕ, ◌==◌, Bool, true, ◌&&◌, List, [], ◌∷◌, filter, length, Option, Some, None}
+use Rattle.std.specs.Prelude.{◌≡◌, ◌≢◌, ◌≤◌, ℕ, ◌==◌, Bool, true, ◌&&◌, List, [], ◌∷◌, filter, length, Some, None}
 use Rattle.std.specs.List.{list_any}
 use Rattle.moka_evaluator.specs.Evaluator.{Evaluator, Stack}
 use Rattle.moka_evaluator.specs.Plain.{plain}
 use Rattle.moka_evaluator.specs.Sound.{IsSound}
-use Rattle.moka_evaluator.specs.Steps.{asked, dropped, just, turned}
+use Rattle.moka_evaluator.specs.Steps.{asked, dropped, turned}
 use Rattle.moka_evaluator.specs.declared.frames.Frame.{Frame}
 use Rattle.moka_evaluator.specs.declared.turns.Turned.TheVariants as turn
 

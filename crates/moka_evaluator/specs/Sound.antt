@@ -1,5 +1,5 @@
 -- What holds of every evaluator that calls lead to.
-use Rattle.std.specs.Prelude.{◌≡◌, ◌≤◌, ◌<◌, ℕ, ◌==◌, Bool, true, false, List, [], ◌∷◌, Option, Some, None, IfSome}
+use Rattle.std.specs.Prelude.{◌≡◌, ◌<◌, ℕ, ◌==◌, Bool, true, false, List, [], ◌∷◌, Option, Some, None, IfSome}
 use Rattle.std.specs.List.{list_any}
 use Rattle.moka_evaluator.specs.Evaluator.{Evaluator, Stack, is_in, is_owner}
 use Rattle.moka_evaluator.specs.Plain.{IsAcyclic, next_operand, plain, rule_at}

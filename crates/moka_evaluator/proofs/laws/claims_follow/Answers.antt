@@ -1,5 +1,4 @@
 use Rattle.moka_evaluator.proofs.Claiming.{fresh_are}
-use Rattle.moka_evaluator.proofs.Dropping.{free_are}
 use Rattle.moka_evaluator.proofs.laws.claims_follow.Goals as goal
 
 pub returns : goal.returns

@@ -1,6 +1,5 @@
 use Rattle.std.proofs.Common.{length, is_some}
 use Rattle.moka_evaluator.proofs.Counting.{count_most}
-use Rattle.moka_evaluator.proofs.Living.{known_more}
 use Rattle.moka_evaluator.proofs.laws.known_are_of_rules.Goals as goal
 
 pub returns : goal.returns
