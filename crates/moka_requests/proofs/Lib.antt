@@ -1,0 +1,4 @@
+mod Begins
+mod Numbers
+pub mod Pieces
+mod Whole
