@@ -1,0 +1,10 @@
+pub mod Texts
+pub mod Folds
+pub mod Upstream
+pub mod Clients
+pub mod Reference
+pub mod Laws
+pub mod Waiting
+pub mod Standing
+pub mod Settling
+pub mod Coming

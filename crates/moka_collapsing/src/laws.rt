@@ -1,0 +1,27 @@
+//! What a user wants to know of the reference gateway.
+
+ghost use Rattle.std.specs.Prelude.{ℕ, List};
+ghost use Rattle.moka_collapsing.specs.declared.slot.Place.{Place};
+ghost use Rattle.moka_collapsing.specs.Clients.{Client};
+ghost use Rattle.moka_collapsing.specs.Laws.{IsSameInPieces, IsSentInOrder, OpensOne};
+ghost use Rattle.moka_collapsing.specs.Reference.{Reference};
+ghost use Rattle.moka_collapsing.specs.Upstream.{Upstream};
+
+/// A client is sent the replies to the requests at its front, in order, up to the first that has no
+/// answer.
+pub fn replies_go_in_order()
+    ensures { (client : Client) → IsSentInOrder client }
+{}
+
+/// A request opens an upstream request only for its own key, where that is not stored and no upstream
+/// request of it is open.
+pub fn upstream_requests_are_shared()
+    ensures { (u : Upstream) (key : ℕ) (place : Place) → OpensOne u key place }
+{}
+
+/// A client that is fed two pieces, one after the other, brings about the fetches, the bytes and the
+/// state that it brings about with one.
+pub fn pieces_make_no_difference()
+    ensures { (g : Reference) (number : ℕ) (client : Client) (front back : List ℕ)
+        → IsSameInPieces g number client front back }
+{}
