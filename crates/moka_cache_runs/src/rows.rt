@@ -17,7 +17,7 @@ use std::sync::atomic::AtomicBool;
 pub enum Event {
     /// A call is run to its end.
     Run(Call),
-    /// The same, at this moment.
+    /// A call is run to its end at this moment.
     RunAt(u64, Call),
     /// It is polled once, and dropped where that is pending.
     Once(Call),
@@ -33,7 +33,7 @@ pub enum Event {
     LetFirst(Call, Call),
     /// It is asked whether the key is there.
     Has(u32),
-    /// The same, at this moment.
+    /// It is asked whether the key is there at this moment.
     HasAt(u64, u32),
     /// All is invalidated, at this moment.
     InvalidateAll(u64),

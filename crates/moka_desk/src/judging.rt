@@ -7,6 +7,7 @@ ghost use Rattle.std.specs.Bool.{OnFalse};
 use crate::Desk;
 use moka_engine::{chosen_holds, remove_cause, upsert_cause, visible};
 use moka_hist::{Cause, Times};
+use moka_room::map_room;
 use moka_values::Exact;
 use std::alloc::AllocError;
 use std::hash::Hash;
@@ -82,6 +83,7 @@ impl<K: Eq + Hash + Exact, V: Drop, E: Drop> Desk<K, V, E> {
     {
         if self.keeps_moments() {
             let accessed = self.accessed.get(&stamp).copied().unwrap_or(modified);
+            map_room::reserve_half(&mut self.accessed, &mut self.accessed_places, 1)?;
             self.accessed
                 .insert(stamp, modified.max(accessed).max(self.clock))?;
         }

@@ -16,9 +16,11 @@ use std::collections::HashSet;
 /// The stamps of the records that applied writes made, and none of them replaced or removed; and
 /// the stamps that were replaced or removed before the write was applied that makes their record.
 /// Each goes out of these as its record comes and goes, so they hold what is stored or under way.
+/// `places` is how many stamps of standing records there was room for when that last changed.
 #[derive(Drop)]
 pub(crate) struct Records {
     pub(crate) standing: HashSet<u64>,
+    pub(crate) places: usize,
     pub(crate) early: HashSet<u64>,
 }
 
@@ -29,6 +31,7 @@ impl Records {
     {
         Records {
             standing: HashSet::new(alloc),
+            places: 0,
             early: HashSet::new(alloc),
         }
     }
@@ -57,7 +60,7 @@ impl Records {
         ensures room { OnOk result ((room ≤ hash_set.spare self.new.standing)
             × (room ≤ hash_set.spare self.new.early)) }
     {
-        set_room::reserve(&mut self.standing, room)?;
+        set_room::reserve_half(&mut self.standing, &mut self.places, room)?;
         set_room::reserve(&mut self.early, room)
     }
 

@@ -18,7 +18,7 @@ pub(crate) struct Asked<'a, K: Eq + Hash, V, S: BuildHasher> {
     pub(crate) map: &'a HashMap<K, Held<K, V>, S>,
 }
 
-/// The same, with the ticket that is spent on it, and the next one.
+/// The change of a step, with the ticket that is spent on it, and the ticket that its seat has next.
 #[derive(Drop)]
 pub(crate) struct Ticketed<'a, 'b, K: Eq + Hash, V, S: BuildHasher> {
     pub(crate) asked: &'a Asked<'b, K, V, S>,
