@@ -7,10 +7,11 @@ ghost use Rattle.moka_desk_cases.specs.Rests.{RestsOnDesk};
 use crate::desks::rules_with;
 use crate::writes::published_after;
 use moka_desk::Desk;
-use moka_hist::Write;
+use moka_hist::{Rules, Write};
 use moka_needs::Need;
 use std::alloc::{AllocError, Global};
 use std::test::Fail;
+use std::time::Duration;
 
 /// How many writes each order has, and how many orders are tried.
 const WRITES: u64 = 8;
@@ -169,6 +170,49 @@ fn a_number_is_forgotten_with_its_record_where_there_is_no_history(
     assert!(rt; in_whole?);
     let mut brief = Desk::without_history(alloc, rules_with(None), 4, 0)?;
     let in_brief = may_be_stamped(&mut brief, true);
+    drop(brief);
+    assert!(rt; in_brief?);
+    Ok(())
+}
+
+/// Rules with a time to idle of 10 nanoseconds.
+fn idle_rules() -> Rules {
+    Rules {
+        time_to_idle: Some(Duration::from_nanos(10)),
+        ..rules_with(None)
+    }
+}
+
+/// Whether a look at a record that has left counts until it is forgotten what left, and no longer.
+fn forgets_what_left(desk: &mut Desk<u32, u32, u32>) -> Result<bool, AllocError>
+    requires { RestsOnDesk desk.old [] }
+{
+    let made = Write::Upsert {
+        number: 1,
+        old: None,
+    };
+    let gone = Write::Remove { number: 2, old: 1 };
+    let _ = published_after(desk, made)?;
+    let _ = published_after(desk, gone)?;
+    let _ = desk.at(8);
+    let seen = desk.judge(false, 1, 0)?;
+    let _ = desk.at(17);
+    let shown = desk.scan(1, 0);
+    desk.forget_left();
+    Ok(seen && shown && !desk.scan(1, 0))
+}
+
+#[test]
+fn a_look_is_forgotten_with_its_record_where_there_is_no_history(
+    rt: HostRuntime,
+) -> Result<(), Fail> {
+    let alloc = rt.alloc();
+    let mut whole = Desk::new(alloc, idle_rules(), 4)?;
+    let in_whole = forgets_what_left(&mut whole);
+    drop(whole);
+    assert!(rt; !in_whole?);
+    let mut brief = Desk::without_history(alloc, idle_rules(), 4, 0)?;
+    let in_brief = forgets_what_left(&mut brief);
     drop(brief);
     assert!(rt; in_brief?);
     Ok(())
