@@ -15,7 +15,7 @@ mod words;
 
 pub use grammar::Grammar;
 pub use line_program::LineProgram;
-pub use programs::run;
+pub use programs::{MOST, is_word, read_status, run};
 pub use reading::{LineError, read_lines, texts_are_read_one_way};
 pub use status::Status;
 pub use texts::{push_line, push_number, push_words};

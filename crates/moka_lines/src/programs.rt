@@ -28,10 +28,10 @@ use moka_ends::{ReadError, Sink, Source, read_all, write_all};
 use std::alloc::Global;
 
 /// The most bytes that a source may give.
-const MOST: usize = 16_777_216;
+pub const MOST: usize = 16_777_216;
 
 /// Whether the words are this one word.
-fn is_word(words: &[String], word: &str) -> bool
+pub fn is_word(words: &[String], word: &str) -> bool
     ensures { IsTrue result ↔ IsWord word.now words.now }
 {
     match words {
@@ -41,7 +41,7 @@ fn is_word(words: &[String], word: &str) -> bool
 }
 
 /// The status after a read failed so.
-fn read_status(e: ReadError) -> Status
+pub fn read_status(e: ReadError) -> Status
     ensures { result ≡ status_of_read e }
 {
     match e {

@@ -6,9 +6,10 @@ use Rattle.moka_ends.specs.declared.reads.ReadError.TheVariants as read
 use Rattle.moka_hist.specs.declared.settings.Settings.{Settings}
 use Rattle.moka_text.specs.ScheduleText.{Says, IsFirstBad}
 use Rattle.moka_text.specs.ScheduleReading.{schedule, MayWantMemory, TextsAreRead, BadLinesAreRead}
-use Rattle.moka_run.specs.Playing.{IsAfterReading, IsDue, WritesReport, most_bytes, status_of_read}
-use Rattle.moka_run.specs.declared.status.Status.{Status}
-use Rattle.moka_run.specs.declared.status.Status.TheVariants as status
+use Rattle.moka_lines.specs.Programs.{IsAfterReading, most_bytes, status_of_read}
+use Rattle.moka_run.specs.Playing.{IsDue, WritesReport}
+use Rattle.moka_lines.specs.declared.status.Status.{Status}
+use Rattle.moka_lines.specs.declared.status.Status.TheVariants as status
 
 -- a text that both says a schedule and has a bad line is read as both
 both_ways : TextsAreRead → BadLinesAreRead → {P : Type 0} (text : List ℕ) (log : ℕ) (settings : Settings) (events : List _) (line : ℕ) → Says text log settings events → IsFirstBad text line → P

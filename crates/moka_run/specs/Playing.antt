@@ -3,10 +3,8 @@ use Rattle.std.specs.Prelude.{◌≡◌, ◌⊎◌, ℕ, ◌<◌, ◌≤◌, Lis
 use Rattle.std.specs.List.Sorted.{IsStrictlyIncreasing}
 use Rattle.std.specs.Map.{lookup, keys_of}
 use Rattle.std.specs.Option.{option_map}
-use Rattle.std.specs.String.{string_bytes}
 use Rattle.std.specs.declared.string.String.{String}
 use Rattle.std.specs.declared.alloc.Global.{Global}
-use Rattle.moka_ends.specs.Bytes.{GivesAll, Extends}
 use Rattle.moka_hist.specs.State.{State, fresh}
 use Rattle.moka_hist.specs.Places.{IsLawful}
 use Rattle.moka_hist.specs.Run.{Run, IsReached}
@@ -25,16 +23,15 @@ use Rattle.moka_machine.specs.NumberTest.{number_test}
 use Rattle.moka_machine.specs.Listed.{AreNotices, ArePlaces}
 use Rattle.moka_run.specs.Report.{Reports}
 use Rattle.moka_run.specs.declared.report.Report.{Report}
-use Rattle.moka_run.specs.declared.status.Status.{Status}
-use Rattle.moka_run.specs.declared.status.Status.TheVariants as status
-use Rattle.moka_ends.specs.declared.reads.ReadError.{ReadError}
-use Rattle.moka_ends.specs.declared.reads.ReadError.TheVariants as read
+use Rattle.moka_lines.specs.Programs.{IsWord, ReadsAll, WritesAnswer, WritesFront, Responds, BreaksOff, EndsAs, most_bytes}
+use Rattle.moka_lines.specs.declared.status.Status.{Status}
+use Rattle.moka_lines.specs.declared.status.Status.TheVariants as status
 use Rattle.moka_text.specs.declared.schedules.ScheduleError.{ScheduleError}
 use Rattle.moka_text.specs.declared.schedules.ScheduleError.TheVariants as schedule
 
 -- the words of the command line are the one word that `play` takes
 abbrev pub IsPlay : List (String Global) → Type 0
-IsPlay words = map string_bytes words ≡ codes "play" ∷ []
+IsPlay = IsWord (codes "play")
 
 -- the entries are what the map has: at each key the record that is stored there, ascending by key
 pub record ListsByKey (entries : List (ℕ × Stored ℕ)) (stored : Pairs ℕ ℕ) : Type 0 where
@@ -79,40 +76,21 @@ pub record IsReport (bytes text : List ℕ) : Type 0 where
   pub says : Says bytes log settings events
   pub report : ReportsRun settings log events text
 
--- the most bytes that a schedule may have
-abbrev pub most_bytes : ℕ
-most_bytes = 16777216
-
--- all of the source was read, and these bytes are no more than a schedule may have
-pub record ReadsAll (old : Option (List ℕ)) (bytes : List ℕ) (new : Option (List ℕ)) : Type 0 where
-  pub all : GivesAll old bytes new
-  pub fits : length bytes ≤ most_bytes
-
 -- the report of the schedule that the bytes say was written, the whole of it
-pub record WritesReport (bytes : List ℕ) (old new : Option (List ℕ)) : Type 0 where
-  pub text : List ℕ
-  pub answers : IsReport bytes text
-  pub writes : Extends old text new
+abbrev pub WritesReport : (bytes : List ℕ) (old new : Option (List ℕ)) → Type 0
+WritesReport = WritesAnswer IsReport
 
 -- some bytes off the front of that report were written, or none
-pub record WritesFront (bytes : List ℕ) (old new : Option (List ℕ)) : Type 0 where
-  pub text : List ℕ
-  pub answers : IsReport bytes text
-  pub count : ℕ
-  pub within : count ≤ length text
-  pub writes : Extends old (take count text) new
+abbrev pub WritesReportFront : (bytes : List ℕ) (old new : Option (List ℕ)) → Type 0
+WritesReportFront = WritesFront IsReport
 
 -- the source was read to its end, and the whole report of its schedule was written
-pub record Plays (left left' written written' : Option (List ℕ)) : Type 0 where
-  pub bytes : List ℕ
-  pub read : ReadsAll left bytes left'
-  pub wrote : WritesReport bytes written written'
+abbrev pub Plays : (left left' written written' : Option (List ℕ)) → Type 0
+Plays = Responds IsReport
 
 -- the source was read to its end, and the front of the report of its schedule was written
-pub record BreaksOff (left left' written written' : Option (List ℕ)) : Type 0 where
-  pub bytes : List ℕ
-  pub read : ReadsAll left bytes left'
-  pub wrote : WritesFront bytes written written'
+abbrev pub PlaysFront : (left left' written written' : Option (List ℕ)) → Type 0
+PlaysFront = BreaksOff IsReport
 
 -- the source was read to its end, and this is the first of its lines that is not in the grammar
 pub record FindsBadLine (left left' : Option (List ℕ)) (line : ℕ) : Type 0 where
@@ -126,30 +104,6 @@ SaysOrIsBad =
     (text : List ℕ) (log : ℕ) (settings : Settings) (events : List (Event ℕ ℕ ℕ)) (line : ℕ)
     → Says text log settings events → IsFirstBad text line → ⊥
 
--- how a play may end once the source was read to its end
-abbrev pub IsAfterReading : Status → Type 0
-IsAfterReading status.Done = Unit {0}
-IsAfterReading (status.BadLine line) = Unit {0}
-IsAfterReading status.WriteFault = Unit {0}
-IsAfterReading status.Memory = Unit {0}
-IsAfterReading status.BadWords = ⊥
-IsAfterReading status.TooLong = ⊥
-IsAfterReading status.ReadFault = ⊥
-
--- whatever the source gives, a play may end so: a call of its ends failed, or memory ran out
-abbrev pub IsBroken : Status → Type 0
-IsBroken status.ReadFault = Unit {0}
-IsBroken status.WriteFault = Unit {0}
-IsBroken status.Memory = Unit {0}
-IsBroken status.Done = ⊥
-IsBroken status.BadWords = ⊥
-IsBroken (status.BadLine line) = ⊥
-IsBroken status.TooLong = ⊥
-
--- the play ended as was due, or it broke off
-abbrev pub EndsAs : Status → Status → Type 0
-EndsAs due ended = (ended ≡ due) ⊎ IsBroken ended
-
 -- How a play of these bytes is due to end: too long where they are, at the first bad line where
 -- there is one, and done where they say a schedule.
 pub record IsDue (bytes : List ℕ) (ended : Status) : Type 0 where
@@ -158,12 +112,6 @@ pub record IsDue (bytes : List ℕ) (ended : Status) : Type 0 where
       → EndsAs (status.BadLine line) ended
   pub done : (log : ℕ) (settings : Settings) (events : List (Event ℕ ℕ ℕ))
       → length bytes ≤ most_bytes → Says bytes log settings events → EndsAs status.Done ended
-
--- the status after the source failed so
-abbrev pub status_of_read : ReadError → Status
-status_of_read read.TooLong = status.TooLong
-status_of_read read.Fault = status.ReadFault
-status_of_read read.Memory = status.Memory
 
 -- the status where a schedule can't be answered for this reason
 abbrev pub status_of_schedule : ScheduleError → Status

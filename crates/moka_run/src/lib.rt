@@ -8,11 +8,10 @@ mod laws;
 mod playing;
 mod report;
 mod runs;
-mod status;
 
 pub use laws::says_or_is_bad;
+pub use moka_lines::Status;
 pub use moka_machine::{Machine, NoticeList, NumberTests, PlaceList};
 pub use playing::play;
 pub use report::{Memory, ReplyList, Report};
 pub use runs::run;
-pub use status::Status;

@@ -1,39 +1,16 @@
 //! Playing a schedule: from the words of a command line, a source and a sink to a status.
-ghost use Rattle.std.specs.Prelude.{◌≡◌, ◌≢◌, ◌↔◌, ℕ, ◌<◌, ◌≤◌, IfSome, IsTrue, length};
+ghost use Rattle.std.specs.Prelude.{◌≡◌, ◌≢◌, ◌↔◌, ℕ, ◌<◌, IfSome, length};
 ghost use Rattle.moka_ends.specs.Bytes.{GivesSome, HasMoreThan};
 ghost use Rattle.moka_ends.specs.Faults.{HasRisen};
-ghost use Rattle.moka_run.specs.Playing.{IsPlay, IsAfterReading, WritesReport, WritesFront, Plays, BreaksOff, FindsBadLine, IsDue, most_bytes, status_of_read, status_of_schedule};
+ghost use Rattle.moka_lines.specs.Programs.{IsAfterReading, most_bytes};
+ghost use Rattle.moka_run.specs.Playing.{IsPlay, WritesReport, WritesReportFront, Plays, PlaysFront, FindsBadLine, IsDue, status_of_schedule};
 ghost use Rattle.moka_text.specs.ScheduleText.{IsFirstBad};
 
 use crate::answers::answer;
-use crate::status::Status;
-use moka_ends::{ReadError, Sink, Source, read_all, write_all};
+use moka_ends::{Sink, Source, read_all, write_all};
+use moka_lines::{MOST, Status, is_word, read_status};
 use moka_text::{ScheduleError, schedule_text_round_trip};
 use std::alloc::Global;
-
-/// The most bytes that a schedule may have.
-const MOST: usize = 16_777_216;
-
-/// Whether the words are those of a play.
-fn is_play(words: &[String]) -> bool
-    ensures { IsTrue result ↔ IsPlay words.now }
-{
-    match words {
-        [word] => word.as_str() == "play",
-        _ => false,
-    }
-}
-
-/// The status after a read failed so.
-fn read_status(e: ReadError) -> Status
-    ensures { result ≡ status_of_read e }
-{
-    match e {
-        ReadError::TooLong => Status::TooLong,
-        ReadError::Fault => Status::ReadFault,
-        ReadError::Memory => Status::Memory,
-    }
-}
 
 /// The status where a schedule can't be answered for this reason.
 fn schedule_status(e: ScheduleError) -> Status
@@ -52,7 +29,7 @@ fn respond<Snk: Sink>(alloc: Global, bytes: Vec<u8>, sink: &mut Snk) -> Status
         → WritesReport bytes.items (Snk.written sink.old) (Snk.written sink.new) }
     ensures bad_line { (line : ℕ) → result ≡ Status.BadLine line → IsFirstBad bytes.items line }
     ensures broken_off { result ≡ Status.WriteFault
-        → WritesFront bytes.items (Snk.written sink.old) (Snk.written sink.new) }
+        → WritesReportFront bytes.items (Snk.written sink.old) (Snk.written sink.new) }
     ensures read { IsAfterReading result }
     ensures memory { result ≡ Status.Memory → 0 < length bytes.items }
     ensures unwritten { result ≢ Status.Done → result ≢ Status.WriteFault → sink.new ≡ sink.old }
@@ -111,7 +88,7 @@ pub fn play<Src: Source, Snk: Sink>(
     ensures memory { result ≡ Status.Memory → HasMoreThan 0 (Src.left source.old) }
     ensures due { IsPlay words.now → IfSome (Src.left source.old) (λ bytes. IsDue bytes result) }
     ensures broken_off { result ≡ Status.WriteFault
-        → BreaksOff (Src.left source.old) (Src.left source.new)
+        → PlaysFront (Src.left source.old) (Src.left source.new)
         (Snk.written sink.old) (Snk.written sink.new) }
     // what stays
     ensures unread { result ≡ Status.BadWords → source.new ≡ source.old }
@@ -119,7 +96,7 @@ pub fn play<Src: Source, Snk: Sink>(
     ensures front { GivesSome (Src.left source.old) (Src.left source.new) }
 {
     schedule_text_round_trip();
-    if !is_play(words) {
+    if !is_word(words, "play") {
         return Status::BadWords;
     }
     match read_all(alloc, source, MOST) {

@@ -1,6 +1,6 @@
 -- The source was read whole, or failed; the first gives the status that its bytes are due.
 use Rattle.std.proofs.Common.{◌≤◌, length, arith}
-use Rattle.moka_run.specs.Playing.{most_bytes}
+use Rattle.moka_lines.specs.Programs.{most_bytes}
 use Rattle.moka_run.proofs.Due.{due_after_reading}
 use Rattle.moka_run.proofs.playing.play.Goals as goal
 
