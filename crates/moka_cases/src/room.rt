@@ -55,6 +55,69 @@ fn a_set_gives_places_back(rt: HostRuntime) {
     assert!(rt; matches!(gives, Ok(true)));
 }
 
+/// How often a key comes and the oldest goes.
+const ROUNDS: u64 = 300_000;
+
+/// Lets keys come and go, 1000 of them there at a time, with room for 400 more. Tells whether the
+/// map never grew for those that went, and gives its places back once few keys are left.
+fn map_stays(map: &mut HashMap<u64, u64>) -> Result<bool, AllocError> {
+    let mut places = 0;
+    for number in 0..1000 {
+        map_room::reserve_half(map, &mut places, 400)?;
+        map.insert(number, number)?;
+    }
+    let full = map.capacity();
+    for number in 1000..ROUNDS {
+        map_room::reserve_half(map, &mut places, 400)?;
+        map.insert(number, number)?;
+        let _ = map.remove(&(number - 1000));
+    }
+    let grew = map.capacity() > full;
+    for number in (ROUNDS - 1000)..(ROUNDS - STAY) {
+        let _ = map.remove(&number);
+    }
+    map_room::reserve_half(map, &mut places, 5)?;
+    Ok(!grew && map.capacity() < 200 && map.len() == 10)
+}
+
+#[test]
+fn a_map_stays_as_large_while_keys_come_and_go(rt: HostRuntime) {
+    let mut map = HashMap::new(rt.alloc());
+    let stays = map_stays(&mut map);
+    drop(map);
+    assert!(rt; matches!(stays, Ok(true)));
+}
+
+/// Lets keys come and go, 1000 of them there at a time, with room for 400 more. Tells whether the
+/// set never grew for those that went, and gives its places back once few keys are left.
+fn set_stays(set: &mut HashSet<u64>) -> Result<bool, AllocError> {
+    let mut places = 0;
+    for number in 0..1000 {
+        set_room::reserve_half(set, &mut places, 400)?;
+        set.insert(number)?;
+    }
+    let full = set.capacity();
+    for number in 1000..ROUNDS {
+        set_room::reserve_half(set, &mut places, 400)?;
+        set.insert(number)?;
+        let _ = set.remove(&(number - 1000));
+    }
+    let grew = set.capacity() > full;
+    for number in (ROUNDS - 1000)..(ROUNDS - STAY) {
+        let _ = set.remove(&number);
+    }
+    set_room::reserve_half(set, &mut places, 5)?;
+    Ok(!grew && set.capacity() < 200 && set.len() == 10)
+}
+
+#[test]
+fn a_set_stays_as_large_while_keys_come_and_go(rt: HostRuntime) {
+    let mut set = HashSet::new(rt.alloc());
+    let stays = set_stays(&mut set);
+    drop(set);
+    assert!(rt; matches!(stays, Ok(true)));
+}
+
 /// Fills the queue, which has places for all then, and takes most out of it. Tells whether few
 /// places are left, with the entries that stay.
 fn queue_gives_back(queue: &mut VecDeque<u64>) -> Result<bool, AllocError> {
