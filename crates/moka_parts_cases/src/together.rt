@@ -18,10 +18,35 @@ const THREADS: usize = 64;
 
 const KEYS: u64 = 512;
 
+/// How many of the keys one of the threads puts, where they share them.
+const SHARE: u64 = 8;
+
 #[test]
 fn threads_share_a_table_without_a_name(rt: HostRuntime) -> Result<(), Fail> {
     let table: Parts<u64, u64, Fold, Anything> = Parts::new(rt.alloc(), BuildHasherDefault::new())?;
     all_together(&rt, rt.alloc(), &table)
+}
+
+#[test]
+fn seats_of_threads_meet_at_a_table_without_a_name(rt: HostRuntime) -> Result<(), Fail> {
+    let table: Parts<u64, u64, Fold, Anything> = Parts::new(rt.alloc(), BuildHasherDefault::new())?;
+    all_meet(&rt, rt.alloc(), &table)
+}
+
+#[test]
+fn seats_of_threads_meet_at_a_named_table(rt: HostRuntime) -> Result<(), Fail> {
+    meet_on_named::<Brand, _>(&rt, rt.alloc(), OpenBook::new(BuildHasherDefault::new()))
+}
+
+fn meet_on_named<J: Naming + Send + Sync, R: Threads + Wait + Abort + Sync>(
+    rt: &R,
+    alloc: Global,
+    book: OpenBook<u64, u64, Fold>,
+) -> Result<(), Fail>
+    requires { book.0 ≡ J.book }
+{
+    let table: NamedParts<u64, u64, Fold, J, Anything> = NamedParts::new(alloc, book)?;
+    all_meet(rt, alloc, &table)
 }
 
 #[test]
@@ -104,6 +129,54 @@ fn same_keys<Q: Drop, T: SharedTable<u64, u64, Seat = Q>, R: Wait>(
         count = count.wrapping_add(u64::from(there.is_none()));
     }
     Ok(count)
+}
+
+/// Each thread puts keys of its own, and hands its seat back. One seat meets all of them, and then
+/// it finds and lists what all have put.
+fn all_meet<Q: Drop + Send, T: SharedTable<u64, u64, Seat = Q> + Sync, R>(
+    rt: &R,
+    alloc: Global,
+    table: &T,
+) -> Result<(), Fail>
+where
+    R: Threads + Wait + Abort + Sync,
+    requires { (k v : ℕ) → T.holds k v }
+{
+    let seats = thread::map_indices(
+        rt,
+        alloc,
+        THREADS,
+        &|number| seated(rt, table, number as u64),
+    )?;
+    let mut seat = table.seat();
+    for mut other in seats {
+        table.meet(&mut seat, &mut other);
+    }
+    for key in 0..KEYS {
+        assert_eq!(rt; table.look(rt, &mut seat, &key, value_of)?, Some(key));
+    }
+    let mut listed = 0u64;
+    for number in 0..table.parts() {
+        if number < 64 {
+            let keys = table.keys(rt, alloc, &mut seat, number)?;
+            listed = listed.wrapping_add(keys.len() as u64);
+        }
+    }
+    assert_eq!(rt; listed, KEYS);
+    assert_eq!(rt; table.len(rt), KEYS);
+    Ok(())
+}
+
+/// A seat, once it has put its share of the keys.
+fn seated<Q: Drop, T: SharedTable<u64, u64, Seat = Q>, R: Wait>(rt: &R, table: &T, number: u64) -> Q
+    requires { (k v : ℕ) → T.holds k v }
+{
+    let mut seat = table.seat();
+    for place in 0..SHARE {
+        let key = number.wrapping_mul(SHARE).wrapping_add(place);
+        let _ = table.put(rt, &mut seat, key, key, value_of);
+    }
+    seat
 }
 
 /// All threads put 1 at one key, many times. Each value that was put is the former one of one other
