@@ -1,8 +1,7 @@
 -- Calls that are made one after the other, on a cache that stands for what is so.
-use Rattle.std.proofs.Common.{◌≡◌, ℕ, ◌+◌, ◌-◌, ◌<◌, ◌≤◌, List, [], ◌∷◌, ◌++◌, length, length-append, get_or, take, drop, append_assoc, append-nil, Option, Some, None, IfSome, IsSome, IsErrOf, refl, sym, ap, ◌∙◌, subst, inl, inr, ◌⊎◌, true, nat_eq, arith}
+use Rattle.std.proofs.Common.{◌≡◌, ℕ, ◌+◌, ◌-◌, ◌<◌, List, [], ◌∷◌, ◌++◌, length, length-append, get_or, take, drop, append_assoc, append-nil, IsSome, IsErrOf, refl, sym, ap, ◌∙◌, subst, inl, inr, arith}
 use Rattle.std.proofs.lemmas.List.{take_more}
 use Rattle.std.specs.Prelude.{flat_map}
-use Rattle.std.specs.Set.{is_member}
 use Rattle.std.specs.declared.result.Result.TheVariants.{Ok, Err}
 use Rattle.moka_keepers.specs.declared.write.Write.{Write}
 use Rattle.moka_keepers.specs.Keeping.{Kept}
@@ -10,7 +9,7 @@ use Rattle.moka_keepers.specs.Owing.{Owes, Truth, taken_off, truth_of}
 use Rattle.moka_keepers.specs.Writes.{last_of}
 use Rattle.moka_behind.specs.declared.behind.Behind.{Behind}
 use Rattle.moka_behind.specs.Behind.{IsBehind, IsOwn}
-use Rattle.moka_behind_run.specs.Playing.{Behaves, GoesOn, IsHeld, Replies, Runs, Seen, Serves, SoFar, Standing, first, unsent}
+use Rattle.moka_behind_run.specs.Playing.{Behaves, IsHeld, Replies, Runs, Seen, Serves, SoFar, Standing, first, unsent}
 use Rattle.moka_behind_run.specs.Replies.{reply_line, unsent_line}
 use Rattle.moka_behind_run.specs.declared.calls.Call.{Call}
 use Rattle.moka_behind_run.specs.declared.replies.Reply.{Reply}

@@ -1,13 +1,13 @@
 -- What is read is spelled so, and each spelling is read.
-use Rattle.std.proofs.Common.{◌≡◌, ℕ, ◌<◌, ◌^◌, List, ◌∷◌, ◌++◌, Option, Some, None, IfSome, refl, sym, ap, ◌∙◌, subst, arith}
+use Rattle.std.proofs.Common.{◌≡◌, ℕ, ◌<◌, ◌^◌, List, ◌∷◌, ◌++◌, Some, None, IfSome, refl, sym, ap, ◌∙◌, arith}
 use Rattle.std.specs.Prelude.{codes}
 use Rattle.std.specs.Fmt.{decimal}
-use Rattle.std.specs.Option.{option_map, option_and_then}
+use Rattle.std.specs.Option.{option_and_then}
 use Rattle.std.specs.Str.{bytes_eq}
 use Rattle.std.proofs.lemmas.Fmt.{decimal_nonempty}
 use Rattle.std.proofs.lemmas.Option.{none-some, same_Some}
 use Rattle.std.proofs.lemmas.Slice.Eq.{bytes_eq-Decides}
-use Rattle.moka_lines.specs.Words.{after, after_byte, before_byte, u32_in}
+use Rattle.moka_lines.specs.Words.{after_byte, before_byte, u32_in}
 use Rattle.moka_lines.proofs.Parts.{bound, chosen, fronted, mapped, number_is, rejoined, spaced, u32_some, weaker}
 use Rattle.moka_behind_run.specs.Calls.{Fits, call_line}
 use Rattle.moka_behind_run.specs.Reading.{alone, line_of, pair_of}

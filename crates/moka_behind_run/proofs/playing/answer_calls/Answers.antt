@@ -1,5 +1,5 @@
 -- Each round makes the next call on what the cache stands for.
-use Rattle.std.proofs.Common.{◌≡◌, ◌<◌, ◌≤◌, List, length, take, subst, refl, sym, arith}
+use Rattle.std.proofs.Common.{◌<◌, ◌≤◌, List, length, subst, arith}
 use Rattle.std.proofs.lemmas.List.{take_all}
 use Rattle.moka_behind_run.specs.declared.calls.Call.{Call}
 use Rattle.moka_behind_run.specs.Playing.{SoFar}

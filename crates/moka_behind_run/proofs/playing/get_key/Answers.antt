@@ -1,8 +1,7 @@
 -- A look tells the truth, or the keeper failed.
-use Rattle.std.proofs.Common.{◌≡◌, ℕ, Option, refl, sym}
+use Rattle.std.proofs.Common.{ℕ, Option, refl}
 use Rattle.moka_behind.specs.declared.behind_error.BehindError.TheVariants.{Fault}
 use Rattle.moka_behind_run.proofs.Serving.{err_is, ok_no_err, own, same_seen}
-use Rattle.moka_behind_run.specs.Playing.{unsent}
 use Rattle.moka_behind.specs.Stored.{keys_found}
 use Rattle.moka_behind_run.proofs.playing.get_key.Goals as goal
 
