@@ -155,7 +155,7 @@ module _ (e : Evaluator) (sound : IsSound e) (a : Claimed) (are : AreClaims e a)
             let stack = sound.stacks q s live in
             let less : x < s.top.rule = (need_less e.rules sound.acyclic e.owner q s.top stack.top x need).1 in
             let more : s.top.rule ≤ x = stack_above e.rules sound.acyclic e.owner q s stack x
-                (ap (λ u. list_any (λ f. f.rule == x) (u.top ∷ u.below)) (some_same (sym live ∙ own.is)) ∙ own.frame) in
+            (ap (λ u. list_any (λ f. f.rule == x) (u.top ∷ u.below)) (some_same (sym live ∙ own.is)) ∙ own.frame) in
             omega (arith, less, more))
 
     -- queries seek what they did where the owners of rules are the same for them

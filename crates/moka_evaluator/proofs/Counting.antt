@@ -52,7 +52,7 @@ count_more (suc n) f g q positive le fails passes others =
         let g_last = last true g (ap g (sym same) ∙ passes) in
         let f_last = last false f (ap f (sym same) ∙ fails) in
         let equal : length (numbers_to n f) ≡ length (numbers_to n g) =
-            ap length (numbers_same n f g (λ k low. others k (λ is. beyond same k low is))) in
+        ap length (numbers_same n f g (λ k low. others k (λ is. beyond same k low is))) in
         g_last ∙ sum_so (length (numbers_to n g)) (length (numbers_to n f)) (length (numbers_to (suc n) f)) equal f_last
       where
         beyond : q ≡ suc n → (k : ℕ) → k ≤ n → q ≡ k → ⊥

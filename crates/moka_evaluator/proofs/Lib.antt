@@ -8,3 +8,5 @@ pub mod Counting
 pub mod Living
 pub mod Dropping
 pub mod Promised
+pub mod Finishing
+pub mod Answering

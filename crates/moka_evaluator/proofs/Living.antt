@@ -17,7 +17,7 @@ module _ (e : Evaluator) (sound : IsSound e) (q : ℕ) (s : Stack) (lives : e.st
       (λ k. put_holds e.stack q (Some t) k (λ x. is_some x ≡ is_some (e.stack k))
       (λ same. ap is_some (sym lives ∙ ap e.stack same)) (λ other. refl))
 
-  its_number : (0 < q) × (q ≤ e.last)
+  pub its_number : (0 < q) × (q ≤ e.last)
   its_number = (positive q lives, within (nat_lt e.last q) refl)
     where
       positive : (k : ℕ) → e.stack k ≡ Some s → 0 < k

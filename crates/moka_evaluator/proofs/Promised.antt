@@ -251,7 +251,7 @@ module _ (e : Evaluator) (sound : IsSound e) (q r : ℕ) where
           length (cond b (f ∷ filter (λ f. f.rule == r) fs) (filter (λ f. f.rule == r) fs)) ≤ 1
       by rest true here =
           let none : length (filter (λ f. f.rule == r) fs) ≡ 0 =
-              none_filtered r fs (others (eqb-true f.rule r here) (list_any (λ g. g.rule == r) fs) refl) in
+          none_filtered r fs (others (eqb-true f.rule r here) (list_any (λ g. g.rule == r) fs) refl) in
           one_more (length (filter (λ f. f.rule == r) fs)) none
         where
           one_more : (n : ℕ) → n ≡ 0 → suc n ≤ 1

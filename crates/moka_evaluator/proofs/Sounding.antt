@@ -295,7 +295,7 @@ module _ (e : Evaluator) (sound : IsSound e) (q : ℕ) (s : Stack) (live : e.sta
             by true same =
                 let here : q ≡ p = eqb-true q p same in
                 let had : has_frame s x ≡ true =
-                    ap (λ u. has_frame u x) (some_same (sym live ∙ ap e.stack here ∙ owns.is)) ∙ owns.frame in
+                ap (λ u. has_frame u x) (some_same (sym live ∙ ap e.stack here ∙ owns.is)) ∙ owns.frame in
                 let found = frames x other (or_false (s.top.rule == x) (list_any (λ f. f.rule == x) s.below) had (differ s.top.rule x other)) in
                 record {
                   stack = found.0;
@@ -383,7 +383,7 @@ module _ (e : Evaluator) (sound : IsSound e) (q : ℕ) (s : Stack) (live : e.sta
         record { stack = was.stack; is = still p was.stack (not_it x p other at) was.is; frame = was.frame });
     waits = λ x p at.
         let left = by_owner (λ owner line. is_in p line ≡ true →
-            (is_in p (e.line x) ≡ true) × ((q ≢ p) × (option_map_or (λ n. n == p) owner false ≡ false))) x
+        (is_in p (e.line x) ≡ true) × ((q ≢ p) × (option_map_or (λ n. n == p) owner false ≡ false))) x
         (λ owned at. let rest = in_rest p (e.line x) (sound.once x) at in
         (rest.0, (first_other x p owned rest.0, is_not (slice_get (e.line x) 0) p rest.1)))
         (λ other at. let rest = in_without p q (e.line x) at in

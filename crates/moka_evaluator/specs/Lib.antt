@@ -4,3 +4,4 @@ pub mod Steps
 pub mod Sound
 pub mod Claimed
 pub mod Laws
+pub mod Finishing

@@ -27,9 +27,10 @@ just r = record { top = seeking r; below = [] }
 -- the next number, where there is such a rule and room for a query: it has one frame, which seeks
 abbrev pub asked : Evaluator → ℕ → Option ℕ × Evaluator
 asked e r =
-    cond (is_some (rule_at e.rules r) && nat_lt (length (live e)) most_live)
-    ( Some (e.last + 1)
-    , record e { stack = put_at e.stack (e.last + 1) (Some (just r)); last = e.last + 1 })
+    cond (is_some (rule_at e.rules r) && nat_lt (length (live e)) most_live) (
+      Some (e.last + 1),
+      record e { stack = put_at e.stack (e.last + 1) (Some (just r)); last = e.last + 1 },
+    )
     (None, e)
 
 -- ---- turns
@@ -42,9 +43,10 @@ with_stack e q stack = record e { stack = put_at e.stack q stack }
 -- value is the query's answer, or goes to the frame below
 abbrev pub off : List Frame → ℕ → Turned × Option Stack
 off [] value = (turn.Value value, None)
-off (f ∷ below) value =
-    ( turn.Moved
-    , Some (record { top = record f { operands = with_value f.operands value }; below = below }) )
+off (f ∷ below) value = (
+  turn.Moved,
+  Some (record { top = record f { operands = with_value f.operands value }; below = below }),
+)
 
 -- the top frame comes off
 abbrev pub comes_off : Evaluator → ℕ → ℕ → List Frame → Turned × Evaluator
@@ -52,11 +54,12 @@ comes_off e q value below = ((off below value).0, with_stack e q (off below valu
 
 -- the query owns the rule that its top frame seeks
 abbrev pub owns_top : Evaluator → ℕ → Stack → Turned × Evaluator
-owns_top e q s =
-    ( turn.Moved
-    , record (with_stack e q (Some (record s { top = record s.top { owns = true } }))) {
-        owner = put_at e.owner s.top.rule (Some q);
-      } )
+owns_top e q s = (
+  turn.Moved,
+  record (with_stack e q (Some (record s { top = record s.top { owns = true } }))) {
+    owner = put_at e.owner s.top.rule (Some q);
+  },
+)
 
 -- the query is in the line, at its end if it wasn't
 abbrev pub joined : List ℕ → ℕ → List ℕ

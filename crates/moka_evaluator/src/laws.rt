@@ -1,8 +1,9 @@
 //! What holds of the evaluator.
 
-ghost use Rattle.std.specs.Prelude.{◌≡◌, ◌≤◌, ℕ, List, length, Some};
+ghost use Rattle.std.specs.Prelude.{◌≡◌, ◌≤◌, ◌<◌, ◌⊎◌, ℕ, List, [], length, Some};
 ghost use Rattle.moka_evaluator.specs.Claimed.{AreClaims, no_claims};
-ghost use Rattle.moka_evaluator.specs.Evaluator.{Evaluator, fresh, known_in};
+ghost use Rattle.moka_evaluator.specs.Evaluator.{Evaluator, fresh, known_in, live};
+ghost use Rattle.moka_evaluator.specs.Finishing.{after_round, finished, moves_left, round};
 ghost use Rattle.moka_evaluator.specs.Sound.{IsSound};
 ghost use Rattle.moka_evaluator.specs.Steps.{asked, dropped, turned};
 ghost use Rattle.moka_evaluator.specs.Plain.{IsAcyclic, plain, rule_at, value_by};
@@ -30,4 +31,15 @@ pub fn claims_follow()
 /// No more values are known than there are rules.
 pub fn known_are_of_rules()
     ensures { (e : Evaluator) → known_in e ≤ length e.rules }
+{}
+
+/// All live queries take turns, round after round, until none is live: each round moves some query, and
+/// the moves that are left get fewer.
+pub fn finish_ends()
+    ensures ends { (e : Evaluator) → IsSound e → live (finished e).1 ≡ [] }
+    ensures sound { (e : Evaluator) → IsSound e → IsSound (finished e).1 }
+    ensures none { (e : Evaluator) → live e ≡ [] → finished e ≡ ([], e) }
+    ensures on { (e : Evaluator) → IsSound e → finished e ≡ after_round e }
+    ensures moves { (e : Evaluator) → IsSound e
+        → (live e ≡ []) ⊎ (moves_left (round e).1 < moves_left e) }
 {}

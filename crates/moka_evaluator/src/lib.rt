@@ -14,7 +14,9 @@ mod turns;
 
 pub use answers::{Answer, AnswerList};
 pub use frames::{Frame, Operands};
-pub use laws::{calls_keep_sound, claims_follow, known_are_of_rules, plain_values_follow};
+pub use laws::{
+    calls_keep_sound, claims_follow, finish_ends, known_are_of_rules, plain_values_follow,
+};
 pub use promises::{answers_are_plain, known_stays, one_evaluates_each};
 pub use rules::{Rule, RuleList};
 pub use turns::Turned;
