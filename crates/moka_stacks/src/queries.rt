@@ -1,8 +1,9 @@
 //! The stacks of the live queries.
-ghost use Rattle.std.specs.Prelude.{◌≡◌, ℕ, ◌+◌, ◌∷◌, true, cond, Some, None, is_some, IsSome, OnOk};
+ghost use Rattle.std.specs.Prelude.{◌≡◌, ◌<◌, ◌≤◌, ℕ, ◌+◌, ◌∷◌, true, cond, Some, None, is_some, IsSome, IfOk, OnOk};
+ghost use Rattle.std.specs.HashMap.{keys};
 ghost use Rattle.std.specs.Option.{option_map};
 ghost use Rattle.moka_hist.specs.Finite.{put_at};
-ghost use Rattle.moka_evaluator.specs.Evaluator.{Stack};
+ghost use Rattle.moka_evaluator.specs.Evaluator.{Stack, numbers_to};
 ghost use Rattle.moka_evaluator.specs.declared.turns.Turned.TheVariants as turn;
 ghost use Rattle.moka_evaluator.specs.Steps.{just, off, seeking};
 ghost use Rattle.moka_stacks.specs.Queries.{count_of, kept_if, stack_at, stack_of};
@@ -74,6 +75,17 @@ fn seek(rule: u32) -> Frame
     }
 }
 
+// The numbers under which queries are kept, in any order.
+fn keys_of(alloc: Global, map: &HashMap<u64, Query>) -> Result<Vec<u64>, AllocError>
+    ensures { IfOk result (λ numbers. numbers.items ≡ keys map.now) }
+{
+    let mut numbers = Vec::with_capacity(alloc, map.len())?;
+    for number in map.keys() {
+        numbers.push(*number)?;
+    }
+    Ok(numbers)
+}
+
 /// The stacks of the live queries.
 #[derive(Drop)]
 pub struct Queries {
@@ -98,6 +110,18 @@ impl Queries {
         ensures { result ≡ count_of self.now }
     {
         self.map.len()
+    }
+
+    /// Lists the numbers of the live queries, in order.
+    pub fn numbers(&self) -> Result<Vec<u64>, AllocError>
+        ensures { IfOk result (λ numbers. (last : ℕ)
+            → ((q : ℕ) → IsSome (stack_at self.now q) → (0 < q) × (q ≤ last))
+            → numbers.items ≡ numbers_to last (λ q. is_some (stack_at self.now q))) }
+    {
+        let mut numbers = keys_of(self.alloc, &self.map)?;
+        numbers.sort_unstable();
+        numbers.dedup();
+        Ok(numbers)
     }
 
     /// The top frame of the query, if that is live.
@@ -136,7 +160,7 @@ impl Queries {
     pub fn seek(&mut self, query: u64, rule: u32) -> Result<(), AllocError>
         ensures stacks { OnOk result ((s : Stack) → stack_at self.old query ≡ Some s → (q : ℕ)
             → stack_at self.new q ≡ put_at (stack_at self.old) query
-                (Some (record { top = seeking rule; below = s.top ∷ s.below })) q) }
+            (Some (record { top = seeking rule; below = s.top ∷ s.below })) q) }
         ensures count { OnOk result (count_of self.new ≡ count_of self.old) }
     {
         match self.map.get_mut(&query) {
