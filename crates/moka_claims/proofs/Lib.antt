@@ -1,0 +1,4 @@
+pub mod Basics
+pub mod Fitting
+pub mod Rows
+pub mod Standing
