@@ -1,0 +1,10 @@
+pub mod Becoming
+pub mod Usable
+pub mod Dropping
+pub mod Tops
+pub mod Finishing
+pub mod Looking
+pub mod Asking
+pub mod Turning
+pub mod Letting
+pub mod Passed
