@@ -1,2 +1,4 @@
 pub mod Spelled
 pub mod Placed
+pub mod Acyclic
+pub mod Replying

@@ -4,9 +4,10 @@ use Rattle.std.specs.Bool.{Decides}
 use Rattle.std.specs.List.{AllByRecursion}
 use Rattle.std.proofs.lemmas.Bool.{leb-true, le-leb}
 use Rattle.std.proofs.lemmas.Bool.Decides.{Decides-and, Decides-ltb}
+use Rattle.moka_evaluator.specs.Plain.{BuildsOn}
 use Rattle.moka_evaluator.specs.declared.rules.Rule.{Rule}
 use Rattle.moka_evaluator.specs.declared.rules.Rule.TheVariants as rule
-use Rattle.moka_memo_run.specs.Lines.{BuildsOn, IsOneOf, IsRule, MayCome, most_rules}
+use Rattle.moka_memo_run.specs.Lines.{IsOneOf, IsRule, MayCome, most_rules}
 use Rattle.moka_memo_run.specs.Places.{HasRead, are_earlier, is_earlier, next, next_rule}
 use Rattle.moka_memo_run.specs.declared.lines.Line.{Line}
 use Rattle.moka_memo_run.specs.declared.lines.Line.TheVariants as line
@@ -19,7 +20,7 @@ earlier_Decides count a = Decides-and _ _ (Decides-ltb 0 a) (leb-true a count, l
 always : Decides true (Unit {0})
 always = (λ _. tt, λ _. refl)
 
-builds_Decides : (count : ℕ) (r : Rule) → Decides (are_earlier count r) (BuildsOn count r)
+builds_Decides : (count : ℕ) (r : Rule) → Decides (are_earlier count r) (BuildsOn (IsOneOf count) r)
 builds_Decides count (rule.Const n) = always
 builds_Decides count (rule.Add a b) = Decides-and _ _ (earlier_Decides count a) (earlier_Decides count b)
 builds_Decides count (rule.Mul a b) = Decides-and _ _ (earlier_Decides count a) (earlier_Decides count b)
@@ -29,16 +30,16 @@ builds_Decides count (rule.If a b c) =
     let d = Decides-and _ _ (Decides-and _ _ (earlier_Decides count a) (earlier_Decides count b)) (earlier_Decides count c) in
     (λ h. let e = d.0 h in (e.0.0, e.0.1, e.1), λ h. d.1 ((h.0, h.1), h.2))
 
-may_Decides : (count : ℕ) (r : Rule) → Decides (ltb count most_rules && are_earlier count r) ((count < most_rules) × BuildsOn count r)
+may_Decides : (count : ℕ) (r : Rule) → Decides (ltb count most_rules && are_earlier count r) ((count < most_rules) × BuildsOn (IsOneOf count) r)
 may_Decides count r = Decides-and _ _ (Decides-ltb count most_rules) (builds_Decides count r)
 
 -- rules, and another one
-rules_more : (before : List Line) (r : Rule) → AllByRecursion IsRule before → AllByRecursion IsRule (before ++ line.Rule r ∷ [])
+pub rules_more : (before : List Line) (r : Rule) → AllByRecursion IsRule before → AllByRecursion IsRule (before ++ line.Rule r ∷ [])
 rules_more [] r all = (tt, tt)
 rules_more (l ∷ before) r all = (all.0, rules_more before r all.1)
 
 -- not all are rules where the last is none
-not_all : (before : List Line) (l : Line) → (IsRule l → ⊥) → AllByRecursion IsRule (before ++ l ∷ []) → ⊥
+pub not_all : (before : List Line) (l : Line) → (IsRule l → ⊥) → AllByRecursion IsRule (before ++ l ∷ []) → ⊥
 not_all [] l none all = none all.0
 not_all (x ∷ before) l none all = not_all before l none all.1
 
@@ -57,7 +58,7 @@ rule_goes_on : (read : Lines) (r : Rule) (before : List Line) → HasRead read b
 rule_goes_on (lines.Rules count) r before h =
     chosen_if (GoesOn before (line.Rule r)) (ltb count most_rules && are_earlier count r) (lines.Rules (count + 1)) (λ t.
     let may = (may_Decides count r).0 t in
-    let here = subst (λ n. (n < most_rules) × BuildsOn n r) (sym h.1) may in (
+    let here = subst (λ n. (n < most_rules) × BuildsOn (IsOneOf n) r) (sym h.1) may in (
       (h.0, here.0, here.1),
       (rules_more before r h.0, count_more before (line.Rule r) count h.1),
     ))
@@ -78,7 +79,7 @@ refused_if false s e t = absurd cc
 rule_refused : (read : Lines) (r : Rule) (before : List Line) → HasRead read before → next_rule read r ≡ None → MayCome before (line.Rule r) → ⊥
 rule_refused (lines.Rules count) r before h none may =
     refused_if (ltb count most_rules && are_earlier count r) (lines.Rules (count + 1)) none
-    ((may_Decides count r).1 (subst (λ n. (n < most_rules) × BuildsOn n r) h.1 (may.1, may.2)))
+    ((may_Decides count r).1 (subst (λ n. (n < most_rules) × BuildsOn (IsOneOf n) r) h.1 (may.1, may.2)))
 rule_refused lines.Begun r before h none may = h may.0
 
 -- a line that doesn't go on may not come

@@ -2,3 +2,4 @@ pub mod Lines
 pub mod Forms
 pub mod Places
 pub mod Replies
+pub mod Playing

@@ -1,6 +1,7 @@
 -- The lines of a source: how each is spelled, and which may come after those before it.
 use Rattle.std.specs.Prelude.{ℕ, ◌^◌, ◌<◌, ◌≤◌, List, ◌∷◌, ◌++◌, length, codes, decimal}
 use Rattle.std.specs.List.{AllByRecursion}
+use Rattle.moka_evaluator.specs.Plain.{BuildsOn}
 use Rattle.moka_evaluator.specs.declared.rules.Rule.{Rule}
 use Rattle.moka_evaluator.specs.declared.rules.Rule.TheVariants as rule
 use Rattle.moka_memo_run.specs.declared.lines.Line.{Line}
@@ -47,17 +48,9 @@ LineFits (line.Turn query) = query < 2 ^ 64
 LineFits (line.Drop query) = query < 2 ^ 64
 LineFits line.Finish = Unit {0}
 
--- each operand of the rule is one of so many rules, which are numbered from 1
+-- the operand is one of so many rules, which are numbered from 1
 abbrev pub IsOneOf : ℕ → ℕ → Type 0
 IsOneOf count operand = (0 < operand) × (operand ≤ count)
-
-abbrev pub BuildsOn : ℕ → Rule → Type 0
-BuildsOn count (rule.Const n) = Unit {0}
-BuildsOn count (rule.Add a b) = IsOneOf count a × IsOneOf count b
-BuildsOn count (rule.Mul a b) = IsOneOf count a × IsOneOf count b
-BuildsOn count (rule.Min a b) = IsOneOf count a × IsOneOf count b
-BuildsOn count (rule.Max a b) = IsOneOf count a × IsOneOf count b
-BuildsOn count (rule.If a b c) = IsOneOf count a × IsOneOf count b × IsOneOf count c
 
 abbrev pub IsRule : Line → Type 0
 IsRule (line.Rule rule) = Unit {0}
@@ -74,7 +67,7 @@ most_rules = 10000
 -- always come
 abbrev pub MayCome : List Line → Line → Type 0
 MayCome before (line.Rule rule) =
-    AllByRecursion IsRule before × (length before < most_rules) × BuildsOn (length before) rule
+    AllByRecursion IsRule before × (length before < most_rules) × BuildsOn (IsOneOf (length before)) rule
 MayCome before (line.Ask rule) = Unit {0}
 MayCome before (line.Turn query) = Unit {0}
 MayCome before (line.Drop query) = Unit {0}
