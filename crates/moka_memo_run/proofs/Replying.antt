@@ -5,7 +5,7 @@ use Rattle.moka_evaluator.specs.Evaluator.{Evaluator}
 use Rattle.moka_evaluator.specs.declared.rules.Rule.{Rule}
 use Rattle.moka_memo.specs.Memo.{IsMemo}
 use Rattle.moka_memo.specs.declared.memo.Memo.{Memo}
-use Rattle.moka_memo_run.specs.Playing.{replied, replied_all, rules_in}
+use Rattle.moka_memo_run.specs.Playing.{Replies, replied, replied_all, rules_in}
 use Rattle.moka_memo_run.specs.declared.lines.Line.{Line}
 use Rattle.moka_memo_run.specs.declared.lines.Line.TheVariants as line
 
@@ -26,6 +26,11 @@ rules_more (line.Finish ∷ before) l = rules_more before l
 pub rules_next : (lines : List Line) (i : ℕ) (d : Line) → i < length lines →
     rules_in (take (i + 1) lines) ≡ rules_in (take i lines) ++ rules_of (get_or lines i d)
 rules_next lines i d less = ap rules_in (take_more lines i d less) ∙ rules_more (take i lines) (get_or lines i d)
+
+-- of the line that stands there
+pub rules_at : (lines : List Line) (i : ℕ) (x : Line) → i < length lines → x ≡ get_or lines i x →
+    rules_in (take (i + 1) lines) ≡ rules_in (take i lines) ++ rules_of x
+rules_at lines i x less is = rules_next lines i x less ∙ ap (λ l. rules_in (take i lines) ++ rules_of l) (sym is)
 
 -- ---- replies
 
@@ -56,3 +61,10 @@ next_came e text more old new lines i d less came replies =
     let reply = replies after.1 came.1 in
     subst (Came new more) (sym (ap (replied_all e) (take_more lines i d less) ∙ replied_more (take i lines) e (get_or lines i d)))
     (reply.0 ∙ ap (λ t. t ++ (replied after.1 (get_or lines i d)).0) came.0, reply.1)
+
+-- to the line that stands there
+pub came_at : (e : Evaluator) (text more : List ℕ) (old new : Memo) (lines : List Line) (i : ℕ) (x : Line) → i < length lines →
+    x ≡ get_or lines i x → Came old text (replied_all e (take i lines)) →
+    ((f : Evaluator) → IsMemo old f → Replies new text more (replied f x)) → Came new more (replied_all e (take (i + 1) lines))
+came_at e text more old new lines i x less is came replies =
+    next_came e text more old new lines i x less came (λ f stands. subst (λ l. Replies new text more (replied f l)) is (replies f stands))

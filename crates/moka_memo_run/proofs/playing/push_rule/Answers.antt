@@ -1,5 +1,5 @@
 -- A line that is no rule has none.
-use Rattle.std.proofs.Common.{◌≡◌, ◌++◌, ◌∷◌, [], sym, subst, ◌∙◌, append-nil}
+use Rattle.std.proofs.Common.{◌≡◌, ◌++◌, ◌∷◌, [], sym, subst, append-nil}
 use Rattle.moka_memo_run.specs.Playing.{rules_in}
 use Rattle.moka_memo_run.proofs.playing.push_rule.Goals as goal
 
