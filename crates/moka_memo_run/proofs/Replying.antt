@@ -27,10 +27,11 @@ pub rules_next : (lines : List Line) (i : ℕ) (d : Line) → i < length lines �
     rules_in (take (i + 1) lines) ≡ rules_in (take i lines) ++ rules_of (get_or lines i d)
 rules_next lines i d less = ap rules_in (take_more lines i d less) ∙ rules_more (take i lines) (get_or lines i d)
 
--- of the line that stands there
-pub rules_at : (lines : List Line) (i : ℕ) (x : Line) → i < length lines → x ≡ get_or lines i x →
-    rules_in (take (i + 1) lines) ≡ rules_in (take i lines) ++ rules_of x
-rules_at lines i x less is = rules_next lines i x less ∙ ap (λ l. rules_in (take i lines) ++ rules_of l) (sym is)
+-- rules that grew by those of the line that stands there
+pub rules_grow : (lines : List Line) (i : ℕ) (d : Line) (old new : List Rule) → i < length lines → old ≡ rules_in (take i lines) →
+    new ≡ old ++ rules_of (get_or lines i d) → new ≡ rules_in (take (i + 1) lines)
+rules_grow lines i d old new less was is =
+    is ∙ ap (λ rules. rules ++ rules_of (get_or lines i d)) was ∙ sym (rules_next lines i d less)
 
 -- ---- replies
 
@@ -61,10 +62,3 @@ next_came e text more old new lines i d less came replies =
     let reply = replies after.1 came.1 in
     subst (Came new more) (sym (ap (replied_all e) (take_more lines i d less) ∙ replied_more (take i lines) e (get_or lines i d)))
     (reply.0 ∙ ap (λ t. t ++ (replied after.1 (get_or lines i d)).0) came.0, reply.1)
-
--- to the line that stands there
-pub came_at : (e : Evaluator) (text more : List ℕ) (old new : Memo) (lines : List Line) (i : ℕ) (x : Line) → i < length lines →
-    x ≡ get_or lines i x → Came old text (replied_all e (take i lines)) →
-    ((f : Evaluator) → IsMemo old f → Replies new text more (replied f x)) → Came new more (replied_all e (take (i + 1) lines))
-came_at e text more old new lines i x less is came replies =
-    next_came e text more old new lines i x less came (λ f stands. subst (λ l. Replies new text more (replied f l)) is (replies f stands))

@@ -6,7 +6,7 @@ use Rattle.moka_memo.specs.Memo.{IsMemo}
 use Rattle.moka_memo_run.specs.Playing.{replied_all, rules_in}
 use Rattle.moka_memo_run.specs.Replies.{known_line}
 use Rattle.moka_memo_run.proofs.Acyclic.{acyclic}
-use Rattle.moka_memo_run.proofs.Replying.{Came, came_at}
+use Rattle.moka_memo_run.proofs.Replying.{Came, next_came}
 use Rattle.moka_memo_run.proofs.playing.reply_all.Goals as goal
 
 pub new-requires : goal.new-requires
@@ -21,8 +21,8 @@ loop-line-init c = record {
 pub loop-line-preserved : goal.loop-line-preserved
 loop-line-preserved c = record {
   usable = c.in_ok-reply.ensures.usable;
-  came = came_at (fresh (rules_in c.args.lines.now)) c.loop-line.text.items c.reply.new.text.items c.loop-line.memo c.reply.new.memo
-      c.args.lines.now c.loop-line.line-index c.line-item.result c.loop-line-test.true c.line-item.is c.loop-line.invariant.came
+  came = next_came (fresh (rules_in c.args.lines.now)) c.loop-line.text.items c.reply.new.text.items c.loop-line.memo c.reply.new.memo
+      c.args.lines.now c.loop-line.line-index _ c.loop-line-test.true c.loop-line.invariant.came
       c.in_ok-reply.ensures.replied;
 }
 

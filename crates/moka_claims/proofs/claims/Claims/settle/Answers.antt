@@ -35,7 +35,7 @@ poll-requires c = record {
   live = λ unspent. let is = c.requires.1 in let held = sym c.remove.ensures.value ∙ c.in-Some.is in (
     told_at is.small (get nat_eq c.args.self.now.calls) (get nat_eq c.args.self.now.seats) is.fits is.polled.state is.polled.seen
         c.waiters_are_served.ensures.served c.args.rule c.in-Some.call held c.args.value,
-    c.in_ok-tell.ensures.told is.small (load_of c.args.rule) (With_value c.args.value) is.polled (record {
+    c.in_ok-tell-in-Some.ensures.told is.small (load_of c.args.rule) (With_value c.args.value) is.polled (record {
       asks = is.fits.holds c.args.rule c.in-Some.call held;
       is = refl;
       fits = refl;
@@ -51,8 +51,8 @@ returns c = λ claimed is was.
     let held = sym c.remove.ensures.value ∙ c.in-Some.is in
     let told = told_at is.small (get nat_eq old.calls) (get nat_eq old.seats) is.fits is.polled.state is.polled.seen served
     c.args.rule c.in-Some.call held c.args.value in
-    let polled = c.in_ok-poll.ensures.polled told (Was_told (load_of c.args.rule) (With_value c.args.value))
-    (c.in_ok-tell.ensures.told is.small (load_of c.args.rule) (With_value c.args.value) is.polled (record {
+    let polled = c.in_ok-poll-in-Some.ensures.polled told (Was_told (load_of c.args.rule) (With_value c.args.value))
+    (c.in_ok-tell-in-Some.ensures.told is.small (load_of c.args.rule) (With_value c.args.value) is.polled (record {
       asks = is.fits.holds c.args.rule c.in-Some.call held;
       is = refl;
       fits = refl;
