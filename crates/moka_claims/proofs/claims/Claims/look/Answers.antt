@@ -26,6 +26,6 @@ returns c = IfOk-weaker c.look_at.result _ _ (λ look came claimed rule waits is
     let is_rule = ap (λ t. t.rule) same ∙ its.1.1.0 in
     let is_waits = ap (λ t. t.waits) same ∙ its.1.1.1 in
     let all : looked claimed c.args.query c.in-Some.seat.rule c.in-Some.seat.waits ≡ looked claimed c.args.query rule waits =
-        λ i. looked claimed c.args.query (is_rule i) (is_waits i) in
+    λ i. looked claimed c.args.query (is_rule i) (is_waits i) in
     (rows.0 ∙ ap (λ x. x.0) all, subst (λ x. IsClaims c.look_at.new.self x.1) all rows.1))
     c.look_at.ensures
