@@ -124,7 +124,10 @@ impl LineProgram<Line, ()> for Lines {
         "known 0\n"
     }
 
-    fn answer(alloc: Global, lines: Vec<Line>, _over: &mut ()) -> Result<Vec<u8>, AllocError> {
+    fn answer(alloc: Global, lines: Vec<Line>, _over: &mut ()) -> Result<Vec<u8>, AllocError>
+        requires { AreInPlace Fits [] lines.items }
+        ensures { IfOk result (λ text. text.items ≡ memo_text lines.items) }
+    {
         reply_all(alloc, &lines)
     }
 }
