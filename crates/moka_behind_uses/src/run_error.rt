@@ -5,7 +5,7 @@ use std::alloc::AllocError;
 use std::io;
 
 /// Why a run comes to no end.
-#[derive(Debug)]
+#[derive(Debug, Drop)]
 pub(crate) enum RunError {
     /// The database can't be opened, or has no table of pairs.
     Database(sqlite::Error),

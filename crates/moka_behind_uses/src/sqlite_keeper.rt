@@ -13,12 +13,13 @@ const TABLE: &str =
 
 /// Keeps pairs in the table `pair` of a database. Each error of the database is a fault, and counted.
 /// It tells neither its map nor its puts: no clause here says what the table holds.
+#[derive(Drop)]
 pub struct SqliteKeeper<S: Alter> {
     database: Connection<S>,
     faults: u64,
 }
 
-impl<S: Alter> SqliteKeeper<S> {
+impl<S: Alter + Drop> SqliteKeeper<S> {
     /// Makes the table, unless it is there.
     pub fn new(mut database: Connection<S>) -> Result<SqliteKeeper<S>, Error> {
         database.execute_batch(TABLE)?;
@@ -30,7 +31,11 @@ impl<S: Alter> SqliteKeeper<S> {
 
     /// Gives the database back.
     pub fn into_database(self) -> Connection<S> {
-        self.database
+        let SqliteKeeper {
+            database,
+            faults: _,
+        } = self;
+        database
     }
 
     // Stores the value under the key, or deletes the key's row.
@@ -79,7 +84,7 @@ impl<S: Alter> SqliteKeeper<S> {
     }
 }
 
-impl<S: Alter> Keeper for SqliteKeeper<S> {
+impl<S: Alter + Drop> Keeper for SqliteKeeper<S> {
     ghost told = { λ k. untold };
 
     ghost faults = { λ k. k.faults };
