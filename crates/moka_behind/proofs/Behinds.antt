@@ -281,6 +281,13 @@ begun new kept unspent unsent holds = record {
 
 -- ---- a shed, whatever it answers
 
+-- it holds nothing
+pub empty_after : {T E : Type 0} (r : Result T E) (old new : Behind) →
+    OnOk r ((ps : Pairs) → Holds old.cache ps → Holds new.cache (λ key. None)) →
+    OnOk r ((ps : Pairs) → Holds old.cache ps → (now : Pairs) × Holds new.cache now)
+empty_after (Ok x) old new holds = λ ps h. (λ key. None, holds ps h)
+empty_after (Err e) old new holds = tt
+
 pub shed_so : {E : Type 0} (r : Result ℕ E) (old new : Behind) → (IsErr r ↔ IsSpent new) → new.unsent ≡ old.unsent →
     OnOk r ((ps : Pairs) → Holds old.cache ps → Holds new.cache (λ key. None)) →
     IfOk r (λ count. (ps : Pairs) → Holds old.cache ps → CountsKeys ps count) →
