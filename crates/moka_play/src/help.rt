@@ -4,10 +4,13 @@ const VERSION: &str = "moka 0.1.0 (Wudzghela)\n";
 
 const HELP: &str = "\
 usage: moka play < SCHEDULE > REPORT
+       moka behind < LINES > REPLIES
+       moka memo < LINES > REPLIES
        moka --help
        moka --version
 
-play runs a schedule on a cache of one thread, and writes a report of it.
+play runs a schedule on a cache of one thread, and writes a report of it. behind and memo are
+programs on such a cache: each reads lines, and writes what it replies to them.
 
 A schedule is lines of text. The first line is cache, and then these options, each or not, in this
 order:
@@ -58,6 +61,25 @@ A call that waits is not woken: it is polled again.
 A report is a line for each event, then for each stored record, ascending by key,
 then for each committed write, ascending by number, with where it stands,
 then for each notice, ascending by number, with how far it is.
+
+behind writes to the cache first, and to a keeper later. Its lines:
+  set KEY VALUE              the pair is stored, and is a write that is still to be sent
+  del KEY                    the key is taken out, which is such a write too
+  get KEY                    the key is looked up: in the cache, in what is to be sent, by the keeper
+  shed                       the cache lets go of all that it stores
+  drain                      the writes are sent to the keeper, in order
+It replies done, some VALUE, none, shed N, drained N or fault; last comes unsent N.
+
+memo evaluates rules that build on earlier ones, each once. Its lines, rules first:
+  rule const N               a rule, numbered from 1, whose value is N
+  rule add A B               one whose value comes of rules A and B: add, mul, min or max
+  rule if A B C              one whose value is that of rule B where A's isn't 0, else that of C
+  ask RULE                   a query asks for the rule's value
+  turn QUERY                 the query takes one turn
+  drop QUERY                 the query is dropped; a rule that it owned passes to one that waits
+  finish                     all queries take turns until each has answered
+It replies query Q, moved, wait RULE, value V, dropped, refused; answer Q V of each, then finished;
+last comes known N.
 
 exit status: 0 done, 1 bad words, 2 bad line, 3 too long, 4 read fault,
              5 write fault, 6 memory; but at 0 a line on standard error says which

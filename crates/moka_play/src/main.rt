@@ -1,11 +1,17 @@
-//! The program: plays a schedule from standard input, and writes its report to standard output.
+//! The program: plays a schedule from standard input, or answers the lines of `behind` or `memo`, and
+//! writes to standard output.
 #![tactic(auto)]
 
 mod help;
 
 use help::told_text;
+use moka_behind_run::behind;
 use moka_ends::{ReadSource, WriteSink};
-use moka_run::{Status, play};
+use moka_keepers::PlainKeeper;
+use moka_lines::Status;
+use moka_memo_run::memo;
+use moka_run::play;
+use std::collections::HashMap;
 use std::process::ExitCode;
 use std::{env, io};
 
@@ -42,7 +48,7 @@ fn words_status(e: &io::Error) -> Status {
 fn obey(rt: &HostRuntime, words: &[String]) -> Status {
     match told_text(words) {
         Some(text) => tell(rt, text),
-        None => play_standard(rt, words),
+        None => run_standard(rt, words),
     }
 }
 
@@ -54,9 +60,26 @@ fn tell(rt: &HostRuntime, text: &str) -> Status {
     }
 }
 
-/// Plays standard input to standard output.
-fn play_standard(rt: &HostRuntime, words: &[String]) -> Status {
+/// Gives the first word, or an empty one where there is none.
+fn first_word(words: &[String]) -> &str {
+    match words.first() {
+        Some(word) => word.as_str(),
+        None => "",
+    }
+}
+
+/// Runs the program of the first word from standard input to standard output: a play, unless it is
+/// one of the others.
+fn run_standard(rt: &HostRuntime, words: &[String]) -> Status {
+    let alloc = rt.alloc();
     let mut source = ReadSource::new(rt.stdin());
     let mut sink = WriteSink::new(rt.stdout());
-    play(rt.alloc(), words, &mut source, &mut sink)
+    match first_word(words) {
+        "behind" => {
+            let mut keeper = PlainKeeper::new(HashMap::new(alloc));
+            behind(alloc, words, &mut source, &mut sink, &mut keeper)
+        }
+        "memo" => memo(alloc, words, &mut source, &mut sink),
+        _ => play(alloc, words, &mut source, &mut sink),
+    }
 }
