@@ -46,7 +46,7 @@ module _ (m : Cache) (lists : ℕ → Option Waiting) (u : Upstream) (key : ℕ)
         loaded = λ v f same. (
           ap (λ w. record { slot = slot.Answered (answer.Value w); fetch = None }) (loaded_same v value f false (sym same ∙ out)) ∙ ap (λ p. p.0) (sym asked_is),
           subst (λ c. Serves c lists (asked u key place).1) (ap (λ p. p.1) (sym is))
-          (subst (λ v. Serves (gone at_start (m.last + 1)) lists v) (ap (λ p. p.1) (sym asked_is)) (serves_stored m lists u key serves fresh)),
+              (subst (λ v. Serves (gone at_start (m.last + 1)) lists v) (ap (λ p. p.1) (sym asked_is)) (serves_stored m lists u key serves fresh)),
         );
         asks = λ same lists1 on. absurd (loaded_asks value false (sym out ∙ same));
         waits = λ same lists1 on. absurd (loaded_waits value false (sym out ∙ same));
@@ -55,8 +55,10 @@ module _ (m : Cache) (lists : ℕ → Option Waiting) (u : Upstream) (key : ℕ)
     where
       loaded_same : (a b : ℕ) (f g : Bool) → loads a f ≡ loads b g → a ≡ b
       loaded_same a b f g e = cc
+
       loaded_asks : (a : ℕ) (f : Bool) → loads a f ≡ asks_out → ⊥
       loaded_asks a f e = cc
+
       loaded_waits : (a : ℕ) (f : Bool) → loads a f ≡ waits_out → ⊥
       loaded_waits a f e = cc
 
@@ -92,9 +94,9 @@ module _ (m : Cache) (lists : ℕ → Option Waiting) (u : Upstream) (key : ℕ)
         loaded = λ v f same. absurd (asks_loaded v f (sym out ∙ same));
         asks = λ same lists1 on. (
           ap (λ f. record { slot = slot.Waits key (m.last + 1); fetch = f }) (sym (ap (λ l. fetch_of l key) empty))
-          ∙ ap (λ n. record { slot = slot.Waits key (n + 1); fetch = fetch_of (u.waiting key) key }) serves.last ∙ ap (λ p. p.0) (sym asked_is),
+              ∙ ap (λ n. record { slot = slot.Waits key (n + 1); fetch = fetch_of (u.waiting key) key }) serves.last ∙ ap (λ p. p.0) (sym asked_is),
           subst (λ c. Serves c lists1 (asked u key place).1) (ap (λ p. p.1) (sym is))
-          (subst (λ v. Serves (with_stand at_start (m.last + 1) (Some (Asks (load_of key)))) lists1 v) (ap (λ p. p.1) (sym asked_is)) (asks_first none nobody lists1 on)),
+              (subst (λ v. Serves (with_stand at_start (m.last + 1) (Some (Asks (load_of key)))) lists1 v) (ap (λ p. p.1) (sym asked_is)) (asks_first none nobody lists1 on)),
         );
         waits = λ same lists1 on. absurd (asks_waits (sym out ∙ same));
         others = λ a w l. a out;
@@ -102,6 +104,7 @@ module _ (m : Cache) (lists : ℕ → Option Waiting) (u : Upstream) (key : ℕ)
     where
       asks_loaded : (a : ℕ) (f : Bool) → asks_out ≡ loads a f → ⊥
       asks_loaded a f e = cc
+
       asks_waits : asks_out ≡ waits_out → ⊥
       asks_waits e = cc
 
@@ -155,15 +158,16 @@ module _ (m : Cache) (lists : ℕ → Option Waiting) (u : Upstream) (key : ℕ)
         asks = λ same lists1 on. absurd (waits_asks (sym out ∙ same));
         waits = λ same lists1 on. (
           ap (λ f. record { slot = slot.Waits key (m.last + 1); fetch = f }) (some_fetches_none w.requests (serves.listed key w on_list).some ∙ ap (λ l. fetch_of l key) same_list)
-          ∙ ap (λ n. record { slot = slot.Waits key (n + 1); fetch = fetch_of (u.waiting key) key }) serves.last ∙ ap (λ p. p.0) (sym asked_is),
+              ∙ ap (λ n. record { slot = slot.Waits key (n + 1); fetch = fetch_of (u.waiting key) key }) serves.last ∙ ap (λ p. p.0) (sym asked_is),
           subst (λ c. Serves c lists1 (asked u key place).1) (ap (λ p. p.1) (sym is))
-          (subst (λ v. Serves (with_stand at_start (m.last + 1) (Some (Waits w.asking (load_of key)))) lists1 v) (ap (λ p. p.1) (sym asked_is)) (waits_later w on_list lists1 on)),
+              (subst (λ v. Serves (with_stand at_start (m.last + 1) (Some (Waits w.asking (load_of key)))) lists1 v) (ap (λ p. p.1) (sym asked_is)) (waits_later w on_list lists1 on)),
         );
         others = λ a w l. w out;
       }
     where
       waits_loaded : (a : ℕ) (f : Bool) → waits_out ≡ loads a f → ⊥
       waits_loaded a f e = cc
+
       waits_asks : waits_out ≡ asks_out → ⊥
       waits_asks e = cc
 

@@ -42,7 +42,7 @@ ahead_step answers before number Bad c d is = record {
 ahead_step answers before number (Get key) c d is =
     let place : ℕ → Place = λ n. record { client = number; index = n } in
     let same : asked c.upstream key (place (made c.client)) ≡ asked d.upstream key (place (made d.client)) =
-        ap (λ u. asked u key (place (made c.client))) is.upstream ∙ ap (λ n. asked d.upstream key (place n)) (ahead_made answers before c d is) in
+    ap (λ u. asked u key (place (made c.client))) is.upstream ∙ ap (λ n. asked d.upstream key (place n)) (ahead_made answers before c d is) in
     record {
       upstream = ap (λ p. p.1) same;
       requests = ap (λ p. c.client.requests ++ p.0.slot ∷ []) same
@@ -102,7 +102,7 @@ module _ (answers : List Answer) (before : List ℕ) (c d : Come) (is : IsAhead 
       let count : length (due_answers c.client.requests) ≡ length answers + n = ap length ahead_due ∙ length-append answers (due_answers d.client.requests) in
       let total : c.client.sent + length (due_answers c.client.requests) ≡ d.client.sent + n = omega (arith, count, is.sent) in
       let rest : drop (length (due_answers c.client.requests)) c.client.requests ≡ drop n d.client.requests =
-          ap (λ k. drop k c.client.requests) count ∙ ap (λ l. drop (length answers + n) l) is.requests ∙ drop_more answers d.client.requests n in
+      ap (λ k. drop k c.client.requests) count ∙ ap (λ l. drop (length answers + n) l) is.requests ∙ drop_more answers d.client.requests n in
       ap (λ u. with_rest u (c.client.sent + length (due_answers c.client.requests)) (drop (length (due_answers c.client.requests)) c.client.requests)) same
       ∙ ap (λ s. with_rest d.client.unfinished s (drop (length (due_answers c.client.requests)) c.client.requests)) total
       ∙ ap (λ r. with_rest d.client.unfinished (d.client.sent + n) r) rest

@@ -40,6 +40,7 @@ module _ (m : Cache) (lists : ℕ → Option Waiting) (u : Upstream) (serves : S
           false_is : false ≡ true → ⊥
           false_is f = cc
       of n s (inr a) e = none n s a (eqb-true a.list.asking call (sym (ap (λ x. waits_for (Some x) call) a.stands) ∙ e))
+
       by : (n : ℕ) (x : Option (Stand ℕ ℕ ℕ)) → m.stands n ≡ x → waits_for x call ≡ true → ⊥
       by n None is e = absurd (false_is e)
         where
@@ -235,7 +236,7 @@ only_leaves m lists u key number asking first serves on same =
     record {
       on = on;
       live = ap is_some is.asks;
-      alone = nobody_waits m lists u serves asking (λ n s v e. 
+      alone = nobody_waits m lists u serves asking (λ n s v e.
           let keys : v.key ≡ key = asks_key v.key key (sym (serves.listed v.key v.list v.on).asks ∙ ap m.stands e ∙ is.asks) in
           let lists_same : v.list ≡ whole = some_same (sym v.on ∙ ap lists keys ∙ on) in
           none_some (sym (ap (λ l. place_of (drop 1 l.requests) n) lists_same) ∙ v.call));

@@ -37,6 +37,7 @@ greatest_is zero a test small here only = by (test 0) refl
   where
     zero_is : 0 ≡ a
     zero_is = omega (arith, small)
+
     by : (t : Bool) → test 0 ≡ t → cond {A = Option ℕ} t (Some 0) None ≡ Some a
     by true e = ap Some zero_is
     by false e = absurd (false≢true (sym e ∙ ap test zero_is ∙ here))
@@ -124,7 +125,7 @@ module _ (m : Cache) (lists : ℕ → Option Waiting) (u : Upstream) (key : ℕ)
       let asks : at_start.stands w.asking ≡ Some (Asks (load_of key)) = put_there m.stands next (Some (Begun (start.Try key))) w.asking (differ next w.asking (λ same. absurd (omega (arith, small, same)))) ∙ (serves.listed key w on).asks in
       let own : owns nat_eq (at_start.stands w.asking) (load_of key) ≡ true = ap (λ x. owns nat_eq x (load_of key)) asks ∙ ap (λ t. t && true) (same_number key) in
       let owner : owner_of nat_eq at_start (load_of key) ≡ Some w.asking = greatest_is next w.asking (λ n. owns nat_eq (at_start.stands n) (load_of key)) (omega (arith, small)) own
-          (λ n other. let asker = owner_asks m lists u key n serves (owned_before n other) in asker.call ∙ ap (λ l. l.asking) (some_same (sym asker.on ∙ on))) in
+      (λ n other. let asker = owner_asks m lists u key n serves (owned_before n other) in asker.call ∙ ap (λ l. l.asking) (some_same (sym asker.on ∙ on))) in
       ap (λ x. or_else at_start next x (claims at_start next (load_of key) (owner_of nat_eq at_start (load_of key)))) e
       ∙ ap (λ o. claims at_start next (load_of key) o) owner
 
@@ -230,7 +231,7 @@ module _ (m m1 : Cache) (lists lists1 : ℕ → Option Waiting) (u : Upstream) (
           let keys : key ≡ a.key = eqb-true key a.key same in
           let on : lists key ≡ Some a.list = ap lists keys ∙ a.on in
           let tail : drop 1 w.requests ≡ drop 1 a.list.requests ++ (new_call, place) ∷ [] =
-              ap (λ l. drop 1 l) (here_is a.list on) ∙ drop_append a.list.requests (new_call, place) (serves.listed key a.list on).some in
+          ap (λ l. drop 1 l) (here_is a.list on) ∙ drop_append a.list.requests (new_call, place) (serves.listed key a.list on).some in
           record {
             key = key;
             list = w;

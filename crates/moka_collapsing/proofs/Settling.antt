@@ -160,6 +160,7 @@ module _ (m0 : Cache) (key : ℕ) (brought : Result ℕ ℕ) (w : Waiting) (list
       value_at : (value : ℕ) (t : Bool) → option_map (λ kept. kept.0) (cond t (Some (value, w.asking)) (m0.stored k)) ≡ cond t (Some value) (value_under m0 k)
       value_at value true = refl
       value_at value false = refl
+
       by : (b : Result ℕ ℕ) → value_under (polled nat_eq told w.asking (Was_told (load_of key) (end_of b))).1 k ≡ keeps (value_under m0) key (answer_of b) k
       by (Ok value) = value_at value (key == k)
       by (Err error) = refl
@@ -200,10 +201,13 @@ module _ (m0 : Cache) (key : ℕ) (brought : Result ℕ ℕ) (w : Waiting) (list
       -- a call for another key stays, and one for this key is the asker or on the list
       whose : (n : ℕ) (s : Stand ℕ ℕ ℕ) → (w.asking == n) ≡ false → m0.stands n ≡ Some s → AsksFor lists n s ⊎ WaitsFor lists n s →
           (m0.stands n ≡ Some s × key_at s ≢ Some key) ⊎ IsSome (place_of (drop 1 w.requests) n)
-      whose n s other before (inl a) = inl (before, λ same.
-          let keys : a.key ≡ key = some_same (sym (ap key_at a.stands) ∙ same) in
-          let lists_same : a.list ≡ w = some_same (sym a.on ∙ ap lists keys ∙ on) in
-          differ_not w.asking n other (sym (a.call ∙ ap (λ l. l.asking) lists_same)))
+      whose n s other before (inl a) = inl (
+        before,
+        λ same.
+            let keys : a.key ≡ key = some_same (sym (ap key_at a.stands) ∙ same) in
+            let lists_same : a.list ≡ w = some_same (sym a.on ∙ ap lists keys ∙ on) in
+            differ_not w.asking n other (sym (a.call ∙ ap (λ l. l.asking) lists_same)),
+      )
       whose n s other before (inr a) = by (a.key == key) refl
         where
           by : (t : Bool) → (a.key == key) ≡ t → (m0.stands n ≡ Some s × key_at s ≢ Some key) ⊎ IsSome (place_of (drop 1 w.requests) n)
@@ -253,11 +257,18 @@ serves_ended m0 m lists lists1 u key asking brought serves is on1 =
       where
         either : AsksFor lists n s ⊎ WaitsFor lists n s → AsksFor lists1 n s ⊎ WaitsFor lists1 n s
         either (inl a) = inl (record {
-          key = a.key; list = a.list; call = a.call; stands = a.stands;
+          key = a.key;
+          list = a.list;
+          call = a.call;
+          stands = a.stands;
           on = others_on a.key (differ key a.key (λ e. before.1 (ap key_at a.stands ∙ ap Some (sym e)))) ∙ a.on;
         })
         either (inr a) = inr (record {
-          key = a.key; list = a.list; place = a.place; call = a.call; stands = a.stands;
+          key = a.key;
+          list = a.list;
+          place = a.place;
+          call = a.call;
+          stands = a.stands;
           on = others_on a.key (differ key a.key (λ e. before.1 (ap key_at a.stands ∙ ap Some (sym e)))) ∙ a.on;
         })
 

@@ -83,14 +83,14 @@ pub record ListsAreAnswered : Type 0 where
       (brought : Result ℕ ℕ) → Serves m lists u → lists key ≡ Some w → AreGone m →
       HasAnswer w.asking (answer_of brought) (told m key w.asking brought)
       × IsAnswered m (polled nat_eq (told m key w.asking brought) w.asking
-          (Was_told (load_of key) (end_of brought))).1
-          key w.asking brought (drop 1 w.requests)
+      (Was_told (load_of key) (end_of brought))).1
+      key w.asking brought (drop 1 w.requests)
   pub waiter : (m0 m : Cache) (key asking : ℕ) (brought : Result ℕ ℕ) (first : Waiter)
       (rest : List Waiter) → IsAnswered m0 m key asking brought (first ∷ rest) →
       IsServedBy m asking key →
       HasAnswer first.0 (answer_of brought) m
       × IsAnswered m0 (polled nat_eq m first.0 (Waits asking (load_of key))).1
-          key asking brought rest
+      key asking brought rest
   pub all : (m0 m : Cache) (lists lists1 : ℕ → Option Waiting) (u : Upstream) (key asking : ℕ)
       (brought : Result ℕ ℕ) → Serves m0 lists u →
       IsAnswered m0 m key asking brought [] →

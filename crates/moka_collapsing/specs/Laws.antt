@@ -39,7 +39,7 @@ pub record IsSameInPieces (g : Reference) (number : ℕ) (client : Client) (fron
       ≡ (all_come g number client front).fetches ++ (second g number client front back).fetches
   pub bytes : due_bytes (all_come g number client (front ++ back)).client
       ≡ due_bytes (all_come g number client front).client
-        ++ due_bytes (second g number client front back).client
+      ++ due_bytes (second g number client front back).client
   pub left : flushed (all_come g number client (front ++ back)).client
       ≡ flushed (second g number client front back).client
   pub upstream : (all_come g number client (front ++ back)).upstream

@@ -38,7 +38,7 @@ abbrev pub freed : Waiting → ℕ → Option ℕ
 freed w number =
     cond (is_some (place_of w.requests number))
     (Some (cond (is_first w.requests number)
-        (next_call w (first_of (without number w.requests))) number))
+    (next_call w (first_of (without number w.requests))) number))
     None
 
 -- the list with one request more

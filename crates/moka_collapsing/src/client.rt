@@ -93,8 +93,8 @@ impl Client {
     // The first request leaves, if there is one. The end of the numbers counts as want of memory.
     fn leave_first(&mut self) -> Result<(), AllocError>
         ensures { OnOk result (self.new ≡ record self.old {
-            sent = self.old.sent + 1;
-            requests = drop 1 self.old.requests;
+          sent = self.old.sent + 1;
+          requests = drop 1 self.old.requests;
         }) }
     {
         self.sent = self.sent.checked_add(1).ok_or(AllocError)?;

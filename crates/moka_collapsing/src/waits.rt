@@ -41,7 +41,8 @@ impl WaitList {
     /// The request of this number waits too.
     pub fn join(&mut self, number: u64, place: Place) -> Result<(), AllocError>
         ensures { OnOk result (self.new ≡ record self.old {
-            requests = insert_entry nat_cmp self.old.requests number place }) }
+          requests = insert_entry nat_cmp self.old.requests number place;
+        }) }
     {
         self.requests.insert(number, place)?;
         Ok(())
