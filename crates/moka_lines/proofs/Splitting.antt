@@ -5,7 +5,7 @@ use Rattle.moka_lines.specs.Words.{before_byte, after_byte}
 use Rattle.moka_lines.specs.Lines.{lines}
 
 -- the mark stands first
-place_here : (m b : ℕ) (bs : List ℕ) → eqb b m ≡ true → position_or_len (λ x. eqb x m) (b ∷ bs) ≡ 0
+pub place_here : (m b : ℕ) (bs : List ℕ) → eqb b m ≡ true → position_or_len (λ x. eqb x m) (b ∷ bs) ≡ 0
 place_here m b bs e = rw e refl
 
 pub before_here : (m b : ℕ) (bs : List ℕ) → eqb b m ≡ true → before_byte m (b ∷ bs) ≡ []
@@ -15,7 +15,7 @@ pub after_here : (m b : ℕ) (bs : List ℕ) → eqb b m ≡ true → after_byte
 after_here m b bs e = ap (λ n. drop (n + 1) (b ∷ bs)) (place_here m b bs e)
 
 -- another byte stands first
-place_later : (m b : ℕ) (bs : List ℕ) → eqb b m ≡ false → position_or_len (λ x. eqb x m) (b ∷ bs) ≡ suc (position_or_len (λ x. eqb x m) bs)
+pub place_later : (m b : ℕ) (bs : List ℕ) → eqb b m ≡ false → position_or_len (λ x. eqb x m) (b ∷ bs) ≡ suc (position_or_len (λ x. eqb x m) bs)
 place_later m b bs e = rw e (omega arith)
 
 pub before_later : (m b : ℕ) (bs : List ℕ) → eqb b m ≡ false → before_byte m (b ∷ bs) ≡ b ∷ before_byte m bs

@@ -1,5 +1,5 @@
 //! Reading the lines of a text.
-ghost use Rattle.std.specs.Prelude.{◌≡◌, ◌<◌, ℕ, [], length, IfOk, IsErrOf, List};
+ghost use Rattle.std.specs.Prelude.{◌≡◌, ◌<◌, ℕ, [], length, IfOk, IsErrOf};
 ghost use Rattle.moka_lines.specs.Lines.{AreReadOneWay, IsFirstBad, Says};
 ghost use Rattle.moka_lines.specs.declared.reading.LineError.TheVariants.{Memory};
 

@@ -1,4 +1,2 @@
-mod Begins
-mod Numbers
 pub mod Pieces
 mod Whole

@@ -8,12 +8,12 @@ use Rattle.moka_requests.specs.Laws.{AreOfAllBytes, OnlyAdds}
 use Rattle.moka_requests.specs.Requests.{Unfinished, if_too_long, last_line, new_requests, nothing_yet, passing_over, request_of, unfinished_after, whole_lines}
 use Rattle.moka_requests.specs.declared.request.Request.{Request}
 use Rattle.moka_requests.specs.declared.request.Request.TheVariants.{Get, Bad}
-use Rattle.moka_requests.specs.Words.{key_in}
-use Rattle.moka_requests.proofs.Numbers.{number_none}
+use Rattle.moka_lines.specs.Words.{u32_in}
+use Rattle.moka_lines.proofs.Numbers.{number_none}
 use Rattle.moka_requests.proofs.Pieces.{in_pieces}
 
 -- so many bytes spell no key
-no_key : (bytes : List ℕ) → 10 < length bytes → key_in bytes ≡ None
+no_key : (bytes : List ℕ) → 10 < length bytes → u32_in bytes ≡ None
 no_key bytes long = number_none (2 ^ 32) bytes (λ n small e.
     let short = length-decimal-le 10 n (omega arith) (omega arith) (omega arith) in
     let same = ap length e in
@@ -24,7 +24,7 @@ too_long : (line : List ℕ) → 64 < length line → request_of line ≡ Bad
 too_long line long =
     let rest : 10 < length (drop 4 line) = omega (arith, length-drop 4 line) in
     ap (λ k. option_map_or Get k Bad)
-    (elim (bytes_eq (take 4 line) (codes "get ")) as (λ t. option_and_then key_in (cond t (Some (drop 4 line)) None) ≡ None) [
+    (elim (bytes_eq (take 4 line) (codes "get ")) as (λ t. option_and_then u32_in (cond t (Some (drop 4 line)) None) ≡ None) [
       | true ↦ no_key (drop 4 line) rest
       | false ↦ refl
     ])

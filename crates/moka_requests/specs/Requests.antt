@@ -1,7 +1,7 @@
 -- The requests of a client's bytes: of all that it sent, and of what it sends further on.
 use Rattle.std.specs.Prelude.{ℕ, ◌==◌, Bool, true, false, cond, List, [], ◌∷◌, ◌++◌, map, length, Option, Some, None, nat_lt, nat_le, codes}
 use Rattle.std.specs.Option.{option_and_then, option_map_or, option_to_list}
-use Rattle.moka_requests.specs.Words.{after, key_in}
+use Rattle.moka_lines.specs.Words.{after, u32_in}
 use Rattle.moka_requests.specs.declared.request.Request.{Request}
 use Rattle.moka_requests.specs.declared.request.Request.TheVariants.{Get, Bad}
 
@@ -14,7 +14,7 @@ longest = 64
 
 -- the key of a line `get K`
 abbrev pub key_of : List ℕ → Option ℕ
-key_of line = option_and_then key_in (after (codes "get ") line)
+key_of line = option_and_then u32_in (after (codes "get ") line)
 
 -- what a line asks for: `get K` the value of K, any other line nothing
 abbrev pub request_of : List ℕ → Request

@@ -7,7 +7,6 @@
 mod laws;
 mod reader;
 mod request;
-mod words;
 
 pub use laws::{pieces_make_no_difference, requests_are_of_all_bytes};
 pub use reader::Reader;

@@ -3,7 +3,7 @@
 ghost use Rattle.std.specs.Prelude.{◌≡◌};
 ghost use Rattle.moka_requests.specs.Requests.{key_of, request_of};
 
-use crate::words::{after, key_in};
+use moka_lines::{after, u32_in};
 
 /// A request of a client.
 #[derive(Clone, Copy, PartialEq, Eq, Debug)]
@@ -28,5 +28,5 @@ pub(crate) fn request_of(line: &[u8]) -> Request
 fn key_of(line: &[u8]) -> Option<u32>
     ensures { result ≡ key_of line.now }
 {
-    key_in(after(line, b"get ")?)
+    u32_in(after(line, b"get ")?)
 }

@@ -10,10 +10,11 @@ use Rattle.std.proofs.lemmas.Bool.Decides.{Decides-and}
 use Rattle.std.proofs.lemmas.Fmt.{digits_decimal}
 use Rattle.std.proofs.lemmas.List.{take-append-drop}
 use Rattle.moka_hist.specs.declared.settings.Settings.{Settings}
-use Rattle.moka_text.specs.Words.{call_in, after, before_byte, from_byte}
+use Rattle.moka_lines.specs.Words.{u64_in, after, before_byte}
+use Rattle.moka_text.specs.Words.{from_byte}
 use Rattle.moka_text.specs.ScheduleText.{option_words, switch, SettingsFit, IsCacheLine}
 use Rattle.moka_text.specs.ScheduleReading.{said_in, cut_option, unless_left, within, number_of, log_of, switch_of, settings_from, made_of, options_of, cache_of}
-use Rattle.moka_text.proofs.Numbers.{own}
+use Rattle.moka_lines.proofs.Numbers.{own}
 use Rattle.moka_text.proofs.Spelled.{Ends, HasNoSpace, mapped, bound, weaker, after_is, number_is, chosen, no_space, call_some, said_before, rest_from}
 
 ends_words : (name : List ℕ) (said : Option (List ℕ)) (rest : List ℕ) → Ends rest → Ends (option_words name said ++ rest)
@@ -55,7 +56,7 @@ number_of_is : (said : Option (List ℕ)) → IfSome (number_of said) (SaysNumbe
 unfolding number_of
 number_of_is None = (refl, tt)
 number_of_is (Some said) =
-    mapped (SaysNumber (Some said)) Some (call_in said) (weaker _ _ (call_in said) (number_is (2 ^ 64) said) (λ n h. (ap Some h.0, h.1)))
+    mapped (SaysNumber (Some said)) Some (u64_in said) (weaker _ _ (u64_in said) (number_is (2 ^ 64) said) (λ n h. (ap Some h.0, h.1)))
 
 number_read : (number : Option ℕ) → IfSome number (λ n. n < 2 ^ 64) → number_of (option_map decimal number) ≡ Some number
 unfolding number_of
@@ -76,7 +77,7 @@ log_is : (said : Option (List ℕ)) → IfSome (log_of said) (SaysLog said)
 unfolding log_of
 log_is None = record { number = None; spelled = refl; size = refl; range = (omega arith, omega arith) }
 log_is (Some said) =
-    bound _ (SaysLog (Some said)) (within 1 65536) (call_in said) (number_is (2 ^ 64) said) (λ log h.
+    bound _ (SaysLog (Some said)) (within 1 65536) (u64_in said) (number_is (2 ^ 64) said) (λ log h.
     chosen (SaysLog (Some said)) (nat_le 1 log && nat_le log 65536) (Some log) None (λ t. record { number = Some log; spelled = ap Some h.0; size = refl; range = (log_Decides log).0 t }) tt)
 
 log_read : (number : Option ℕ) → (1 ≤ unwrap_or number 384) × (unwrap_or number 384 ≤ 65536) → log_of (option_map decimal number) ≡ Some (unwrap_or number 384)

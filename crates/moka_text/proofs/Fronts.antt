@@ -11,7 +11,7 @@ use Rattle.moka_hist.specs.declared.events.Told.{Told}
 use Rattle.moka_hist.specs.declared.events.Told.TheVariants as told
 use Rattle.moka_hist.specs.declared.events.Event.{Event}
 use Rattle.moka_hist.specs.declared.events.Event.TheVariants as event
-use Rattle.moka_text.specs.Words.{call_in, key_in, after, before_byte, after_byte}
+use Rattle.moka_lines.specs.Words.{u64_in, u32_in, after, before_byte, after_byte}
 use Rattle.moka_text.specs.ScheduleText.{start_words, told_words, event_line, ToldFits, EventFits}
 use Rattle.moka_text.specs.ScheduleReading.{pair_of, load_of, start_by, start_of, told_alone, told_of, tell_of, event_by, event_of}
 use Rattle.moka_text.proofs.Spelled.{HasNoSpace, number_is, load_read, after_is, cut_at, alone_is, told_is, told_read, event_is}
@@ -28,7 +28,7 @@ fronted front word bytes rest same close e =
     (ap (before_byte 32) is ∙ cut.0, ap (after_byte 32) is ∙ cut.1)
 
 -- a line by its front
-pub polls : (bytes rest : List ℕ) → after (codes "poll ") bytes ≡ Some rest → event_of bytes ≡ option_map event.Poll (call_in rest)
+pub polls : (bytes rest : List ℕ) → after (codes "poll ") bytes ≡ Some rest → event_of bytes ≡ option_map event.Poll (u64_in rest)
 unfolding event_by
 polls bytes rest e = let cut = fronted (codes "poll ") (codes "poll") bytes rest (λ b. refl) (refl, (refl, (refl, (refl, tt)))) e in rw (cut.0, cut.1) refl
 
@@ -40,15 +40,15 @@ pub tells : (bytes rest : List ℕ) → after (codes "tell ") bytes ≡ Some res
 unfolding event_by
 tells bytes rest e = let cut = fronted (codes "tell ") (codes "tell") bytes rest (λ b. refl) (refl, (refl, (refl, (refl, tt)))) e in rw (cut.0, cut.1) refl
 
-pub steps : (bytes rest : List ℕ) → after (codes "step ") bytes ≡ Some rest → event_of bytes ≡ option_map event.Step (call_in rest)
+pub steps : (bytes rest : List ℕ) → after (codes "step ") bytes ≡ Some rest → event_of bytes ≡ option_map event.Step (u64_in rest)
 unfolding event_by
 steps bytes rest e = let cut = fronted (codes "step ") (codes "step") bytes rest (λ b. refl) (refl, (refl, (refl, (refl, tt)))) e in rw (cut.0, cut.1) refl
 
-pub drops : (bytes rest : List ℕ) → after (codes "drop ") bytes ≡ Some rest → event_of bytes ≡ option_map event.Drop (call_in rest)
+pub drops : (bytes rest : List ℕ) → after (codes "drop ") bytes ≡ Some rest → event_of bytes ≡ option_map event.Drop (u64_in rest)
 unfolding event_by
 drops bytes rest e = let cut = fronted (codes "drop ") (codes "drop") bytes rest (λ b. refl) (refl, (refl, (refl, (refl, tt)))) e in rw (cut.0, cut.1) refl
 
-pub moves : (bytes rest : List ℕ) → after (codes "at ") bytes ≡ Some rest → event_of bytes ≡ option_map event.At (call_in rest)
+pub moves : (bytes rest : List ℕ) → after (codes "at ") bytes ≡ Some rest → event_of bytes ≡ option_map event.At (u64_in rest)
 unfolding event_by
 moves bytes rest e = let cut = fronted (codes "at ") (codes "at") bytes rest (λ b. refl) (refl, (refl, tt)) e in rw (cut.0, cut.1) refl
 
@@ -81,28 +81,28 @@ inserts bytes rest e =
     let keyed : bytes_eq bytes (codes "invalidate_all") ≡ false = ap (λ b. bytes_eq b (codes "invalidate_all")) (parted (codes "insert ") bytes rest e) in
     let cut = fronted (codes "insert ") (codes "insert") bytes rest (λ b. refl) (refl, (refl, (refl, (refl, (refl, (refl, tt)))))) e in rw (keyed, cut.0, cut.1) refl
 
-pub gets : (bytes rest : List ℕ) → after (codes "get ") bytes ≡ Some rest → start_of bytes ≡ option_map start.Get (key_in rest)
+pub gets : (bytes rest : List ℕ) → after (codes "get ") bytes ≡ Some rest → start_of bytes ≡ option_map start.Get (u32_in rest)
 unfolding start_by
 gets bytes rest e =
     let keyed : bytes_eq bytes (codes "invalidate_all") ≡ false = ap (λ b. bytes_eq b (codes "invalidate_all")) (parted (codes "get ") bytes rest e) in
     let cut = fronted (codes "get ") (codes "get") bytes rest (λ b. refl) (refl, (refl, (refl, tt))) e in rw (keyed, cut.0, cut.1) refl
 
 -- a key alone is a load without a replace test
-pub key_alone : (bytes : List ℕ) (key : ℕ) → key_in bytes ≡ Some key → load_of bytes ≡ Some (key, None)
+pub key_alone : (bytes : List ℕ) (key : ℕ) → u32_in bytes ≡ Some key → load_of bytes ≡ Some (key, None)
 key_alone bytes key e =
     let is = subst (λ o. IfSome o (λ n. (bytes ≡ decimal n) × (n < 2 ^ 32))) e (number_is (2 ^ 32) bytes) in
     ap load_of (is.0 ∙ sym (append-nil (decimal key))) ∙ load_read key None is.1 tt
 
 -- what an ask is told by its front
-pub values : (bytes rest : List ℕ) → after (codes "value ") bytes ≡ Some rest → told_of bytes ≡ option_map told.Value (key_in rest)
+pub values : (bytes rest : List ℕ) → after (codes "value ") bytes ≡ Some rest → told_of bytes ≡ option_map told.Value (u32_in rest)
 unfolding told_of
 values bytes rest e = let cut = fronted (codes "value ") (codes "value") bytes rest (λ b. refl) (refl, (refl, (refl, (refl, (refl, tt))))) e in rw (cut.0, cut.1) refl
 
-pub errors : (bytes rest : List ℕ) → after (codes "error ") bytes ≡ Some rest → told_of bytes ≡ option_map told.Err (key_in rest)
+pub errors : (bytes rest : List ℕ) → after (codes "error ") bytes ≡ Some rest → told_of bytes ≡ option_map told.Err (u32_in rest)
 unfolding told_of
 errors bytes rest e = let cut = fronted (codes "error ") (codes "error") bytes rest (λ b. refl) (refl, (refl, (refl, (refl, (refl, tt))))) e in rw (cut.0, cut.1) refl
 
-pub puts : (bytes rest : List ℕ) → after (codes "put ") bytes ≡ Some rest → told_of bytes ≡ option_map (λ value. told.Op (op.Put value)) (key_in rest)
+pub puts : (bytes rest : List ℕ) → after (codes "put ") bytes ≡ Some rest → told_of bytes ≡ option_map (λ value. told.Op (op.Put value)) (u32_in rest)
 unfolding told_of
 puts bytes rest e = let cut = fronted (codes "put ") (codes "put") bytes rest (λ b. refl) (refl, (refl, (refl, tt))) e in rw (cut.0, cut.1) refl
 

@@ -22,11 +22,13 @@ use Rattle.moka_hist.specs.declared.events.Event.{Event}
 use Rattle.moka_hist.specs.declared.events.Event.TheVariants as event
 use Rattle.moka_hist.specs.declared.rules.Cause.{Cause}
 use Rattle.moka_hist.specs.declared.rules.Cause.TheVariants as cause
-use Rattle.moka_text.specs.Words.{number_in, call_in, key_in, cause_word, after, before_byte, after_byte, from_byte}
+use Rattle.moka_lines.specs.Words.{number_in, u64_in, u32_in, after, before_byte, after_byte}
+use Rattle.moka_text.specs.Words.{cause_word, from_byte}
 use Rattle.moka_text.specs.ScheduleText.{chosen_words, replace_words, start_words, told_words, event_line, StartFits, ToldFits, EventFits, SpellsNone}
 use Rattle.moka_text.specs.ScheduleReading.{pair_of, cause_of, chosen_of, evict_of, replace_in, load_of, start_by, start_of, told_alone, told_of, tell_of, event_by, event_of}
-use Rattle.moka_text.proofs.Numbers.{own, number_some, number_found}
-use Rattle.moka_text.proofs.Splitting.{before_here, before_later, after_here, after_later, from_here, from_later}
+use Rattle.moka_lines.proofs.Numbers.{own, number_some, number_found}
+use Rattle.moka_lines.proofs.Splitting.{before_here, before_later, after_here, after_later}
+use Rattle.moka_text.proofs.Splitting.{from_here, from_later}
 
 -- what holds of the value of each part holds of the value of the whole
 pub mapped : {X Y : Type 0} (P : Y → Type 0) (f : X → Y) (o : Option X) → IfSome o (λ x. P (f x)) → IfSome (option_map f o) P
@@ -93,10 +95,10 @@ no_space (b ∷ ds) h = (let d = digit_from_value b h.0 in grind (arith, nat_tes
 spaced : (n : ℕ) (rest : List ℕ) → n < 2 ^ 64 → (before_byte 32 (decimal n ++ 32 ∷ rest) ≡ decimal n) × (after_byte 32 (decimal n ++ 32 ∷ rest) ≡ rest)
 spaced n rest h = cut_at (decimal n) rest 32 (no_space (decimal n) (digits_decimal own n h))
 
-pub call_some : (n : ℕ) → n < 2 ^ 64 → call_in (decimal n) ≡ Some n
+pub call_some : (n : ℕ) → n < 2 ^ 64 → u64_in (decimal n) ≡ Some n
 call_some n h = number_some (2 ^ 64) n (decimal n) h (omega arith) refl
 
-key_some : (n : ℕ) → n < 2 ^ 32 → key_in (decimal n) ≡ Some n
+key_some : (n : ℕ) → n < 2 ^ 32 → u32_in (decimal n) ≡ Some n
 key_some n h = number_some (2 ^ 32) n (decimal n) h (omega arith) refl
 
 pair_read : (k v : ℕ) → k < 2 ^ 32 → v < 2 ^ 32 → pair_of (decimal k ++ 32 ∷ decimal v) ≡ Some (k, v)
@@ -189,8 +191,8 @@ rejoined bytes front rest e f some =
 pair_is : (bytes : List ℕ) → IfSome (pair_of bytes) (λ p. (bytes ≡ decimal p.0 ++ 32 ∷ decimal p.1) × ((p.0 < 2 ^ 32) × (p.1 < 2 ^ 32)))
 unfolding pair_of
 pair_is bytes =
-    bound _ _ (λ key. option_and_then (λ value. Some (key, value)) (key_in (after_byte 32 bytes))) (key_in (before_byte 32 bytes)) (number_is (2 ^ 32) (before_byte 32 bytes)) (λ key h.
-    bound _ _ (λ value. Some (key, value)) (key_in (after_byte 32 bytes)) (number_is (2 ^ 32) (after_byte 32 bytes)) (λ value j.
+    bound _ _ (λ key. option_and_then (λ value. Some (key, value)) (u32_in (after_byte 32 bytes))) (u32_in (before_byte 32 bytes)) (number_is (2 ^ 32) (before_byte 32 bytes)) (λ key h.
+    bound _ _ (λ value. Some (key, value)) (u32_in (after_byte 32 bytes)) (number_is (2 ^ 32) (after_byte 32 bytes)) (λ value j.
     (rejoined bytes (decimal key) (decimal value) h.0 j.0 (decimal_nonempty value (omega arith)), (h.1, j.1))))
 
 some_spaced : (front rest : List ℕ) → 0 < length (front ++ 32 ∷ rest)
@@ -219,14 +221,14 @@ some_cause cause.Size = omega arith
 chosen_is : (bytes : List ℕ) → IfSome (chosen_of bytes) (λ t. (bytes ≡ chosen_words t.0 t.1) × (t.0 < 2 ^ 64))
 unfolding chosen_of
 chosen_is bytes =
-    bound _ _ (λ stamp. option_and_then (λ cause. Some (stamp, cause)) (cause_of (after_byte 32 bytes))) (call_in (before_byte 32 bytes)) (number_is (2 ^ 64) (before_byte 32 bytes)) (λ stamp h.
+    bound _ _ (λ stamp. option_and_then (λ cause. Some (stamp, cause)) (cause_of (after_byte 32 bytes))) (u64_in (before_byte 32 bytes)) (number_is (2 ^ 64) (before_byte 32 bytes)) (λ stamp h.
     bound _ _ (λ cause. Some (stamp, cause)) (cause_of (after_byte 32 bytes)) (cause_is (after_byte 32 bytes)) (λ cause j.
     (rejoined bytes (decimal stamp) (cause_word cause) h.0 j (some_cause cause), h.1)))
 
 evict_is : (bytes : List ℕ) → IfSome (evict_of bytes) (λ e. (bytes ≡ decimal e.0 ++ 32 ∷ chosen_words e.1.0 e.1.1) × ((e.0 < 2 ^ 32) × (e.1.0 < 2 ^ 64)))
 unfolding evict_of
 evict_is bytes =
-    bound _ _ (λ key. option_and_then (λ chosen. Some (key, chosen)) (chosen_of (after_byte 32 bytes))) (key_in (before_byte 32 bytes)) (number_is (2 ^ 32) (before_byte 32 bytes)) (λ key h.
+    bound _ _ (λ key. option_and_then (λ chosen. Some (key, chosen)) (chosen_of (after_byte 32 bytes))) (u32_in (before_byte 32 bytes)) (number_is (2 ^ 32) (before_byte 32 bytes)) (λ key h.
     bound _ _ (λ chosen. Some (key, chosen)) (chosen_of (after_byte 32 bytes)) (chosen_is (after_byte 32 bytes)) (λ chosen j.
     (rejoined bytes (decimal key) (chosen_words chosen.0 chosen.1) h.0 j.0 (some_spaced (decimal chosen.0) (cause_word chosen.1)), (h.1, j.1))))
 
@@ -239,13 +241,13 @@ replace_is : (bytes : List ℕ) → IfSome (replace_in bytes) (λ r. (bytes ≡ 
 unfolding replace_in
 replace_is [] = (refl, tt)
 replace_is (b ∷ bytes) =
-    mapped (λ r. (b ∷ bytes ≡ replace_words r) × IfSome r (λ test. test < 2 ^ 64)) Some _ (bound _ _ call_in (after (codes " if ") (b ∷ bytes)) (after_is (codes " if ") (b ∷ bytes)) (λ rest e.
-    weaker _ _ (call_in rest) (number_is (2 ^ 64) rest) (λ n h. (e ∙ ap (λ t. codes " if " ++ t) h.0, h.1))))
+    mapped (λ r. (b ∷ bytes ≡ replace_words r) × IfSome r (λ test. test < 2 ^ 64)) Some _ (bound _ _ u64_in (after (codes " if ") (b ∷ bytes)) (after_is (codes " if ") (b ∷ bytes)) (λ rest e.
+    weaker _ _ (u64_in rest) (number_is (2 ^ 64) rest) (λ n h. (e ∙ ap (λ t. codes " if " ++ t) h.0, h.1))))
 
 load_is : (bytes : List ℕ) → IfSome (load_of bytes) (λ l. (bytes ≡ decimal l.0 ++ replace_words l.1) × ((l.0 < 2 ^ 32) × IfSome l.1 (λ test. test < 2 ^ 64)))
 unfolding load_of
 load_is bytes =
-    bound _ _ (λ key. option_and_then (λ replace. Some (key, replace)) (replace_in (from_byte 32 bytes))) (key_in (before_byte 32 bytes)) (number_is (2 ^ 32) (before_byte 32 bytes)) (λ key h.
+    bound _ _ (λ key. option_and_then (λ replace. Some (key, replace)) (replace_in (from_byte 32 bytes))) (u32_in (before_byte 32 bytes)) (number_is (2 ^ 32) (before_byte 32 bytes)) (λ key h.
     bound _ _ (λ replace. Some (key, replace)) (replace_in (from_byte 32 bytes)) (replace_is (from_byte 32 bytes)) (λ replace j.
     (cut_off bytes (decimal key) (replace_words replace) h.0 j.0, (h.1, j.1))))
 
@@ -329,7 +331,7 @@ some_start start.InvalidateAll = omega arith
 tell_is : (bytes : List ℕ) → IfSome (tell_of bytes) (λ t. (bytes ≡ decimal t.0 ++ 32 ∷ told_words t.1) × ((t.0 < 2 ^ 64) × ToldFits t.1))
 unfolding tell_of
 tell_is bytes =
-    bound _ _ (λ call. option_and_then (λ t. Some (call, t)) (told_of (after_byte 32 bytes))) (call_in (before_byte 32 bytes)) (number_is (2 ^ 64) (before_byte 32 bytes)) (λ call h.
+    bound _ _ (λ call. option_and_then (λ t. Some (call, t)) (told_of (after_byte 32 bytes))) (u64_in (before_byte 32 bytes)) (number_is (2 ^ 64) (before_byte 32 bytes)) (λ call h.
     bound _ _ (λ t. Some (call, t)) (told_of (after_byte 32 bytes)) (told_is (after_byte 32 bytes)) (λ t j.
     (rejoined bytes (decimal call) (told_words t) h.0 j.0 (some_words t), (h.1, j.1))))
 

@@ -7,7 +7,8 @@ use Rattle.moka_hist.specs.declared.settings.Settings.{Settings}
 use Rattle.moka_text.specs.declared.schedules.Schedule.{Schedule}
 use Rattle.moka_text.specs.declared.schedules.ScheduleError.{ScheduleError}
 use Rattle.moka_text.specs.declared.schedules.ScheduleError.TheVariants as errors
-use Rattle.moka_text.specs.ScheduleText.{event_line, EventFits, IsCacheLine, SpellsNone, lines, Says, BeginsBadly, IsFirstBad}
+use Rattle.moka_lines.specs.Lines.{lines}
+use Rattle.moka_text.specs.ScheduleText.{event_line, EventFits, IsCacheLine, SpellsNone, Says, BeginsBadly, IsFirstBad}
 use Rattle.moka_text.specs.ScheduleReading.{event_of, event_then, events_from, with_front, with_cache, cache_of, cache_then, schedule_of, schedule, Gives, parts}
 use Rattle.moka_text.proofs.Spelled.{event_is, event_read, event_none}
 use Rattle.moka_text.proofs.CacheLine.{cache_is, cache_read}

@@ -1,5 +1,5 @@
 -- The text of a report.
-use Rattle.std.specs.Prelude.{ℕ, true, false, List, [], ◌∷◌, ◌++◌, Some, None, flat_map, codes, decimal}
+use Rattle.std.specs.Prelude.{ℕ, true, false, List, ◌∷◌, ◌++◌, Some, None, flat_map, codes, decimal}
 use Rattle.moka_hist.specs.declared.entries.CompResult.{CompResult}
 use Rattle.moka_hist.specs.declared.entries.CompResult.TheVariants as done
 use Rattle.moka_hist.specs.declared.replies.Ask.{Ask}
@@ -17,11 +17,8 @@ use Rattle.moka_hist.specs.declared.rules.Cause.{Cause}
 use Rattle.moka_hist.specs.declared.notices.Notice.{Notice}
 use Rattle.moka_hist.specs.declared.notices.NoticeState.{NoticeState}
 use Rattle.moka_hist.specs.declared.notices.NoticeState.TheVariants as state
+use Rattle.moka_lines.specs.Texts.{ended}
 use Rattle.moka_text.specs.Words.{cause_word}
-
--- a line's words and its end
-abbrev pub ended : List ℕ → List ℕ
-ended words = words ++ 10 ∷ []
 
 -- what a compute has done
 abbrev pub done_words : CompResult ℕ ℕ → List ℕ

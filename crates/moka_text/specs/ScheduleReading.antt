@@ -14,8 +14,10 @@ use Rattle.moka_hist.specs.declared.settings.Settings.{Settings}
 use Rattle.moka_text.specs.declared.schedules.Schedule.{Schedule}
 use Rattle.moka_text.specs.declared.schedules.ScheduleError.{ScheduleError}
 use Rattle.moka_text.specs.declared.schedules.ScheduleError.TheVariants as errors
-use Rattle.moka_text.specs.Words.{call_in, key_in, after, before_byte, after_byte, from_byte}
-use Rattle.moka_text.specs.ScheduleText.{event_line, EventFits, lines, Says, IsFirstBad}
+use Rattle.moka_lines.specs.Words.{u64_in, u32_in, after, before_byte, after_byte}
+use Rattle.moka_text.specs.Words.{from_byte}
+use Rattle.moka_lines.specs.Lines.{lines}
+use Rattle.moka_text.specs.ScheduleText.{event_line, EventFits, Says, IsFirstBad}
 
 infixl 10 ◌>>=◌
 abbrev pub ◌>>=◌ : {A B : Type 0} → Option A → (A → Option B) → Option B
@@ -24,8 +26,8 @@ o >>= f = option_and_then f o
 -- a key and a value with a space between them
 unfoldable pub pair_of : List ℕ → Option (ℕ × ℕ)
 pair_of bytes = do
-  key ← key_in (before_byte 32 bytes)
-  value ← key_in (after_byte 32 bytes)
+  key ← u32_in (before_byte 32 bytes)
+  value ← u32_in (after_byte 32 bytes)
   Some (key, value)
 
 -- why a record that was chosen has to leave
@@ -40,47 +42,47 @@ cause_of word =
 -- a stamp and a cause with a space between them
 unfoldable pub chosen_of : List ℕ → Option (ℕ × Cause)
 chosen_of bytes = do
-  stamp ← call_in (before_byte 32 bytes)
+  stamp ← u64_in (before_byte 32 bytes)
   cause ← cause_of (after_byte 32 bytes)
   Some (stamp, cause)
 
 -- a key, and after a space the record that was chosen
 unfoldable pub evict_of : List ℕ → Option (ℕ × (ℕ × Cause))
 evict_of bytes = do
-  key ← key_in (before_byte 32 bytes)
+  key ← u32_in (before_byte 32 bytes)
   chosen ← chosen_of (after_byte 32 bytes)
   Some (key, chosen)
 
 -- the replace test of a load: none where no bytes are left
 unfoldable pub replace_in : List ℕ → Option (Option ℕ)
 replace_in [] = Some None
-replace_in (b ∷ bytes) = option_map Some (after (codes " if ") (b ∷ bytes) >>= call_in)
+replace_in (b ∷ bytes) = option_map Some (after (codes " if ") (b ∷ bytes) >>= u64_in)
 
 -- a key, and after it the replace test, where there is one
 unfoldable pub load_of : List ℕ → Option (ℕ × Option ℕ)
 load_of bytes = do
-  key ← key_in (before_byte 32 bytes)
+  key ← u32_in (before_byte 32 bytes)
   replace ← replace_in (from_byte 32 bytes)
   Some (key, replace)
 
 -- what a call is started for, by a word and what stands after its space
 unfoldable pub start_by : List ℕ → List ℕ → Option (Start ℕ ℕ)
 start_by word rest =
-    if bytes_eq word (codes "get") then option_map start.Get (key_in rest)
+    if bytes_eq word (codes "get") then option_map start.Get (u32_in rest)
     else if bytes_eq word (codes "insert") then
     option_map (λ p. start.Insert p.0 p.1) (pair_of rest)
     else if bytes_eq word (codes "get_with") then
     option_map (λ l. start.GetWith l.0 l.1) (load_of rest)
-    else if bytes_eq word (codes "optional") then option_map start.Optional (key_in rest)
-    else if bytes_eq word (codes "try") then option_map start.Try (key_in rest)
+    else if bytes_eq word (codes "optional") then option_map start.Optional (u32_in rest)
+    else if bytes_eq word (codes "try") then option_map start.Try (u32_in rest)
     else if bytes_eq word (codes "or_insert") then
     option_map (λ p. start.OrInsert p.0 p.1) (pair_of rest)
-    else if bytes_eq word (codes "compute") then option_map start.Compute (key_in rest)
-    else if bytes_eq word (codes "try_compute") then option_map start.TryCompute (key_in rest)
-    else if bytes_eq word (codes "compute_alone") then option_map start.ComputeAlone (key_in rest)
-    else if bytes_eq word (codes "upsert") then option_map start.Upsert (key_in rest)
-    else if bytes_eq word (codes "invalidate") then option_map start.Invalidate (key_in rest)
-    else if bytes_eq word (codes "remove") then option_map start.Remove (key_in rest)
+    else if bytes_eq word (codes "compute") then option_map start.Compute (u32_in rest)
+    else if bytes_eq word (codes "try_compute") then option_map start.TryCompute (u32_in rest)
+    else if bytes_eq word (codes "compute_alone") then option_map start.ComputeAlone (u32_in rest)
+    else if bytes_eq word (codes "upsert") then option_map start.Upsert (u32_in rest)
+    else if bytes_eq word (codes "invalidate") then option_map start.Invalidate (u32_in rest)
+    else if bytes_eq word (codes "remove") then option_map start.Remove (u32_in rest)
     else if bytes_eq word (codes "evict") then
     option_map (λ e. start.Evict e.0 e.1.0 e.1.1) (evict_of rest)
     else None
@@ -105,30 +107,30 @@ told_alone bytes =
 unfoldable pub told_of : List ℕ → Option (Told ℕ ℕ)
 told_of bytes =
     if bytes_eq (before_byte 32 bytes) (codes "value") then
-    option_map told.Value (key_in (after_byte 32 bytes))
+    option_map told.Value (u32_in (after_byte 32 bytes))
     else if bytes_eq (before_byte 32 bytes) (codes "error") then
-    option_map told.Err (key_in (after_byte 32 bytes))
+    option_map told.Err (u32_in (after_byte 32 bytes))
     else if bytes_eq (before_byte 32 bytes) (codes "put") then
-    option_map (λ value. told.Op (op.Put value)) (key_in (after_byte 32 bytes))
+    option_map (λ value. told.Op (op.Put value)) (u32_in (after_byte 32 bytes))
     else told_alone bytes
 
 -- a call, and after a space what it is told
 unfoldable pub tell_of : List ℕ → Option (ℕ × Told ℕ ℕ)
 tell_of bytes = do
-  call ← call_in (before_byte 32 bytes)
+  call ← u64_in (before_byte 32 bytes)
   answer ← told_of (after_byte 32 bytes)
   Some (call, answer)
 
 -- the event of a line, by its first word and what stands after its space
 unfoldable pub event_by : List ℕ → List ℕ → Option (Event ℕ ℕ ℕ)
 event_by word rest =
-    if bytes_eq word (codes "at") then option_map event.At (call_in rest)
+    if bytes_eq word (codes "at") then option_map event.At (u64_in rest)
     else if bytes_eq word (codes "start") then option_map event.Start (start_of rest)
-    else if bytes_eq word (codes "step") then option_map event.Step (call_in rest)
-    else if bytes_eq word (codes "poll") then option_map event.Poll (call_in rest)
+    else if bytes_eq word (codes "step") then option_map event.Step (u64_in rest)
+    else if bytes_eq word (codes "poll") then option_map event.Poll (u64_in rest)
     else if bytes_eq word (codes "tell") then
     option_map (λ t. event.Tell t.0 t.1) (tell_of rest)
-    else if bytes_eq word (codes "drop") then option_map event.Drop (call_in rest)
+    else if bytes_eq word (codes "drop") then option_map event.Drop (u64_in rest)
     else None
 
 -- the event that a line spells
@@ -151,12 +153,12 @@ within least greatest n = if nat_le least n && nat_le n greatest then Some n els
 -- the capacity or the time of an option, where one is said
 unfoldable pub number_of : Option (List ℕ) → Option (Option ℕ)
 number_of None = Some None
-number_of (Some said) = option_map Some (call_in said)
+number_of (Some said) = option_map Some (u64_in said)
 
 -- the size of the write log
 unfoldable pub log_of : Option (List ℕ) → Option ℕ
 log_of None = Some 384
-log_of (Some said) = call_in said >>= within 1 65536
+log_of (Some said) = u64_in said >>= within 1 65536
 
 -- whether a switch is set, of which nothing more may be said
 unfoldable pub switch_of : Option (List ℕ) → Option Bool

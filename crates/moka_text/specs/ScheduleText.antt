@@ -1,7 +1,8 @@
 -- The text of a schedule: how its lines are spelled, and what a whole text says.
-use Rattle.std.specs.Prelude.{◌≡◌, ℕ, ◌+◌, ◌^◌, ◌<◌, ◌≤◌, ◌==◌, ◌⊎◌, Bool, List, [], ◌∷◌, ◌++◌, map, length, Option, Some, None, IfSome, codes, decimal, if◌then◌else◌}
+use Rattle.std.specs.Prelude.{◌≡◌, ℕ, ◌+◌, ◌^◌, ◌<◌, ◌≤◌, ◌⊎◌, Bool, List, [], ◌∷◌, ◌++◌, map, length, Option, Some, None, IfSome, codes, decimal, if◌then◌else◌}
 use Rattle.std.specs.Option.{option_map, unwrap_or}
-use Rattle.std.specs.List.{AllByRecursion, onto_first}
+use Rattle.std.specs.List.{AllByRecursion}
+use Rattle.moka_lines.specs.Lines.{lines}
 use Rattle.moka_hist.specs.declared.events.Start.{Start}
 use Rattle.moka_hist.specs.declared.events.Start.TheVariants as start
 use Rattle.moka_hist.specs.declared.events.Op.TheVariants as op
@@ -139,12 +140,6 @@ pub record IsCacheLine (line : List ℕ) (log : ℕ) (settings : Settings) : Typ
   pub size : log ≡ unwrap_or said 384
   pub range : (1 ≤ log) × (log ≤ 65536)
   pub fit : SettingsFit settings
-
--- Each line ends with byte 10, and the last may lack it: what stands after the last byte 10 is a
--- line only where it isn't empty.
-abbrev pub lines : List ℕ → List (List ℕ)
-lines [] = []
-lines (b ∷ bytes) = if b == 10 then [] ∷ lines bytes else onto_first b (lines bytes)
 
 -- the text is the first line and a line for each event
 pub record Says (text : List ℕ) (log : ℕ) (settings : Settings)

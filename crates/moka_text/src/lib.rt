@@ -8,7 +8,6 @@ mod lines;
 mod options;
 mod reports;
 mod schedules;
-mod words;
 
 pub use laws::{schedule_text_round_trip, schedules_are_never_refused};
 pub use reports::write_report;

@@ -16,8 +16,8 @@ ghost use Rattle.moka_text.specs.ScheduleReading.{
   event_of,
 };
 
-use crate::words::{after, call_in, cut, key_in};
 use moka_hist::{Cause, Event, Op, Start, Told};
+use moka_lines::{after, cut, u32_in, u64_in};
 
 /// A key and a value, with one space between them.
 #[tactic(auto, unfolding(crate::specs::ScheduleReading::pair_of))]
@@ -26,8 +26,8 @@ fn pair_of(bytes: &[u8]) -> Option<(u32, u32)>
     ensures { result ≡ pair_of bytes.now }
 {
     let (key, value) = cut(bytes, b' ');
-    let key = key_in(key)?;
-    let value = key_in(value)?;
+    let key = u32_in(key)?;
+    let value = u32_in(value)?;
     Some((key, value))
 }
 
@@ -51,7 +51,7 @@ fn chosen_of(bytes: &[u8]) -> Option<(u64, Cause)>
     ensures { result ≡ chosen_of bytes.now }
 {
     let (stamp, cause) = cut(bytes, b' ');
-    let stamp = call_in(stamp)?;
+    let stamp = u64_in(stamp)?;
     let cause = cause_of(cause)?;
     Some((stamp, cause))
 }
@@ -62,7 +62,7 @@ fn evict_of(bytes: &[u8]) -> Option<(u32, (u64, Cause))>
     ensures { result ≡ evict_of bytes.now }
 {
     let (key, chosen) = cut(bytes, b' ');
-    let key = key_in(key)?;
+    let key = u32_in(key)?;
     let chosen = chosen_of(chosen)?;
     Some((key, chosen))
 }
@@ -75,7 +75,7 @@ fn replace_in(bytes: &[u8]) -> Option<Option<u64>>
     if bytes.is_empty() {
         return Some(None);
     }
-    let test = call_in(after(bytes, b" if ")?)?;
+    let test = u64_in(after(bytes, b" if ")?)?;
     Some(Some(test))
 }
 
@@ -86,12 +86,12 @@ fn load_of(bytes: &[u8]) -> Option<(u32, Option<u64>)>
     ensures { result ≡ load_of bytes.now }
 {
     // Few loads have a replace test: without one the key is all.
-    if let Some(key) = key_in(bytes) {
+    if let Some(key) = u32_in(bytes) {
         return Some((key, None));
     }
     let (key, _) = cut(bytes, b' ');
     let replace = &bytes[key.len()..];
-    let key = key_in(key)?;
+    let key = u32_in(key)?;
     let replace = replace_in(replace)?;
     Some((key, replace))
 }
@@ -102,18 +102,18 @@ fn start_by(word: &[u8], rest: &[u8]) -> Option<Start<u32, u32>>
     ensures { result ≡ start_by word.now rest.now }
 {
     match word {
-        b"get" => key_in(rest).map(|key| Start::Get { key }),
+        b"get" => u32_in(rest).map(|key| Start::Get { key }),
         b"insert" => pair_of(rest).map(|(key, value)| Start::Insert { key, value }),
         b"get_with" => load_of(rest).map(|(key, replace)| Start::GetWith { key, replace }),
-        b"optional" => key_in(rest).map(|key| Start::Optional { key }),
-        b"try" => key_in(rest).map(|key| Start::Try { key }),
+        b"optional" => u32_in(rest).map(|key| Start::Optional { key }),
+        b"try" => u32_in(rest).map(|key| Start::Try { key }),
         b"or_insert" => pair_of(rest).map(|(key, value)| Start::OrInsert { key, value }),
-        b"compute" => key_in(rest).map(|key| Start::Compute { key }),
-        b"try_compute" => key_in(rest).map(|key| Start::TryCompute { key }),
-        b"compute_alone" => key_in(rest).map(|key| Start::ComputeAlone { key }),
-        b"upsert" => key_in(rest).map(|key| Start::Upsert { key }),
-        b"invalidate" => key_in(rest).map(|key| Start::Invalidate { key }),
-        b"remove" => key_in(rest).map(|key| Start::Remove { key }),
+        b"compute" => u32_in(rest).map(|key| Start::Compute { key }),
+        b"try_compute" => u32_in(rest).map(|key| Start::TryCompute { key }),
+        b"compute_alone" => u32_in(rest).map(|key| Start::ComputeAlone { key }),
+        b"upsert" => u32_in(rest).map(|key| Start::Upsert { key }),
+        b"invalidate" => u32_in(rest).map(|key| Start::Invalidate { key }),
+        b"remove" => u32_in(rest).map(|key| Start::Remove { key }),
         b"evict" => evict_of(rest).map(|(key, (stamp, cause))| Start::Evict { key, stamp, cause }),
         _ => None,
     }
@@ -138,7 +138,7 @@ fn start_of(bytes: &[u8]) -> Option<Start<u32, u32>>
         return pair_of(pair).map(|(key, value)| Start::Insert { key, value });
     }
     if let Some(key) = after(bytes, b"get ") {
-        return key_in(key).map(|key| Start::Get { key });
+        return u32_in(key).map(|key| Start::Get { key });
     }
     if is_for_all(bytes) {
         return Some(Start::InvalidateAll);
@@ -168,13 +168,13 @@ fn told_of(bytes: &[u8]) -> Option<Told<u32, u32>>
     ensures { result ≡ told_of bytes.now }
 {
     if let Some(value) = after(bytes, b"value ") {
-        return key_in(value).map(Told::Value);
+        return u32_in(value).map(Told::Value);
     }
     if let Some(error) = after(bytes, b"error ") {
-        return key_in(error).map(Told::Err);
+        return u32_in(error).map(Told::Err);
     }
     if let Some(value) = after(bytes, b"put ") {
-        return key_in(value).map(|value| Told::Op(Op::Put(value)));
+        return u32_in(value).map(|value| Told::Op(Op::Put(value)));
     }
     told_alone(bytes)
 }
@@ -185,7 +185,7 @@ fn tell_of(bytes: &[u8]) -> Option<(u64, Told<u32, u32>)>
     ensures { result ≡ tell_of bytes.now }
 {
     let (call, answer) = cut(bytes, b' ');
-    let call = call_in(call)?;
+    let call = u64_in(call)?;
     let answer = told_of(answer)?;
     Some((call, answer))
 }
@@ -195,7 +195,7 @@ pub(crate) fn event_of(line: &[u8]) -> Option<Event<u32, u32, u32>>
     ensures { result ≡ event_of line.now }
 {
     if let Some(call) = after(line, b"poll ") {
-        return call_in(call).map(|call| Event::Poll { call });
+        return u64_in(call).map(|call| Event::Poll { call });
     }
     if let Some(start) = after(line, b"start ") {
         return start_of(start).map(|start| Event::Start { start });
@@ -204,13 +204,13 @@ pub(crate) fn event_of(line: &[u8]) -> Option<Event<u32, u32, u32>>
         return tell_of(told).map(|(call, answer)| Event::Tell { call, answer });
     }
     if let Some(call) = after(line, b"step ") {
-        return call_in(call).map(|call| Event::Step { call });
+        return u64_in(call).map(|call| Event::Step { call });
     }
     if let Some(call) = after(line, b"drop ") {
-        return call_in(call).map(|call| Event::Drop { call });
+        return u64_in(call).map(|call| Event::Drop { call });
     }
     if let Some(moment) = after(line, b"at ") {
-        return call_in(moment).map(|moment| Event::At { moment });
+        return u64_in(moment).map(|moment| Event::At { moment });
     }
     None
 }

@@ -11,8 +11,8 @@ ghost use Rattle.moka_text.specs.ScheduleReading.{
   cache_of,
 };
 
-use crate::words::{after, call_in, cut};
 use moka_hist::Settings;
+use moka_lines::{after, cut, u64_in};
 
 /// How many writes the write log has room for where the first line doesn't say.
 const DEFAULT_LOG: usize = 384;
@@ -42,7 +42,7 @@ fn number_of(said: Option<&[u8]>) -> Option<Option<u64>>
 {
     match said {
         None => Some(None),
-        Some(said) => call_in(said).map(Some),
+        Some(said) => u64_in(said).map(Some),
     }
 }
 
@@ -54,7 +54,7 @@ fn log_of(said: Option<&[u8]>) -> Option<usize>
     let Some(said) = said else {
         return Some(DEFAULT_LOG);
     };
-    let log = call_in(said)?;
+    let log = u64_in(said)?;
     if log < 1 || log > GREATEST_LOG {
         return None;
     }

@@ -2,9 +2,9 @@
 
 ghost use Rattle.std.specs.Prelude.{◌≡◌, ◌∷◌, ◌++◌, decimal, flat_map, IfOk, OnOk};
 ghost use Rattle.std.specs.String.{string_bytes};
+ghost use Rattle.moka_lines.specs.Texts.{ended};
 ghost use Rattle.moka_text.specs.Words.{cause_word};
 ghost use Rattle.moka_text.specs.ReportText.{
-  ended,
   left_words,
   reply_line,
   entry_line,

@@ -1,7 +1,8 @@
 //! Reading the text of a schedule.
 
 ghost use Rattle.std.specs.Prelude.{◌≡◌, ℕ, Some, IfOk, IsErrOf};
-ghost use Rattle.moka_text.specs.ScheduleText.{lines, Says, IsFirstBad};
+ghost use Rattle.moka_lines.specs.Lines.{lines};
+ghost use Rattle.moka_text.specs.ScheduleText.{Says, IsFirstBad};
 ghost use Rattle.moka_text.specs.ScheduleReading.{
   events_from,
   schedule,
@@ -15,8 +16,8 @@ ghost use Rattle.moka_text.specs.declared.schedules.ScheduleError.TheVariants.{M
 
 use crate::lines::event_of;
 use crate::options::cache_of;
-use crate::words::cut_line;
 use moka_hist::{Event, Settings};
+use moka_lines::cut_line;
 use std::alloc::{AllocError, AllocFailed, Global};
 use std::error::Error;
 use std::fmt;

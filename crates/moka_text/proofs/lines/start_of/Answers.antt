@@ -2,7 +2,7 @@
 use Rattle.std.proofs.Common.{◌≡◌, sym, ap, ◌∙◌, rules}
 use Rattle.std.specs.Option.{option_copied, option_map}
 use Rattle.moka_hist.specs.declared.events.Start.TheVariants as start
-use Rattle.moka_text.specs.Words.{key_in}
+use Rattle.moka_lines.specs.Words.{u32_in}
 use Rattle.moka_text.specs.ScheduleReading.{load_of, pair_of}
 use Rattle.moka_text.proofs.Fronts.{loads, inserts, gets}
 use Rattle.moka_text.proofs.lines.start_of.Goals as goal
@@ -19,5 +19,5 @@ returns-in-Some-after c =
 
 pub returns-in-Some-after-2 : goal.returns-in-Some-after-2
 returns-in-Some-after-2 c =
-    let made : c.map-in-Some-after-2.result ≡ option_map start.Get (key_in c.in-Some-after-2.key.now) = search rules in
+    let made : c.map-in-Some-after-2.result ≡ option_map start.Get (u32_in c.in-Some-after-2.key.now) = search rules in
     made ∙ sym (gets c.args.bytes.now c.in-Some-after-2.key.now (sym c.after-3.ensures ∙ ap option_copied c.in-Some-after-2.is))

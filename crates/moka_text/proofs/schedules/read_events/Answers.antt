@@ -1,5 +1,5 @@
 use Rattle.std.proofs.Common.{◌<◌, ◌+◌, ◌++◌, ◌∷◌, [], length, ap, sym, ◌∙◌, arith}
-use Rattle.moka_text.specs.ScheduleText.{lines}
+use Rattle.moka_lines.specs.Lines.{lines}
 use Rattle.moka_text.specs.ScheduleReading.{event_of, events_from, with_front}
 use Rattle.moka_text.proofs.Splitting.{read_one, read_none, takes_memory}
 use Rattle.moka_text.proofs.schedules.read_events.Goals as goal

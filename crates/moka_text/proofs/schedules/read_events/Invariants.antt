@@ -1,5 +1,5 @@
 use Rattle.std.proofs.Common.{◌≡◌, ◌+◌, ◌≤◌, length}
-use Rattle.moka_text.specs.ScheduleText.{lines}
+use Rattle.moka_lines.specs.Lines.{lines}
 use Rattle.moka_text.specs.ScheduleReading.{events_from, with_front}
 use Rattle.moka_text.proofs.schedules.read_events.Given as goal
 

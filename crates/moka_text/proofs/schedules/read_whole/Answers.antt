@@ -1,6 +1,6 @@
 use Rattle.std.proofs.Common.{refl, ap, sym, ◌∙◌}
 use Rattle.std.proofs.lemmas.Result.{err_from_is_err_and}
-use Rattle.moka_text.specs.ScheduleText.{lines}
+use Rattle.moka_lines.specs.Lines.{lines}
 use Rattle.moka_text.specs.ScheduleReading.{cache_of, events_from, with_cache, schedule}
 use Rattle.moka_text.proofs.Splitting.{no_cache, with_rest, passed_on, same_error, whole_takes_memory}
 use Rattle.moka_text.proofs.schedules.read_whole.Goals as goal
