@@ -6,3 +6,4 @@ pub mod Serving
 pub mod Asking
 pub mod Leaving
 pub mod Settling
+mod Lawful

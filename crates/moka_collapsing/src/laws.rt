@@ -1,9 +1,10 @@
 //! What a user wants to know of the reference gateway.
 
 ghost use Rattle.std.specs.Prelude.{ℕ, List};
+ghost use Rattle.std.specs.declared.result.Result.{Result};
 ghost use Rattle.moka_collapsing.specs.declared.slot.Place.{Place};
 ghost use Rattle.moka_collapsing.specs.Clients.{Client};
-ghost use Rattle.moka_collapsing.specs.Laws.{IsSameInPieces, IsSentInOrder, OpensOne};
+ghost use Rattle.moka_collapsing.specs.Laws.{CloseIsLawful, FeedIsLawful, IsSameInPieces, IsSentInOrder, OpensOne, ReplyIsLawful};
 ghost use Rattle.moka_collapsing.specs.Reference.{Reference};
 ghost use Rattle.moka_collapsing.specs.Upstream.{Upstream};
 
@@ -24,4 +25,20 @@ pub fn upstream_requests_are_shared()
 pub fn pieces_make_no_difference()
     ensures { (g : Reference) (number : ℕ) (client : Client) (front back : List ℕ)
         → IsSameInPieces g number client front back }
+{}
+
+/// What a user may rely on where a client is fed.
+pub fn feeds_are_lawful()
+    ensures { (g : Reference) (number : ℕ) (client : Client) (bytes : List ℕ)
+        → FeedIsLawful g number client bytes }
+{}
+
+/// What a user may rely on where an upstream request brings something.
+pub fn replies_are_lawful()
+    ensures { (g : Reference) (key : ℕ) (brought : Result ℕ ℕ) → ReplyIsLawful g key brought }
+{}
+
+/// What a user may rely on where a client closes.
+pub fn closes_are_lawful()
+    ensures { (g : Reference) (number : ℕ) (client : Client) → CloseIsLawful g number client }
 {}

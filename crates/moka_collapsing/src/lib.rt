@@ -16,7 +16,10 @@ mod waits;
 
 pub use answer::Answer;
 pub use client::Client;
-pub use laws::{pieces_make_no_difference, replies_go_in_order, upstream_requests_are_shared};
+pub use laws::{
+    closes_are_lawful, feeds_are_lawful, pieces_make_no_difference, replies_are_lawful,
+    replies_go_in_order, upstream_requests_are_shared,
+};
 pub use out::{Out, OutList};
 pub use slot::{Asked, Given, Place, Slot};
 pub use standing::{lists_are_answered, requests_come, requests_leave};
