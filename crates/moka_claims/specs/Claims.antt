@@ -86,3 +86,8 @@ pub record IsClaims (claims : Claims) (claimed : Claimed) : Type 0 where
 -- it stands for claims of which P holds
 abbrev pub IsStanding : Claims → (Claimed → Type 0) → Type 0
 IsStanding claims P = (claimed : Claimed) × IsClaims claims claimed × P claimed
+
+-- at most one call of the cache asks for the value of a rule
+abbrev pub AsksOnce : Small ℕ ℕ (Unit {0}) → Type 0
+AsksOnce m =
+    (n k : ℕ) (a b : Load ℕ) → m.stands n ≡ Some (Asks a) → m.stands k ≡ Some (Asks b) → a.key ≡ b.key → n ≡ k

@@ -98,7 +98,8 @@ impl Claims {
     // The rule was known: the query seeks it no longer.
     fn found(&mut self, query: u64, value: u32) -> Look
         ensures look { result ≡ look_is.Value value }
-        ensures seats { (q : ℕ) → get nat_eq self.new.seats q ≡ put_at (get nat_eq self.old.seats) query None q }
+        ensures seats { (q : ℕ) → get nat_eq self.new.seats q
+            ≡ put_at (get nat_eq self.old.seats) query None q }
         ensures others { self.new ≡ record self.old { seats = self.new.seats } }
     {
         let _ = self.seats.remove(&query);
@@ -172,7 +173,8 @@ impl Claims {
 
     /// Frees a rule that is held, and for which no query waits. It takes no memory.
     pub fn free(&mut self, rule: u32)
-        requires { IsStanding self.old (λ claimed. (claimed.held rule ≡ true) × IsUnawaited claimed rule) }
+        requires { IsStanding self.old (λ claimed. (claimed.held rule ≡ true)
+            × IsUnawaited claimed rule) }
         ensures { (claimed : Claimed) → IsClaims self.old claimed → claimed.held rule ≡ true
             → IsUnawaited claimed rule
             → IsClaims self.new (record claimed { held = put_at claimed.held rule false }) }

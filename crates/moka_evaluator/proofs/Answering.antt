@@ -20,7 +20,7 @@ no_query : {v : ℕ} → turn.NoQuery ≡ turn.Value v → ⊥
 no_query e = cc
 
 -- turns leave the rules as they are
-rules_stay : (e : Evaluator) (q : ℕ) → (turned e q).1.rules ≡ e.rules
+pub rules_stay : (e : Evaluator) (q : ℕ) → (turned e q).1.rules ≡ e.rules
 rules_stay e q = by (e.stack q)
   where
     work : (s : Stack) (x : Option ℕ) → (works e q s x).1.rules ≡ e.rules
@@ -49,7 +49,7 @@ rules_stay e q = by (e.stack q)
 
 module _ (e : Evaluator) (sound : IsSound e) (q : ℕ) where
   -- a query that is live after a turn was so before, and is asked for the same rule
-  stack_was : (p : ℕ) (t : Stack) → (turned e q).1.stack p ≡ Some t → (s : Stack) × (e.stack p ≡ Some s) × (asked_for t ≡ asked_for s)
+  pub stack_was : (p : ℕ) (t : Stack) → (turned e q).1.stack p ≡ Some t → (s : Stack) × (e.stack p ≡ Some s) × (asked_for t ≡ asked_for s)
   stack_was p t at = by (q == p) refl
     where
       its : (x : Option Stack) → e.stack q ≡ x → (turned e q).1.stack q ≡ Some t → (s : Stack) × (e.stack q ≡ Some s) × (asked_for t ≡ asked_for s)
@@ -68,7 +68,7 @@ module _ (e : Evaluator) (sound : IsSound e) (q : ℕ) where
       let was = stack_was a.query is.0 is.1 in
       (was.0, was.1, is.2 ∙ (λ i. plain (rules_stay e q i) (was.2 i)))
 
-  turn_plain : AllByRecursion (IsPlainAnswer e) (answer_in q (turned e q).0)
+  pub turn_plain : AllByRecursion (IsPlainAnswer e) (answer_in q (turned e q).0)
   turn_plain = by (turned e q).0 refl
     where
       live_plain : (v : ℕ) → (turned e q).0 ≡ turn.Value v → (x : Option Stack) → e.stack q ≡ x → IsPlainAnswer e (record { query = q; value = v })

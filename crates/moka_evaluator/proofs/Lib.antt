@@ -10,3 +10,5 @@ pub mod Dropping
 pub mod Promised
 pub mod Finishing
 pub mod Answering
+pub mod Earlier
+pub mod Keeping

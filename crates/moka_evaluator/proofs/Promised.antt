@@ -184,7 +184,7 @@ module _ (e : Evaluator) (sound : IsSound e) (r v : ℕ) (known : e.known r ≡ 
       by true = known
       by false = known
 
-known_closed : (e : Evaluator) → IsSound e → (r v : ℕ) → e.known r ≡ Some v → StaysKnown e r v
+pub known_closed : (e : Evaluator) → IsSound e → (r v : ℕ) → e.known r ≡ Some v → StaysKnown e r v
 known_closed e sound r v known = record { known = known; closed = sound.closed r v known }
 
 pub known_stays : KnownStays
@@ -212,7 +212,7 @@ owns_below rules owner q above r (f ∷ fs) lie e =
         ap owner (sym (eqb-true f.rule r both.1)) ∙ lie.0.frame.owned both.0
     by more false here e = more e
 
-evaluates_owned : (rules : List Rule) (owner : ℕ → Option ℕ) (q r : ℕ) (s : Stack) → IsStack rules owner q s → evaluates s r ≡ true →
+pub evaluates_owned : (rules : List Rule) (owner : ℕ → Option ℕ) (q r : ℕ) (s : Stack) → IsStack rules owner q s → evaluates s r ≡ true →
     owner r ≡ Some q
 evaluates_owned rules owner q r s stack e = by (s.top.owns && s.top.rule == r) refl e
   where

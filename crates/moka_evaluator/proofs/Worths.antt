@@ -18,7 +18,7 @@ value_same f g (Min a b) h = λ i. min (h.0 i) (h.1 i)
 value_same f g (Max a b) h = λ i. max (h.0 i) (h.1 i)
 value_same f g (If a b c) h = λ i. cond (h.0 i == 0) (h.2 i) (h.1 i)
 
-builds_so : (P Q : ℕ → Type 0) (rule : Rule) → ((a : ℕ) → P a → Q a) → BuildsOn P rule → BuildsOn Q rule
+pub builds_so : (P Q : ℕ → Type 0) (rule : Rule) → ((a : ℕ) → P a → Q a) → BuildsOn P rule → BuildsOn Q rule
 builds_so P Q (Const n) f h = tt
 builds_so P Q (Add a b) f h = (f a h.0, f b h.1)
 builds_so P Q (Mul a b) f h = (f a h.0, f b h.1)

@@ -59,3 +59,30 @@ abbrev pub InOneFrame : Type 0
 InOneFrame =
     (e : Evaluator) (q r : ℕ) (s : Stack) → IsSound e → e.stack q ≡ Some s →
     length (filter (λ f. f.rule == r) (s.top ∷ s.below)) ≤ 1
+
+-- ---- what each call keeps
+
+-- Each rule is evaluated once.
+pub record EvaluatesOnce (e : Evaluator) : Type 0 where
+  -- at most one live query evaluates a rule
+  pub query : (p q r : ℕ) (s t : Stack) → e.stack p ≡ Some s → e.stack q ≡ Some t →
+      evaluates s r ≡ true → evaluates t r ≡ true → p ≡ q
+  -- in one frame
+  pub frame : (q r : ℕ) (s : Stack) → e.stack q ≡ Some s →
+      length (filter (λ f. f.rule == r) (s.top ∷ s.below)) ≤ 1
+  -- nobody evaluates a rule that is known
+  pub unknown : (q r : ℕ) (s : Stack) → e.stack q ≡ Some s → evaluates s r ≡ true → e.known r ≡ None
+
+-- What a call keeps, from the evaluator before it to the one after it.
+pub record Keeps (before after : Evaluator) : Type 0 where
+  pub rules : after.rules ≡ before.rules
+  -- a known value stays, and nobody owns its rule anew
+  pub known : (r v : ℕ) → before.known r ≡ Some v → StaysKnown after r v
+  -- a query that was live, and is, is asked for the same rule
+  pub same_rule : (q : ℕ) (s t : Stack) → before.stack q ≡ Some s → after.stack q ≡ Some t →
+      asked_for t ≡ asked_for s
+  pub once : EvaluatesOnce after
+
+-- the query is live, and was asked for the rule
+abbrev pub IsAskedFor : Evaluator → ℕ → ℕ → Type 0
+IsAskedFor e q r = (s : Stack) × (e.stack q ≡ Some s) × (asked_for s ≡ r)

@@ -1,5 +1,5 @@
 -- What rules are worth: their plain values.
-use Rattle.std.specs.Prelude.{◌≡◌, ◌<◌, ℕ, zero, suc, ◌+◌, ◌*◌, ◌%◌, ◌^◌, ◌==◌, min, max, cond, List, Option, Some, None, slice_get}
+use Rattle.std.specs.Prelude.{◌≡◌, ◌<◌, ◌≤◌, ℕ, zero, suc, ◌+◌, ◌*◌, ◌%◌, ◌^◌, ◌==◌, nat_lt, nat_le, min, max, Bool, true, ◌&&◌, cond, List, Option, Some, None, slice_get}
 use Rattle.std.specs.Option.{option_map_or}
 use Rattle.moka_evaluator.specs.declared.frames.Operands.{Operands}
 use Rattle.moka_evaluator.specs.declared.frames.Operands.TheVariants.{Nothing, First, Both}
@@ -44,6 +44,24 @@ BuildsOn P (If a b c) = P a × P b × P c
 abbrev pub IsAcyclic : List Rule → Type 0
 IsAcyclic rules =
     (r : ℕ) (rule : Rule) → rule_at rules r ≡ Some rule → BuildsOn (λ a. (0 < a) × (a < r)) rule
+
+-- ---- whether each operand is an earlier rule
+
+-- the operand is one of so many rules, which are numbered from 1
+abbrev pub IsOneOf : ℕ → ℕ → Type 0
+IsOneOf count operand = (0 < operand) × (operand ≤ count)
+
+abbrev pub is_earlier : ℕ → ℕ → Bool
+is_earlier count operand = nat_lt 0 operand && nat_le operand count
+
+-- each operand of the rule is one of them
+abbrev pub are_earlier : ℕ → Rule → Bool
+are_earlier count (Const n) = true
+are_earlier count (Add a b) = is_earlier count a && is_earlier count b
+are_earlier count (Mul a b) = is_earlier count a && is_earlier count b
+are_earlier count (Min a b) = is_earlier count a && is_earlier count b
+are_earlier count (Max a b) = is_earlier count a && is_earlier count b
+are_earlier count (If a b c) = (is_earlier count a && is_earlier count b) && is_earlier count c
 
 -- ---- one operand after the other
 

@@ -5,6 +5,7 @@
 //! To call it is to cite the law.
 #![tactic(auto)]
 
+mod acyclic;
 mod answers;
 mod frames;
 mod laws;
@@ -12,11 +13,12 @@ mod promises;
 mod rules;
 mod turns;
 
+pub use acyclic::is_acyclic;
 pub use answers::{Answer, AnswerList};
 pub use frames::{Frame, Operands};
 pub use laws::{
     calls_keep_sound, claims_follow, finish_ends, known_are_of_rules, plain_values_follow,
 };
-pub use promises::{answers_are_plain, known_stays, one_evaluates_each};
+pub use promises::{answers_are_plain, calls_keep, known_stays, one_evaluates_each};
 pub use rules::{Rule, RuleList};
 pub use turns::Turned;

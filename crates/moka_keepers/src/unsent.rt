@@ -1,6 +1,8 @@
 //! The writes that a keeper has still to be sent.
 
-ghost use Rattle.std.specs.Prelude.{◌≡◌, ℕ, ◌+◌, ◌-◌, ◌<◌, ◌≤◌, ◌^◌, List, [], ◌∷◌, ◌++◌, length, nat_eq, Some, None, IsSome, OnOk, OnErr, IfSome, IfNone, option_copied};
+ghost use Rattle.std.specs.Prelude.{◌≡◌, ℕ, ◌+◌, ◌-◌, ◌<◌, ◌≤◌, ◌^◌, List, [], ◌∷◌, ◌++◌, length};
+ghost use Rattle.std.specs.Prelude.{nat_eq, Some, None, IsSome, OnOk, OnErr, IfSome, IfNone};
+ghost use Rattle.std.specs.Prelude.{option_copied};
 ghost use Rattle.std.specs.HashMap.{get, IsUnchanged};
 ghost use Rattle.moka_hist.specs.Finite.{put_at};
 ghost use Rattle.moka_keepers.specs.Writes.{count_of, last_of};
@@ -107,8 +109,10 @@ impl Unsent {
 fn add(pending: &mut HashMap<u32, Pending>, write: Write) -> Result<(), AllocError>
     requires room { IfSome (get nat_eq pending.old write.key) (λ p. p.count + 1 < 2 ^ 64) }
     ensures noted { OnOk result ((key : ℕ) → get nat_eq pending.new key
-        ≡ put_at (get nat_eq pending.old) write.key (Some (noted (get nat_eq pending.old write.key) write.value)) key) }
-    ensures stays { OnErr result ((key : ℕ) → get nat_eq pending.new key ≡ get nat_eq pending.old key) }
+        ≡ put_at (get nat_eq pending.old) write.key
+        (Some (noted (get nat_eq pending.old write.key) write.value)) key) }
+    ensures stays { OnErr result ((key : ℕ)
+        → get nat_eq pending.new key ≡ get nat_eq pending.old key) }
 {
     if let Some(known) = pending.get_mut(&write.key) {
         known.count += 1;

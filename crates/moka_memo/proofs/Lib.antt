@@ -8,3 +8,4 @@ pub mod Asking
 pub mod Turning
 pub mod Letting
 pub mod Passed
+pub mod Promising

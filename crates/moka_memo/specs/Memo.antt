@@ -1,8 +1,10 @@
 -- Which reference evaluator a memo stands for.
 use Rattle.std.specs.Prelude.{◌≡◌, ℕ, Bool, true, false, length, Some}
-use Rattle.moka_claims.specs.Claims.{IsClaims}
+use Rattle.std.specs.List.{AllByRecursion}
+use Rattle.moka_claims.specs.Claims.{AsksOnce, IsClaims}
 use Rattle.moka_evaluator.specs.Claimed.{AreClaims, Claimed}
 use Rattle.moka_evaluator.specs.Evaluator.{Evaluator, Stack, is_owner, known_in, live}
+use Rattle.moka_evaluator.specs.Finishing.{IsPlainAnswer, answer_in}
 use Rattle.moka_evaluator.specs.Sound.{IsSound}
 use Rattle.moka_evaluator.specs.Steps.{needs}
 use Rattle.moka_evaluator.specs.declared.turns.Turned.{Turned}
@@ -41,6 +43,18 @@ AnyEvaluator e = Unit {0}
 -- unless it is spent it stands for some evaluator
 abbrev pub IsUsable : Memo → Type 0
 IsUsable memo = memo.spent ≡ false → IsStanding memo AnyEvaluator
+
+-- ---- what the calls promise
+
+-- where the turn of the query came to a value, that is the plain one of the rule that it was asked for
+abbrev pub IsPlainTurn : Evaluator → ℕ → Turned → Type 0
+IsPlainTurn e q turn = AllByRecursion (IsPlainAnswer e) (answer_in q turn)
+
+-- in the cache at most one initializer of each rule is open
+abbrev pub LoadsOnce : Memo → Type 0
+LoadsOnce memo = (e : Evaluator) (is : IsMemo memo e) → AsksOnce is.claims.small
+
+-- ---- for the proofs
 
 -- the turn replied so, and the memo stands for what it left
 abbrev pub Turns : Memo → Turned → Turned × Evaluator → Type 0

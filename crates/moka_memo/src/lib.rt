@@ -7,4 +7,4 @@
 mod memo;
 
 pub use memo::Memo;
-pub use moka_evaluator::{Answer, AnswerList, Rule, RuleList, Turned};
+pub use moka_evaluator::{Answer, AnswerList, Rule, RuleList, Turned, is_acyclic};

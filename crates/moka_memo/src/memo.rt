@@ -1,15 +1,21 @@
 //! An evaluator of acyclic rules, over a cache.
+ghost use Rattle.std.specs.List.{AllByRecursion};
 ghost use Rattle.std.specs.Option.{option_map_or};
-ghost use Rattle.std.specs.Prelude.{◌==◌, ◌≤◌, ◌↔◌, IsTrue, ◌≡◌, ℕ, List, ◌+◌, ◌∷◌, ◌++◌, true, false, cond, [], Some, None, is_some, IsSome, IfOk, OnOk, OnErr, slice_get};
+ghost use Rattle.std.specs.Prelude.{◌≡◌, ◌==◌, ◌≤◌, ◌↔◌, ℕ, ◌+◌, List, [], ◌∷◌, ◌++◌, slice_get};
+ghost use Rattle.std.specs.Prelude.{true, false, cond, IsTrue, Some, None, is_some, IsSome, IfSome};
+ghost use Rattle.std.specs.Prelude.{IfOk, OnOk, OnErr};
 ghost use Rattle.moka_hist.specs.Finite.{put_at};
 ghost use Rattle.moka_evaluator.specs.Evaluator.{Evaluator, Stack, fresh, is_owner, known_in, live};
-ghost use Rattle.moka_evaluator.specs.Finishing.{answer_in, finished, round, take_turns};
+ghost use Rattle.moka_evaluator.specs.Finishing.{IsPlainAnswer, answer_in, finished, round, take_turns};
+ghost use Rattle.moka_evaluator.specs.Laws.{IsAskedFor, Keeps};
 ghost use Rattle.moka_evaluator.specs.Plain.{IsAcyclic, rule_at};
 ghost use Rattle.moka_evaluator.specs.Sound.{LieBelow};
-ghost use Rattle.moka_evaluator.specs.Steps.{asked, dropped, just, let_go, line_after, most_live, needs, passed, seeks, turned, turned_at, works};
+ghost use Rattle.moka_evaluator.specs.Steps.{asked, dropped, just, let_go, line_after, most_live, needs};
+ghost use Rattle.moka_evaluator.specs.Steps.{passed, seeks, turned, turned_at, works};
 ghost use Rattle.moka_evaluator.specs.declared.frames.Frame.{Frame};
 ghost use Rattle.moka_evaluator.specs.declared.turns.Turned.TheVariants as turn_is;
-ghost use Rattle.moka_memo.specs.Memo.{AnyEvaluator, HasTop, IsMemo, IsSpent, IsStanding, IsUsable, Needs, SeeksItself, Turns};
+ghost use Rattle.moka_memo.specs.Memo.{AnyEvaluator, HasTop, IsMemo, IsPlainTurn, IsSpent, IsStanding};
+ghost use Rattle.moka_memo.specs.Memo.{IsUsable, LoadsOnce, Needs, SeeksItself, Turns};
 ghost use Rattle.moka_memo.specs.Passing.{IsLeaving, IsNext, IsPassing};
 ghost use Rattle.moka_stacks.specs.Places.{line_at, owner_at};
 ghost use Rattle.moka_stacks.specs.Queries.{count_of, nearest_first, stack_at, stack_of};
@@ -39,7 +45,8 @@ pub struct Memo {
 }
 
 impl Memo {
-    /// Makes an evaluator of these rules, of which none is known yet. Each operand is an earlier rule.
+    /// Makes an evaluator of these rules, of which none is known yet. Each operand is an earlier rule,
+    /// which `is_acyclic` tells.
     pub fn new(alloc: Global, rules: RuleList) -> Result<Self, AllocError>
         requires acyclic { IsAcyclic rules.items }
         ensures fresh { IfOk result (λ memo. IsMemo memo (fresh rules.items)) }
@@ -69,6 +76,13 @@ impl Memo {
         requires usable { IsUsable self.old }
         ensures asked { IfOk result (λ query. (e : Evaluator) → IsMemo self.old e
             → (query ≡ (asked e rule).0) × IsMemo self.new (asked e rule).1) }
+        ensures asks { IfOk result (λ query. IfSome query (λ number. (e : Evaluator)
+            → IsMemo self.new e → IsAskedFor e number rule)) }
+        // laws
+        ensures keeps { OnOk result ((e : Evaluator) → IsMemo self.old e
+            → Keeps e (asked e rule).1) }
+        ensures once { OnOk result (LoadsOnce self.new) }
+        // want of memory
         ensures usable { IsUsable self.new }
         ensures spent { OnErr result (IsSpent self.new) }
         ensures stays { IsSpent self.old → OnOk result ⊥ }
@@ -88,6 +102,13 @@ impl Memo {
         requires usable { IsUsable self.old }
         ensures turned { IfOk result (λ turn. (e : Evaluator) → IsMemo self.old e
             → (turn ≡ (turned e query).0) × IsMemo self.new (turned e query).1) }
+        // laws
+        ensures plain { IfOk result (λ turn. (e : Evaluator) → IsMemo self.old e
+            → IsPlainTurn e query turn) }
+        ensures keeps { OnOk result ((e : Evaluator) → IsMemo self.old e
+            → Keeps e (turned e query).1) }
+        ensures once { OnOk result (LoadsOnce self.new) }
+        // want of memory
         ensures usable { IsUsable self.new }
         ensures spent { OnErr result (IsSpent self.new) }
         ensures stays { IsSpent self.old → OnOk result ⊥ }
@@ -107,6 +128,11 @@ impl Memo {
         requires usable { IsUsable self.old }
         ensures dropped { IfOk result (λ was. (e : Evaluator) → IsMemo self.old e
             → (was ≡ (dropped e query).0) × IsMemo self.new (dropped e query).1) }
+        // laws
+        ensures keeps { OnOk result ((e : Evaluator) → IsMemo self.old e
+            → Keeps e (dropped e query).1) }
+        ensures once { OnOk result (LoadsOnce self.new) }
+        // want of memory
         ensures usable { IsUsable self.new }
         ensures spent { OnErr result (IsSpent self.new) }
         ensures stays { IsSpent self.old → OnOk result ⊥ }
@@ -124,6 +150,13 @@ impl Memo {
         ensures finished { IfOk result (λ answers. (e : Evaluator) → IsMemo self.old e
             → (answers.items ≡ (finished e).0) × IsMemo self.new (finished e).1) }
         ensures none_live { OnOk result ((e : Evaluator) → IsMemo self.new e → live e ≡ []) }
+        // laws
+        ensures plain { IfOk result (λ answers. (e : Evaluator) → IsMemo self.old e
+            → AllByRecursion (IsPlainAnswer e) answers.items) }
+        ensures keeps { OnOk result ((e : Evaluator) → IsMemo self.old e
+            → Keeps e (finished e).1) }
+        ensures once { OnOk result (LoadsOnce self.new) }
+        // want of memory
         ensures usable { IsUsable self.new }
         ensures spent { OnErr result (IsSpent self.new) }
         ensures stays { IsSpent self.old → OnOk result ⊥ }
@@ -169,9 +202,12 @@ impl Memo {
     // Adds a query that seeks the rule.
     fn add(&mut self, rule: u32) -> Result<Option<u64>, AllocError>
         requires { IsStanding self.old (λ e. IsSome (rule_at e.rules rule)) }
-        ensures { IfOk result (λ query. (e : Evaluator) → IsMemo self.old e → IsSome (rule_at e.rules rule)
-            → (query ≡ Some (e.last + 1)) × IsMemo self.new
-            (record e { stack = put_at e.stack (e.last + 1) (Some (just rule)); last = e.last + 1 })) }
+        ensures { IfOk result (λ query. (e : Evaluator) → IsMemo self.old e
+            → IsSome (rule_at e.rules rule)
+            → (query ≡ Some (e.last + 1)) × IsMemo self.new (record e {
+              stack = put_at e.stack (e.last + 1) (Some (just rule));
+              last = e.last + 1;
+            })) }
     {
         let Some(query) = self.last.checked_add(1) else {
             return Err(AllocError);
@@ -220,7 +256,8 @@ impl Memo {
 
     // Whether the query owns the rule, or was passed it.
     fn owns(&self, query: u64, rule: u32) -> bool
-        ensures { result ≡ option_map_or (λ owner. owner == query) (owner_at self.now.places rule) false }
+        ensures { result
+            ≡ option_map_or (λ owner. owner == query) (owner_at self.now.places rule) false }
     {
         match self.places.owner(rule) {
             Some(owner) => owner == query,
@@ -242,7 +279,7 @@ impl Memo {
         }
     }
 
-    // The same, of this rule.
+    // The top frame owns this rule: it seeks the operand that it needs, or its value becomes known.
     fn work_by(&mut self, query: u64, top: Frame, rule: Rule) -> Result<Turned, AllocError>
         requires stands { IsStanding self.old (HasTop query top) }
         requires owns { top.owns ≡ true }
@@ -305,7 +342,8 @@ impl Memo {
     fn look(&mut self, query: u64, rule: u32) -> Result<Turned, AllocError>
         requires { IsStanding self.old (SeeksItself query rule) }
         ensures { IfOk result (λ turn. (e : Evaluator) (s : Stack) → IsMemo self.old e
-            → e.stack query ≡ Some s → s.top.rule ≡ rule → s.top.owns ≡ false → is_owner e query rule ≡ false
+            → e.stack query ≡ Some s → s.top.rule ≡ rule → s.top.owns ≡ false
+            → is_owner e query rule ≡ false
             → Turns self.new turn (seeks e query s (e.known s.top.rule))) }
     {
         let seen = self.claims.look(query)?;
@@ -319,12 +357,15 @@ impl Memo {
     // Lets the query own a rule that none did.
     fn take(&mut self, query: u64, rule: u32) -> Result<Turned, AllocError>
         ensures { IfOk result (λ turn. (turn ≡ turn_is.Moved)
-            × ((r : ℕ) → owner_at self.new.places r ≡ put_at (owner_at self.old.places) rule (Some query) r)
+            × ((r : ℕ) → owner_at self.new.places r
+            ≡ put_at (owner_at self.old.places) rule (Some query) r)
             × ((r : ℕ) → line_at self.new.places r ≡ put_at (line_at self.old.places) rule [] r)
-            × ((s : Stack) → stack_at self.old.queries query ≡ Some s → (q : ℕ) → stack_at self.new.queries q
-            ≡ put_at (stack_at self.old.queries) query (Some (record s { top = record s.top { owns = true } })) q)
+            × ((s : Stack) → stack_at self.old.queries query ≡ Some s → (q : ℕ)
+            → stack_at self.new.queries q ≡ put_at (stack_at self.old.queries) query
+            (Some (record s { top = record s.top { owns = true } })) q)
             × (count_of self.new.queries ≡ count_of self.old.queries)
-            × (self.new ≡ record self.old { places = self.new.places; queries = self.new.queries })) }
+            × (self.new
+            ≡ record self.old { places = self.new.places; queries = self.new.queries })) }
     {
         self.places.take(rule, query)?;
         self.queries.own(query);
@@ -337,7 +378,8 @@ impl Memo {
         ensures { IfOk result (λ turn. (turn ≡ turn_is.Waits rule)
             × ((r : ℕ) → owner_at self.new.places r ≡ owner_at self.old.places r)
             × ((r : ℕ) → line_at self.new.places r ≡ put_at (line_at self.old.places) rule
-            (cond before (line_at self.old.places rule) (line_at self.old.places rule ++ query ∷ [])) r)
+            (cond before (line_at self.old.places rule)
+            (line_at self.old.places rule ++ query ∷ [])) r)
             × (self.new ≡ record self.old { places = self.new.places })) }
     {
         if !before {
@@ -427,7 +469,8 @@ impl Memo {
 
     // Passes the rule of each frame, which the query owned that is no longer live.
     fn pass_all(&mut self, mut frames: Vec<Frame>)
-        requires { (e : Evaluator) × (q : ℕ) × (r : ℕ) × IsPassing self.old e q (nearest_first frames.items)
+        requires { (e : Evaluator) × (q : ℕ) × (r : ℕ)
+            × IsPassing self.old e q (nearest_first frames.items)
             × LieBelow e.rules e.owner q r (nearest_first frames.items) }
         ensures { (e : Evaluator) (q r : ℕ) → IsPassing self.old e q (nearest_first frames.items)
             → LieBelow e.rules e.owner q r (nearest_first frames.items) → IsPassing self.new e q [] }
@@ -439,7 +482,8 @@ impl Memo {
 
     // Passes a rule to the first of its line, whose own call for it goes, or frees the rule.
     fn pass(&mut self, rule: u32)
-        requires { (e : Evaluator) × (q : ℕ) × (f : Frame) × (fs : List Frame) × IsNext self.old e q rule f fs }
+        requires { (e : Evaluator) × (q : ℕ) × (f : Frame) × (fs : List Frame)
+            × IsNext self.old e q rule f fs }
         ensures { (e : Evaluator) (q : ℕ) (f : Frame) (fs : List Frame)
             → IsNext self.old e q rule f fs → IsPassing self.new e q fs }
     {

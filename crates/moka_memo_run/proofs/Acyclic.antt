@@ -4,10 +4,10 @@ use Rattle.std.specs.Prelude.{slice_get}
 use Rattle.std.specs.List.{AllByRecursion}
 use Rattle.std.proofs.lemmas.Option.{same_Some}
 use Rattle.moka_lines.specs.Lines.{AreInPlace}
-use Rattle.moka_evaluator.specs.Plain.{BuildsOn, IsAcyclic}
+use Rattle.moka_evaluator.specs.Plain.{BuildsOn, IsAcyclic, IsOneOf}
 use Rattle.moka_evaluator.specs.declared.rules.Rule.{Rule}
 use Rattle.moka_evaluator.specs.declared.rules.Rule.TheVariants as rule
-use Rattle.moka_memo_run.specs.Lines.{Fits, IsOneOf, IsRule}
+use Rattle.moka_memo_run.specs.Lines.{Fits, IsRule}
 use Rattle.moka_memo_run.specs.Playing.{rules_in}
 use Rattle.moka_memo_run.specs.declared.lines.Line.{Line}
 use Rattle.moka_memo_run.specs.declared.lines.Line.TheVariants as line

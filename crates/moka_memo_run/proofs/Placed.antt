@@ -2,33 +2,16 @@
 use Rattle.std.proofs.Common.{◌≡◌, ℕ, ◌+◌, ◌<◌, ◌≤◌, Bool, true, false, cond, ◌&&◌, leb, ltb, List, [], ◌∷◌, ◌++◌, length, length-append, Option, Some, None, IfSome, refl, sym, ap, ◌∙◌, subst, arith}
 use Rattle.std.specs.Bool.{Decides}
 use Rattle.std.specs.List.{AllByRecursion}
-use Rattle.std.proofs.lemmas.Bool.{leb-true, le-leb}
 use Rattle.std.proofs.lemmas.Bool.Decides.{Decides-and, Decides-ltb}
-use Rattle.moka_evaluator.specs.Plain.{BuildsOn}
+use Rattle.moka_evaluator.specs.Plain.{BuildsOn, IsOneOf, are_earlier}
 use Rattle.moka_evaluator.specs.declared.rules.Rule.{Rule}
-use Rattle.moka_evaluator.specs.declared.rules.Rule.TheVariants as rule
-use Rattle.moka_memo_run.specs.Lines.{IsOneOf, IsRule, MayCome, most_rules}
-use Rattle.moka_memo_run.specs.Places.{HasRead, are_earlier, is_earlier, next, next_rule}
+use Rattle.moka_memo_run.specs.Lines.{IsRule, MayCome, most_rules}
+use Rattle.moka_evaluator.proofs.Earlier.{builds_Decides}
+use Rattle.moka_memo_run.specs.Places.{HasRead, next, next_rule}
 use Rattle.moka_memo_run.specs.declared.lines.Line.{Line}
 use Rattle.moka_memo_run.specs.declared.lines.Line.TheVariants as line
 use Rattle.moka_memo_run.specs.declared.places.Lines.{Lines}
 use Rattle.moka_memo_run.specs.declared.places.Lines.TheVariants as lines
-
-earlier_Decides : (count a : ℕ) → Decides (is_earlier count a) (IsOneOf count a)
-earlier_Decides count a = Decides-and _ _ (Decides-ltb 0 a) (leb-true a count, le-leb a count)
-
-always : Decides true (Unit {0})
-always = (λ _. tt, λ _. refl)
-
-builds_Decides : (count : ℕ) (r : Rule) → Decides (are_earlier count r) (BuildsOn (IsOneOf count) r)
-builds_Decides count (rule.Const n) = always
-builds_Decides count (rule.Add a b) = Decides-and _ _ (earlier_Decides count a) (earlier_Decides count b)
-builds_Decides count (rule.Mul a b) = Decides-and _ _ (earlier_Decides count a) (earlier_Decides count b)
-builds_Decides count (rule.Min a b) = Decides-and _ _ (earlier_Decides count a) (earlier_Decides count b)
-builds_Decides count (rule.Max a b) = Decides-and _ _ (earlier_Decides count a) (earlier_Decides count b)
-builds_Decides count (rule.If a b c) =
-    let d = Decides-and _ _ (Decides-and _ _ (earlier_Decides count a) (earlier_Decides count b)) (earlier_Decides count c) in
-    (λ h. let e = d.0 h in (e.0.0, e.0.1, e.1), λ h. d.1 ((h.0, h.1), h.2))
 
 may_Decides : (count : ℕ) (r : Rule) → Decides (ltb count most_rules && are_earlier count r) ((count < most_rules) × BuildsOn (IsOneOf count) r)
 may_Decides count r = Decides-and _ _ (Decides-ltb count most_rules) (builds_Decides count r)

@@ -1,7 +1,7 @@
 -- The lines of a source: how each is spelled, and which may come after those before it.
 use Rattle.std.specs.Prelude.{ℕ, ◌^◌, ◌<◌, ◌≤◌, List, ◌∷◌, ◌++◌, length, codes, decimal}
 use Rattle.std.specs.List.{AllByRecursion}
-use Rattle.moka_evaluator.specs.Plain.{BuildsOn}
+use Rattle.moka_evaluator.specs.Plain.{BuildsOn, IsOneOf}
 use Rattle.moka_evaluator.specs.declared.rules.Rule.{Rule}
 use Rattle.moka_evaluator.specs.declared.rules.Rule.TheVariants as rule
 use Rattle.moka_memo_run.specs.declared.lines.Line.{Line}
@@ -47,10 +47,6 @@ LineFits (line.Ask rule) = rule < 2 ^ 32
 LineFits (line.Turn query) = query < 2 ^ 64
 LineFits (line.Drop query) = query < 2 ^ 64
 LineFits line.Finish = Unit {0}
-
--- the operand is one of so many rules, which are numbered from 1
-abbrev pub IsOneOf : ℕ → ℕ → Type 0
-IsOneOf count operand = (0 < operand) × (operand ≤ count)
 
 abbrev pub IsRule : Line → Type 0
 IsRule (line.Rule rule) = Unit {0}

@@ -1,8 +1,8 @@
 -- How far the lines were read, and where the next may stand.
-use Rattle.std.specs.Prelude.{◌≡◌, ℕ, ◌+◌, nat_lt, nat_le, ◌&&◌, Bool, true, List, length, Option, Some, None, if◌then◌else◌}
+use Rattle.std.specs.Prelude.{◌≡◌, ℕ, ◌+◌, nat_lt, ◌&&◌, List, length, Option, Some, None, if◌then◌else◌}
 use Rattle.std.specs.List.{AllByRecursion}
+use Rattle.moka_evaluator.specs.Plain.{are_earlier}
 use Rattle.moka_evaluator.specs.declared.rules.Rule.{Rule}
-use Rattle.moka_evaluator.specs.declared.rules.Rule.TheVariants as rule
 use Rattle.moka_memo_run.specs.Lines.{IsRule, most_rules}
 use Rattle.moka_memo_run.specs.declared.lines.Line.{Line}
 use Rattle.moka_memo_run.specs.declared.lines.Line.TheVariants as line
@@ -13,19 +13,6 @@ use Rattle.moka_memo_run.specs.declared.places.Lines.TheVariants as lines
 abbrev pub HasRead : Lines → List Line → Type 0
 HasRead (lines.Rules count) before = AllByRecursion IsRule before × (length before ≡ count)
 HasRead lines.Begun before = AllByRecursion IsRule before → ⊥
-
--- the operand is one of so many rules
-abbrev pub is_earlier : ℕ → ℕ → Bool
-is_earlier count operand = nat_lt 0 operand && nat_le operand count
-
-abbrev pub are_earlier : ℕ → Rule → Bool
-are_earlier count (rule.Const n) = true
-are_earlier count (rule.Add a b) = is_earlier count a && is_earlier count b
-are_earlier count (rule.Mul a b) = is_earlier count a && is_earlier count b
-are_earlier count (rule.Min a b) = is_earlier count a && is_earlier count b
-are_earlier count (rule.Max a b) = is_earlier count a && is_earlier count b
-are_earlier count (rule.If a b c) =
-    (is_earlier count a && is_earlier count b) && is_earlier count c
 
 -- how far the lines are read with this one, where it may come
 abbrev pub next_rule : Lines → Rule → Option Lines

@@ -1,11 +1,10 @@
 //! Where a line may stand: rules first, each of which builds on earlier ones.
 ghost use Rattle.std.specs.Prelude.{◌≡◌};
 ghost use Rattle.moka_memo_run.specs.Lines.{Fits, line_words};
-ghost use Rattle.moka_memo_run.specs.Places.{HasRead, are_earlier, is_earlier, next};
+ghost use Rattle.moka_memo_run.specs.Places.{HasRead, next};
 
 use crate::forms::line_of;
 use crate::lines::Line;
-use moka_evaluator::Rule;
 use moka_lines::Grammar;
 use std::alloc::{AllocError, Global};
 
@@ -21,29 +20,6 @@ pub enum Lines {
     Begun,
 }
 
-/// Whether the operand is one of so many earlier rules.
-fn is_earlier(count: u32, operand: u32) -> bool
-    ensures { result ≡ is_earlier count operand }
-{
-    0 < operand && operand <= count
-}
-
-/// Whether each operand of the rule is one of so many earlier rules.
-fn are_earlier(count: u32, rule: &Rule) -> bool
-    ensures { result ≡ are_earlier count rule.now }
-{
-    match rule {
-        Rule::Const(_) => true,
-        Rule::Add(a, b) => is_earlier(count, *a) && is_earlier(count, *b),
-        Rule::Mul(a, b) => is_earlier(count, *a) && is_earlier(count, *b),
-        Rule::Min(a, b) => is_earlier(count, *a) && is_earlier(count, *b),
-        Rule::Max(a, b) => is_earlier(count, *a) && is_earlier(count, *b),
-        Rule::If(a, b, c) => {
-            is_earlier(count, *a) && is_earlier(count, *b) && is_earlier(count, *c)
-        }
-    }
-}
-
 impl Lines {
     /// What was read, with this line: None where it may not come.
     fn next(self, line: &Line) -> Option<Lines>
@@ -55,7 +31,7 @@ impl Lines {
         let Lines::Rules { count } = self else {
             return None;
         };
-        if count < MOST && are_earlier(count, rule) {
+        if count < MOST && rule.has_earlier_operands(count as usize) {
             Some(Lines::Rules { count: count + 1 })
         } else {
             None

@@ -110,7 +110,8 @@ impl Places {
         ensures heir { result ≡ slice_get (line_at self.old rule) 0 }
         ensures owner { (r : ℕ) → owner_at self.new r ≡ put_at (owner_at self.old) rule result r }
         ensures line { (r : ℕ)
-            → line_at self.new r ≡ put_at (line_at self.old) rule (drop 1 (line_at self.old rule)) r }
+            → line_at self.new r
+            ≡ put_at (line_at self.old) rule (drop 1 (line_at self.old rule)) r }
     {
         let heir = match self.map.get_mut(&rule) {
             Some(place) => place.pass(),
@@ -126,7 +127,8 @@ impl Places {
     pub fn leave(&mut self, rule: u32, query: u64)
         ensures owner { (r : ℕ) → owner_at self.new r ≡ owner_at self.old r }
         ensures line { (r : ℕ)
-            → line_at self.new r ≡ put_at (line_at self.old) rule (without query (line_at self.old rule)) r }
+            → line_at self.new r
+            ≡ put_at (line_at self.old) rule (without query (line_at self.old rule)) r }
     {
         if let Some(place) = self.map.get_mut(&rule) {
             place.leave(query);

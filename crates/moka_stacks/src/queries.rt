@@ -1,5 +1,6 @@
 //! The stacks of the live queries.
-ghost use Rattle.std.specs.Prelude.{◌≡◌, ◌<◌, ◌≤◌, ℕ, ◌+◌, ◌∷◌, true, cond, Some, None, is_some, IsSome, IfOk, OnOk};
+ghost use Rattle.std.specs.Prelude.{◌≡◌, ◌<◌, ◌≤◌, ℕ, ◌+◌, ◌∷◌, true, cond};
+ghost use Rattle.std.specs.Prelude.{Some, None, is_some, IsSome, IfOk, OnOk};
 ghost use Rattle.std.specs.HashMap.{keys};
 ghost use Rattle.std.specs.Option.{option_map};
 ghost use Rattle.moka_hist.specs.Finite.{put_at};
@@ -32,14 +33,16 @@ impl Query {
 
     // Lets the top frame own its rule.
     fn own(&mut self)
-        ensures { stack_of self.new ≡ (let s = stack_of self.old in record s { top = record s.top { owns = true } }) }
+        ensures { stack_of self.new
+            ≡ (let s = stack_of self.old in record s { top = record s.top { owns = true } }) }
     {
         self.top.owns = true;
     }
 
     // Puts a frame on that seeks the rule.
     fn seek(&mut self, rule: u32) -> Result<(), AllocError>
-        ensures { OnOk result (stack_of self.new ≡ (let s = stack_of self.old in record { top = seeking rule; below = s.top ∷ s.below })) }
+        ensures { OnOk result (stack_of self.new ≡ (let s = stack_of self.old in
+            record { top = seeking rule; below = s.top ∷ s.below })) }
     {
         self.below.push(self.top)?;
         self.top = seek(rule);
@@ -49,7 +52,8 @@ impl Query {
     // Takes the top frame off and hands its value down, if there is a frame below.
     fn come_off(&mut self, value: u32) -> bool
         ensures left { kept_if result (stack_of self.new) ≡ (off (stack_of self.old).below value).1 }
-        ensures reply { (off (stack_of self.old).below value).0 ≡ cond result turn.Moved (turn.Value value) }
+        ensures reply { (off (stack_of self.old).below value).0
+            ≡ cond result turn.Moved (turn.Value value) }
     {
         match self.below.pop() {
             Some(frame) => {
@@ -147,8 +151,9 @@ impl Queries {
 
     /// Lets the query own the rule of its top frame.
     pub fn own(&mut self, query: u64)
-        ensures stacks { (s : Stack) → stack_at self.old query ≡ Some s → (q : ℕ) → stack_at self.new q
-            ≡ put_at (stack_at self.old) query (Some (record s { top = record s.top { owns = true } })) q }
+        ensures stacks { (s : Stack) → stack_at self.old query ≡ Some s → (q : ℕ)
+            → stack_at self.new q ≡ put_at (stack_at self.old) query
+            (Some (record s { top = record s.top { owns = true } })) q }
         ensures count { count_of self.new ≡ count_of self.old }
     {
         if let Some(live) = self.map.get_mut(&query) {

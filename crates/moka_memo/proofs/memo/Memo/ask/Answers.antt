@@ -1,6 +1,8 @@
--- Unless it is spent, it stands for an evaluator.
+-- Unless it is spent, it stands for an evaluator, and keeps its promises.
 use Rattle.std.proofs.Common.{ap}
 use Rattle.moka_evaluator.specs.Steps.{asked}
+use Rattle.moka_evaluator.proofs.Keeping.{asked_keeps}
+use Rattle.moka_memo.proofs.Promising.{asks_for, loads_once}
 use Rattle.moka_memo.proofs.Usable.{spent_usable, usable_after}
 use Rattle.moka_memo.proofs.memo.Memo.ask.Goals as goal
 
@@ -14,3 +16,13 @@ returns-in-Ok-clause-usable c =
 
 pub returns-in-Err-clause-usable : goal.returns-in-Err-clause-usable
 returns-in-Err-clause-usable c = spent_usable c.spend.new.self (ap (λ m. m.spent) c.spend.ensures)
+
+pub returns-in-Ok-clause-asks : goal.returns-in-Ok-clause-asks
+returns-in-Ok-clause-asks c =
+    asks_for c.args.self.now c.ask_unspent.new.self c.if-self.false c.requires.usable c.args.rule c.in-Ok.query c.in-Ok.ensures
+
+pub returns-in-Ok-clause-keeps : goal.returns-in-Ok-clause-keeps
+returns-in-Ok-clause-keeps c = λ e is. asked_keeps e is.sound c.args.rule
+
+pub returns-in-Ok-clause-once : goal.returns-in-Ok-clause-once
+returns-in-Ok-clause-once c = loads_once c.ask_unspent.new.self

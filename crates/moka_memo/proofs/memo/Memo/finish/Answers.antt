@@ -1,6 +1,8 @@
--- Unless it is spent, it stands for an evaluator.
+-- Unless it is spent, it stands for an evaluator, and keeps its promises.
 use Rattle.std.proofs.Common.{ap}
 use Rattle.moka_evaluator.specs.Finishing.{finished}
+use Rattle.moka_evaluator.proofs.Keeping.{finished_keeps}
+use Rattle.moka_memo.proofs.Promising.{loads_once, plain_finish}
 use Rattle.moka_memo.proofs.Finishing.{none_lives}
 use Rattle.moka_memo.proofs.Usable.{spent_usable, usable_after}
 use Rattle.moka_memo.proofs.memo.Memo.finish.Goals as goal
@@ -18,3 +20,13 @@ returns-in-Ok-clause-usable c =
 
 pub returns-in-Err-clause-usable : goal.returns-in-Err-clause-usable
 returns-in-Err-clause-usable c = spent_usable c.spend.new.self (ap (λ m. m.spent) c.spend.ensures)
+
+pub returns-in-Ok-clause-plain : goal.returns-in-Ok-clause-plain
+returns-in-Ok-clause-plain c =
+    λ e is. plain_finish c.args.self.now e is c.in-Ok.answers.items (c.in-Ok.ensures.finished e is).0
+
+pub returns-in-Ok-clause-keeps : goal.returns-in-Ok-clause-keeps
+returns-in-Ok-clause-keeps c = λ e is. finished_keeps e is.sound
+
+pub returns-in-Ok-clause-once : goal.returns-in-Ok-clause-once
+returns-in-Ok-clause-once c = loads_once c.finish_unspent.new.self
