@@ -1,13 +1,12 @@
 -- The steps of the book keep its rule.
 use Rattle.std.proofs.Common.{◌≡◌, ◌≢◌, ℕ, ◌+◌, ◌<◌, ◌==◌, Bool, true, false, cond, inl, inr, List, [], ◌∷◌, ◌++◌, length, slice_set, replicate, length-append, refl, ap, sym, subst, ◌∙◌, arith, None}
 use Rattle.std.specs.Prelude.{MatchBool}
-use Rattle.std.proofs.lemmas.List.{append-nil, length-set, length-replicate, get_or-replicate, get_or-set_other}
-use Rattle.std.proofs.lemmas.Grind.{get_or-set_at}
+use Rattle.std.proofs.lemmas.List.{append-nil, length-set, length-replicate, get_or-replicate}
 use Rattle.std.proofs.lemmas.Bool.{eqb-true, eq-eqb, true≢false}
 use Rattle.std.proofs.lemmas.Bool.Decides.{eqb_tells}
 use mathlib.Core.List.{IsPrefix}
 use prog.Atomic.{either}
-use Rattle.logbook.specs.Pages.{Cell, cell, Nib, nib, View, keeps, gives, adds, no_nib, may_make, may_write, step, Moves, Goes}
+use Rattle.logbook.specs.Pages.{Cell, cell, Nib, nib, keeps, gives, adds, no_nib, may_make, may_write, step, Moves, Goes}
 use Rattle.moka_parts.specs.declared.change.Change.{Change}
 use Rattle.moka_parts.specs.declared.note.Note.{Note}
 use Rattle.moka_parts.specs.declared.note.Note.TheVariants.{Opened, Changed}
