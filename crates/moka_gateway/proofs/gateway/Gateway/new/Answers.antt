@@ -1,0 +1,5 @@
+use Rattle.moka_collapsing.specs.Reference.{fresh}
+use Rattle.moka_gateway.proofs.gateway.Gateway.new.Goals as goal
+
+pub returns-clause-usable : goal.returns-clause-usable
+returns-clause-usable c = λ unspent. (fresh, c.in_ok-gateway.ensures)

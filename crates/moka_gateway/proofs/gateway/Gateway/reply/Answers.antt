@@ -1,0 +1,37 @@
+-- The call comes to its end, or memory was wanting.
+use Rattle.std.proofs.Common.{refl}
+use Rattle.moka_collapsing.specs.Reference.{replies}
+use Rattle.moka_gateway.proofs.Parts.{carried, had_before, on_err, spent_usable, stays_usable, still_spent}
+use Rattle.moka_gateway.proofs.gateway.Gateway.reply.Goals as goal
+
+pub settle-requires : goal.settle-requires
+settle-requires c = had_before c.args.self.now c.begin.new.self c.in_ok-begin.ensures.ok c.requires.usable
+
+pub returns-clause-answers : goal.returns-clause-answers
+returns-clause-answers c =
+    carried c.args.self.now c.begin.new.self c.in_ok-begin.ensures.ok c.in_ok-outs.outs (λ r. replies r c.args.key c.args.answer) c.settle.new.self _
+    c.in_ok-outs.ensures.answers refl
+
+pub returns-clause-usable : goal.returns-clause-usable
+returns-clause-usable c =
+    stays_usable c.args.self.now c.begin.new.self c.in_ok-begin.ensures.ok c.in_ok-outs.outs (λ r. replies r c.args.key c.args.answer) c.settle.new.self _
+    c.in_ok-outs.ensures.answers refl c.requires.usable
+
+pub returns-in_err-begin-clause-usable : goal.returns-in_err-begin-clause-usable
+returns-in_err-begin-clause-usable c = spent_usable _ c.in_err-begin.ensures.err
+
+pub returns-in_err-outs-clause-usable : goal.returns-in_err-outs-clause-usable
+returns-in_err-outs-clause-usable c = spent_usable _ (still_spent c.args.self.now c.begin.new.self c.in_ok-begin.ensures.ok c.settle.new.self c.settle.ensures.spent)
+
+pub returns-in_err-outs-clause-spent : goal.returns-in_err-outs-clause-spent
+returns-in_err-outs-clause-spent c =
+    on_err c.from_residual-in_err-outs.result (still_spent c.args.self.now c.begin.new.self c.in_ok-begin.ensures.ok c.settle.new.self c.settle.ensures.spent)
+
+pub returns-clause-lawful : goal.returns-clause-lawful
+returns-clause-lawful c = λ g is. c.replies_are_lawful.ensures g c.args.key c.args.answer
+
+pub returns-in_err-begin-clause-lawful : goal.returns-in_err-begin-clause-lawful
+returns-in_err-begin-clause-lawful c = λ g is. c.replies_are_lawful.ensures g c.args.key c.args.answer
+
+pub returns-in_err-outs-clause-lawful : goal.returns-in_err-outs-clause-lawful
+returns-in_err-outs-clause-lawful c = λ g is. c.replies_are_lawful.ensures g c.args.key c.args.answer
