@@ -1,2 +1,4 @@
 pub mod Shown
 pub mod Spelled
+pub mod Plays
+mod Cut

@@ -5,10 +5,13 @@ mod forms;
 mod laws;
 mod lines;
 mod pieces;
+mod playing;
+mod programs;
 mod replies;
 
 pub use forms::Lines;
-pub use laws::gateway_lines_round_trip;
+pub use laws::{cuts_make_no_difference, gateway_lines_round_trip};
 pub use lines::Line;
 pub use pieces::{Piece, push_piece};
+pub use programs::gateway;
 pub use replies::{push_cancel, push_client, push_fetch, push_to};

@@ -6,11 +6,12 @@ const HELP: &str = "\
 usage: moka play < SCHEDULE > REPORT
        moka behind < LINES > REPLIES
        moka memo < LINES > REPLIES
+       moka gateway < LINES > REPLIES
        moka --help
        moka --version
 
-play runs a schedule on a cache of one thread, and writes a report of it. behind and memo are
-programs on such a cache: each reads lines, and writes what it replies to them.
+play runs a schedule on a cache of one thread, and writes a report of it. behind, memo and gateway
+are programs on such a cache: each reads lines, and writes what it replies to them.
 
 A schedule is lines of text. The first line is cache, and then these options, each or not, in this
 order:
@@ -80,6 +81,16 @@ memo evaluates rules that build on earlier ones, each once. Its lines, rules fir
   finish                     all queries take turns until each has answered
 It replies query Q, moved, wait RULE, value V, dropped, refused; answer Q V of each, then finished;
 last comes known N.
+
+gateway shares requests to an upstream. Its lines:
+  open                       a client opens
+  feed CLIENT BYTES          the client has sent these bytes, in which ; stands for a line feed
+  reply KEY value VALUE      the upstream request of the key is answered by a value
+  reply KEY error ERROR      it is answered by an error
+  close CLIENT               the client closes
+A client's line get KEY is a request, another is bad. gateway replies client C, closed or refused;
+then up fetch KEY and up cancel KEY; then to CLIENT BYTES, the client's next replies, each value
+VALUE, error ERROR or bad, and ;.
 
 exit status: 0 done, 1 bad words, 2 bad line, 3 too long, 4 read fault,
              5 write fault, 6 memory; but at 0 a line on standard error says which

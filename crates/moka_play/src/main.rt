@@ -1,5 +1,5 @@
-//! The program: plays a schedule from standard input, or answers the lines of `behind` or `memo`, and
-//! writes to standard output.
+//! The program: plays a schedule from standard input, or answers the lines of `behind`, `memo` or
+//! `gateway`, and writes to standard output.
 #![tactic(auto)]
 
 mod help;
@@ -7,6 +7,7 @@ mod help;
 use help::told_text;
 use moka_behind_run::behind;
 use moka_ends::{ReadSource, WriteSink};
+use moka_gateway_run::gateway;
 use moka_keepers::PlainKeeper;
 use moka_lines::Status;
 use moka_memo_run::memo;
@@ -80,6 +81,7 @@ fn run_standard(rt: &HostRuntime, words: &[String]) -> Status {
             behind(alloc, words, &mut source, &mut sink, &mut keeper)
         }
         "memo" => memo(alloc, words, &mut source, &mut sink),
+        "gateway" => gateway(alloc, words, &mut source, &mut sink),
         _ => play(alloc, words, &mut source, &mut sink),
     }
 }
