@@ -91,7 +91,7 @@ fn is_spent(behind: &mut Behind, keeper: &mut MapKeeper) -> bool
         && behind.shed().is_err()
 }
 
-/// The same, if it was.
+/// Whether each call answers that memory was wanting, if the cache is spent. True if it is not.
 fn is_spent_if(behind: &mut Behind, keeper: &mut MapKeeper, spent: bool) -> bool
     requires { IsUsable behind.old }
     ensures { IsUsable behind.new }

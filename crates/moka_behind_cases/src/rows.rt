@@ -102,7 +102,7 @@ fn comes_true(alloc: Global, row: Row) -> Result<bool, AllocError> {
     Ok(ended.came_to(Status::Done, &want))
 }
 
-/// The same, before one that never fails.
+/// Whether the row comes to its text, before a keeper that never fails.
 fn comes_true_plainly(alloc: Global, row: Row) -> Result<bool, AllocError> {
     let lines = text_of(alloc, row.2)?;
     let want = text_of(alloc, row.3)?;
