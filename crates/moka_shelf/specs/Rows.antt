@@ -1,0 +1,26 @@
+-- How a shelf is laid out. A number lies at the place that comes 32 after it. The first twelve rows
+-- are as long as their first place: 32, 64, and so on up to 65,536. From the place 131,072 on each
+-- row has 65,536 places.
+use Rattle.std.specs.Prelude.{◌≡◌, ◌<◌, ℕ, ◌+◌, ◌*◌, ◌^◌, List, [], length}
+use Rattle.boxcar.specs.Slot.{Named}
+use Rattle.boxcar.specs.Table.{span, Tagged}
+
+-- the slots have the places from this one on, each in its tag
+abbrev pub From : ℕ → List Named → Type 0
+From place slots = Tagged [] place (length slots) slots
+
+-- the first rows have the numbers from 0, and so have the groups of later rows
+abbrev pub AreRows : List Named → List Named → Type 0
+AreRows first later = Tagged [] 0 12 first × Tagged [] 0 48 later
+
+-- the offset in the first row of this number is that of the place
+abbrev pub IsInFirst : ℕ → ℕ → ℕ → Type 0
+IsInFirst place row offset = (row < 12) × (span row + offset ≡ place)
+
+-- the offset in the later row of this number is that of the place
+abbrev pub IsInLater : ℕ → ℕ → ℕ → Type 0
+IsInLater place row offset = row * 65536 + offset ≡ place
+
+-- the row of this number is at this place of this group of rows
+abbrev pub IsInGroup : ℕ → ℕ → ℕ → Type 0
+IsInGroup row group at = (group < 48) × (2 ^ group + at ≡ row)
