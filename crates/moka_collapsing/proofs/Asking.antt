@@ -1,20 +1,19 @@
 -- A request for a key: what the call comes to, and what the cache serves then.
-use Rattle.std.proofs.Common.{◌≡◌, ◌≢◌, ◌⊎◌, ℕ, ◌+◌, ◌<◌, ◌≤◌, Bool, true, false, List, [], ◌∷◌, ◌++◌, drop, length, Option, Some, None, refl, sym, ap, ◌∙◌, subst, arith, inl, inr, nat_eq}
+use Rattle.std.proofs.Common.{◌≡◌, ◌≢◌, ℕ, ◌+◌, ◌<◌, ◌≤◌, Bool, false, List, [], ◌∷◌, ◌++◌, drop, length, Option, Some, None, refl, sym, ap, ◌∙◌, subst, arith, inl, inr}
 use Rattle.std.specs.Option.{option_map}
 use Rattle.moka_hist.specs.Finite.{put_at}
 use Rattle.moka_hist.specs.declared.events.Start.TheVariants as start
 use Rattle.moka_laws.proofs.Counting.{none_some, some_same, put_here}
 use Rattle.moka_small.specs.declared.outcome.Outcome.{Outcome}
 use Rattle.moka_small.specs.declared.outcome.Outcome.TheVariants as outcome
-use Rattle.moka_small.specs.Small.{Asks, Begun, Stand, Waits, started, with_stand}
-use Rattle.moka_small.specs.Polled.{gone, value_under}
+use Rattle.moka_small.specs.Small.{Asks, Stand, Waits, started, with_stand}
+use Rattle.moka_small.specs.Polled.{gone}
 use Rattle.moka_collapsing.specs.declared.answer.Answer.TheVariants as answer
-use Rattle.moka_collapsing.specs.declared.slot.Asked.{Asked}
 use Rattle.moka_collapsing.specs.declared.slot.Place.{Place}
 use Rattle.moka_collapsing.specs.declared.slot.Slot.TheVariants as slot
-use Rattle.moka_collapsing.specs.Upstream.{Upstream, Waiter, asked, asked_at, counted, fetch_of, joined}
+use Rattle.moka_collapsing.specs.Upstream.{Upstream, Waiter, asked, asked_at, fetch_of, joined}
 use Rattle.moka_collapsing.specs.Waiting.{Waiting, place_of, with_waiter}
-use Rattle.moka_collapsing.specs.Standing.{AsksFor, Cache, Each, IsListOf, Serves, WaitsFor, begun, load_of, requests_on}
+use Rattle.moka_collapsing.specs.Standing.{Cache, Serves, begun, load_of, requests_on}
 use Rattle.moka_collapsing.specs.Coming.{Comes, RequestsCome}
 use Rattle.moka_collapsing.proofs.Listed.{each_drop, each_map, found_last}
 use Rattle.moka_collapsing.proofs.Serving.{Joins, begins_list, calls_stay, comes_first, comes_later, comes_stored, drop_append, joins_last, more_on, serves_joined, serves_stored}

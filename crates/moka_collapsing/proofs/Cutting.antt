@@ -10,13 +10,13 @@ use Rattle.moka_collapsing.specs.declared.answer.Answer.{Answer}
 use Rattle.moka_collapsing.specs.declared.answer.Answer.TheVariants as answer
 use Rattle.moka_collapsing.specs.declared.slot.Place.{Place}
 use Rattle.moka_collapsing.specs.declared.slot.Slot.{Slot}
-use Rattle.moka_collapsing.specs.declared.slot.Slot.TheVariants.{Waits, Answered}
-use Rattle.moka_collapsing.specs.Clients.{Client, due_answers, due_bytes, flushed, made, with_request}
+use Rattle.moka_collapsing.specs.declared.slot.Slot.TheVariants.{Answered}
+use Rattle.moka_collapsing.specs.Clients.{Client, due_answers, due_bytes, flushed, made}
 use Rattle.moka_collapsing.specs.Folds.{folded}
 use Rattle.moka_collapsing.specs.Laws.{IsSameInPieces, second}
 use Rattle.moka_collapsing.specs.Reference.{Come, Reference, all_come, comes}
 use Rattle.moka_collapsing.specs.Texts.{reply_text}
-use Rattle.moka_collapsing.specs.Upstream.{Upstream, asked}
+use Rattle.moka_collapsing.specs.Upstream.{asked}
 use Rattle.moka_collapsing.proofs.Ordering.{front_split}
 
 -- one has all that the other has, and these answers before, which the other has sent; and these
@@ -65,7 +65,7 @@ folded_append step s [] ys = refl
 folded_append step s (x ∷ xs) ys = folded_append step (step s x) xs ys
 
 -- what is unfinished stays while requests come
-keeps_unfinished : (number : ℕ) (rs : List Request) (c : Come) → (folded (comes number) c rs).client.unfinished ≡ c.client.unfinished
+pub keeps_unfinished : (number : ℕ) (rs : List Request) (c : Come) → (folded (comes number) c rs).client.unfinished ≡ c.client.unfinished
 keeps_unfinished number [] c = refl
 keeps_unfinished number (Bad ∷ rs) c = keeps_unfinished number rs (comes number c Bad)
 keeps_unfinished number (Get key ∷ rs) c = keeps_unfinished number rs (comes number c (Get key))
@@ -76,7 +76,7 @@ due_more : (answers : List Answer) (slots : List Slot) → due_answers (map Answ
 due_more [] slots = refl
 due_more (a ∷ answers) slots = ap (λ l. a ∷ l) (due_more answers slots)
 
-flat_append : (xs ys : List Answer) → flat_map reply_text (xs ++ ys) ≡ flat_map reply_text xs ++ flat_map reply_text ys
+pub flat_append : (xs ys : List Answer) → flat_map reply_text (xs ++ ys) ≡ flat_map reply_text xs ++ flat_map reply_text ys
 flat_append [] ys = refl
 flat_append (x ∷ xs) ys = ap (λ l. reply_text x ++ l) (flat_append xs ys) ∙ sym (append_assoc (reply_text x) (flat_map reply_text xs) (flat_map reply_text ys))
 

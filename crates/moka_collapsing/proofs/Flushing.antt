@@ -1,5 +1,5 @@
 -- The requests at the front leave one by one.
-use Rattle.std.proofs.Common.{◌≡◌, ℕ, suc, ◌+◌, List, [], ◌∷◌, ◌++◌, drop, flat_map, length, Option, Some, None, refl, sym, ap, ◌∙◌, arith}
+use Rattle.std.proofs.Common.{◌≡◌, ℕ, suc, ◌+◌, List, [], ◌∷◌, ◌++◌, drop, flat_map, length, Some, None, refl, sym, ap, ◌∙◌, arith}
 use Rattle.moka_laws.proofs.Counting.{none_some, some_same}
 use Rattle.moka_collapsing.specs.declared.answer.Answer.{Answer}
 use Rattle.moka_collapsing.specs.declared.slot.Slot.{Slot}

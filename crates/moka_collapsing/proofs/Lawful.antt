@@ -1,5 +1,5 @@
 -- What a user may rely on at each call.
-use Rattle.std.proofs.Common.{◌≡◌, ◌⊎◌, inl, inr, ℕ, ◌+◌, ◌<◌, ◌==◌, cond, Bool, true, false, List, [], ◌∷◌, ◌++◌, map, filter, flat_map, length, Option, Some, None, IfSome, nat_eq, refl, sym, ap, ◌∙◌, subst, arith, length-append}
+use Rattle.std.proofs.Common.{◌≡◌, ◌⊎◌, inl, inr, ℕ, ◌+◌, ◌==◌, cond, Bool, true, false, List, [], ◌∷◌, ◌++◌, map, filter, flat_map, length, Option, Some, None, IfSome, nat_eq, refl, sym, ap, ◌∙◌, subst, arith, length-append}
 use Rattle.std.proofs.lemmas.List.{append-nil}
 use borrow.Author.Tests.{eqb-true}
 use Rattle.std.specs.List.{AllByRecursion, IsDistinct}
@@ -16,9 +16,7 @@ use Rattle.moka_requests.specs.Requests.{new_requests, unfinished_after}
 use Rattle.moka_requests.specs.declared.request.Request.{Request}
 use Rattle.moka_requests.specs.declared.request.Request.TheVariants.{Get, Bad}
 use Rattle.moka_collapsing.specs.declared.answer.Answer.{Answer}
-use Rattle.moka_collapsing.specs.declared.answer.Answer.TheVariants as answer
-use Rattle.moka_collapsing.specs.declared.out.Out.{Out}
-use Rattle.moka_collapsing.specs.declared.out.Out.TheVariants.{Fetch, Cancel, To}
+use Rattle.moka_collapsing.specs.declared.out.Out.TheVariants.{Cancel}
 use Rattle.moka_collapsing.specs.declared.slot.Asked.{Asked}
 use Rattle.moka_collapsing.specs.declared.slot.Place.{Place}
 use Rattle.moka_collapsing.specs.declared.slot.Slot.{Slot}
@@ -26,8 +24,8 @@ use Rattle.moka_collapsing.specs.declared.slot.Slot.TheVariants.{Waits, Answered
 use Rattle.moka_collapsing.specs.Clients.{Client, due_bytes, made}
 use Rattle.moka_collapsing.specs.Folds.{folded}
 use Rattle.moka_collapsing.specs.Laws.{CloseIsLawful, FeedIsLawful, IsLeftCancel, IsOpened, IsTo, ReplyIsLawful}
-use Rattle.moka_collapsing.specs.Reference.{Come, Reference, Sent, all_come, ascending, closed, comes, due_to, gives, key_of, replies, replies_at, sends, to_client}
-use Rattle.moka_collapsing.specs.Upstream.{Upstream, Waiter, answer_of, asked, asked_at, counted, fetch_of, is_left, joined, keeps, left}
+use Rattle.moka_collapsing.specs.Reference.{Come, Reference, Sent, all_come, ascending, comes, due_to, gives, key_of, replies_at, sends, to_client}
+use Rattle.moka_collapsing.specs.Upstream.{Upstream, Waiter, answer_of, asked_at, counted, fetch_of, is_left, joined, keeps, left}
 use Rattle.moka_collapsing.proofs.Cutting.{same_in_pieces}
 use Rattle.moka_collapsing.proofs.Ordering.{in_order}
 
@@ -41,7 +39,7 @@ all_end : {X : Type 0} (P : X → Type 0) (xs : List X) (x : X) → AllByRecursi
 all_end P [] x h p = (p, tt)
 all_end P (y ∷ xs) x h p = (h.0, all_end P xs x h.1 p)
 
-all_append : {X : Type 0} (P : X → Type 0) (xs ys : List X) → AllByRecursion P xs → AllByRecursion P ys → AllByRecursion P (xs ++ ys)
+pub all_append : {X : Type 0} (P : X → Type 0) (xs ys : List X) → AllByRecursion P xs → AllByRecursion P ys → AllByRecursion P (xs ++ ys)
 all_append P [] ys h k = k
 all_append P (x ∷ xs) ys h k = (h.0, all_append P xs ys h.1 k)
 
@@ -59,7 +57,7 @@ record IsSoFar (u : Upstream) (c : Come) : Type 0 where
   pub opened : AllByRecursion (IsOpened u c.upstream) c.fetches
   pub once : IsDistinct nat_eq c.fetches
 
-none_left : (ws : List Waiter) → (length ws == 0) ≡ true → ws ≡ []
+pub none_left : (ws : List Waiter) → (length ws == 0) ≡ true → ws ≡ []
 none_left [] e = refl
 none_left (w ∷ ws) e = absurd (omega (arith, eqb-true (length (w ∷ ws)) 0 e))
 
@@ -166,7 +164,7 @@ sent_is_to : (s : Sent) (numbers : List ℕ) → AllByRecursion IsTo s.outs → 
 sent_is_to s [] h = h
 sent_is_to s (n ∷ numbers) h = sent_is_to (sends s n) numbers (all_append IsTo s.outs (due_to s.clients n) h (to_is_to n (option_map_or due_bytes (s.clients n) [])))
 
-kept_brought : (stored : ℕ → Option ℕ) (key : ℕ) (brought : Result ℕ ℕ) (k v : ℕ) → keeps stored key (answer_of brought) k ≡ Some v →
+pub kept_brought : (stored : ℕ → Option ℕ) (key : ℕ) (brought : Result ℕ ℕ) (k v : ℕ) → keeps stored key (answer_of brought) k ≡ Some v →
     (stored k ≡ Some v) ⊎ ((k ≡ key) × (brought ≡ Ok v))
 kept_brought stored key (Ok value) k v e = put_cases stored key (Some value) k (Some v) ((stored k ≡ Some v) ⊎ ((k ≡ key) × (Ok value ≡ Ok v))) e
     (λ same is. inr (sym same, cc))
@@ -194,7 +192,7 @@ replies_lawful g key brought = by (g.upstream.waiting key) refl
 
 -- ---- a client closes
 
-left_stored : (u : Upstream) (slots : List Slot) (key : ℕ) → (folded left u slots).stored key ≡ u.stored key
+pub left_stored : (u : Upstream) (slots : List Slot) (key : ℕ) → (folded left u slots).stored key ≡ u.stored key
 left_stored u [] key = refl
 left_stored u (Waits k n ∷ slots) key = left_stored (left u (Waits k n)) slots key
 left_stored u (Answered a ∷ slots) key = left_stored u slots key

@@ -1,6 +1,6 @@
 -- A request leaves the list of its key.
-use Rattle.std.proofs.Common.{◌≡◌, ◌≢◌, ◌⊎◌, ℕ, zero, suc, ◌+◌, ◌<◌, ◌≤◌, ◌==◌, Bool, true, false, cond, List, [], ◌∷◌, ◌++◌, drop, length, Option, Some, None, IsSome, is_some, refl, sym, ap, ◌∙◌, subst, arith, inl, inr, nat_eq}
-use Rattle.std.specs.Option.{option_map, option_and_then}
+use Rattle.std.proofs.Common.{◌≡◌, ◌≢◌, ◌⊎◌, ℕ, zero, suc, ◌+◌, ◌≤◌, ◌==◌, Bool, true, false, cond, List, [], ◌∷◌, drop, length, Option, Some, None, IsSome, is_some, refl, sym, ap, ◌∙◌, subst, arith, inl, inr}
+use Rattle.std.specs.Option.{option_and_then}
 use borrow.Author.Tests.{eqb-true}
 use Rattle.moka_hist.specs.Finite.{put_at}
 use Rattle.moka_laws.specs.Readers.{how_many}
@@ -10,10 +10,10 @@ use Rattle.moka_small.specs.Polled.{gone_waiter}
 use Rattle.moka_collapsing.specs.declared.slot.Place.{Place}
 use Rattle.moka_collapsing.specs.declared.slot.Slot.TheVariants as slot
 use Rattle.moka_collapsing.specs.Upstream.{Upstream, Waiter, left, without}
-use Rattle.moka_collapsing.specs.Waiting.{Waiting, first_of, freed, is_first, is_left_empty, less_waiter, next_call, place_of, unless_empty, without_waiter}
-use Rattle.moka_collapsing.specs.Standing.{IsFree, AreDistinct, AsksFor, Cache, Each, IsListOf, Serves, WaitsFor, WaitsOn, load_of, requests_on}
+use Rattle.moka_collapsing.specs.Waiting.{Waiting, first_of, freed, next_call, place_of, unless_empty, without_waiter}
+use Rattle.moka_collapsing.specs.Standing.{IsFree, AsksFor, Cache, IsListOf, Serves, WaitsFor, WaitsOn, load_of, requests_on}
 use Rattle.moka_collapsing.specs.Coming.{IsLeft, RequestsLeave}
-use Rattle.moka_collapsing.proofs.Listed.{each_both, each_found, each_map, each_without, distinct_without, found_without, hit, hit_self, hits, miss, missed, others_without}
+use Rattle.moka_collapsing.proofs.Listed.{each_both, each_found, each_without, distinct_without, found_without, hit, hit_self, hits, miss, missed, others_without}
 use Rattle.moka_collapsing.specs.Settling.{key_at}
 use Rattle.moka_collapsing.proofs.Serving.{list_stays}
 

@@ -7,3 +7,12 @@ pub mod Asking
 pub mod Leaving
 pub mod Settling
 mod Lawful
+mod Slots
+mod Holding
+mod Sending
+mod Feeding
+mod Giving
+mod Closing
+mod Due
+mod Happening
+mod Serves

@@ -1,13 +1,12 @@
 -- Replies go in the order of the requests.
-use Rattle.std.proofs.Common.{◌≡◌, ℕ, ◌+◌, List, [], ◌∷◌, ◌++◌, map, drop, flat_map, length, Option, Some, None, IfSome, refl, sym, ap, ◌∙◌, subst, arith, length-append}
+use Rattle.std.proofs.Common.{◌≡◌, ℕ, List, [], ◌∷◌, ◌++◌, map, drop, length, Option, Some, None, IfSome, refl, sym, ap, subst, arith, length-append}
 use Rattle.std.proofs.lemmas.List.{length-map}
-use Rattle.moka_collapsing.specs.declared.answer.Answer.{Answer}
 use Rattle.moka_collapsing.specs.declared.slot.Slot.{Slot}
 use Rattle.moka_collapsing.specs.declared.slot.Slot.TheVariants.{Waits, Answered}
 use Rattle.moka_collapsing.specs.declared.slot.Place.{Place}
-use Rattle.moka_collapsing.specs.Clients.{Client, due_answers, due_bytes, flushed, front_answer}
+use Rattle.moka_collapsing.specs.Clients.{Client, due_answers, front_answer}
 use Rattle.moka_collapsing.specs.Laws.{IsSentInOrder, OpensOne}
-use Rattle.moka_collapsing.specs.Upstream.{Upstream, Waiter, asked, asked_at, fetch_of}
+use Rattle.moka_collapsing.specs.Upstream.{Upstream, Waiter, asked_at, fetch_of}
 
 pub front_split : (slots : List Slot) → slots ≡ map Answered (due_answers slots) ++ drop (length (due_answers slots)) slots
 front_split [] = refl

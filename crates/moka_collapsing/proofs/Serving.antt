@@ -1,22 +1,19 @@
 -- What the calls of a request do to the lists.
 use Rattle.std.proofs.Common.{◌≡◌, ◌≢◌, ◌⊎◌, ℕ, zero, suc, ◌+◌, ◌<◌, ◌≤◌, ◌==◌, Bool, true, false, cond, ◌&&◌, List, [], ◌∷◌, ◌++◌, drop, length, Option, Some, None, refl, sym, ap, ◌∙◌, subst, arith, inl, inr, nat_eq, nat_lt, length-append}
-use Rattle.std.specs.Option.{option_map, option_and_then}
 use Rattle.std.proofs.lemmas.Bool.{false≢true}
 use borrow.Author.Tests.{eqb-true, ltb-true, ltb-false}
-use Rattle.moka_hist.specs.Finite.{load_eq, put_at}
+use Rattle.moka_hist.specs.Finite.{put_at}
 use Rattle.moka_hist.specs.declared.events.Start.TheVariants as start
-use Rattle.moka_hist.specs.declared.loads.Load.{Load}
 use Rattle.moka_laws.proofs.Counting.{none_some, some_same, same_number, differ, differ_not, put_cases, put_here, put_there}
-use Rattle.moka_small.specs.declared.outcome.Outcome.{Outcome}
 use Rattle.moka_small.specs.declared.outcome.Outcome.TheVariants as outcome
-use Rattle.moka_small.specs.Small.{Asks, Begun, End, Small, Stand, Waits, Was_told, load_at, started, with_stand}
-use Rattle.moka_small.specs.Polled.{claims, gone, greatest, or_else, owner_of, owns, polled, value_under}
+use Rattle.moka_small.specs.Small.{Asks, Begun, Stand, Waits, started, with_stand}
+use Rattle.moka_small.specs.Polled.{claims, gone, greatest, or_else, owner_of, owns, value_under}
 use Rattle.moka_collapsing.specs.declared.slot.Place.{Place}
 use Rattle.moka_collapsing.specs.Upstream.{Upstream, Waiter, counted, joined}
 use Rattle.moka_collapsing.specs.Waiting.{Waiting, place_of, with_waiter}
-use Rattle.moka_collapsing.specs.Standing.{AreDistinct, AsksFor, Cache, Each, IsListOf, Serves, WaitsFor, WaitsOn, begun, load_of, requests_on}
+use Rattle.moka_collapsing.specs.Standing.{AsksFor, Cache, Each, IsListOf, Serves, WaitsFor, WaitsOn, begun, load_of, requests_on}
 use Rattle.moka_collapsing.specs.Settling.{key_at}
-use Rattle.moka_collapsing.proofs.Listed.{each_map, each_both, each_append, each_drop, each_found, distinct_append, found_append, found_last, insert_last}
+use Rattle.moka_collapsing.proofs.Listed.{each_map, each_append, distinct_append, found_append, insert_last}
 
 -- ---- the greatest number that passes a test
 

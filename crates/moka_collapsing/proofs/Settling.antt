@@ -1,25 +1,22 @@
 -- The calls of a list are told what their upstream request brought, one after the other.
-use Rattle.std.proofs.Common.{◌≡◌, ◌≢◌, ◌⊎◌, ℕ, ◌+◌, ◌<◌, ◌≤◌, ◌==◌, Bool, true, false, cond, ◌&&◌, List, [], ◌∷◌, drop, length, Option, Some, None, IsSome, is_some, nat_lt, refl, sym, ap, ◌∙◌, subst, arith, inl, inr, nat_eq}
-use Rattle.std.specs.Option.{option_map, option_and_then}
+use Rattle.std.proofs.Common.{◌≡◌, ◌≢◌, ◌⊎◌, ℕ, ◌==◌, Bool, true, false, cond, ◌&&◌, List, [], ◌∷◌, drop, Option, Some, None, IsSome, is_some, nat_lt, refl, sym, ap, ◌∙◌, subst, arith, inl, inr, nat_eq}
+use Rattle.std.specs.Option.{option_map}
 use Rattle.std.specs.declared.result.Result.{Result}
 use Rattle.std.specs.declared.result.Result.TheVariants.{Ok, Err}
 use borrow.Author.Tests.{eqb-true}
-use Rattle.moka_hist.specs.Finite.{put_at, put_key}
-use Rattle.moka_laws.proofs.Counting.{none_some, some_same, same_number, differ, differ_not, put_cases, put_here, put_there}
-use Rattle.moka_small.specs.declared.outcome.Outcome.{Outcome}
-use Rattle.moka_small.specs.declared.outcome.Outcome.TheVariants as outcome
-use Rattle.moka_small.specs.Small.{Asks, Begun, End, Stand, Waits, Was_told, With_error, With_nothing, With_value, waiting, waits_for, with_stand}
+use Rattle.moka_hist.specs.Finite.{put_at}
+use Rattle.moka_laws.proofs.Counting.{none_some, some_same, differ, differ_not, put_cases, put_here, put_there}
+use Rattle.moka_small.specs.Small.{Asks, End, Stand, Waits, Was_told, waiting, waits_for}
 use Rattle.moka_small.specs.Polled.{ends_with, gone_waiter, outcome_of, owns, polled, reads, value_under}
 use Rattle.moka_collapsing.specs.declared.answer.Answer.{Answer}
 use Rattle.moka_collapsing.specs.declared.answer.Answer.TheVariants as answer
-use Rattle.moka_collapsing.specs.declared.slot.Place.{Place}
 use Rattle.moka_collapsing.specs.Upstream.{Upstream, Waiter, answer_of, ended, keeps}
 use Rattle.moka_collapsing.specs.Waiting.{Waiting, place_of}
-use Rattle.moka_collapsing.specs.Standing.{AreDistinct, AsksFor, Cache, Each, IsListOf, Serves, WaitsFor, WaitsOn, load_of, requests_on}
+use Rattle.moka_collapsing.specs.Standing.{AreDistinct, AsksFor, Cache, IsListOf, Serves, WaitsFor, WaitsOn, load_of, requests_on}
 use Rattle.moka_collapsing.specs.Settling.{HasAnswer, IsAnswered, answer_in, end_of, key_at}
 use Rattle.moka_collapsing.specs.Coming as coming
 use Rattle.moka_collapsing.specs.Coming.{ListsAreAnswered}
-use Rattle.moka_collapsing.proofs.Listed.{each_both, each_found, each_map, hit, hits}
+use Rattle.moka_collapsing.proofs.Listed.{each_both, each_map, hit, hits}
 use Rattle.moka_collapsing.proofs.Serving.{list_stays}
 
 abbrev asks_for : ℕ → Option (Stand ℕ ℕ ℕ)

@@ -5,7 +5,7 @@ use Rattle.std.specs.declared.result.Result.{Result}
 use Rattle.moka_hist.specs.Finite.{put_at}
 use Rattle.moka_small.specs.declared.outcome.Outcome.{Outcome}
 use Rattle.moka_small.specs.declared.outcome.Outcome.TheVariants as outcome
-use Rattle.moka_small.specs.Small.{End, Stand, Waits, Was_told, with_stand}
+use Rattle.moka_small.specs.Small.{End, Waits, Was_told, with_stand}
 use Rattle.moka_small.specs.Polled.{gone_waiter, owns, polled}
 use Rattle.moka_collapsing.specs.declared.answer.Answer.TheVariants as answer
 use Rattle.moka_collapsing.specs.declared.slot.Place.{Place}

@@ -4,6 +4,8 @@ pub mod Upstream
 pub mod Clients
 pub mod Reference
 pub mod Laws
+pub mod Runs
+pub mod Served
 pub mod Waiting
 pub mod Standing
 pub mod Settling

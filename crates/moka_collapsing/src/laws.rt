@@ -6,7 +6,11 @@ ghost use Rattle.moka_collapsing.specs.declared.slot.Place.{Place};
 ghost use Rattle.moka_collapsing.specs.Clients.{Client};
 ghost use Rattle.moka_collapsing.specs.Laws.{CloseIsLawful, FeedIsLawful, IsSameInPieces, IsSentInOrder, OpensOne, ReplyIsLawful};
 ghost use Rattle.moka_collapsing.specs.Reference.{Reference};
+ghost use Rattle.moka_collapsing.specs.Runs.{Event};
+ghost use Rattle.moka_collapsing.specs.Served.{IsServed};
 ghost use Rattle.moka_collapsing.specs.Upstream.{Upstream};
+
+use moka_requests::requests_are_of_all_bytes;
 
 /// A client is sent the replies to the requests at its front, in order, up to the first that has no
 /// answer.
@@ -42,3 +46,12 @@ pub fn replies_are_lawful()
 pub fn closes_are_lawful()
     ensures { (g : Reference) (number : ℕ) (client : Client) → CloseIsLawful g number client }
 {}
+
+/// What a user may rely on over a whole run, whatever happens: only values that were brought are
+/// stored; each client is sent the replies to its requests, in order, and each reply answers its
+/// request; a key has at most one open upstream request.
+pub fn runs_are_served()
+    ensures { (events : List Event) → IsServed events }
+{
+    requests_are_of_all_bytes();
+}

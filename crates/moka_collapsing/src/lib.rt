@@ -18,7 +18,7 @@ pub use answer::Answer;
 pub use client::Client;
 pub use laws::{
     closes_are_lawful, feeds_are_lawful, pieces_make_no_difference, replies_are_lawful,
-    replies_go_in_order, upstream_requests_are_shared,
+    replies_go_in_order, runs_are_served, upstream_requests_are_shared,
 };
 pub use out::{Out, OutList};
 pub use slot::{Asked, Given, Place, Slot};
