@@ -9,10 +9,11 @@ pub mod Settling
 mod Lawful
 mod Slots
 mod Holding
-mod Sending
+pub mod Sending
 mod Feeding
 mod Giving
 mod Closing
 mod Due
 mod Happening
+mod Staying
 mod Serves

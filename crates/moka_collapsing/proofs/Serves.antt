@@ -1,6 +1,5 @@
 -- Every run is served.
-use Rattle.std.proofs.Common.{◌≡◌, ℕ, List, [], ◌∷◌, ◌++◌, Option, Some, None, Result, refl, sym, ap, subst, append_assoc}
-use Rattle.std.proofs.lemmas.List.{append-nil}
+use Rattle.std.proofs.Common.{◌≡◌, ℕ, List, [], ◌∷◌, ◌++◌, Option, Some, None, Result, refl, sym, ap, subst}
 use Rattle.moka_laws.proofs.Counting.{none_some}
 use Rattle.std.proofs.lemmas.Bool.{false≢true}
 use Rattle.moka_requests.specs.Laws.{OnlyAdds}
@@ -14,6 +13,7 @@ use Rattle.moka_collapsing.proofs.Due.{all_due}
 use Rattle.moka_collapsing.proofs.Happening.{Holds, holds_later_all, still_holds}
 use Rattle.moka_collapsing.proofs.Holding.{HoldsAt, Stops}
 use Rattle.moka_collapsing.proofs.Slots.{left_answered}
+use Rattle.moka_collapsing.proofs.Staying.{kept_for_good, over_runs}
 
 -- what holds after a run
 abbrev HoldsAfter : List Event → Type 0
@@ -49,13 +49,8 @@ one_more_event adds events e h =
     subst (λ s. Holds (events ++ e ∷ []) s.gateway s.fed s.sent) (sym (folded_append happens begun_run events (e ∷ [])))
     (still_holds adds (events ++ e ∷ []) e r (λ key brought w is on. just_brought events e key brought w is on) (holds_later_all events e r.gateway r.fed r.sent h))
 
-more_events : OnlyAdds → (events more : List Event) → HoldsAfter events → HoldsAfter (events ++ more)
-more_events adds events [] h = subst HoldsAfter (sym (append-nil events)) h
-more_events adds events (e ∷ more) h =
-    subst HoldsAfter (append_assoc events (e ∷ []) more) (more_events adds (events ++ e ∷ []) more (one_more_event adds events e h))
-
 holds_after : OnlyAdds → (events : List Event) → HoldsAfter events
-holds_after adds events = more_events adds [] events at_first
+holds_after adds = over_runs HoldsAfter (one_more_event adds) at_first
 
 -- ---- what a user may rely on of it
 
@@ -82,7 +77,7 @@ pub all_served : OnlyAdds → (events : List Event) → IsServed events
 all_served adds events =
     let h = holds_after adds events in
     record {
-      stored = h.up.stored;
+      stored = λ key value. (h.up.stored key value, kept_for_good events key value);
       clients = λ number. served_at events number ((run_of events).gateway.clients number) (h.clients number) (h.stops number);
       due = λ before after event e. all_due (run_of before).gateway event;
     }

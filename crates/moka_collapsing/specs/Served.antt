@@ -1,5 +1,5 @@
 -- What a user may rely on over a whole run of the gateway.
-use Rattle.std.specs.Prelude.{◌≡◌, ◌⊎◌, ℕ, List, [], ◌∷◌, ◌++◌, map, flat_map, length, slice_get, Option, Some, None, IsSome, Result, Ok, Err, nat_eq}
+use Rattle.std.specs.Prelude.{◌≡◌, ◌⊎◌, ◌↔◌, ℕ, List, [], ◌∷◌, ◌++◌, map, flat_map, length, slice_get, Option, Some, None, IsSome, Result, Ok, Err, nat_eq}
 use Rattle.std.specs.List.{AllByRecursion, IsDistinct}
 use Rattle.moka_requests.specs.Requests.{requests_of}
 use Rattle.moka_requests.specs.declared.request.Request.{Request}
@@ -108,11 +108,12 @@ pub record IsDueAll (g : Reference) (event : Event) : Type 0 where
 
 -- ---- a run
 
--- What a user may rely on in every run. A stored value was brought for its key; each client is
--- served; each event does with upstream requests only what is due.
+-- What a user may rely on in every run. A key is stored exactly where a value was brought for it, and
+-- it has that value for good; each client is served; each event does with upstream requests only
+-- what is due.
 pub record IsServed (events : List Event) : Type 0 where
   pub stored : (key value : ℕ) →
-      (run_of events).gateway.upstream.stored key ≡ Some value → Brought events key (Ok value)
+      ((run_of events).gateway.upstream.stored key ≡ Some value) ↔ Brought events key (Ok value)
   pub clients : (number : ℕ) →
       IsServedClient events number ((run_of events).gateway.clients number)
   pub due : (before after : List Event) (event : Event) →
