@@ -15,7 +15,7 @@ use Rattle.moka_polled.specs.Polled.{IsPolled, Takes}
 use Rattle.moka_small.specs.Laws.{may_end}
 use Rattle.moka_small.specs.Polled.{polled}
 use Rattle.moka_small.specs.Seen as seen
-use Rattle.moka_small.specs.Small.{Stand, Waits, Was_told, with_stand}
+use Rattle.moka_small.specs.Small.{Waits, Was_told}
 use Rattle.moka_small.specs.Standing.{WaitersAreServed}
 use Rattle.moka_collapsing.specs.declared.answer.Answer.{Answer}
 use Rattle.moka_collapsing.specs.declared.slot.Given.{Given}

@@ -1,5 +1,5 @@
 -- A gateway to which nothing has come, and a list of which all were answered.
-use Rattle.std.proofs.Common.{◌≡◌, ◌<◌, ℕ, List, [], ◌∷◌, ◌++◌, length, map, Option, Some, None, refl, sym, ap, ◌∙◌, append-nil, arith}
+use Rattle.std.proofs.Common.{◌≡◌, ◌<◌, ℕ, List, [], ◌∷◌, ◌++◌, length, map, Option, None, refl, sym, ap, ◌∙◌, append-nil, arith}
 use Rattle.std.proofs.lemmas.Option.{none-some}
 use Rattle.moka_small.specs.Small.{empty}
 use Rattle.moka_collapsing.specs.declared.slot.Given.{Given}

@@ -1,12 +1,10 @@
 -- What the fetches stand for after each of their calls.
-use Rattle.std.proofs.Common.{◌≡◌, ℕ, ◌+◌, ◌<◌, Bool, true, false, List, [], ◌∷◌, Option, Some, None, IsSome, is_some, refl, sym, ap, ◌∙◌, subst, nat_eq}
+use Rattle.std.proofs.Common.{◌≡◌, ℕ, ◌+◌, Bool, true, [], ◌∷◌, Option, Some, None, refl, sym, ap, ◌∙◌, subst, nat_eq}
 use Rattle.std.specs.HashMap.{get}
 use Rattle.std.specs.Option.{option_map, option_and_then}
-use Rattle.std.specs.declared.result.Result.{Result}
-use Rattle.std.specs.declared.result.Result.TheVariants.{Ok, Err}
 use Rattle.moka_hist.specs.Finite.{put_at}
 use Rattle.moka_hist.specs.declared.events.Start.TheVariants as start
-use Rattle.moka_laws.proofs.Counting.{put_here, put_there}
+use Rattle.moka_laws.proofs.Counting.{put_here}
 use Rattle.std.specs.declared.cmp.PartialEq as PartialEq
 use Rattle.std.specs.declared.hash.Hash as Hash
 use Rattle.moka_hist.specs.declared.events.Start.{Start}
@@ -21,8 +19,8 @@ use Rattle.moka_gateway.specs.declared.fetches.Fetches.{Fetches}
 use Rattle.moka_collapsing.specs.declared.slot.Asked.{Asked}
 use Rattle.moka_collapsing.specs.declared.slot.Place.{Place}
 use Rattle.moka_collapsing.specs.declared.slot.Slot.TheVariants as slot
-use Rattle.moka_collapsing.specs.Upstream.{Upstream, Waiter, asked, left}
-use Rattle.moka_collapsing.specs.Waiting.{Waiting, freed, with_waiter, without_waiter}
+use Rattle.moka_collapsing.specs.Upstream.{Upstream, asked, left}
+use Rattle.moka_collapsing.specs.Waiting.{freed, with_waiter, without_waiter}
 use Rattle.moka_collapsing.specs.Standing.{Cache, Serves, begun, load_of}
 use Rattle.moka_collapsing.specs.Coming.{Comes, IsLeft, RequestsCome, RequestsLeave}
 use Rattle.moka_gateway.specs.Fetches.{IsFetches, is_of_request}

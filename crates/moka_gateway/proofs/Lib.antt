@@ -4,3 +4,4 @@ pub mod Fetching
 pub mod Answering
 pub mod Rows
 pub mod Parts
+pub mod After

@@ -6,7 +6,7 @@ use Rattle.moka_laws.proofs.Counting.{differ, same_number}
 use Rattle.moka_hist.specs.Finite.{put_at}
 use Rattle.moka_collapsing.specs.Standing.{Cache, Serves, requests_on}
 use Rattle.moka_collapsing.specs.Upstream.{Upstream, Waiter, is_left}
-use Rattle.moka_collapsing.specs.Waiting.{Waiting, is_left_empty, less_waiter, unless_empty, without_waiter}
+use Rattle.moka_collapsing.specs.Waiting.{Waiting, is_left_empty, less_waiter, without_waiter}
 
 -- ---- the request left, and its list ends where it is left empty
 

@@ -1,21 +1,21 @@
 -- The parts of a gateway after each of its calls.
-use Rattle.std.proofs.Common.{◌≡◌, ℕ, ◌+◌, ◌-◌, ◌<◌, ◌==◌, cond, List, [], ◌∷◌, ◌++◌, map, length, Bool, true, false, Option, Some, None, is_some, if◌then◌else◌, refl, sym, ap, ◌∙◌, subst, arith, nat_eq}
-use Rattle.std.proofs.lemmas.Bool.{eq-eqb, false≢true}
+use Rattle.std.proofs.Common.{◌≡◌, ℕ, ◌+◌, ◌-◌, ◌<◌, ◌==◌, cond, List, [], ◌∷◌, ◌++◌, map, true, false, Option, Some, None, refl, sym, ap, ◌∙◌, subst, arith}
+use Rattle.std.proofs.lemmas.Bool.{false≢true}
 use Rattle.std.specs.Option.{option_map}
 use Rattle.std.specs.Prelude.{OnErr}
 use Rattle.std.specs.declared.result.Result.{Result}
 use Rattle.std.specs.declared.result.Result.TheVariants.{Ok, Err}
 use Rattle.moka_hist.specs.Finite.{put_at}
-use Rattle.moka_laws.proofs.Counting.{differ, none_some, put_cases, put_here}
+use Rattle.moka_laws.proofs.Counting.{none_some, put_cases}
 use Rattle.moka_collapsing.specs.declared.answer.Answer.{Answer}
 use Rattle.moka_collapsing.specs.declared.out.Out.{Out}
 use Rattle.moka_collapsing.specs.declared.out.Out.TheVariants.{Cancel, Fetch}
 use Rattle.moka_collapsing.specs.declared.slot.Given.{Given}
 use Rattle.moka_collapsing.specs.declared.slot.Place.{Place}
-use Rattle.moka_collapsing.specs.Clients.{Client, due_bytes, flushed, new_client}
+use Rattle.moka_collapsing.specs.Clients.{Client, due_bytes, flushed}
 use Rattle.moka_collapsing.specs.Folds.{folded}
-use Rattle.moka_collapsing.specs.Reference.{Come, Reference, Sent, ascending, closed, closes, closes_at, fed, feeds, feeds_at, gives, opens, most_clients, replied, replies, replies_at, sends, to_client, with_client}
-use Rattle.moka_collapsing.specs.Upstream.{Upstream, Waiter, answer_of, given_at, given_to, left, settled, settled_at}
+use Rattle.moka_collapsing.specs.Reference.{Reference, Sent, ascending, closes, closes_at, feeds, feeds_at, gives, replies, replies_at, sends, to_client}
+use Rattle.moka_collapsing.specs.Upstream.{Waiter, answer_of, given_at, given_to, left, settled, settled_at}
 use Rattle.moka_gateway.specs.declared.fetches.Fetches.{Fetches}
 use Rattle.moka_gateway.specs.declared.gateway.Gateway.{Gateway}
 use Rattle.moka_gateway.specs.Fetches.{IsFetches}

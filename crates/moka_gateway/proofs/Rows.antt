@@ -1,11 +1,9 @@
 -- Rows of requests, answers and clients, one after the other.
-use Rattle.std.proofs.Common.{◌≡◌, ℕ, ◌+◌, ◌<◌, ◌≤◌, ◌==◌, cond, List, [], ◌∷◌, ◌++◌, map, filter, flat_map, drop, length, get_or, Bool, true, false, Option, Some, None, refl, sym, ap, ◌∙◌, subst, arith}
+use Rattle.std.proofs.Common.{◌≡◌, ℕ, ◌+◌, ◌<◌, ◌≤◌, ◌==◌, cond, List, [], ◌∷◌, ◌++◌, map, drop, length, get_or, Option, refl, sym, ap, ◌∙◌, subst, arith}
 use Rattle.std.proofs.lemmas.List.{append-nil, at_drop_all, at_drop_more, map-append}
 use Rattle.std.specs.Option.{option_map, option_map_or, option_to_list}
-use Rattle.moka_hist.specs.Finite.{put_at}
 use Rattle.moka_requests.specs.declared.request.Request.{Request}
 use Rattle.moka_requests.specs.declared.request.Request.TheVariants.{Get, Bad}
-use Rattle.moka_collapsing.specs.declared.answer.Answer.{Answer}
 use Rattle.moka_collapsing.specs.declared.answer.Answer.TheVariants as answer
 use Rattle.moka_collapsing.specs.declared.out.Out.{Out}
 use Rattle.moka_collapsing.specs.declared.out.Out.TheVariants.{Fetch, To}
@@ -16,7 +14,7 @@ use Rattle.moka_collapsing.specs.declared.slot.Slot.{Slot}
 use Rattle.moka_collapsing.specs.declared.slot.Slot.TheVariants.{Answered}
 use Rattle.moka_collapsing.specs.Clients.{Client, due_bytes, flushed, made, with_answer, with_request}
 use Rattle.moka_collapsing.specs.Folds.{folded}
-use Rattle.moka_collapsing.specs.Reference.{Come, Sent, comes, due_to, gives, sends, sent_to, to_client}
+use Rattle.moka_collapsing.specs.Reference.{Come, Sent, comes, due_to, sends, sent_to, to_client}
 use Rattle.moka_collapsing.specs.Upstream.{Upstream, asked, left}
 use Rattle.moka_gateway.specs.declared.fetches.Fetches.{Fetches}
 use Rattle.moka_gateway.specs.Fetches.{IsFetches}

@@ -2,13 +2,13 @@
 use Rattle.std.specs.Prelude.{◌≡◌, ℕ, List, [], map, flat_map, filter, Option}
 use Rattle.moka_requests.specs.Requests.{new_requests, unfinished_after}
 use Rattle.moka_collapsing.specs.declared.out.Out.{Out}
-use Rattle.moka_collapsing.specs.declared.out.Out.TheVariants.{Fetch, Cancel}
+use Rattle.moka_collapsing.specs.declared.out.Out.TheVariants.{Fetch}
 use Rattle.moka_collapsing.specs.declared.slot.Given.{Given}
 use Rattle.moka_collapsing.specs.declared.slot.Slot.{Slot}
 use Rattle.moka_collapsing.specs.Clients.{Client}
 use Rattle.moka_collapsing.specs.Folds.{folded}
 use Rattle.moka_collapsing.specs.Reference.{Come, Sent, ascending, comes, gives, key_of, sends}
-use Rattle.moka_collapsing.specs.Upstream.{Upstream, is_left, left}
+use Rattle.moka_collapsing.specs.Upstream.{Upstream, is_left}
 use Rattle.moka_gateway.specs.declared.fetches.Fetches.{Fetches}
 use Rattle.moka_gateway.specs.Fetches.{IsFetches}
 

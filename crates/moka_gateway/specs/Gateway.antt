@@ -1,9 +1,11 @@
 -- Which reference gateway a gateway stands for.
-use Rattle.std.specs.Prelude.{◌≡◌, ◌<◌, ℕ, false, true, Option, None, nat_eq}
+use Rattle.std.specs.Prelude.{◌≡◌, ◌<◌, ℕ, false, true, List, Option, None, nat_eq}
 use Rattle.std.specs.HashMap.{get, hash_map_len}
 use Rattle.moka_gateway.specs.declared.gateway.Gateway.{Gateway}
 use Rattle.moka_collapsing.specs.Clients.{Client}
 use Rattle.moka_collapsing.specs.Reference.{Reference}
+use Rattle.moka_collapsing.specs.Runs.{Event, run_of}
+use Rattle.moka_collapsing.specs.Served.{IsServed}
 use Rattle.moka_gateway.specs.declared.fetches.Fetches.{Fetches}
 use Rattle.moka_gateway.specs.Fetches.{IsFetches}
 
@@ -35,3 +37,9 @@ IsSpent gateway = gateway.spent ≡ true
 -- unless it is spent it stands for a reference gateway
 abbrev pub IsUsable : Gateway → Type 0
 IsUsable gateway = gateway.spent ≡ false → (reference : Reference) × IsGateway gateway reference
+
+-- The gateway was new, and then these events have happened to it: it stands for what they come to,
+-- and its clients are served.
+pub record IsAfter (gateway : Gateway) (events : List Event) : Type 0 where
+  pub stands : IsGateway gateway (run_of events).gateway
+  pub served : IsServed events

@@ -1,6 +1,6 @@
 //! The gateway.
 
-ghost use Rattle.std.specs.Prelude.{◌≡◌, ◌++◌, [], ℕ, nat_eq, map, filter, flat_map, false, true, Option, Some, IfOk, OnOk, OnErr};
+ghost use Rattle.std.specs.Prelude.{◌≡◌, ◌++◌, ◌∷◌, [], ℕ, List, nat_eq, map, filter, flat_map, false, true, Option, Some, IfNone, IfOk, IfSome, OnOk, OnErr};
 ghost use Rattle.std.specs.HashMap.{get, hash_map_len};
 ghost use Rattle.std.specs.Option.{option_to_list};
 ghost use Rattle.moka_collapsing.specs.declared.out.Out.TheVariants.{Cancel, Fetch};
@@ -16,7 +16,7 @@ use crate::fetches::Fetches;
 use bytes::Bytes;
 use moka_collapsing::{
     Answer, Client, Given, Out, OutList, Place, Slot, closes_are_lawful, feeds_are_lawful,
-    replies_are_lawful,
+    replies_are_lawful, runs_are_served,
 };
 use moka_requests::Request;
 use std::alloc::{AllocError, Global};
@@ -48,13 +48,16 @@ pub struct Gateway {
 impl Gateway {
     ghost use Rattle.moka_collapsing.specs.Laws.{CloseIsLawful, FeedIsLawful, ReplyIsLawful};
     ghost use Rattle.moka_collapsing.specs.Reference.{Reference, closes, feeds, fresh, opens, replies};
-    ghost use Rattle.moka_gateway.specs.Gateway.{Has, IsGateway, IsSpent, IsUsable};
+    ghost use Rattle.moka_collapsing.specs.Runs.{Close, Event, Feed, Open, Reply};
+    ghost use Rattle.moka_gateway.specs.Gateway.{Has, IsAfter, IsGateway, IsSpent, IsUsable};
 
     /// Builds a gateway that has no client and has stored nothing.
     pub fn new(alloc: Global) -> Result<Gateway, AllocError>
         ensures fresh { IfOk result (λ g. IsGateway g fresh) }
+        ensures after { IfOk result (λ g. IsAfter g []) }
         ensures usable { IfOk result IsUsable }
     {
+        runs_are_served();
         let gateway = Gateway::build(alloc)?;
         Ok(gateway)
     }
@@ -78,10 +81,13 @@ impl Gateway {
         requires usable { IsUsable self.old }
         ensures answers { IfOk result (λ answer. (g : Reference) → IsGateway self.old g
             → (answer ≡ (opens g).0) × IsGateway self.new (opens g).1) }
+        ensures after { OnOk result ((events : List Event) → IsAfter self.old events
+            → IsAfter self.new (events ++ Open ∷ [])) }
         ensures usable { IsUsable self.new }
         ensures spent { OnErr result (IsSpent self.new) }
         ensures stays { IsSpent self.old → OnOk result ⊥ }
     {
+        runs_are_served();
         self.begin()?;
         let number = self.open_next()?;
         self.spent = false;
@@ -98,11 +104,14 @@ impl Gateway {
             × IsGateway self.new (feeds g client bytes.now).1) }
         ensures lawful { (g : Reference) (it : AClient) → IsGateway self.old g
             → g.clients client ≡ Some it → FeedIsLawful g client it bytes.now }
+        ensures after { OnOk result ((events : List Event) → IsAfter self.old events
+            → IsAfter self.new (events ++ Feed client bytes.now ∷ [])) }
         ensures usable { IsUsable self.new }
         ensures spent { OnErr result (IsSpent self.new) }
         ensures stays { IsSpent self.old → OnOk result ⊥ }
     {
         feeds_are_lawful();
+        runs_are_served();
         self.begin()?;
         let outs = self.feed_open(client, bytes)?;
         self.spent = false;
@@ -121,11 +130,14 @@ impl Gateway {
         ensures answers { IfOk result (λ outs. (g : Reference) → IsGateway self.old g
             → (outs ≡ (replies g key answer).0) × IsGateway self.new (replies g key answer).1) }
         ensures lawful { (g : Reference) → IsGateway self.old g → ReplyIsLawful g key answer }
+        ensures after { OnOk result ((events : List Event) → IsAfter self.old events
+            → IsAfter self.new (events ++ Reply key answer ∷ [])) }
         ensures usable { IsUsable self.new }
         ensures spent { OnErr result (IsSpent self.new) }
         ensures stays { IsSpent self.old → OnOk result ⊥ }
     {
         replies_are_lawful();
+        runs_are_served();
         self.begin()?;
         let outs = self.settle(key, answer)?;
         self.spent = false;
@@ -141,11 +153,14 @@ impl Gateway {
             → (answer ≡ (closes g client).0) × IsGateway self.new (closes g client).1) }
         ensures lawful { (g : Reference) (it : AClient) → IsGateway self.old g
             → g.clients client ≡ Some it → CloseIsLawful g client it }
+        ensures after { OnOk result ((events : List Event) → IsAfter self.old events
+            → IsAfter self.new (events ++ Close client ∷ [])) }
         ensures usable { IsUsable self.new }
         ensures spent { OnErr result (IsSpent self.new) }
         ensures stays { IsSpent self.old → OnOk result ⊥ }
     {
         closes_are_lawful();
+        runs_are_served();
         self.begin()?;
         let outs = self.close_open(client)?;
         self.spent = false;
@@ -402,10 +417,18 @@ fn send_all(
     ensures count { hash_map_len clients.new ≡ hash_map_len clients.old }
 {
     let mut outs = Vec::new(alloc);
-    while let Some(number) = numbers.pop_first() {
+    while let Some(number) = take_least(&mut numbers) {
         send_one(alloc, clients, number, &mut outs)?;
     }
     Ok(OutList::from_vec(outs))
+}
+
+// Takes the least of the numbers, if there is one.
+fn take_least(numbers: &mut BTreeSet<u64>) -> Option<u64>
+    ensures least { IfSome result (λ n. numbers.old.keys ≡ n ∷ numbers.new.keys) }
+    ensures none { IfNone result (numbers.old.keys ≡ []) }
+{
+    numbers.pop_first()
 }
 
 // Gives the request at this place its answer, if its client is open.

@@ -1,5 +1,5 @@
 -- Each round gives the first of the answers that are left.
-use Rattle.std.proofs.Common.{◌≡◌, ◌<◌, ◌≤◌, ◌+◌, ◌∙◌, drop, length, map, nat_eq, refl, sym, ap, arith}
+use Rattle.std.proofs.Common.{◌<◌, ◌≤◌, ◌+◌, ◌∙◌, drop, length, map, nat_eq, refl, sym, ap, arith}
 use Rattle.std.proofs.lemmas.List.{at_drop_all, at_drop_more}
 use Rattle.std.specs.BTreeSet.{insert_key}
 use Rattle.std.specs.HashMap.{get}

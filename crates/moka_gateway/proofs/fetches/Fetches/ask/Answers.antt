@@ -1,5 +1,4 @@
 -- What the call of a request came to is what the reference says.
-use Rattle.std.proofs.Common.{sym, ◌∙◌}
 use Rattle.std.proofs.lemmas.Result.{IfOk-weaker}
 use Rattle.moka_gateway.proofs.Fetching.{asks_ok, loaded_ok, waits_ok}
 use Rattle.moka_gateway.proofs.fetches.Fetches.ask.Goals as goal

@@ -1,6 +1,8 @@
 -- The call comes to its end, or memory was wanting.
 use Rattle.std.proofs.Common.{refl}
 use Rattle.moka_collapsing.specs.Reference.{closes}
+use Rattle.moka_collapsing.specs.Runs.{Close}
+use Rattle.moka_gateway.proofs.After.{after_one}
 use Rattle.moka_gateway.proofs.Parts.{carried, had_before, on_err, spent_usable, stays_usable, still_spent}
 use Rattle.moka_gateway.proofs.gateway.Gateway.close.Goals as goal
 
@@ -35,3 +37,8 @@ returns-in_err-begin-clause-lawful c = λ g it is at. c.closes_are_lawful.ensure
 
 pub returns-in_err-outs-clause-lawful : goal.returns-in_err-outs-clause-lawful
 returns-in_err-outs-clause-lawful c = λ g it is at. c.closes_are_lawful.ensures g c.args.client it
+
+pub returns-clause-after : goal.returns-clause-after
+returns-clause-after c = after_one c.runs_are_served.ensures c.args.self.now _ (Close c.args.client) (λ g is.
+    (carried c.args.self.now c.begin.new.self c.in_ok-begin.ensures.ok c.in_ok-outs.outs (λ r. closes r c.args.client) c.close_open.new.self _
+    c.in_ok-outs.ensures.answers refl g is).1)

@@ -1,7 +1,4 @@
 -- The client is closed, if it is open.
-use Rattle.std.proofs.Common.{nat_eq, ◌∙◌, sym, ap}
-use Rattle.std.specs.HashMap.{get, hash_map_len}
-use Rattle.moka_gateway.proofs.Parts.{closed_none, closed_some}
 use Rattle.moka_gateway.proofs.gateway.Gateway.close_open.Goals as goal
 
 pub drop_requests-requires : goal.drop_requests-requires
