@@ -1,75 +1,36 @@
 -- A client's bytes that are cut.
 use Rattle.std.proofs.Common.{◌≡◌, ℕ, ◌==◌, cond, Bool, true, false, List, [], ◌∷◌, ◌++◌, map, flat_map, Option, Some, None, refl, sym, ap, ◌∙◌, subst, append_assoc}
-use Rattle.std.proofs.lemmas.List.{append-nil}
 use Rattle.std.proofs.Math.Path.{fun_ext}
 use Rattle.moka_hist.specs.Finite.{put_at}
 use Rattle.moka_laws.proofs.Counting.{put_here}
 use Rattle.moka_collapsing.specs.declared.out.Out.{Out}
-use Rattle.moka_collapsing.specs.declared.out.Out.TheVariants.{Fetch, Cancel, To}
+use Rattle.moka_collapsing.specs.declared.out.Out.TheVariants.{Fetch}
 use Rattle.moka_collapsing.specs.Clients.{Client, due_bytes, flushed}
 use Rattle.moka_collapsing.specs.Laws.{IsSameInPieces, after_feed, second}
 use Rattle.moka_collapsing.specs.Reference.{Come, Reference, all_come, fed, feeds, feeds_at, to_client}
 use Rattle.moka_collapsing.specs.Upstream.{Upstream}
 use Rattle.moka_collapsing.proofs.Cutting.{same_in_pieces}
-use Rattle.moka_gateway_run.specs.Cutting.{IsAlike, bytes_in, brought, brought_all, cancel_in, CutsMakeNoDifference, fetch_in, outs_of}
+use Rattle.moka_collapsing.specs.Runs.{bytes_in, fetch_in, outs_of}
+use Rattle.moka_collapsing.proofs.Sending.{bytes_at, fetches_at, outs_append, outs_at}
+use Rattle.moka_gateway_run.specs.Cutting.{IsAlike, brought, brought_all, cancel_in, CutsMakeNoDifference}
 use Rattle.moka_gateway_run.specs.declared.lines.Line.{Line}
 use Rattle.moka_gateway_run.specs.declared.lines.Line.TheVariants as line
 
-flat_append : (f : Out → List ℕ) (xs ys : List Out) → flat_map f (xs ++ ys) ≡ flat_map f xs ++ flat_map f ys
-flat_append f [] ys = refl
-flat_append f (x ∷ xs) ys = ap (λ l. f x ++ l) (flat_append f xs ys) ∙ sym (append_assoc (f x) (flat_map f xs) (flat_map f ys))
-
 -- ---- what one feed brings about
-
-fetched : (keys : List ℕ) → flat_map fetch_in (map Fetch keys) ≡ keys
-fetched [] = refl
-fetched (k ∷ keys) = ap (λ l. k ∷ l) (fetched keys)
 
 none_cancelled : (keys : List ℕ) → flat_map cancel_in (map Fetch keys) ≡ []
 none_cancelled [] = refl
 none_cancelled (k ∷ keys) = none_cancelled keys
 
-none_sent : (client : ℕ) (keys : List ℕ) → flat_map (bytes_in client) (map Fetch keys) ≡ []
-none_sent client [] = refl
-none_sent client (k ∷ keys) = none_sent client keys
-
-to_fetches : (number : ℕ) (bytes : List ℕ) → flat_map fetch_in (to_client number bytes) ≡ []
-to_fetches number [] = refl
-to_fetches number (b ∷ bytes) = refl
-
 to_cancels : (number : ℕ) (bytes : List ℕ) → flat_map cancel_in (to_client number bytes) ≡ []
 to_cancels number [] = refl
 to_cancels number (b ∷ bytes) = refl
 
-cond_nil : (b : Bool) → ◌≡◌ {A = List ℕ} [] (cond b [] [])
-cond_nil true = refl
-cond_nil false = refl
-
-to_bytes : (client number : ℕ) (bytes : List ℕ) → flat_map (bytes_in client) (to_client number bytes) ≡ cond (number == client) bytes []
-to_bytes client number [] = cond_nil (number == client)
-to_bytes client number (b ∷ bytes) = append-nil (cond (number == client) (b ∷ bytes) [])
-
-abbrev outs_at : ℕ → Come → List Out
-outs_at number come = map Fetch come.fetches ++ to_client number (due_bytes come.client)
-
-fetches_at : (number : ℕ) (come : Come) → flat_map fetch_in (outs_at number come) ≡ come.fetches
-fetches_at number come =
-    flat_append fetch_in (map Fetch come.fetches) (to_client number (due_bytes come.client))
-    ∙ ap (λ l. l ++ flat_map fetch_in (to_client number (due_bytes come.client))) (fetched come.fetches)
-    ∙ ap (λ l. come.fetches ++ l) (to_fetches number (due_bytes come.client))
-    ∙ append-nil come.fetches
-
 cancels_at : (number : ℕ) (come : Come) → flat_map cancel_in (outs_at number come) ≡ []
 cancels_at number come =
-    flat_append cancel_in (map Fetch come.fetches) (to_client number (due_bytes come.client))
+    outs_append cancel_in (map Fetch come.fetches) (to_client number (due_bytes come.client))
     ∙ ap (λ l. l ++ flat_map cancel_in (to_client number (due_bytes come.client))) (none_cancelled come.fetches)
     ∙ to_cancels number (due_bytes come.client)
-
-bytes_at : (client number : ℕ) (come : Come) → flat_map (bytes_in client) (outs_at number come) ≡ cond (number == client) (due_bytes come.client) []
-bytes_at client number come =
-    flat_append (bytes_in client) (map Fetch come.fetches) (to_client number (due_bytes come.client))
-    ∙ ap (λ l. l ++ flat_map (bytes_in client) (to_client number (due_bytes come.client))) (none_sent client come.fetches)
-    ∙ to_bytes client number (due_bytes come.client)
 
 cond_append : (b : Bool) (xs ys : List ℕ) → cond b (xs ++ ys) [] ≡ cond b xs [] ++ cond b ys []
 cond_append true xs ys = refl
@@ -123,11 +84,11 @@ module _ (g : Reference) (number : ℕ) (client : Client) (front back : List ℕ
 
     parted : (f : Out → List ℕ) → flat_map f (outs_at number one ++ (outs_at number two ++ rest.0))
         ≡ flat_map f (outs_at number one) ++ (flat_map f (outs_at number two) ++ flat_map f rest.0)
-    parted f = flat_append f (outs_at number one) (outs_at number two ++ rest.0) ∙ ap (λ l. flat_map f (outs_at number one) ++ l) (flat_append f (outs_at number two) rest.0)
+    parted f = outs_append f (outs_at number one) (outs_at number two ++ rest.0) ∙ ap (λ l. flat_map f (outs_at number one) ++ l) (outs_append f (outs_at number two) rest.0)
 
     joined : (f : Out → List ℕ) → flat_map f (outs_at number whole) ≡ flat_map f (outs_at number one) ++ flat_map f (outs_at number two) →
         flat_map f (outs_at number whole ++ rest.0) ≡ flat_map f (outs_at number one ++ (outs_at number two ++ rest.0))
-    joined f e = flat_append f (outs_at number whole) rest.0 ∙ ap (λ l. l ++ flat_map f rest.0) e
+    joined f e = outs_append f (outs_at number whole) rest.0 ∙ ap (λ l. l ++ flat_map f rest.0) e
         ∙ append_assoc (flat_map f (outs_at number one)) (flat_map f (outs_at number two)) (flat_map f rest.0) ∙ sym (parted f)
 
     both : {X Y : List ℕ} (f : Out → List ℕ) → flat_map f (outs_at number one) ≡ X → flat_map f (outs_at number two) ≡ Y → X ++ Y ≡ flat_map f (outs_at number one) ++ flat_map f (outs_at number two)
@@ -179,9 +140,9 @@ cut_first g number front back after = by (g.clients number) refl
 
 alike_after : (outs : List Out) (a b : List Out × Reference) → IsAlike a b → IsAlike (outs ++ a.0, a.1) (outs ++ b.0, b.1)
 alike_after outs a b is = record {
-  fetches = flat_append fetch_in outs a.0 ∙ ap (λ l. flat_map fetch_in outs ++ l) is.fetches ∙ sym (flat_append fetch_in outs b.0);
-  cancels = flat_append cancel_in outs a.0 ∙ ap (λ l. flat_map cancel_in outs ++ l) is.cancels ∙ sym (flat_append cancel_in outs b.0);
-  bytes = λ c. flat_append (bytes_in c) outs a.0 ∙ ap (λ l. flat_map (bytes_in c) outs ++ l) (is.bytes c) ∙ sym (flat_append (bytes_in c) outs b.0);
+  fetches = outs_append fetch_in outs a.0 ∙ ap (λ l. flat_map fetch_in outs ++ l) is.fetches ∙ sym (outs_append fetch_in outs b.0);
+  cancels = outs_append cancel_in outs a.0 ∙ ap (λ l. flat_map cancel_in outs ++ l) is.cancels ∙ sym (outs_append cancel_in outs b.0);
+  bytes = λ c. outs_append (bytes_in c) outs a.0 ∙ ap (λ l. flat_map (bytes_in c) outs ++ l) (is.bytes c) ∙ sym (outs_append (bytes_in c) outs b.0);
   gateway = is.gateway;
 }
 

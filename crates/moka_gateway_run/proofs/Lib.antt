@@ -2,3 +2,4 @@ pub mod Shown
 pub mod Spelled
 pub mod Plays
 mod Cut
+pub mod Runs

@@ -1,13 +1,13 @@
 -- What is read is spelled so, and each spelling is read.
-use Rattle.std.proofs.Common.{◌≡◌, ℕ, ◌<◌, ◌^◌, List, ◌∷◌, ◌++◌, length, Option, Some, None, IfSome, Result, Ok, Err, refl, sym, ap, ◌∙◌, subst, arith}
+use Rattle.std.proofs.Common.{◌≡◌, ℕ, ◌<◌, ◌^◌, List, ◌∷◌, ◌++◌, length, Some, None, IfSome, Result, Ok, Err, refl, sym, ap, ◌∙◌, arith}
 use Rattle.std.specs.Prelude.{codes}
 use Rattle.std.specs.Fmt.{decimal}
-use Rattle.std.specs.Option.{option_map, option_and_then}
+use Rattle.std.specs.Option.{option_map}
 use Rattle.std.specs.Str.{bytes_eq}
 use Rattle.std.proofs.lemmas.List.{length-map}
 use Rattle.std.proofs.lemmas.Option.{none-some, same_Some}
 use Rattle.std.proofs.lemmas.Slice.Eq.{bytes_eq-Decides}
-use Rattle.moka_lines.specs.Words.{after, after_byte, before_byte, number_in, u32_in, u64_in}
+use Rattle.moka_lines.specs.Words.{after_byte, before_byte, u32_in, u64_in}
 use Rattle.moka_lines.proofs.Parts.{bound, chosen, fronted, mapped, number_is, rejoined, spaced, u32_some, u64_some, weaker}
 use Rattle.moka_gateway_run.specs.Pieces.{IsPiece, piece_in, shown, shown_byte}
 use Rattle.moka_gateway_run.specs.Lines.{AnswerFits, LineFits, answer_words, line_words}

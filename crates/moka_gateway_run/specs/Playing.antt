@@ -1,10 +1,12 @@
 -- What the lines of a source come to, by the reference gateway.
-use Rattle.std.specs.Prelude.{◌≡◌, ℕ, List, [], ◌∷◌, ◌++◌, Option, Some, None, codes, flat_map}
+use Rattle.std.specs.Prelude.{◌≡◌, ℕ, List, [], ◌∷◌, ◌++◌, map, Option, Some, None, codes, flat_map}
 use Rattle.moka_lines.specs.Programs.{IsAnswer}
 use Rattle.moka_lines.specs.Texts.{ended}
 use Rattle.moka_collapsing.specs.declared.out.Out.{Out}
 use Rattle.moka_collapsing.specs.declared.out.Out.TheVariants as out
 use Rattle.moka_collapsing.specs.Reference.{Reference, closes, feeds, fresh, opens, replies}
+use Rattle.moka_collapsing.specs.Runs.{Event, Open, Feed, Reply, Close, run_of}
+use Rattle.moka_collapsing.specs.Served.{IsServed}
 use Rattle.moka_gateway.specs.declared.gateway.Gateway.{Gateway}
 use Rattle.moka_gateway.specs.Gateway.{IsGateway}
 use Rattle.moka_gateway_run.specs.Lines.{FitsAnywhere, line_words}
@@ -46,9 +48,21 @@ played_all g (l ∷ lines) = (played g l).0 ++ played_all (played g l).1 lines
 abbrev pub gateway_text : List Line → List ℕ
 gateway_text lines = played_all fresh lines
 
--- the lines are answered by this text; nothing else is handed to the program
-abbrev pub AreAnsweredBy : Unit {0} → List Line → List ℕ → Unit {0} → Type 0
-AreAnsweredBy old lines text new = text ≡ gateway_text lines
+-- what a line says that happens
+abbrev pub event_of : Line → Event
+event_of line.Open = Open
+event_of (line.Feed client bytes) = Feed client bytes
+event_of (line.Reply key answer) = Reply key answer
+event_of (line.Close client) = Close client
+
+-- The lines are answered by this text, which goes on after some of them with the gateway that their
+-- run has come to, and the whole run is served. Nothing else is handed to the program.
+pub record AreAnsweredBy (old : Unit {0}) (lines : List Line) (written : List ℕ) (new : Unit {0})
+    : Type 0 where
+  pub text : written ≡ gateway_text lines
+  pub goes_on : (before after : List Line) → lines ≡ before ++ after → written
+      ≡ gateway_text before ++ played_all (run_of (map event_of before)).gateway after
+  pub served : IsServed (map event_of lines)
 
 -- the text is that of the lines that the bytes say
 abbrev pub IsGatewayText : List ℕ → List ℕ → Type 0

@@ -7,6 +7,7 @@ ghost use Rattle.moka_gateway_run.specs.Playing.{AreAnsweredBy, done_text, gatew
 use crate::forms::Lines;
 use crate::lines::Line;
 use crate::replies::{push_cancel, push_client, push_fetch, push_to};
+use moka_collapsing::runs_are_served;
 use moka_gateway::{Gateway, Out, OutList};
 use moka_lines::{LineProgram, push_words};
 use std::alloc::{AllocError, Global};
@@ -131,12 +132,15 @@ impl LineProgram<Line, ()> for Lines {
     ghost answers = { AreAnsweredBy };
 
     fn of_nothing() -> &'static str {
+        runs_are_served();
         ""
     }
 
     fn answer(alloc: Global, lines: Vec<Line>, _over: &mut ()) -> Result<Vec<u8>, AllocError>
-        ensures { IfOk result (λ text. text.items ≡ gateway_text lines.items) }
+        ensures { IfOk result (λ text.
+            AreAnsweredBy _over.old lines.items text.items _over.new) }
     {
+        runs_are_served();
         play_lines(alloc, &lines)
     }
 }

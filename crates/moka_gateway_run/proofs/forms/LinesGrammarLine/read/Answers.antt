@@ -1,8 +1,7 @@
 -- What is read is its own line, and what is read as no line spells none.
-use Rattle.std.proofs.Common.{◌≡◌, List, Option, Some, None, IfSome, IfNone, Result, Ok, Err, IfOk, refl, sym, ◌∙◌, subst}
+use Rattle.std.proofs.Common.{◌≡◌, List, Option, Some, None, IfSome, IfNone, refl, sym, ◌∙◌, subst}
 use Rattle.std.proofs.lemmas.Result.{IfOk-weaker}
 use Rattle.moka_lines.proofs.Parts.{known, weaker}
-use Rattle.moka_gateway_run.specs.Forms.{line_of}
 use Rattle.moka_gateway_run.specs.Lines.{LineFits, line_words}
 use Rattle.moka_gateway_run.specs.declared.lines.Line.{Line}
 use Rattle.moka_gateway_run.proofs.Spelled.{line_is, line_none}
