@@ -1,60 +1,89 @@
-//! One caller, on both tables.
-ghost use Rattle.std.specs.Prelude.{◌≡◌};
+//! Two callers in one thread, on both tables.
+ghost use Rattle.std.specs.Prelude.{ℕ};
 
-use crate::seats::one_seat;
-use crate::zeros::BuildZero;
-use moka_parts::{Anything, NamedParts, Naming, OpenBook, Parts};
-use std::alloc::Global;
-use std::hash::{BuildHasherDefault, FoldHasher};
-use std::marker::Brand;
-use std::process::Abort;
+use crate::calls::{Call, Row, answer, right};
+use crate::tables::{Case, on_named, on_named_of_one_part, on_parts, on_parts_of_one_part};
+use moka_parts::SharedTable;
+use std::alloc::{AllocError, Global};
 use std::sync::Wait;
 use std::test::*;
 
-type Fold = BuildHasherDefault<FoldHasher>;
-
-type Numbers<S> = Parts<u64, u64, S, Anything>;
-
 #[test]
 fn one_seat_of_a_table_without_a_name(rt: HostRuntime) -> Result<(), Fail> {
-    let table: Numbers<Fold> = Parts::new(rt.alloc(), BuildHasherDefault::new())?;
-    one_seat(&rt, rt.alloc(), &table)
+    assert!(rt; on_parts(&rt, rt.alloc(), Case::OneSeat)?);
+    Ok(())
 }
 
 #[test]
 fn one_seat_where_all_keys_are_of_one_part(rt: HostRuntime) -> Result<(), Fail> {
-    let table: Numbers<BuildZero> = Parts::new(rt.alloc(), BuildZero {})?;
-    one_seat(&rt, rt.alloc(), &table)
+    assert!(rt; on_parts_of_one_part(&rt, rt.alloc())?);
+    Ok(())
 }
 
 #[test]
 fn one_seat_of_a_named_table(rt: HostRuntime) -> Result<(), Fail> {
-    on_fold::<Brand, _>(&rt, rt.alloc(), OpenBook::new(BuildHasherDefault::new()))
-}
-
-fn on_fold<J: Naming, R: Wait + Abort>(
-    rt: &R,
-    alloc: Global,
-    book: OpenBook<u64, u64, Fold>,
-) -> Result<(), Fail>
-    requires { book.0 ≡ J.book }
-{
-    let table: NamedParts<u64, u64, Fold, J, Anything> = NamedParts::new(alloc, book)?;
-    one_seat(rt, alloc, &table)
+    assert!(rt; on_named(&rt, rt.alloc(), Case::OneSeat)?);
+    Ok(())
 }
 
 #[test]
 fn one_seat_of_a_named_table_of_one_part(rt: HostRuntime) -> Result<(), Fail> {
-    on_zero::<Brand, _>(&rt, rt.alloc(), OpenBook::new(BuildZero {}))
+    assert!(rt; on_named_of_one_part(&rt, rt.alloc())?);
+    Ok(())
 }
 
-fn on_zero<J: Naming, R: Wait + Abort>(
+/// What one caller does with an empty table.
+const ALONE: [Row; 8] = [
+    (1, Call::Look, None),
+    (1, Call::Put(10), None),
+    (1, Call::Put(11), Some(10)),
+    (1, Call::Look, Some(11)),
+    (1, Call::TakeOut(10), None),
+    (1, Call::TakeOut(11), Some(11)),
+    (1, Call::PutIfAbsent(12), None),
+    (1, Call::PutIfAbsent(13), Some(12)),
+];
+
+/// Looks, puts, takes out and lists at a few keys of an empty table. What the one seat has put the
+/// other finds once they have met.
+pub(crate) fn one_seat<Q: Drop, T: SharedTable<u64, u64, Seat = Q>, R: Wait>(
     rt: &R,
     alloc: Global,
-    book: OpenBook<u64, u64, BuildZero>,
-) -> Result<(), Fail>
-    requires { book.0 ≡ J.book }
+    table: &T,
+) -> Result<bool, AllocError>
+    requires { (k v : ℕ) → T.holds k v }
 {
-    let table: NamedParts<u64, u64, BuildZero, J, Anything> = NamedParts::new(alloc, book)?;
-    one_seat(rt, alloc, &table)
+    let mut seat = table.seat();
+    let alone = right(rt, table, &mut seat, &ALONE)?;
+    let mut other = table.seat();
+    table.meet(&mut seat, &mut other);
+    let found = right(rt, table, &mut other, &[(1, Call::Look, Some(12))])?;
+    let keys = table.keys(rt, alloc, &mut other, table.part_of(&1))?;
+    let stored = keys.len() == 1 && table.len(rt) == 1;
+    let lost = an_addition_is_lost(rt, table, &mut seat, &mut other)?;
+    Ok(alone == 8 && found == 1 && stored && lost)
+}
+
+/// Two callers look at a count, and then each puts one more than it found: one addition is lost,
+/// and the second put is lent the first one's value, by which it could know. So a count is kept by
+/// what a put is lent, and never by what was found before it.
+fn an_addition_is_lost<Q: Drop, T: SharedTable<u64, u64, Seat = Q>, R: Wait>(
+    rt: &R,
+    table: &T,
+    one: &mut Q,
+    other: &mut Q,
+) -> Result<bool, AllocError>
+    requires { (k v : ℕ) → T.holds k v }
+{
+    let before = right(rt, table, one, &[(2, Call::Put(0), None)])?;
+    let first = answer(rt, table, one, 2, Call::Look)?
+        .unwrap_or(0)
+        .wrapping_add(1);
+    let second = answer(rt, table, other, 2, Call::Look)?
+        .unwrap_or(0)
+        .wrapping_add(1);
+    let put = right(rt, table, one, &[(2, Call::Put(first), Some(0))])?;
+    let lost = right(rt, table, other, &[(2, Call::Put(second), Some(1))])?;
+    let left = right(rt, table, one, &[(2, Call::Look, Some(1))])?;
+    Ok(before == 1 && put == 1 && lost == 1 && left == 1)
 }

@@ -4,9 +4,11 @@
 #[cfg(test)]
 mod alone;
 #[cfg(test)]
+mod calls;
+#[cfg(test)]
 mod memory;
 #[cfg(test)]
-mod seats;
+mod tables;
 #[cfg(test)]
 mod together;
 #[cfg(test)]

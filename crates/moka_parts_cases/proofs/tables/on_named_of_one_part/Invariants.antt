@@ -1,0 +1,5 @@
+use Rattle.moka_parts_cases.proofs.tables.on_named_of_one_part.Given as goal
+
+-- the book that was just opened
+abbrev pub ghosts-on_book_of_one_part : goal.ghosts-on_book_of_one_part
+ghosts-on_book_of_one_part g a = record { book = a.book.0 }

@@ -1,0 +1,123 @@
+//! The calls of the cases, as rows.
+ghost use Rattle.std.specs.Prelude.{ℕ, ◌<◌};
+
+use moka_parts::SharedTable;
+use std::alloc::{AllocError, Global};
+use std::sync::Wait;
+
+/// A call of a table. It answers the value that stood at its key.
+#[derive(Clone, Copy)]
+pub(crate) enum Call {
+    /// Looks the key up.
+    Look,
+    /// Puts the value.
+    Put(u64),
+    /// Puts the value where the key is absent.
+    PutIfAbsent(u64),
+    /// Takes the pair out where it has this value. Where it has another, this answers None.
+    TakeOut(u64),
+}
+
+/// A key, a call of it, and what it answers.
+pub(crate) type Row = (u64, Call, Option<u64>);
+
+/// How many of the calls answer what their rows say.
+pub(crate) fn right<Q: Drop, T: SharedTable<u64, u64, Seat = Q>, R: Wait>(
+    rt: &R,
+    table: &T,
+    seat: &mut Q,
+    rows: &[Row],
+) -> Result<u64, AllocError>
+    requires { (k v : ℕ) → T.holds k v }
+{
+    let mut count = 0u64;
+    for row in rows {
+        let (key, call, want) = *row;
+        let given = answer(rt, table, seat, key, call)?;
+        count = count.wrapping_add(u64::from(given == want));
+    }
+    Ok(count)
+}
+
+/// Makes the call.
+pub(crate) fn answer<Q: Drop, T: SharedTable<u64, u64, Seat = Q>, R: Wait>(
+    rt: &R,
+    table: &T,
+    seat: &mut Q,
+    key: u64,
+    call: Call,
+) -> Result<Option<u64>, AllocError>
+    requires { (k v : ℕ) → T.holds k v }
+{
+    match call {
+        Call::Look => table.look(rt, seat, &key, value_of),
+        Call::Put(value) => table.put(rt, seat, key, value, value_of),
+        Call::PutIfAbsent(value) => table.put_if_absent(rt, seat, key, value),
+        Call::TakeOut(value) => take_out(rt, table, seat, key, value),
+    }
+}
+
+/// The value of a lent pair.
+fn value_of(pair: Option<(&u64, &u64)>) -> Option<u64> {
+    match pair {
+        Some((_, value)) => Some(*value),
+        None => None,
+    }
+}
+
+/// Takes the pair out where it has this value.
+fn take_out<Q: Drop, T: SharedTable<u64, u64, Seat = Q>, R: Wait>(
+    rt: &R,
+    table: &T,
+    seat: &mut Q,
+    key: u64,
+    value: u64,
+) -> Result<Option<u64>, AllocError>
+    requires { (k v : ℕ) → T.holds k v }
+{
+    match table.take_out_if(rt, seat, &key, |_, there| *there == value)? {
+        Some((found, there)) => Ok((found == key).then_some(there)),
+        None => Ok(None),
+    }
+}
+
+/// How many keys are listed of all parts. Where memory is refused, the table still has so many
+/// pairs, and the second try lists the keys.
+pub(crate) fn listed<Q: Drop, T: SharedTable<u64, u64, Seat = Q>, R: Wait>(
+    rt: &R,
+    alloc: Global,
+    table: &T,
+    seat: &mut Q,
+    pairs: u64,
+) -> Result<u64, AllocError>
+    requires { (k v : ℕ) → T.holds k v }
+{
+    let mut count = 0u64;
+    for number in 0..table.parts() {
+        if number < 64 {
+            count = count.wrapping_add(listed_of(rt, alloc, table, seat, number, pairs)?);
+        }
+    }
+    Ok(count)
+}
+
+/// How many keys are listed of the part.
+fn listed_of<Q: Drop, T: SharedTable<u64, u64, Seat = Q>, R: Wait>(
+    rt: &R,
+    alloc: Global,
+    table: &T,
+    seat: &mut Q,
+    number: usize,
+    pairs: u64,
+) -> Result<u64, AllocError>
+    requires fact { (k v : ℕ) → T.holds k v }
+    requires part { number < 64 }
+{
+    if let Ok(keys) = table.keys(rt, alloc, seat, number) {
+        return Ok(keys.len() as u64);
+    }
+    if table.len(rt) != pairs {
+        return Err(AllocError);
+    }
+    Ok(table.keys(rt, alloc, seat, number)?.len() as u64)
+}
