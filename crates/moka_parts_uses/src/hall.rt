@@ -1,11 +1,12 @@
 //! A hall whose places many guests book at once.
 
+use crate::totals::total;
 use moka_parts::Parts;
 use std::alloc::{AllocError, Global};
 use std::hash::{BuildHasherDefault, FoldHasher};
+use std::io;
 use std::sync::Wait;
 use std::thread::Threads;
-use std::{io, thread};
 
 const PLACES: u64 = 100;
 
@@ -29,18 +30,10 @@ fn cancel<R: Wait>(rt: &R, hall: &Hall, place: u64, guest: u64) -> bool {
 /// what it has booked.
 pub(crate) fn show<R: Threads + Wait + Print + Sync>(rt: &R, alloc: Global) -> io::Result<()> {
     let hall: Hall = Parts::new(alloc, BuildHasherDefault::new())?;
-    let booked = thread::map_indices(rt, alloc, GUESTS, &|guest| books(rt, &hall, guest as u64))?;
-    println!(rt;
-        "booked {}, taken {}",
-        total(booked.as_slice()),
-        hall.len(rt)
-    )?;
-    let left = thread::map_indices(rt, alloc, GUESTS, &|guest| leaves(rt, &hall, guest as u64))?;
-    println!(rt;
-        "given back {}, taken {}",
-        total(left.as_slice()),
-        hall.len(rt)
-    )
+    let booked = total(rt, alloc, GUESTS, &|guest| books(rt, &hall, guest as u64))?;
+    println!(rt; "booked {booked}, taken {}", hall.len(rt))?;
+    let left = total(rt, alloc, GUESTS, &|guest| leaves(rt, &hall, guest as u64))?;
+    println!(rt; "given back {left}, taken {}", hall.len(rt))
 }
 
 /// How many places the guest gets.
@@ -63,13 +56,4 @@ fn leaves<R: Wait>(rt: &R, hall: &Hall, guest: u64) -> u64 {
         count = count.wrapping_add(u64::from(cancel(rt, hall, place, guest)));
     }
     count
-}
-
-/// The sum.
-pub(crate) fn total(numbers: &[u64]) -> u64 {
-    let mut sum = 0u64;
-    for number in numbers {
-        sum = sum.wrapping_add(*number);
-    }
-    sum
 }

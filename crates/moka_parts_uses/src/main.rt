@@ -2,6 +2,7 @@
 #![tactic(auto)]
 
 mod hall;
+mod totals;
 mod visits;
 
 use std::alloc::Global;

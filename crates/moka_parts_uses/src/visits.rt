@@ -1,12 +1,12 @@
 //! A count that many threads add to, of which no addition is lost.
 
-use crate::hall::total;
+use crate::totals::total;
 use moka_parts::Parts;
 use std::alloc::{AllocError, Global};
 use std::hash::{BuildHasherDefault, FoldHasher};
+use std::io;
 use std::sync::Wait;
 use std::thread::Threads;
-use std::{io, thread};
 
 const VISITS: u64 = 1000;
 
@@ -29,13 +29,13 @@ fn note<R: Wait>(rt: &R, pages: &Pages, page: u64) -> Result<u64, AllocError> {
 /// left at the end these are all visits.
 pub(crate) fn show<R: Threads + Wait + Print + Sync>(rt: &R, alloc: Global) -> io::Result<()> {
     let pages: Pages = Parts::new(alloc, BuildHasherDefault::new())?;
-    let counted = thread::map_indices(rt, alloc, DOORS, &|_| come(rt, &pages))?;
+    let counted = total(rt, alloc, DOORS, &|_| come(rt, &pages))?;
     let last = pages.take_out_if(rt, &0, |_, _| true);
     let left = match last {
         Some((_, visits)) => visits,
         None => 0,
     };
-    println!(rt; "visits {}", total(counted.as_slice()).wrapping_add(left))
+    println!(rt; "visits {}", counted.wrapping_add(left))
 }
 
 /// How many visits one door has counted.
