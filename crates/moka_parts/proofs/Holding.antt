@@ -110,3 +110,9 @@ gone eq refls key ms first out = out ∙ ap (λ (b : Bool). cond b None first) (
 pub may_lend : {K V : Type 0} (so : V → Type 0) (shown : Option (Bor K × Bor V)) (found : Option (K × V)) → lent shown ≡ found → IfSome found (λ p. so p.1) → IfSome shown (λ p. so p.1.now)
 may_lend so None found same h = tt
 may_lend {K} {V} so (Some p) found same h = subst (λ (x : Option (K × V)). IfSome x (λ p. so p.1)) (sym same) h
+
+-- what a condition may be asked of, where it may be asked of what meets the fact
+pub may_call : {K V : Type 0} (so : V → Type 0) (pre : Bor K → Bor V → Type 0) (shown : Option (Bor K × Bor V)) (found : Option (K × V)) → lent shown ≡ found → IfSome found (λ p. so p.1)
+    → ((k : Bor K) (v : Bor V) → so v.now → pre k v) → IfSome shown (λ p. pre p.0 p.1)
+may_call so pre None found same h to = tt
+may_call so pre (Some p) found same h to = to p.0 p.1 (may_lend so (Some p) found same h)

@@ -1,10 +1,16 @@
 -- The keys that are listed of a part.
-use Rattle.std.proofs.Common.{◌≡◌, ℕ, ◌+◌, ◌<◌, ◌==◌, Bool, true, false, cond, List, take, length, refl, ap, sym, ◌∙◌, Option, None, Some}
+use Rattle.std.proofs.Common.{◌≡◌, ℕ, ◌+◌, ◌<◌, ◌==◌, Bool, true, false, cond, List, [], ◌++◌, take, length, refl, ap, sym, ◌∙◌, Option, None, Some}
 use Rattle.std.specs.Prelude.{Result, Ok, Err, IfOk, ◌||◌, get_or}
 use Rattle.std.specs.Option.{is_some}
 use Rattle.std.specs.List.{list_any}
+use Rattle.std.specs.Map.{lookup, lookup_entry}
 use Rattle.std.specs.Set.{is_member}
+use Rattle.moka_parts.specs.declared.held.Held.{Held}
+use Rattle.moka_parts.specs.Pairs.{pair_in, pair_of}
+use Rattle.moka_parts.proofs.Entries.{found_alike}
+use Rattle.moka_parts.proofs.Holding.{some_mapped}
 use Rattle.std.proofs.lemmas.Bool.{eq-eqb, eqb-true}
+use Rattle.std.proofs.lemmas.List.{append-nil}
 use Rattle.std.proofs.lemmas.List.Folds.{list_any_more}
 
 -- of so many keys each is of the part, and the next one is, too
@@ -47,3 +53,13 @@ pub is_listed : {K V E X : Type 0} (in_list : X → K → Bool) (part : K → �
 is_listed in_list part number stands (Err e) h = tt
 is_listed {K} {V} in_list part number stands (Ok ks) h = λ q here.
     (stands q, refl, h q ∙ ap (λ (b : Bool). is_some (cond b (stands q) None)) (eq-eqb (part q) number here))
+
+-- keys of which none is left are all
+pub none_left : {K : Type 0} (ks rest all : List K) → rest ≡ [] → ks ++ rest ≡ all → ks ≡ all
+none_left ks rest all none is = sym (append-nil ks) ∙ (ap (λ r. ks ++ r) (sym none) ∙ is)
+
+-- keys that are all of a map's say which pairs it has
+pub keys_list : {K V : Type 0} (eq : K → K → Bool) (es : List (K × Held K V)) (listed all ks : List K) (q : K) → listed ≡ all → ks ≡ all → is_some (lookup (eq q) es) ≡ is_member eq listed q
+    → is_member eq ks q ≡ is_some (pair_in eq es q)
+keys_list eq es listed all ks q of same has =
+    ap (λ l. is_member eq l q) (same ∙ sym of) ∙ (sym has ∙ (found_alike (eq q) es ∙ sym (some_mapped pair_of (lookup_entry (eq q) es))))

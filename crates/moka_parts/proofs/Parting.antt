@@ -26,6 +26,18 @@ module _ {K V S : Type 0} (eq : K → K → Bool) (part : S → K → ℕ) (hold
       subst (λ (u : S). part u key ≡ number) (a ∙ sym b) here.2
 
   module _ (book : Book) (number count : ℕ) (word : Named) (front : List (Note K V S)) (map : HashMap K (Held K V) S) (p : IsPart eq part holds book number count word front map) where
+    -- a map with the same pairs will do
+    pub with_pairs : (m : HashMap K (Held K V) S) → ((q : K) → pair_at eq m q ≡ pair_at eq map q) → IsPart eq part holds book number count word front m
+    with_pairs m same =
+        record {
+          hasher = p.hasher;
+          small = p.small;
+          word_is = p.word_is;
+          counts = p.counts;
+          same = λ q. same q ∙ p.same q;
+          meets = λ q. subst (λ (o : Option (K × V)). IfSome o (λ x. holds q x.1)) (sym (same q)) (p.meets q);
+        }
+
     -- the map has at a key of the part what its front says
     pub front_says : (key : K) → part p.hasher key ≡ number → pair_at eq map key ≡ map_after eq (changes_in front) key
     front_says key here = p.same key ∙ ap (λ (b : Bool). cond b (map_after eq (changes_in front) key) None) (eq-eqb (part p.hasher key) number here)

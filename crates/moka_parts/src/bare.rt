@@ -10,7 +10,7 @@ ghost use Rattle.moka_parts.specs.Hashing.{part_in};
 ghost use Rattle.moka_parts.specs.Pairs.{lent, pair_in, PutsAt, SamePairs};
 
 use crate::held::Held;
-use crate::part::{copied, holds_of};
+use crate::part::{copied, holds_of, refused};
 use crate::placing::are_of;
 use crate::{Fact, pairs};
 use moka_values::Exact;
@@ -76,13 +76,7 @@ impl<K: Eq + Hash, V, S: BuildHasher, F: Fact<K, V>> Bare<K, V, S, F> {
         ensures fact { OnOk result.0 (IfSome (pair_in K.eq self.old key) (λ p. F.holds key p.1)) }
     {
         if pairs::make_room(&mut self.map).is_err() {
-            return (
-                Err(AllocError),
-                Some(Held {
-                    newer: Some(key),
-                    value,
-                }),
-            );
+            return refused(key, value);
         }
         let (given, left) = pairs::replace(&mut self.map, key, value, with);
         (Ok(given), left)
@@ -118,13 +112,7 @@ impl<K: Eq + Hash, V, S: BuildHasher, F: Fact<K, V>> Bare<K, V, S, F> {
             );
         }
         if pairs::make_room(&mut self.map).is_err() {
-            return (
-                Err(AllocError),
-                Some(Held {
-                    newer: Some(key),
-                    value,
-                }),
-            );
+            return refused(key, value);
         }
         pairs::put_first(&mut self.map, key, value);
         (Ok(None), None)

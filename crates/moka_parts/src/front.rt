@@ -87,6 +87,33 @@ impl<K: Eq + Hash, V, S: BuildHasher, J: Naming> Front<K, V, S, J> {
         word.load::<Look, Nothing>(&mut self.seen, &mut offer)
     }
 
+    /// Sees what both others have seen, and the history as it is. Answers whether the part of this
+    /// number is the one that is asked for, and has so many changes.
+    pub(crate) fn sees(
+        &mut self,
+        start: &Front<K, V, S, J>,
+        front: &Front<K, V, S, J>,
+        word: &Word<Note<K, V, S>, u64, Law>,
+        number: usize,
+        asked: usize,
+        count: u64,
+    ) -> bool
+        requires word { (word.now ≡ word_of J.book number) × (number < 64) }
+        ensures grows { IsPrefix self.old self.new }
+        ensures start { IsPrefix start.now self.new }
+        ensures front { IsPrefix front.now self.new }
+        ensures log { IsLog K.eq self.new }
+        ensures counts { OnTrue result ((number ≡ asked) × ((s : S) × Counts K.eq
+            (part_in S.BuildHasher S.Hasher.Hasher K.hash_input) s asked count self.new)) }
+    {
+        self.learn(start);
+        self.learn(front);
+        if number != asked {
+            return false;
+        }
+        self.look(word, asked) == count
+    }
+
     /// Draws a ticket that nobody has spent, by a step on this word of the book, and sees the
     /// history as it is.
     pub(crate) fn draw(

@@ -155,7 +155,8 @@ impl<K: Eq + Hash, V, S: BuildHasher, J: Naming, F: Fact<K, V>> NamedParts<K, V,
         ensures rests { OnErr result (Rests seat.old seat.new) }
     {
         let number = self.part_of(&key);
-        self.replace_in(rt, seat, number, key, value, with).0
+        let (answer, _left) = self.replace_in(rt, seat, number, key, value, with);
+        answer
     }
 
     // Takes the lock of the part, and puts the pair. What leaves the part comes beside the answer,
@@ -218,7 +219,8 @@ impl<K: Eq + Hash, V, S: BuildHasher, J: Naming, F: Fact<K, V>> NamedParts<K, V,
         ensures rests { OnErr result (Rests seat.old seat.new) }
     {
         let number = self.part_of(&key);
-        self.put_in(rt, seat, number, key, value).0
+        let (answer, _left) = self.put_in(rt, seat, number, key, value);
+        answer
     }
 
     // Takes the lock of the part, and puts the pair where none stands at the key. A pair that isn't
@@ -307,7 +309,8 @@ impl<K: Eq + Hash, V, S: BuildHasher, J: Naming, F: Fact<K, V>> NamedParts<K, V,
         ensures rests { OnErr result (Rests seat.old seat.new) }
     {
         let number = self.part_of(key);
-        self.take_in(rt, seat, number, key, condition).0
+        let (answer, _left) = self.take_in(rt, seat, number, key, condition);
+        answer
     }
 
     // Takes the lock of the part, and takes the pair out. A key that is left over comes beside the

@@ -96,9 +96,14 @@ impl<K: Eq + Hash, V, S: BuildHasher, J: Naming, F: Fact<K, V>> Part<K, V, S, J,
             lent found ≡ map_after K.eq (changes_in me.new) key.now) }
         ensures fact { IfSome result (λ found. IfSome found (λ p. F.holds key.now p.1.now)) }
     {
-        me.learn(start);
-        me.learn(&self.front);
-        if self.number != number || me.look(&self.word, number) != self.count {
+        if !me.sees(
+            start,
+            &self.front,
+            &self.word,
+            self.number,
+            number,
+            self.count,
+        ) {
             return None;
         }
         Some(pairs::find(&self.map, key))
@@ -138,22 +143,10 @@ impl<K: Eq + Hash, V, S: BuildHasher, J: Naming, F: Fact<K, V>> Part<K, V, S, J,
         me.learn(start);
         me.learn(&self.front);
         if self.number != number || self.count == u64::MAX {
-            return (
-                Err(AllocError),
-                Some(Held {
-                    newer: Some(key),
-                    value,
-                }),
-            );
+            return refused(key, value);
         }
         if pairs::make_room(&mut self.map).is_err() {
-            return (
-                Err(AllocError),
-                Some(Held {
-                    newer: Some(key),
-                    value,
-                }),
-            );
+            return refused(key, value);
         }
         let asked = Asked {
             key: &key,
@@ -161,13 +154,7 @@ impl<K: Eq + Hash, V, S: BuildHasher, J: Naming, F: Fact<K, V>> Part<K, V, S, J,
             map: &self.map,
         };
         if !me.add(&self.word, number, self.count, &asked, own) {
-            return (
-                Err(AllocError),
-                Some(Held {
-                    newer: Some(key),
-                    value,
-                }),
-            );
+            return refused(key, value);
         }
         self.count += 1;
         self.front = me.again();
@@ -200,9 +187,14 @@ impl<K: Eq + Hash, V, S: BuildHasher, J: Naming, F: Fact<K, V>> Part<K, V, S, J,
         ensures rests { OnErr result.0 (own.new ≡ own.old) }
         ensures fact { IfOk result.0 (λ taken. IfSome taken (λ p. F.holds key.now p.1)) }
     {
-        me.learn(start);
-        me.learn(&self.front);
-        if self.number != number || me.look(&self.word, number) != self.count {
+        if !me.sees(
+            start,
+            &self.front,
+            &self.word,
+            self.number,
+            number,
+            self.count,
+        ) {
             return (Err(AllocError), None);
         }
         if !holds_of(condition, pairs::find(&self.map, key)) {
@@ -307,9 +299,14 @@ impl<K: Eq + Hash, V, S: BuildHasher, J: Naming, F: Fact<K, V>> Part<K, V, S, J,
         ensures fact { IfOk result (λ keys. (q : K) → is_member K.eq keys.items q ≡ true
             → (v : V) × F.holds q v) }
     {
-        me.learn(start);
-        me.learn(&self.front);
-        if self.number != number || me.look(&self.word, number) != self.count {
+        if !me.sees(
+            start,
+            &self.front,
+            &self.word,
+            self.number,
+            number,
+            self.count,
+        ) {
             return Err(AllocError);
         }
         pairs::keys(alloc, &self.map)
@@ -319,6 +316,19 @@ impl<K: Eq + Hash, V, S: BuildHasher, J: Naming, F: Fact<K, V>> Part<K, V, S, J,
     pub(crate) fn len(&self) -> usize {
         self.map.len()
     }
+}
+
+// What `put` answers where the pair isn't put.
+pub(crate) fn refused<T, K, V>(key: K, value: V) -> (Result<T, AllocError>, Option<Held<K, V>>)
+    ensures { IsErr result.0 }
+{
+    (
+        Err(AllocError),
+        Some(Held {
+            newer: Some(key),
+            value,
+        }),
+    )
 }
 
 // A copy of the value of the pair, if there is one.
@@ -338,9 +348,10 @@ fn answered<V, X: Drop>(
     ensures ok { OnOk put.0 (result.0 ≡ Ok None) }
     ensures err { OnErr put.0 (IsErr result.0) }
 {
-    match put.0 {
-        Ok(()) => (Ok(None), put.1),
-        Err(_) => (Err(AllocError), put.1),
+    let (answer, left) = put;
+    match answer {
+        Ok(()) => (Ok(None), left),
+        Err(_) => (Err(AllocError), left),
     }
 }
 

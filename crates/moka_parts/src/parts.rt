@@ -95,7 +95,8 @@ impl<K: Eq + Hash, V, S: BuildHasher, F: Fact<K, V>> Parts<K, V, S, F> {
             (λ before. IfSome before (λ p. F.holds key p.1))) }
     {
         let number = self.part_of(&key);
-        self.replace_in(rt, number, key, value, with).0
+        let (answer, _left) = self.replace_in(rt, number, key, value, with);
+        answer
     }
 
     // Takes the lock of the part, and puts the pair. What leaves the part comes beside the answer,
@@ -133,7 +134,8 @@ impl<K: Eq + Hash, V, S: BuildHasher, F: Fact<K, V>> Parts<K, V, S, F> {
         ensures fact { IfOk result (λ there. IfSome there (F.holds key)) }
     {
         let number = self.part_of(&key);
-        self.put_in(rt, number, key, value).0
+        let (answer, _left) = self.put_in(rt, number, key, value);
+        answer
     }
 
     // Takes the lock of the part, and puts the pair where none stands at the key. A pair that isn't
@@ -191,7 +193,8 @@ impl<K: Eq + Hash, V, S: BuildHasher, F: Fact<K, V>> Parts<K, V, S, F> {
         ensures fact { IfSome result (λ p. F.holds key.now p.1) }
     {
         let number = self.part_of(key);
-        self.take_in(rt, number, key, condition).0
+        let (answer, _left) = self.take_in(rt, number, key, condition);
+        answer
     }
 
     // Takes the lock of the part, and takes the pair out. A key that is left over comes beside the

@@ -1,16 +1,9 @@
-use Rattle.std.proofs.Common.{◌≡◌, rules, sym, ap, ◌∙◌}
 use Rattle.std.specs.HashMap.{keys}
-use Rattle.std.specs.Set.{is_member}
-use Rattle.std.specs.Map.{lookup_entry}
-use Rattle.moka_parts.specs.Pairs.{pair_of}
-use Rattle.moka_parts.proofs.Entries.{found_alike}
-use Rattle.moka_parts.proofs.Holding.{some_mapped}
+use Rattle.moka_parts.proofs.Listing.{keys_list, none_left}
 use Rattle.moka_parts.proofs.pairs.keys.Goals as goal
 
 pub returns-clause-listed : goal.returns-clause-listed
 returns-clause-listed g c = λ q.
-    let eq = g.K.PartialEq.eq in
     let map = c.args.map.now in
-    let whole : c.loop-key.keys.items ≡ keys map = search rules in
-    ap (λ ks. is_member eq ks q) (whole ∙ sym c.keys-key-items.ensures.rest)
-    ∙ (sym (c.keys-key-items.ensures.has q) ∙ (found_alike (eq q) map.entries ∙ sym (some_mapped pair_of (lookup_entry (eq q) map.entries))))
+    let whole = none_left c.loop-key.keys.items c.loop-key.key-iterator (keys map) c.in-None.ensures.steps.0 c.loop-key.invariant in
+    keys_list g.K.PartialEq.eq map.entries c.keys-key-items.result (keys map) c.loop-key.keys.items q c.keys-key-items.ensures.rest whole (c.keys-key-items.ensures.has q)

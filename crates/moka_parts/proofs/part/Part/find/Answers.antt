@@ -1,7 +1,6 @@
-use Rattle.std.proofs.Common.{◌∙◌}
+use Rattle.std.proofs.Common.{refl, ◌∙◌}
 use Rattle.moka_parts.specs.Hashing.{part_in}
 use Rattle.moka_parts.proofs.Alike.{part_alike}
-use Rattle.moka_parts.proofs.Prefixes.{prefix_trans}
 use Rattle.moka_parts.proofs.Parting.{find_says}
 use Rattle.moka_parts.proofs.part.Part.find.Goals as goal
 
@@ -11,10 +10,6 @@ returns-clause-found g c =
     let part = part_in g.S.BuildHasher g.S.Hasher.Hasher g.K.Hash.hash_input in
     let alike = part_alike g.S.BuildHasher g.S.Hasher.Hasher g.K.Hash.hash_input eq g.met.K.Hash.respects_eq in
     let inside = c.self.inside in
-    let new = c.look.new.self in
-    let seen = c.look.ensures.counts in
-    let grows = c.look.ensures.grows in
-    let start = prefix_trans c.args.start.now c.learn-2.new.self new (prefix_trans c.args.start.now c.learn.new.self c.learn-2.new.self c.learn.ensures.other c.learn-2.ensures.this) grows in
-    let begins = prefix_trans inside.front c.learn-2.new.self new c.learn-2.ensures.other grows in
+    let seen = c.if-not-sees.ensures.counts in
     c.find.ensures ∙ find_says eq part g.F.Fact.holds alike g.J.Naming.book inside.number inside.count inside.word inside.front inside.map c.self.invariant
-    c.args.number c.look.result c.if-self-number.false c.if-look-self.false c.args.key.now c.args.start.now new c.requires.part start begins seen.0 seen.1
+    c.args.number inside.count seen.0 refl c.args.key.now c.args.start.now c.sees.new.self c.requires.part c.sees.ensures.start c.sees.ensures.front seen.1.0 seen.1.1

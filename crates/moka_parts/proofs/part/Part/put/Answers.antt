@@ -1,12 +1,46 @@
 use Rattle.std.proofs.Common.{◌≡◌, ◌+◌, Some, cond, Option, IfSome, sym, subst, ap, ◌∙◌}
 use Rattle.moka_parts.specs.Hands.{change_by}
 use Rattle.moka_parts.specs.Hashing.{part_in}
-use Rattle.moka_parts.specs.Logs.{Grows}
+use Rattle.moka_parts.specs.Logs.{Counts, Grows}
 use Rattle.moka_parts.specs.Pairs.{pair_at, pair_in}
 use Rattle.moka_parts.proofs.Alike.{part_alike}
 use Rattle.moka_parts.proofs.Prefixes.{prefix_trans}
-use Rattle.moka_parts.proofs.Parting.{is_here, part_follows}
+use Rattle.moka_parts.proofs.Parting.{is_here, front_says, part_follows, with_pairs}
 use Rattle.moka_parts.proofs.part.Part.put.Goals as goal
+
+pub add-requires-clause-stands : goal.add-requires-clause-stands
+add-requires-clause-stands g c =
+    let eq = g.K.PartialEq.eq in
+    let part = part_in g.S.BuildHasher g.S.Hasher.Hasher g.K.Hash.hash_input in
+    let alike = part_alike g.S.BuildHasher g.S.Hasher.Hasher g.K.Hash.hash_input eq g.met.K.Hash.respects_eq in
+    let holds = g.F.Fact.holds in
+    let inside = c.self.inside in
+    let kept = c.self.invariant in
+    let key = c.args.key in
+    let seen = c.learn-2.new.self in
+    let same = c.if-self-number.false in
+    let start = prefix_trans c.args.start.now c.learn.new.self seen c.learn.ensures.other c.learn-2.ensures.this in
+    let here : part kept.hasher key ≡ c.args.number =
+    is_here eq part holds alike c.args.number key kept.hasher c.args.start.now inside.front seen c.requires.part start c.learn-2.ensures.other
+    c.learn-2.ensures.log.hasher c.learn-2.ensures.log.opened kept.counts.opened in
+    let says = front_says eq part holds alike g.J.Naming.book inside.number inside.count inside.word inside.front inside.map kept key (here ∙ sym same) in (
+      kept.hasher,
+      record {
+        front = inside.front;
+        begins = c.learn-2.ensures.other;
+        seen = subst (λ (n : _). Counts eq part kept.hasher n inside.count inside.front) same kept.counts;
+        here = here;
+        before = c.make_room.ensures.map key ∙ says;
+      },
+    )
+
+pub invariant_of-self : goal.invariant_of-self
+invariant_of-self g c =
+    let part = part_in g.S.BuildHasher g.S.Hasher.Hasher g.K.Hash.hash_input in
+    let alike = part_alike g.S.BuildHasher g.S.Hasher.Hasher g.K.Hash.hash_input g.K.PartialEq.eq g.met.K.Hash.respects_eq in
+    let inside = c.self.inside in
+    with_pairs g.K.PartialEq.eq part g.F.Fact.holds alike g.J.Naming.book inside.number inside.count inside.word inside.front inside.map c.self.invariant
+    c.make_room.new.map c.make_room.ensures.map
 
 pub invariant_of-self-2 : goal.invariant_of-self-2
 invariant_of-self-2 g c =
