@@ -1,5 +1,5 @@
 -- What a call of the code stands for, what it may see, and when it may want memory.
-use Rattle.std.specs.Prelude.{◌≡◌, ◌≢◌, ℕ, ◌<◌, ◌≤◌, ◌^◌, List, length, Option, Some, None}
+use Rattle.std.specs.Prelude.{◌≡◌, ◌≢◌, ℕ, ◌<◌, ◌≤◌, ◌^◌, Bool, true, false, List, length, Option, Some, None}
 use Rattle.std.specs.Vec.{vec_capacity}
 use Rattle.std.specs.Int.{IsPowerOfTwo}
 use Rattle.moka_words.specs.declared.words.Word.{Word}
@@ -141,3 +141,21 @@ Wants (Decided e) access = ⊥
 abbrev pub after : Step → Seen → Step
 after (Going c) saw = next_of c saw
 after (Decided e) saw = Decided e
+
+-- a call that goes on loads a bucket of its probe next
+abbrev pub is_probe : call.Point → Bool
+is_probe (call.Root met) = false
+is_probe (call.Probe array size passed) = true
+is_probe (call.Choose array size passed found) = false
+is_probe (call.Change array size passed from to) = false
+is_probe (call.Walk array size index nodes) = false
+is_probe (call.Seal array size index kept) = false
+is_probe (call.Close array size index word hash kept) = false
+is_probe (call.Next array size kept) = false
+is_probe (call.Link array size kept) = false
+is_probe (call.Copy from array index laid) = false
+is_probe (call.Swing from array) = false
+
+abbrev pub is_probing : Step → Bool
+is_probing (Going c) = is_probe c.point
+is_probing (Decided e) = false

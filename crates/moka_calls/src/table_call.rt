@@ -3,7 +3,7 @@
 ghost use Rattle.std.specs.Prelude.{◌≡◌, OnOk, OnErr, IfOk};
 ghost use Rattle.std.specs.Option.{option_copied, option_map};
 ghost use Rattle.moka_growth.specs.Calls.{Going, call_from};
-ghost use Rattle.moka_calls.specs.Standing.{Awaits, IsGoing, Wants, WantsMemory, after, ending_in, ending_of};
+ghost use Rattle.moka_calls.specs.Standing.{Awaits, IsGoing, Wants, WantsMemory, after, ending_in, ending_of, is_probing};
 
 use crate::Decision;
 use crate::course::{Course, Point};
@@ -67,6 +67,20 @@ impl TableCall {
         ensures err { OnErr result ((self.new ≡ self.old) × WantsMemory self.old seen) }
     {
         self.course.take(seen)
+    }
+
+    /// Answers whether the call loads a bucket of its probe next. No other access leads a call to ask
+    /// what is to be done.
+    pub fn probes(&self) -> bool
+        ensures { result ≡ is_probing self.now }
+    {
+        if self.course.decision.is_some() {
+            return false;
+        }
+        match self.course.point {
+            Point::Probe { .. } => true,
+            _ => false,
+        }
     }
 
     /// Answers how the call ended, or `None` exactly where it goes on.
