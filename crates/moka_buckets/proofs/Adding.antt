@@ -1,25 +1,24 @@
--- Nodes that a step adds have the operation's hash.
-use Rattle.std.proofs.Common.{◌≡◌, ◌⊎◌, ℕ, List, [], ◌∷◌, ◌++◌, length, Some, None, inl, inr, sym, ap, ◌∙◌}
+-- What a step leaves of the nodes: at most one more, which has the operation's hash.
+use Rattle.std.proofs.Common.{List, [], ◌∷◌, inl, inr, sym, ap, ◌∙◌, arith}
 use Rattle.std.specs.List.{slice_get}
-use Rattle.moka_hist.specs.declared.records.Stored.{Stored}
 use Rattle.moka_buckets.specs.declared.node.Node.{Node}
 use Rattle.moka_buckets.specs.declared.bucket_call.BucketCall.{BucketCall}
-use Rattle.moka_buckets.specs.Tables.{stored_by}
-use Rattle.moka_buckets.specs.Steps.{Names, Adds}
+use Rattle.moka_buckets.specs.Accesses.{GrowsByOne}
+use Rattle.moka_buckets.specs.Putting.{Stays}
+use Rattle.moka_buckets.specs.Steps.{Adds}
+use Rattle.moka_buckets.proofs.Growing.{made_from}
+use Rattle.moka_buckets.proofs.Once.{grows_same}
 use Rattle.moka_buckets.proofs.Placed.{get-back}
 
-pub adds_none : {K V : Type 0} (hash : ℕ) (old new : List (Node K V)) → new ≡ old → Adds hash old new
-adds_none hash old new same n node e = inl (ap (λ xs. slice_get xs n) (sym same) ∙ e)
+module _ {K V : Type 0} (old new : List (Node K V)) (before after : BucketCall K V) where
+  pub adds_stayed : Stays old new before after → Adds before.hash old new
+  adds_stayed (inl e) = λ n node there. inl (ap (λ xs. slice_get xs n) (sym e.0) ∙ there)
+  adds_stayed (inr (x, none, is, grown, named, puts)) = λ n node there.
+      elim (get-back old x node n (ap (λ xs. slice_get xs n) (sym grown) ∙ there)) [
+        | inl d ↦ inl d
+        | inr d ↦ inr (ap (λ y. y.hash) d.1 ∙ sym (ap (λ y. y.hash) (made_from before.operation before.hash x is).3))
+      ]
 
-pub adds_named : {K V : Type 0} (old new : List (Node K V)) (before after : BucketCall K V) → Names old new before after → Adds before.hash old new
-adds_named {K} {V} old new before after names = by names.grown
-  where
-    by : ((new ≡ old) × (after.node ≡ before.node))
-        ⊎ ((key : K) × (stored : Stored V) × (stored_by before.operation ≡ Some (key, stored)) × (before.node ≡ None)
-        × (new ≡ old ++ record { key = key; stored = stored; hash = before.hash } ∷ []) × (after.node ≡ Some (length old))) → Adds before.hash old new
-    by (inl e) = adds_none before.hash old new e.0
-    by (inr (key, stored, is, none, grown, named)) = λ n node e.
-        elim (get-back old (record { key = key; stored = stored; hash = before.hash }) node n (ap (λ xs. slice_get xs n) (sym grown) ∙ e)) [
-          | inl d ↦ inl d
-          | inr d ↦ inr (ap (λ y. y.hash) d.1)
-        ]
+  pub grows_stayed : Stays old new before after → GrowsByOne old new
+  grows_stayed (inl e) = grows_same old new e.0
+  grows_stayed (inr (x, none, is, grown, named, puts)) = record { more = x ∷ []; added = grown; one = omega arith }

@@ -1,5 +1,5 @@
 -- One step of an operation, by the call that makes it.
-use Rattle.std.proofs.Common.{◌≡◌, ℕ, Bool, true, List, Option, IsSome, sym, ap, subst, ◌∙◌}
+use Rattle.std.proofs.Common.{◌≡◌, ℕ, Bool, true, List, Option, Some, IsSome, sym, ap, subst, ◌∙◌}
 use Rattle.std.specs.Cmp.{IsEquivalence}
 use Rattle.moka_hist.specs.Tables.{answer_of, key_of}
 use Rattle.moka_hist.specs.declared.tables.TableOp.{TableOp}
@@ -16,8 +16,9 @@ use Rattle.moka_buckets.specs.declared.node.Node.{Node}
 use Rattle.moka_buckets.specs.Nodes.{hash_by, same_by, mine_by, own_by, key_in, pair_at, Agrees}
 use Rattle.moka_buckets.specs.Arrays.{memory_of}
 use Rattle.moka_buckets.specs.Making.{CanMake}
-use Rattle.moka_buckets.specs.Tables.{choose, found_by, stored_by, IsWell, RunsOn}
-use Rattle.moka_buckets.specs.Steps.{answered, turn_by, Turned}
+use Rattle.moka_buckets.specs.Tables.{choose, found_by, IsWell, RunsOn}
+use Rattle.moka_buckets.specs.Putting.{puts_at}
+use Rattle.moka_buckets.specs.Steps.{answered, asked, turn_by, Turned}
 use Rattle.moka_buckets.proofs.Turning.{agrees_now, sound_after}
 use Rattle.moka_buckets.proofs.Turns.{sees_of, turned}
 use Rattle.moka_buckets.proofs.Possible.{are_short, can_make}
@@ -50,7 +51,7 @@ module _ {K V : Type 0} (eq : K → K → Bool) (laws : IsEquivalence eq) (hash 
         (are_short s) (are_short t) (effect_c keys now)
 
     pub step_turned : (step : Step) (a : Access) → RunsOn eq hash (memory_of s) nodes o stored step → Wants step a → Saw a →
-        Recounts a saw (memory_of s) (memory_of t) → (IsSome (stored_by o) → IsSome stored) → (next : Step) → next ≡ answered (choose nodes o stored) (after step saw) →
+        Recounts a saw (memory_of s) (memory_of t) → ((present : Option ℕ) → asked (after step saw) ≡ Some present → puts_at o present ≡ true → IsSome stored) → (next : Step) → next ≡ answered (choose nodes o stored) (after step saw) →
         (answer : TableAnswer K V) → answer ≡ answer_of (pair_at nodes (found_by o (own_by eq (key_in nodes) (key_of o)) (memory_of s) a)) →
         Turned eq hash nodes first peak o stored (memory_of s) step (turn_by next answer) (memory_of t) next
     step_turned (Decided e) a runs wants effect counts named next is answer said = absurd runs

@@ -13,6 +13,7 @@ use Rattle.moka_table.specs.Map.{Pairs, pair_answered, keys_after}
 use Rattle.moka_buckets.specs.declared.node.Node.{Node}
 use Rattle.moka_buckets.specs.Nodes.{pair_at}
 use Rattle.moka_buckets.specs.Tables.{choose, kind_of, is_look, put_of, stored_by}
+use Rattle.moka_buckets.specs.Putting.{puts_at}
 use Rattle.moka_buckets.proofs.Courses.{EndsBy}
 
 keep_put : {n : ℕ} → choice.Keep ≡ choice.Put n → ⊥
@@ -81,6 +82,14 @@ module _ {K V : Type 0} where
   stored_pair (op.InsertIfAbsent key stored) has = (stored, refl)
   stored_pair (op.RemoveIf key stamp) has = absurd (false≢true has)
 
+-- an operation that ends by a look puts nothing
+pub look_puts : {K V : Type 0} (o : TableOp K V) (found : Option ℕ) (e : Ending) → EndsBy (kind_of o) found e → (present : Option ℕ) →
+    puts_at o present ≡ true → ⊥
+look_puts (op.Get key) found e ends present puts = false≢true puts
+look_puts (op.InsertOrModify key stored) found e ends present puts = absurd ends
+look_puts (op.InsertIfAbsent key stored) found e ends present puts = absurd ends
+look_puts (op.RemoveIf key stamp) found e ends present puts = false≢true puts
+
 module _ {K V : Type 0} (nodes : List (Node K V)) where
   -- how an operation ends that has not changed anything is its choice
   pub look_of : (o : TableOp K V) (made found : Option ℕ) (e : Ending) → EndsBy (kind_of o) found e →
@@ -109,7 +118,7 @@ module _ {K V : Type 0} (nodes : List (Node K V)) where
 
   module _ (eq : K → K → Bool) (f : Pairs K V) (keys : ℕ) where
     -- an operation that keeps what is there leaves the map, and answers the pair if it is a look
-    pub left_by : (o : TableOp K V) (made found : Option ℕ) → (IsSome (stored_by o) → IsSome made) → choose nodes o made found ≡ choice.Keep →
+    pub left_by : (o : TableOp K V) (made found : Option ℕ) → (puts_at o found ≡ true → IsSome made) → choose nodes o made found ≡ choice.Keep →
         f (key_of o) ≡ pair_at nodes found → (IsSome found → IsSome (pair_at nodes found)) →
         (pair_answered f o ≡ pair_at nodes (cond (is_look o) found None)) × ((q : K) → stored_with eq f o q ≡ f q) × (keys_after f keys o ≡ keys)
     left_by (op.Get key) made found named e here has = (here, λ q. refl, refl)

@@ -1,5 +1,5 @@
 -- One step of an operation, with the node that is made for it.
-use Rattle.std.proofs.Common.{◌≡◌, ◌⊎◌, ℕ, ◌+◌, ◌-◌, ◌<◌, Bool, true, false, cond, is_some, List, [], ◌∷◌, ◌++◌, length, Option, Some, None, IsSome, Result, Ok, Err, IfOk, OnErr, IsErr, inl, inr, refl, sym, ap, subst, ◌∙◌}
+use Rattle.std.proofs.Common.{◌≡◌, ◌⊎◌, ℕ, ◌+◌, ◌-◌, Bool, true, false, cond, is_some, List, [], ◌∷◌, ◌++◌, length, Option, Some, None, Result, Ok, Err, IfOk, OnErr, IsErr, inl, inr, refl, sym, ap, subst, ◌∙◌}
 use Rattle.std.proofs.lemmas.Bool.{false≢true}
 use Rattle.std.specs.Cmp.{IsEquivalence}
 use Rattle.std.specs.List.{slice_get}
@@ -11,17 +11,18 @@ use Rattle.moka_hist.specs.declared.tables.TableOp.{TableOp}
 use Rattle.moka_hist.specs.declared.tables.TableOp.TheVariants as op
 use Rattle.moka_hist.specs.declared.tables.TableTurn.{TableTurn}
 use Rattle.moka_hist.specs.declared.tables.TableTurn.TheVariants as turn
-use Rattle.moka_words.specs.Effect.{Memory, LaterMemory}
+use Rattle.moka_words.specs.Effect.{Memory}
 use Rattle.moka_growth.proofs.Shortness.{short_grows}
 use Rattle.moka_table.specs.Map.{Pairs, Moves, SameMap}
 use Rattle.moka_buckets.specs.declared.node.Node.{Node}
 use Rattle.moka_buckets.specs.declared.bucket_call.BucketCall.{BucketCall}
-use Rattle.moka_buckets.specs.Nodes.{same_by}
-use Rattle.moka_buckets.specs.Tables.{map_of, left_in, stored_by, IsWell, RunsOn}
-use Rattle.moka_buckets.specs.Steps.{Names, FitsCall, Turned, CanStep, CanBegin, Done}
+use Rattle.moka_buckets.specs.Nodes.{Agrees}
+use Rattle.moka_buckets.specs.Tables.{map_of, stored_by, IsWell, RunsOn}
+use Rattle.moka_buckets.specs.Putting.{node_by, Stays}
+use Rattle.moka_buckets.specs.Steps.{FitsCall, Turned, CanBegin, Done}
 use Rattle.moka_buckets.proofs.Led.{later_same}
 use Rattle.moka_buckets.proofs.Placed.{get-front}
-use Rattle.moka_buckets.proofs.Growing.{well_more, runs_more, map_more, runs_named, stored_key}
+use Rattle.moka_buckets.proofs.Growing.{made_from, well_more, runs_more, map_more, runs_named, stored_key}
 
 stays : {K V : Type 0} {a b c d : Pairs K V} (test : Bool) (q : K) → ((r : K) → a r ≡ c r) → ((r : K) → b r ≡ d r) → cond test a b q ≡ cond test c d q
 stays true q e f = e q
@@ -51,85 +52,81 @@ moves_same eq (op.RemoveIf key stamp) g f keys (turn.Decided answer) new count s
   moves.2 ∙ ap (λ o. cond (is_some (taken_by stamp o)) (keys - 1) keys) (same key),
 )
 
+-- The nodes stayed, and the one that the call has; or the call had none, and one of its pair was added.
+abbrev pub Grown : {K V : Type 0} → (nodes more : List (Node K V)) → BucketCall K V → (made : Option ℕ) → Type 0
+Grown {K} {V} nodes more before made = ((more ≡ nodes) × (made ≡ before.node))
+    ⊎ ((x : Node K V) × (before.node ≡ None) × (node_by before ≡ Some x) × (more ≡ nodes ++ x ∷ []) × (made ≡ Some (length nodes)))
+
 module _ {K V : Type 0} (eq : K → K → Bool) (laws : IsEquivalence eq) (hash : K → ℕ) (first peak : ℕ) (old : Memory) (nodes more : List (Node K V))
-    (before mid : BucketCall K V) (can : CanBegin eq hash old nodes first peak before) (names : Names nodes more before mid) where
+    (before : BucketCall K V) (made : Option ℕ) (can : CanBegin eq hash old nodes first peak before) (grown : Grown nodes more before made) where
   -- what the node that was made leaves
-  record Kept : Type 0 where
-    well : IsWell eq hash old more first peak
-    fits : FitsCall eq hash old more mid
-    others : (other : BucketCall K V) → FitsCall eq hash old nodes other → FitsCall eq hash old more other
-    map : SameMap (map_of eq old nodes) (map_of eq old more)
-    grows : (n : ℕ) (node : Node K V) → slice_get nodes n ≡ Some node → slice_get more n ≡ Some node
+  pub record Kept : Type 0 where
+    pub well : IsWell eq hash old more first peak
+    pub runs : RunsOn eq hash old more before.operation made before.table
+    pub others : (other : BucketCall K V) → FitsCall eq hash old nodes other → FitsCall eq hash old more other
+    pub map : SameMap (map_of eq old nodes) (map_of eq old more)
+    pub grows : (n : ℕ) (node : Node K V) → slice_get nodes n ≡ Some node → slice_get more n ≡ Some node
 
-  moved : (o : TableOp K V) (n : Option ℕ) (xs : List (Node K V)) → o ≡ before.operation → RunsOn eq hash old xs before.operation n before.table →
-      mid.node ≡ n → more ≡ xs → FitsCall eq hash old more mid
-  moved o n xs is runs named grown = record {
-    hashed = names.hash ∙ (can.fits.hashed ∙ ap (λ o. hash (key_of o)) (sym names.operation));
-    runs = subst (λ o. RunsOn eq hash old more o mid.node mid.table) (sym names.operation)
-        (subst (λ s. RunsOn eq hash old more before.operation mid.node s) (sym names.table)
-        (subst (λ k. RunsOn eq hash old more before.operation k before.table) (sym named)
-        (subst (λ ys. RunsOn eq hash old ys before.operation n before.table) (sym grown) runs)));
-  }
+  moved : (n : Option ℕ) (xs : List (Node K V)) → RunsOn eq hash old xs before.operation n before.table → made ≡ n → more ≡ xs →
+      RunsOn eq hash old more before.operation made before.table
+  moved n xs runs named is = subst (λ k. RunsOn eq hash old more before.operation k before.table) (sym named)
+      (subst (λ ys. RunsOn eq hash old ys before.operation n before.table) (sym is) runs)
 
-  kept : Kept
-  kept = by names.grown
+  pub kept : Kept
+  kept = by grown
     where
-      by : ((more ≡ nodes) × (mid.node ≡ before.node))
-          ⊎ ((key : K) × (stored : Stored V) × (stored_by before.operation ≡ Some (key, stored)) × (before.node ≡ None)
-          × (more ≡ nodes ++ record { key = key; stored = stored; hash = before.hash } ∷ []) × (mid.node ≡ Some (length nodes))) → Kept
+      by : Grown nodes more before made → Kept
       by (inl e) = record {
         well = subst (λ xs. IsWell eq hash old xs first peak) (sym e.0) can.well;
-        fits = moved before.operation before.node nodes refl can.fits.runs e.1 e.0;
+        runs = moved before.node nodes can.fits.runs e.1 e.0;
         others = λ other f. subst (λ xs. FitsCall eq hash old xs other) (sym e.0) f;
         map = λ q. ap (λ xs. map_of eq old xs q) e.0;
         grows = λ n node at. ap (λ xs. slice_get xs n) e.0 ∙ at;
       }
-      by (inr (key, stored, is, none, grown, named)) = record {
-        well = subst (λ xs. IsWell eq hash old xs first peak) (sym grown) (well_more eq laws hash can.respects nodes x old first peak hashed can.well);
-        fits = moved before.operation (Some (length nodes)) (nodes ++ x ∷ []) refl
-            (runs_named eq hash old nodes x before.operation before.table is (subst (λ k. RunsOn eq hash old nodes before.operation k before.table) none can.fits.runs)) named grown;
-        others = λ other f. subst (λ xs. FitsCall eq hash old xs other) (sym grown) (record {
+      by (inr (x, none, is, more_is, named)) = record {
+        well = subst (λ xs. IsWell eq hash old xs first peak) (sym more_is) (well_more eq laws hash can.respects nodes x old first peak hashed can.well);
+        runs = moved (Some (length nodes)) (nodes ++ x ∷ [])
+            (runs_named eq hash old nodes x before.operation before.table stored (subst (λ k. RunsOn eq hash old nodes before.operation k before.table) none can.fits.runs)) named more_is;
+        others = λ other f. subst (λ xs. FitsCall eq hash old xs other) (sym more_is) (record {
           hashed = f.hashed;
           runs = runs_more eq laws hash can.respects nodes x old other.operation other.node other.table f.runs;
         });
-        map = λ q. ap (λ xs. map_of eq old xs q) grown ∙ map_more eq laws hash can.respects nodes x old first peak hashed can.well q;
-        grows = λ n node at. ap (λ xs. slice_get xs n) grown ∙ get-front nodes (x ∷ []) n node at;
+        map = λ q. ap (λ xs. map_of eq old xs q) more_is ∙ map_more eq laws hash can.respects nodes x old first peak hashed can.well q;
+        grows = λ n node at. ap (λ xs. slice_get xs n) more_is ∙ get-front nodes (x ∷ []) n node at;
       }
         where
-          x : Node K V
-          x = record { key = key; stored = stored; hash = before.hash }
+          from : (key : K) × (st : Stored V) × (stored_by before.operation ≡ Some (key, st)) × (record { key = key; stored = st; hash = before.hash } ≡ x)
+          from = made_from before.operation before.hash x is
 
-          hashed : before.hash ≡ hash key
-          hashed = can.fits.hashed ∙ ap hash (sym (stored_key before.operation key stored is))
+          stored : stored_by before.operation ≡ Some (x.key, x.stored)
+          stored = subst (λ y. stored_by before.operation ≡ Some (y.key, y.stored)) from.3 from.2
 
-  pub can_step : (IsSome (stored_by before.operation) → IsSome mid.node) → CanStep eq hash old more first peak mid
-  can_step named = record {
-    respects = can.respects;
-    well = kept.well;
-    fits = kept.fits;
-    named = λ e. named (subst (λ o. IsSome (stored_by o)) names.operation e);
-  }
+          hashed : x.hash ≡ hash x.key
+          hashed = subst (λ y. y.hash ≡ hash y.key) from.3 (can.fits.hashed ∙ ap hash (sym (stored_key before.operation from.0 from.1 from.2)))
+
+  -- keys of the nodes that there are now are keys of those before
+  pub agrees_before : (keys : ℕ → Option K) → Agrees keys more → Agrees keys nodes
+  agrees_before keys agrees n node there = agrees n node (kept.grows n node there)
 
   -- what the operation moves from a map it moves from the same map
-  moves_from : (o : TableOp K V) (t : TableTurn K V) (new : Memory) → Moves eq o (map_of eq old more) old.len t (map_of eq new more) new.len →
-      Moves eq o (map_of eq old nodes) old.len t (map_of eq new more) new.len
-  moves_from o t new moves = moves_same eq o (map_of eq old more) (map_of eq old nodes) old.len t (map_of eq new more) new.len kept.map moves
+  moves_from : (t : TableTurn K V) (new : Memory) → Moves eq before.operation (map_of eq old more) old.len t (map_of eq new more) new.len →
+      Moves eq before.operation (map_of eq old nodes) old.len t (map_of eq new more) new.len
+  moves_from t new moves = moves_same eq before.operation (map_of eq old more) (map_of eq old nodes) old.len t (map_of eq new more) new.len kept.map moves
 
-  pub done : (new : Memory) (after : BucketCall K V) (gives : Result (TableTurn K V) AllocError) → after.operation ≡ mid.operation → after.hash ≡ mid.hash →
-      after.node ≡ mid.node →
-      IfOk gives (λ t. Turned eq hash more first peak mid.operation mid.node old mid.table t new after.table) → OnErr gives ((new ≡ old) × (after ≡ mid)) →
-      Done eq hash first peak old nodes before gives new more after
-  done new after (Ok t) same_operation same_hash same_node turned err = record {
+  pub done : (new : Memory) (after : BucketCall K V) (t : TableTurn K V) → after.operation ≡ before.operation → after.hash ≡ before.hash → after.node ≡ made →
+      Turned eq hash more first peak before.operation made old before.table t new after.table → Stays nodes more before after →
+      Done eq hash first peak old nodes before (Ok t) new more after
+  done new after t same_operation same_hash same_node turned stayed = record {
     well = turned.well;
-    operation = same_operation ∙ names.operation;
-    moves = moves_from before.operation t new (subst (λ o. Moves eq o (map_of eq old more) old.len t (map_of eq new more) new.len) names.operation turned.moves);
+    operation = same_operation;
+    moves = moves_from t new turned.moves;
     going = λ e. let goes = turned.going e in (
       record {
-        hashed = same_hash ∙ (kept.fits.hashed ∙ ap (λ o. hash (key_of o)) (sym same_operation));
+        hashed = same_hash ∙ (can.fits.hashed ∙ ap (λ o. hash (key_of o)) (sym same_operation));
         runs = subst (λ o. RunsOn eq hash new more o after.node after.table) (sym same_operation)
-            (subst (λ n. RunsOn eq hash new more mid.operation n after.table) (sym same_node) goes.0);
+            (subst (λ n. RunsOn eq hash new more before.operation n after.table) (sym same_node) goes.0);
       },
-      subst (λ s. left_in first peak new after.table < left_in first peak old s) names.table goes.1,
+      goes.1,
     );
     others = λ other f. let g = kept.others other f in record {
       hashed = g.hashed;
@@ -137,27 +134,8 @@ module _ {K V : Type 0} (eq : K → K → Bool) (laws : IsEquivalence eq) (hash 
     };
     later = turned.later;
     grows = kept.grows;
+    stays = stayed;
     err = tt;
-  }
-  done new after (Err e) same_operation same_hash same_node turned (same, call_same) = record {
-    well = λ most longer few. subst (λ m. IsWell eq hash m more first most) (sym same) (record {
-      sound = kept.well.sound;
-      hashed = kept.well.hashed;
-      counted = kept.well.counted;
-      short = short_grows old first peak most kept.well.short longer;
-    });
-    operation = same_operation ∙ names.operation;
-    moves = tt;
-    going = tt;
-    others = λ other f. subst (λ m. FitsCall eq hash m more other) (sym same) (kept.others other f);
-    later = λ keys agrees. subst (λ m. LaterMemory (same_by eq keys) old m) (sym same) (later_same eq laws hash can.respects nodes old keys);
-    grows = kept.grows;
-    err = (
-      same,
-      subst (λ m. SameMap (map_of eq old nodes) (map_of eq m more)) (sym same) kept.map,
-      ap (λ b. b.table) call_same ∙ names.table,
-      subst (λ m. FitsCall eq hash m more after) (sym same) (subst (λ b. FitsCall eq hash old more b) (sym call_same) kept.fits),
-    );
   }
 
 -- without a node nothing has changed
@@ -178,6 +156,7 @@ undone eq laws hash first peak old nodes more before after (Err e) is can same c
   others = λ other f. subst (λ xs. FitsCall eq hash old xs other) (sym same) f;
   later = λ keys agrees. later_same eq laws hash can.respects nodes old keys;
   grows = λ n node at. ap (λ xs. slice_get xs n) same ∙ at;
+  stays = inl (same, ap (λ b. b.node) call_same);
   err = (
     refl,
     λ q. ap (λ xs. map_of eq old xs q) same,
@@ -185,3 +164,13 @@ undone eq laws hash first peak old nodes more before after (Err e) is can same c
     subst (λ xs. FitsCall eq hash old xs after) (sym same) (subst (λ b. FitsCall eq hash old nodes b) (sym call_same) can.fits),
   );
 }
+
+-- What holds of a step that had memory, and of one that had none, holds of both.
+pub done_or : {K V : Type 0} (eq : K → K → Bool) (laws : IsEquivalence eq) (hash : K → ℕ) (first peak : ℕ) (old new : Memory) (nodes more : List (Node K V))
+    (before after : BucketCall K V) (gives : Result (TableTurn K V) AllocError) → CanBegin eq hash old nodes first peak before →
+    IfOk gives (λ t. Done eq hash first peak old nodes before (Ok t) new more after) → OnErr gives ((new ≡ old) × (more ≡ nodes) × (after ≡ before)) →
+    Done eq hash first peak old nodes before gives new more after
+done_or eq laws hash first peak old new nodes more before after (Ok t) can ok err = ok
+done_or eq laws hash first peak old new nodes more before after (Err e) can ok err =
+    subst (λ m. Done eq hash first peak old nodes before (Err e) m more after) (sym err.0)
+    (undone eq laws hash first peak old nodes more before after (Err e) refl can err.1 err.2)

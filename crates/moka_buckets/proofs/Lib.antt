@@ -30,6 +30,8 @@ pub mod Elsewhere
 pub mod Kept
 pub mod Once
 pub mod Sought
+pub mod Spared
+pub mod Stepped
 pub mod Few
 pub mod KeyLists
 pub mod Tested

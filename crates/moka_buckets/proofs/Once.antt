@@ -1,5 +1,5 @@
 -- One access a step, in the segment of the call and among all segments.
-use Rattle.std.proofs.Common.{◌≡◌, ℕ, ◌≤◌, Bool, List, [], ◌∷◌, ◌++◌, length, Option, Some, Result, Err, inl, inr, refl, sym, ap, subst, ◌∙◌, arith, set}
+use Rattle.std.proofs.Common.{◌≡◌, ℕ, ◌≤◌, Bool, List, [], ◌∷◌, ◌++◌, length, Option, Some, Result, Err, inl, refl, sym, ap, subst, ◌∙◌, arith, set}
 use Rattle.std.proofs.lemmas.Option.{slice_get_within}
 use Rattle.std.specs.List.{slice_get}
 use Rattle.std.specs.declared.alloc.AllocError.{AllocError}
@@ -9,8 +9,8 @@ use Rattle.moka_calls.specs.Standing.{Wants}
 use Rattle.moka_buckets.specs.declared.node.Node.{Node}
 use Rattle.moka_buckets.specs.declared.part.Part.{Part}
 use Rattle.moka_buckets.specs.declared.bucket_call.BucketCall.{BucketCall}
-use Rattle.moka_buckets.specs.Steps.{Names}
-use Rattle.moka_buckets.specs.Accesses.{wanted_by, GrowsByOne, IsAsBefore, MovesOnce, StepsOnce}
+use Rattle.moka_buckets.specs.Accesses.{wanted_by, GrowsByOne, IsAsBefore, MovesOnce, StaysThere, StepsOnce}
+use Rattle.moka_buckets.specs.Putting.{Stays}
 use Rattle.moka_buckets.proofs.Placed.{get-set-same, get-set-other}
 
 pub wanted_is : (step : Step) (a : Access) → Wants step a → wanted_by step ≡ Some a
@@ -30,26 +30,6 @@ module _ {K V : Type 0} where
 
   pub grows_same : (nodes more : List (Node K V)) → more ≡ nodes → GrowsByOne nodes more
   grows_same nodes more same = subst (λ xs. GrowsByOne nodes xs) (sym same) (grows_none nodes)
-
-  -- a node that is named is one more
-  pub grows_named : (nodes more : List (Node K V)) (before mid : BucketCall K V) → Names nodes more before mid → GrowsByOne nodes more
-  grows_named nodes more before mid names = elim names.grown [
-    | inl e ↦ grows_same nodes more e.0
-    | inr e ↦ record { more = _; added = e.4; one = omega arith }
-  ]
-
-  -- and is forgotten, if the step had no memory
-  pub unnamed : (nodes more : List (Node K V)) (before mid after : BucketCall K V) → Names nodes more before mid → after ≡ mid →
-      record after { node = before.node } ≡ before
-  unnamed nodes more before mid after names same =
-      let forget : BucketCall K V → BucketCall K V = λ b. record b { node = before.node } in
-      let first : forget after ≡ forget mid = ap forget same in
-      let second : forget mid ≡ record mid { operation = before.operation; node = before.node } =
-      ap (λ o. record mid { operation = o; node = before.node }) names.operation in
-      let third : record mid { operation = before.operation; node = before.node } ≡ record before { table = mid.table } =
-      ap (λ h. record mid { operation = before.operation; hash = h; node = before.node }) names.hash in
-      let fourth : record before { table = mid.table } ≡ before = ap (λ t. record before { table = t }) names.table in
-      first ∙ (second ∙ (third ∙ fourth))
 
   pub as_it_was : (p : Part K V) → IsAsBefore p p
   as_it_was p = record { memory = refl; nodes = refl; peak = refl }
@@ -81,3 +61,17 @@ module _ {K V : Type 0} where
     others = λ j other. refl;
     own = λ p at. (p, at, record { accesses = tt; grows = grows_none p.nodes.items; err = as_it_was p });
   }
+
+module _ {K V : Type 0} (before after : BucketCall K V) where
+  -- a step leaves the nodes so in its own segment
+  pub stays_there : (old new : List (Part K V)) (i : ℕ) (p q : Part K V) → slice_get old i ≡ Some p → new ≡ set old i q →
+      Stays p.nodes.items q.nodes.items before after → StaysThere i old new before after
+  stays_there old new i p q there is stays = subst (λ ps. StaysThere i old ps before after) (sym is) (λ r at. (
+    q,
+    get-set-same old i q (slice_get_within old i p there),
+    subst (λ x. Stays x.nodes.items q.nodes.items before after) (one_item (sym there ∙ at)) stays,
+  ))
+
+  -- a step that hasn't been made leaves them all
+  pub stays_all : (parts : List (Part K V)) (i : ℕ) → after ≡ before → StaysThere i parts parts before after
+  stays_all parts i same p at = (p, at, inl (refl, ap (λ c. c.node) same))

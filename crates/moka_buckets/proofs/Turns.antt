@@ -29,10 +29,11 @@ use Rattle.moka_growth.specs.Turns.{Leads}
 use Rattle.moka_table.specs.Map.{Moves}
 use Rattle.moka_buckets.specs.declared.node.Node.{Node}
 use Rattle.moka_buckets.specs.Nodes.{hash_by, same_by, own_by, key_in, pair_at, Agrees}
-use Rattle.moka_buckets.specs.Tables.{IsNoWalk, Puts, choose, found_before, found_by, found_loaded, is_look, put_by, map_of, kind_of, stored_by, IsWell, Runs, RunsOn}
-use Rattle.moka_buckets.specs.Steps.{answered, answered_at, turn_by, Turned}
+use Rattle.moka_buckets.specs.Tables.{IsNoWalk, Puts, choose, found_before, found_by, found_loaded, is_look, put_by, map_of, kind_of, IsWell, Runs, RunsOn}
+use Rattle.moka_buckets.specs.Putting.{puts_at}
+use Rattle.moka_buckets.specs.Steps.{answered, answered_at, asked, turn_by, Turned}
 use Rattle.moka_buckets.proofs.Courses.{Comes, ComesTo, Ended, ByChange, ByLook, EndsBy, IsNoChange, answers_found, course}
-use Rattle.moka_buckets.proofs.Chosen.{left_by, look_of, out_by_choice, out_present, put_by_choice, put_named, stored_pair}
+use Rattle.moka_buckets.proofs.Chosen.{left_by, look_of, look_puts, out_by_choice, out_present, put_by_choice, put_named, stored_pair}
 use Rattle.moka_buckets.proofs.Found.{finds_kept}
 use Rattle.moka_buckets.proofs.Turning.{Sees, Sound, agrees_now, found_is, map_kept, sound_after, counted_after, short_after, fits_after, keeps_after, ends_after, falls_after, later_after, others_after, count_after, count_out, map_after, map_out, present_pair}
 
@@ -215,7 +216,7 @@ module _ {K V : Type 0} (eq : K → K → Bool) (laws : IsEquivalence eq) (hash 
   has_pair (Some n) finds has = present_pair eq laws hash respects nodes old well.sound n finds.0
 
   -- it leaves what it found
-  leaves : (e : Ending) (x : Option ℕ) → (IsSome (stored_by o) → IsSome stored) → answers ≡ cond (is_look o) x None → f x ≡ choice.Keep →
+  leaves : (e : Ending) (x : Option ℕ) → (puts_at o x ≡ true → IsSome stored) → answers ≡ cond (is_look o) x None → f x ≡ choice.Keep →
       Finds (own_by eq (key_in nodes) (key_of o)) old x → KeepsMap old new → Result (Decided e)
   leaves e x named is keep finds keeps =
       let (said, stays, count) = left_by nodes eq (map_of eq old nodes) old.len o stored x named keep (here x finds) (has_pair x finds) in
@@ -225,13 +226,13 @@ module _ {K V : Type 0} (eq : K → K → Bool) (laws : IsEquivalence eq) (hash 
         same_count keeps ∙ sym count,
       )
 
-  by_look : (e : Ending) → (IsSome (stored_by o) → IsSome stored) → next_of c saw ≡ Decided e → IsNoChange c.point → EndsBy (kind_of o) found e → Result (Decided e)
-  by_look e named is nay ends =
+  by_look : (e : Ending) → next_of c saw ≡ Decided e → IsNoChange c.point → EndsBy (kind_of o) found e → Result (Decided e)
+  by_look e is nay ends =
       let (x, kept, keep, same) = look_of nodes o stored found e ends in
       let both : Ends (own_by eq (key_in nodes) (key_of o)) c.point (call.Kept x) old new =
       subst (λ y. Ends (own_by eq (key_in nodes) (key_of o)) c.point y old new) kept
       (ends_after eq laws hash respects nodes (key_of o) c saw old new well.sound sees_of e is) in
-      leaves e x named (answers_found o (own_by eq (key_in nodes) (key_of o)) old c.hash c.point nay ∙ same) keep both.0 both.1
+      leaves e x (λ puts. absurd (look_puts o found e ends x puts)) (answers_found o (own_by eq (key_in nodes) (key_of o)) old c.hash c.point nay ∙ same) keep both.0 both.1
 
   -- its change was made
   module _ (e : Ending) (from to : Word) (said : answers ≡ found_before from to)
@@ -341,7 +342,7 @@ module _ {K V : Type 0} (eq : K → K → Bool) (laws : IsEquivalence eq) (hash 
               omega arith
 
       -- or leaves what it found
-      asks_kept : (IsSome (stored_by o) → IsSome stored) → IsNoChange c.point → stored_in w ≡ found → f (stored_in w) ≡ choice.Keep →
+      asks_kept : (puts_at o (stored_in w) ≡ true → IsSome stored) → IsNoChange c.point → stored_in w ≡ found → f (stored_in w) ≡ choice.Keep →
           Result (Decided (call.Kept (stored_in w)))
       asks_kept named nay there keep =
           let own_now = own_by eq (key_in nodes) (key_of o) in
@@ -370,7 +371,7 @@ module _ {K V : Type 0} (eq : K → K → Bool) (laws : IsEquivalence eq) (hash 
       asks_out (SealedLive m) w_is opens x_is has = absurd opens
       asks_out (SealedTomb m) w_is opens x_is has = absurd opens
 
-      asks : (IsSome (stored_by o) → IsSome stored) → IsNoChange c.point → stored_in w ≡ found → (x : Choice) → f (stored_in w) ≡ x → Result (chosen asking a l v w x)
+      asks : (puts_at o (stored_in w) ≡ true → IsSome stored) → IsNoChange c.point → stored_in w ≡ found → (x : Choice) → f (stored_in w) ≡ x → Result (chosen asking a l v w x)
       asks named nay there choice.Keep x_is = asks_kept named nay there x_is
       asks named nay there (choice.Put n) x_is = asks_put n x_is
       asks named nay there choice.Remove x_is =
@@ -378,7 +379,7 @@ module _ {K V : Type 0} (eq : K → K → Bool) (laws : IsEquivalence eq) (hash 
           asks_out w refl fits.1 x_is (out_present nodes o stored (stored_in w) x_is)
 
   -- the step goes on, asks, or ends
-  goes_by : (d : Call) → (IsSome (stored_by o) → IsSome stored) → next_of c saw ≡ Going d → Comes (kind_of o) c.hash found c.point d → AtRest d.point →
+  goes_by : (d : Call) → ((present : Option ℕ) → asked (next_of c saw) ≡ Some present → puts_at o present ≡ true → IsSome stored) → next_of c saw ≡ Going d → Comes (kind_of o) c.hash found c.point d → AtRest d.point →
       Result (answered f (Going d))
   goes_by d named is comes (Resting rests) =
       let at_rest = comes_puts nodes o stored found c.point d.point rests comes.2 in
@@ -387,21 +388,21 @@ module _ {K V : Type 0} (eq : K → K → Bool) (laws : IsEquivalence eq) (hash 
       let come : IsNoChange c.point × (stored_in w ≡ found) = subst (λ p. ComesTo found c.point p) asks_at comes.2 in
       subst (λ p. Result (answered f (Going (record d { point = p })))) (sym asks_at)
       (asks d.kind d.hash d.spent a l v w (is ∙ ap (λ p. Going (record d { point = p })) asks_at) (comes.0 ∙ sym runs.kind) comes.1
-      named come.0 come.1 (f (stored_in w)) refl)
+      (named (stored_in w) (ap asked (is ∙ ap (λ p. Going (record d { point = p })) asks_at))) come.0 come.1 (f (stored_in w)) refl)
 
-  ends_by : (e : Ending) → (IsSome (stored_by o) → IsSome stored) → next_of c saw ≡ Decided e → Ended (kind_of o) found c.point e → Result (Decided e)
-  ends_by e named is (ByChange a l v from to at_change ends) = by_change e a l v from to is at_change ends
-  ends_by e named is (ByLook nay ends) = by_look e named is nay ends
+  ends_by : (e : Ending) → next_of c saw ≡ Decided e → Ended (kind_of o) found c.point e → Result (Decided e)
+  ends_by e is (ByChange a l v from to at_change ends) = by_change e a l v from to is at_change ends
+  ends_by e is (ByLook nay ends) = by_look e is nay ends
 
-  turned_by : (mid : Step) → (IsSome (stored_by o) → IsSome stored) → next_of c saw ≡ mid →
+  turned_by : (mid : Step) → ((present : Option ℕ) → asked (next_of c saw) ≡ Some present → puts_at o present ≡ true → IsSome stored) → next_of c saw ≡ mid →
       Leads mid (Comes (kind_of o) c.hash found c.point) (Ended (kind_of o) found c.point) → Result (answered f mid)
   turned_by (Going d) named is leads = goes_by d named is leads (at_rest d.point)
-  turned_by (Decided e) named is leads = ends_by e named is leads
+  turned_by (Decided e) named is leads = ends_by e is leads
 
 -- One step of an operation: an access, and with a question also its answer.
 pub turned : {K V : Type 0} (eq : K → K → Bool) → IsEquivalence eq → (hash : K → ℕ) → ((x y : K) → eq x y ≡ true → hash x ≡ hash y) →
     (nodes : List (Node K V)) (first peak : ℕ) (o : TableOp K V) (stored : Option ℕ) (c : Call) (saw : Seen) (old new : Memory) →
-    IsWell eq hash old nodes first peak → Runs eq hash old nodes o stored c → (IsSome (stored_by o) → IsSome stored) →
+    IsWell eq hash old nodes first peak → Runs eq hash old nodes o stored c → ((present : Option ℕ) → asked (next_of c saw) ≡ Some present → puts_at o present ≡ true → IsSome stored) →
     ((keys : ℕ → Option K) → Agrees keys nodes → Effect (hash_by hash keys) (own_by eq keys (key_of o)) (access_of c) saw old new) →
     Recounts (access_of c) saw old new → (after : Step) → after ≡ answered (choose nodes o stored) (next_of c saw) →
     (answer : TableAnswer K V) → answer ≡ answer_of (pair_at nodes (found_by o (own_by eq (key_in nodes) (key_of o)) old (access_of c))) →

@@ -10,7 +10,9 @@ use Rattle.moka_growth.specs.Counts.{Recounts}
 use Rattle.moka_buckets.specs.declared.node.Node.{Node}
 use Rattle.moka_buckets.specs.declared.part.Part.{Part}
 use Rattle.moka_buckets.specs.Nodes.{hash_by, own_for, Agrees}
+use Rattle.moka_buckets.specs.declared.bucket_call.BucketCall.{BucketCall}
 use Rattle.moka_buckets.specs.Parts.{memory_at, peak_at}
+use Rattle.moka_buckets.specs.Putting.{Stays}
 
 -- the access that a call makes next, if it goes on
 abbrev pub wanted_by : Step → Option Access
@@ -55,3 +57,10 @@ module _ {K V : Type 0} where
     pub others : (i : ℕ) → i ≢ segment → slice_get new i ≡ slice_get old i
     pub own : (p : Part K V) → slice_get old segment ≡ Some p →
         (q : Part K V) × (slice_get new segment ≡ Some q) × StepsOnce eq hash key wanted gives p q
+
+  -- in its own segment a step leaves the nodes so
+  abbrev pub StaysThere : (segment : ℕ) → (old new : List (Part K V)) →
+      (before after : BucketCall K V) → Type 0
+  StaysThere segment old new before after = (p : Part K V) → slice_get old segment ≡ Some p →
+      (q : Part K V) × (slice_get new segment ≡ Some q)
+      × Stays p.nodes.items q.nodes.items before after

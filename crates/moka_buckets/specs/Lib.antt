@@ -2,6 +2,7 @@ pub mod Nodes
 pub mod Arrays
 pub mod Making
 pub mod Tables
+pub mod Putting
 pub mod Steps
 pub mod Hashing
 pub mod Building

@@ -1,8 +1,7 @@
 -- What one step of an operation does to a table.
-use Rattle.std.specs.Prelude.{◌≡◌, ◌⊎◌, ℕ, ◌<◌, ◌≤◌, Bool, true, List, [], ◌∷◌, ◌++◌, length, Option, Some, None, IsSome, Result, IfOk, OnErr}
+use Rattle.std.specs.Prelude.{◌≡◌, ◌⊎◌, ℕ, ◌<◌, ◌≤◌, Bool, true, false, List, [], ◌∷◌, ◌++◌, length, Option, Some, None, Result, IfOk, OnErr}
 use Rattle.std.specs.List.{slice_get}
 use Rattle.moka_hist.specs.Tables.{key_of}
-use Rattle.moka_hist.specs.declared.records.Stored.{Stored}
 use Rattle.moka_hist.specs.declared.tables.TableOp.{TableOp}
 use Rattle.moka_hist.specs.declared.tables.TableAnswer.{TableAnswer}
 use Rattle.moka_hist.specs.declared.tables.TableTurn.{TableTurn}
@@ -10,14 +9,15 @@ use Rattle.moka_hist.specs.declared.tables.TableTurn.TheVariants as turn
 use Rattle.moka_words.specs.declared.accesses.Choice.{Choice}
 use Rattle.moka_words.specs.Words.{stored_in}
 use Rattle.moka_words.specs.Effect.{Memory, LaterMemory}
-use Rattle.moka_growth.specs.Calls.{Point, Call, Ending, Step, Going, Decided, chosen}
+use Rattle.moka_growth.specs.Calls.{Point, Call, Step, Going, Decided, chosen}
 use Rattle.moka_growth.specs.Calls as call
 use Rattle.std.specs.declared.alloc.AllocError.{AllocError}
 use Rattle.moka_table.specs.Map.{Moves, SameMap}
 use Rattle.moka_buckets.specs.declared.node.Node.{Node}
 use Rattle.moka_buckets.specs.declared.bucket_call.BucketCall.{BucketCall}
 use Rattle.moka_buckets.specs.Nodes.{same_by, Agrees}
-use Rattle.moka_buckets.specs.Tables.{map_of, left_in, stored_by, IsWell, RunsOn}
+use Rattle.moka_buckets.specs.Tables.{map_of, left_in, IsWell, RunsOn}
+use Rattle.moka_buckets.specs.Putting.{puts_if, Stays}
 
 -- The node that a call found under its key which asks what is to be done; None where it doesn't ask.
 abbrev pub asked_at : Point → Option (Option ℕ)
@@ -44,16 +44,15 @@ module _ {K V : Type 0} where
   turn_by (Going c) answer = turn.Going
   turn_by (Decided e) answer = turn.Decided answer
 
-  -- A node was made for the pair that is to be stored, if there was none.
-  pub record Names (old new : List (Node K V)) (before after : BucketCall K V) : Type 0 where
-    pub operation : after.operation ≡ before.operation
-    pub hash : after.hash ≡ before.hash
-    pub table : after.table ≡ before.table
-    pub grown : ((new ≡ old) × (after.node ≡ before.node))
-        ⊎ ((key : K) × (stored : Stored V) × (stored_by before.operation ≡ Some (key, stored)) ×
-        (before.node ≡ None)
-        × (new ≡ old ++ record { key = key; stored = stored; hash = before.hash } ∷ []) ×
-        (after.node ≡ Some (length old)))
+  -- The spare node, if there is one, was added where the call asks and puts it.
+  abbrev pub Places : (old new : List (Node K V)) → (before : BucketCall K V) →
+      (spare : Option (Node K V)) → (after : BucketCall K V) → Type 0
+  Places old new before spare after =
+      ((new ≡ old) × (after ≡ before)
+      × ((spare ≡ None) ⊎ (puts_if before.operation (asked before.table) ≡ false)))
+      ⊎ ((node : Node K V) × (spare ≡ Some node)
+      × (puts_if before.operation (asked before.table) ≡ true) × (new ≡ old ++ node ∷ [])
+      × (after ≡ record before { node = Some (length old) }))
 
   -- each node that was made has this hash
   abbrev pub Adds : (hash : ℕ) → (old new : List (Node K V)) → Type 0
@@ -78,16 +77,7 @@ module _ {K V : Type 0} where
         RunsOn eq hash old nodes p kept other → RunsOn eq hash new nodes p kept other
     pub later : (keys : ℕ → Option K) → Agrees keys nodes → LaterMemory (same_by eq keys) old new
 
-  -- what a step of a call may rest on: hashes that equal keys share, a table that is well, and a
-  -- node for the pair to be stored
-  pub record CanStep (eq : K → K → Bool) (hash : K → ℕ) (m : Memory) (nodes : List (Node K V))
-      (first peak : ℕ) (c : BucketCall K V) : Type 0 where
-    pub respects : (x y : K) → eq x y ≡ true → hash x ≡ hash y
-    pub well : IsWell eq hash m nodes first peak
-    pub fits : FitsCall eq hash m nodes c
-    pub named : IsSome (stored_by c.operation) → IsSome c.node
-
-  -- what a step may rest on that has yet to make the node
+  -- what a step may rest on: hashes that equal keys share, and a table that is well
   pub record CanBegin (eq : K → K → Bool) (hash : K → ℕ) (m : Memory) (nodes : List (Node K V))
       (first peak : ℕ) (c : BucketCall K V) : Type 0 where
     pub respects : (x y : K) → eq x y ≡ true → hash x ≡ hash y
@@ -112,6 +102,7 @@ module _ {K V : Type 0} where
         FitsCall eq hash new more_nodes other
     pub later : (keys : ℕ → Option K) → Agrees keys more_nodes → LaterMemory (same_by eq keys) old new
     pub grows : (n : ℕ) (node : Node K V) → slice_get nodes n ≡ Some node → slice_get more_nodes n ≡ Some node
+    pub stays : Stays nodes more_nodes before after
     pub err : OnErr gives ((new ≡ old) × SameMap (map_of eq old nodes) (map_of eq new more_nodes) ×
         (after.table ≡ before.table)
         × FitsCall eq hash new more_nodes after)

@@ -357,7 +357,7 @@ impl<K: Eq + Hash + Exact, V: Exact, S: BuildHasher + Drop> BucketTable<K, V, S>
 impl<K: Eq + Hash + Exact, V: Exact, S: BuildHasher + Drop> Table<K, V> for BucketTable<K, V, S> {
     type Call = BucketCall<K, V>;
 
-    ghost use Rattle.moka_buckets.specs.Accesses.{MovesOnce};
+    ghost use Rattle.moka_buckets.specs.Accesses.{MovesOnce, StaysThere};
     ghost use Rattle.moka_buckets.specs.Hashing.{hash_in};
     ghost use Rattle.moka_buckets.specs.Views.{count_of, covers_in, first_of, fits_in, fits_keys_in, key_for, left_keys_of, left_of, lists_in, map_in, operation_of, peak_of, segment_for, segment_in, want_of};
     ghost use Rattle.moka_buckets.specs.declared.keys_call.KeysCall.{KeysCall};
@@ -417,6 +417,10 @@ impl<K: Eq + Hash + Exact, V: Exact, S: BuildHasher + Drop> Table<K, V> for Buck
             (hash_in S.BuildHasher S.Hasher.Hasher K.hash_input self.old.hasher)
             (key_for call.old) (want_of call.old) (segment_in self.old call.old) result
             self.old.parts self.new.parts }
+        // It makes no node, but where it is told to put one and the call has none: then it makes one,
+        // which the call keeps, and which its next exchange puts.
+        ensures stays { StaysThere (segment_in self.old call.old)
+            self.old.parts self.new.parts call.old call.new }
         // An undecided call is still begun, and nearer to its end.
         ensures undecided { IfOk result (λ turn. turn ≡ TableTurn.Going
             → (operation_of call.new ≡ operation_of call.old)

@@ -31,8 +31,8 @@ pub fn answer<K, V>(nodes: &[Node<K, V>], call: &mut BucketCall<K, V>)
     }
 }
 
-// The node that it found which asks what is to be done.
-fn asked(table: &TableCall) -> Option<Option<u64>>
+/// The node that it found which asks what is to be done.
+pub fn asked(table: &TableCall) -> Option<Option<u64>>
     ensures { result ≡ asked table.now }
 {
     if table.decided().is_some() {

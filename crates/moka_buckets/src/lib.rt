@@ -24,6 +24,7 @@ mod node;
 mod nodes;
 mod part;
 mod part_keys;
+mod putting;
 mod stepping;
 mod walking;
 mod words;

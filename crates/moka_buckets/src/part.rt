@@ -2,7 +2,7 @@
 
 ghost use Rattle.std.specs.Prelude.{◌≡◌, ℕ, ◌-◌, ◌<◌, ◌^◌, Some, length, slice_set};
 ghost use Rattle.moka_hist.specs.Tables.{key_of};
-ghost use Rattle.moka_buckets.specs.Accesses.{MovesOnce, StepsOnce, wanted_by};
+ghost use Rattle.moka_buckets.specs.Accesses.{MovesOnce, StaysThere, StepsOnce, wanted_by};
 ghost use Rattle.std.specs.List.{slice_get};
 ghost use Rattle.moka_buckets.specs.Arrays.{ArePlaced};
 ghost use Rattle.moka_buckets.specs.Steps.{CanBegin};
@@ -109,6 +109,10 @@ pub fn step_parts<K: Eq + Exact, V: Exact>(
         → MovesOnce K.eq hash (Some (key_of call.old.operation)) (wanted_by call.old.table)
         (segment_of (length parts.old.items) call.old.hash) result
         parts.old.items parts.new.items }
+    ensures stays { (hash : K → ℕ) (first most : ℕ)
+        → CanGo K.eq hash parts.old.items first most len.old call.old
+        → StaysThere (segment_of (length parts.old.items) call.old.hash)
+        parts.old.items parts.new.items call.old call.new }
     ensures long { length parts.new.items ≡ length parts.old.items }
 {
     let index = segment_of(parts.len(), call.hash);

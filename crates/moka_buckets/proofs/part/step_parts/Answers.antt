@@ -3,8 +3,8 @@ use Rattle.std.specs.List.{slice_get}
 use Rattle.moka_buckets.specs.Parts.{segment_of}
 use Rattle.moka_buckets.specs.Keys.{KeepsKeys}
 use Rattle.moka_hist.specs.Tables.{key_of}
-use Rattle.moka_buckets.specs.Accesses.{MovesOnce, wanted_by}
-use Rattle.moka_buckets.proofs.Once.{moves_once}
+use Rattle.moka_buckets.specs.Accesses.{MovesOnce, StaysThere, wanted_by}
+use Rattle.moka_buckets.proofs.Once.{moves_once, stays_there}
 use Rattle.moka_buckets.proofs.Kept.{keeps_keys}
 use Rattle.moka_buckets.proofs.Going.{goes_over, had_few, has_few}
 use Rattle.moka_buckets.proofs.Spread.{keys_within}
@@ -82,3 +82,14 @@ returns-clause-one g c = λ hash first most can.
     subst (λ i. MovesOnce eq hash (Some (key_of b.operation)) (wanted_by b.table) i c.step_at-turn.result parts c.step_at-turn.new.parts.items) at
     (moves_once eq hash (Some (key_of b.operation)) (wanted_by b.table) c.step_at-turn.result parts c.step_at-turn.new.parts.items c.segment_of-index.result
     can.fits.part once.0 there once.1 once.2)
+
+pub returns-clause-stays : goal.returns-clause-stays
+returns-clause-stays g c = λ hash first most can.
+    let b = c.args.call.now in
+    let parts = c.args.parts.now.items in
+    let at = c.segment_of-index.ensures.is ∙ ap (λ n. segment_of n b.hash) (c.len.ensures ∙ c.args.parts.now.ok.0) in
+    let there = ap (slice_get parts) at ∙ can.fits.there in
+    let well = can.well.each c.segment_of-index.result can.fits.part there in
+    let goes = c.step_at-turn.ensures.goes hash first can.fits.part there (record { respects = can.respects; well = well.well; fits = can.fits.fits }) in
+    subst (λ i. StaysThere i parts c.step_at-turn.new.parts.items b c.step_at-turn.new.call) at
+    (stays_there b c.step_at-turn.new.call parts c.step_at-turn.new.parts.items c.segment_of-index.result can.fits.part goes.0 there goes.1 goes.2.done.stays)

@@ -1,10 +1,10 @@
-use Rattle.std.proofs.Common.{◌≡◌, ◌↔◌, ◌≤◌, IsSome, Some, length, ap, max, subst, sym}
+use Rattle.std.proofs.Common.{◌≡◌, ◌↔◌, ◌≤◌, IsSome, Some, length, ap, max, refl, subst, sym}
 use Rattle.std.specs.List.{fold}
 use Rattle.moka_table.specs.Map.{most_steps}
 use Rattle.moka_buckets.specs.declared.bucket_call.BucketCall.{BucketCall}
 use Rattle.moka_hist.specs.Tables.{key_of}
-use Rattle.moka_buckets.specs.Accesses.{MovesOnce, wanted_by}
-use Rattle.moka_buckets.proofs.Once.{moves_none}
+use Rattle.moka_buckets.specs.Accesses.{MovesOnce, StaysThere, wanted_by}
+use Rattle.moka_buckets.proofs.Once.{moves_none, stays_all}
 use Rattle.moka_buckets.specs.Hashing.{hash_in}
 use Rattle.moka_buckets.specs.Parts.{AreParts, GoesOver, segment_of}
 use Rattle.moka_buckets.specs.declared.keys_call.KeysCall.{KeysCall}
@@ -151,3 +151,16 @@ pub returns-then-self-clause-one : goal.returns-then-self-clause-one
 returns-then-self-clause-one g c =
     moves_none g.K.PartialEq.eq (hash_in g.S.BuildHasher g.S.Hasher.Hasher g.K.Hash.hash_input c.args.self.now.hasher) (key_for c.args.call.now)
     (want_of c.args.call.now) c.args.self.now.parts (segment_in c.args.self.now c.args.call.now) _
+
+pub returns-clause-stays : goal.returns-clause-stays
+returns-clause-stays g c = subst (λ o. StaysThere (segment_of (length o.parts) c.args.call.now.hash) o.parts c.step_parts.new.parts.items
+    c.args.call.now c.step_parts.new.call) c.self.view_is
+    (c.step_parts.ensures.stays (hash_in g.S.BuildHasher g.S.Hasher.Hasher g.K.Hash.hash_input c.self.inside.hasher) (max 128 c.self.inside.first)
+    (max c.self.inside.peak c.self.inside.len) (record {
+      respects = λ x y e. ap (λ w. g.S.Hasher.Hasher.finish (fold g.S.Hasher.Hasher.write (g.S.BuildHasher.build_hasher c.self.inside.hasher) w)) (g.met.K.Hash.respects_eq x y e);
+      well = c.self.invariant;
+      fits = subst (λ o. fits_in g.S.BuildHasher g.S.Hasher.Hasher g.K.PartialEq.eq g.K.Hash.hash_input o c.args.call.now) (sym c.self.view_is) c.requires.fits;
+    }))
+
+pub returns-then-self-clause-stays : goal.returns-then-self-clause-stays
+returns-then-self-clause-stays g c = stays_all c.args.call.now c.args.call.now c.args.self.now.parts (segment_in c.args.self.now c.args.call.now) refl

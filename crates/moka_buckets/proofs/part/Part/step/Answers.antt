@@ -3,14 +3,27 @@ use Rattle.std.specs.declared.alloc.AllocError.{AllocError}
 use Rattle.moka_buckets.specs.declared.part.Part.{Part}
 use Rattle.moka_buckets.specs.Accesses.{IsAsBefore}
 use Rattle.moka_buckets.specs.Parts.{memory_at, peak_at}
+use Rattle.moka_buckets.specs.Arrays.{memory_of}
+use Rattle.moka_buckets.specs.Steps.{CanBegin, Done}
+use Rattle.moka_buckets.proofs.Adding.{adds_stayed, grows_stayed}
+use Rattle.moka_buckets.proofs.Doing.{done_or}
+use Rattle.moka_buckets.proofs.part.Part.step.Given as given
 use Rattle.moka_buckets.proofs.part.Part.step.Goals as goal
+
+-- the step of the segment's arrays and nodes
+moved : (g : given.Over) (c : goal.After-step g) (hash : g.row.K.Denot → ℕ) (first : ℕ) → CanBegin g.K.PartialEq.eq hash (memory_at c.args.self.now)
+    c.args.self.now.nodes.items first (peak_at c.args.self.now) c.args.call.now → Done g.K.PartialEq.eq hash first (peak_at c.args.self.now)
+    (memory_at c.args.self.now) c.args.self.now.nodes.items c.args.call.now c.step.result (memory_of c.step.new.arrays) c.step.new.nodes.items c.step.new.call
+moved g c hash first can = done_or g.K.PartialEq.eq g.met.K.Eq.laws hash first (peak_at c.args.self.now) (memory_at c.args.self.now) (memory_of c.step.new.arrays)
+    c.args.self.now.nodes.items c.step.new.nodes.items c.args.call.now c.step.new.call c.step.result can
+    (c.step.ensures.done hash first (peak_at c.args.self.now) can) c.step.ensures.err
 
 pub returns-clause-goes : goal.returns-clause-goes
 returns-clause-goes g c = λ hash first can. record {
-  done = c.step.ensures.done hash first (peak_at c.args.self.now) can;
+  done = moved g c hash first can;
   placed = c.step.ensures.placed;
   peak = c.max-self.ensures;
-  adds = c.step.ensures.adds;
+  adds = adds_stayed c.args.self.now.nodes.items c.step.new.nodes.items c.args.call.now c.step.new.call (moved g c hash first can).stays;
 }
 
 -- the most keys that a segment had are counted once
@@ -29,6 +42,6 @@ as_before p q (Err b) x y peak e = record {
 pub returns-clause-once : goal.returns-clause-once
 returns-clause-once g c = λ hash first can. record {
   accesses = c.step.ensures.accesses hash first (peak_at c.args.self.now) can;
-  grows = c.step.ensures.grows;
+  grows = grows_stayed c.args.self.now.nodes.items c.step.new.nodes.items c.args.call.now c.step.new.call (moved g c hash first can).stays;
   err = as_before c.args.self.now _ c.step.result _ _ c.max-self.ensures c.step.ensures.err;
 }
